@@ -3,7 +3,7 @@
 use Rattle.std.proofs.Common.{◌≡◌, ℕ, zero, suc, ◌+◌, ◌^◌, ◌<◌, ◌≤◌, Bool, true, false, cond, nat_eq, nat_lt, nat_le, ◌&&◌, ◌||◌, not, List, [], ◌∷◌, ◌++◌, length, drop, get_or, Option, Some, None, is_some, IfSome, refl, sym, ◌∙◌, ap, subst, arith, inl, inr}
 use Rattle.std.specs.Option.{option_map}
 use Rattle.std.specs.List.{remove}
-use Rattle.std.proofs.lemmas.Bool.{cases_Bool, cases_eq, cases_lt, and_parts, or_parts, ltb-true, lt-ltb, le-ltb, true≢false, eqb-true, eqb-false, eq-eqb, ne_eqb, both_ways, cond-false, not-false, or_from, and_left, and_right, not_from_true}
+use Rattle.std.proofs.lemmas.Bool.{cases_Bool, cases_eq, cases_lt, and_parts, or_parts, ltb-true, lt-ltb, le-ltb, true≢false, eqb-true, eqb-false, eq-eqb, ne_eqb, both_ways, cond-true, cond-false, not-true, not-false, or_from, and_left, and_right, not_from_true}
 use Rattle.std.proofs.lemmas.List.{length-append, get_or_default}
 use Rattle.tcp_flow.specs.declared.flow.CloseCause.TheVariants.{Fin, Gap}
 use Rattle.tcp_waiting.specs.Numbers.{ahead, age, onward, is_to_come, rank}
@@ -11,9 +11,9 @@ use Rattle.tcp_waiting.specs.Payload.{Payload, payload, earlier, first, has_as_m
 use Rattle.tcp_flow.specs.Flow.{Flow, Reader, Setting, first_of, is_due, at, taken, drained_at_most, drained, fin_is_reached, closed, without_stale_fin, ended, gone_on, gap, is_too_much, within_bounds, acknowledgement_came, holding, payload_came, left, fin_came}
 use Rattle.tcp_flow.specs.Laws.{AreLater, IsSettled}
 use Rattle.tcp_waiting.proofs.Firsts.{first_within}
-use Rattle.tcp_flow.proofs.Steps.{length_remove, flowing_takes, came_held}
+use Rattle.tcp_flow.proofs.Steps.{length_remove, flowing_none, flowing_takes, relieved_stops, came_held}
 use Rattle.tcp_flow.proofs.Truth.{reached}
-use Rattle.tcp_flow.proofs.Room.{Stays, taken_stays, first_some, none_some, left_flow}
+use Rattle.tcp_flow.proofs.Room.{Stays, taken_stays, first_some, none_some, left_flow, much_some}
 
 last_at : (ps : List Payload) (q d : Payload) → get_or (ps ++ q ∷ []) (length ps) d ≡ q
 last_at [] q d = refl
@@ -365,3 +365,52 @@ due_number next live p q small bound l e h =
           absurd (both_ways (is_to_come next q.number) h (ap (λ (n : ℕ). is_to_come next n) w ∙ x)))
       | inr x ↦ number ∙ reached next p.number small x
     ]
+
+-- where neither a payload nor a FIN is kept, a flow goes on as it is
+not_reached : (next : ℕ) (live : Bool) (fin : Option ℕ) → fin ≡ None →
+    fin_is_reached next live fin ≡ false
+unfolding fin_is_reached
+not_reached next live fin e = rw e refl
+
+none_ended : (F : Reader) (f : Flow) → f.fin ≡ None → ended F f ≡ f
+unfolding ended
+none_ended F f e = cond-false (fin_is_reached f.next (is_some f.live) f.fin)
+    (drained F (record (closed f Fin) { fin = None })) f
+    (not_reached f.next (is_some f.live) f.fin e)
+
+none_stale : (f : Flow) → f.fin ≡ None → without_stale_fin f ≡ f
+unfolding without_stale_fin
+none_stale f e =
+    elim (cases_Bool (is_some f.live)) [
+      | inl live ↦ cond-true (is_some f.live) f (record f { fin = None }) live
+      | inr dead ↦ cond-false (is_some f.live) f (record f { fin = None }) dead
+          ∙ ap (λ (n : Option ℕ). record f { fin = n }) (sym e)
+    ]
+
+none_drained : (F : Reader) (f : Flow) → first_of f ≡ None → drained F f ≡ f
+unfolding drained
+none_drained F f e = flowing_none F (length f.held) f e
+
+none_gone_on : (F : Reader) (f : Flow) → first_of f ≡ None → f.fin ≡ None → gone_on F f ≡ f
+unfolding gone_on
+none_gone_on F f none fin =
+    ap (λ (g : Flow). without_stale_fin (ended F g)) (none_drained F f none)
+    ∙ ap without_stale_fin (none_ended F f fin) ∙ none_stale f fin
+
+none_of : (r : Option ℕ) → is_some r ≡ false → r ≡ None
+none_of None h = refl
+none_of (Some i) h = cc
+
+pub nothing_kept : (A : Setting) (count : ℕ) (f : Flow) →
+    (not (is_some (first_of f)) && not (is_some f.fin)) ≡ true →
+    within_bounds A count (gone_on A.faulted f) ≡ f
+nothing_kept A count f h =
+    let both = and_parts (not (is_some (first_of f))) (not (is_some f.fin)) h in
+    let none : is_some (first_of f) ≡ false = not-true (is_some (first_of f)) both.0 in
+    let few : is_too_much A f ≡ false =
+    elim (cases_Bool (is_too_much A f)) [
+      | inl much ↦ absurd (both_ways (is_some (first_of f)) none (much_some A f much))
+      | inr few ↦ few
+    ] in
+    ap (within_bounds A count) (none_gone_on A.faulted f (none_of (first_of f) none)
+    (none_of f.fin (not-true (is_some f.fin) both.1))) ∙ relieved_stops A count f few

@@ -194,7 +194,7 @@ far_some id next (p ∷ ps) h =
     ]
 
 -- too much is something of its own
-much_some : (A : Setting) (f : Flow) → is_too_much A f ≡ true → is_some (first_of f) ≡ true
+pub much_some : (A : Setting) (f : Flow) → is_too_much A f ≡ true → is_some (first_of f) ≡ true
 unfolding is_too_much first_of
 much_some A f h =
     elim (or_cases (is_far f.id f.next f.held)

@@ -179,6 +179,9 @@ impl FlowState {
         if self.is_due(number) {
             let count = pool.len() + 1;
             self.take(number, octets, to)?;
+            if self.keeps_nothing(pool) {
+                return Ok(());
+            }
             self.go_on(pool, to)?;
             return self.keep_within_bounds(count, pool, to);
         }
@@ -196,6 +199,15 @@ impl FlowState {
         ensures { result ≡ not (is_some self.now.live && spec_is_to_come self.now.next number) }
     {
         !(self.is_live() && is_to_come(self.next, number))
+    }
+
+    /// Whether neither a payload nor a FIN is kept for later: there is nothing to go on with.
+    #[inline]
+    fn keeps_nothing(&self, pool: &Pool) -> bool
+        ensures { result ≡ (not (is_some (first self.now.id self.now.next pool.now.held))
+            && not (is_some self.now.fin)) }
+    {
+        !self.holds(pool) && !self.has_fin()
     }
 
     /// A FIN comes, with the number behind the payload.

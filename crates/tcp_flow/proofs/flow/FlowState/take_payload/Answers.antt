@@ -1,10 +1,10 @@
-use Rattle.std.proofs.Common.{◌≡◌, ◌+◌, ℕ, List, false, is_some, nat_eq, ◌&&◌, length, refl, sym, ◌∙◌, ap, subst, arith, inl, inr}
+use Rattle.std.proofs.Common.{◌≡◌, ◌+◌, ℕ, List, false, true, is_some, nat_eq, not, ◌&&◌, length, refl, sym, ◌∙◌, ap, subst, arith, inl, inr}
 use Rattle.std.specs.Prelude.{OnOk}
 use Rattle.std.proofs.lemmas.Bool.{or_left, or_right, or_from, not-true, and_cases, both_ways}
 use Rattle.tcp_waiting.specs.Numbers.{is_to_come}
 use Rattle.tcp_waiting.specs.Payload.{Payload, payload, has_as_much}
-use Rattle.tcp_flow.specs.Flow.{setting, within_bounds, gone_on, holding, taken, payload_came}
-use Rattle.tcp_flow.proofs.Direct.{came_direct, due_number}
+use Rattle.tcp_flow.specs.Flow.{Flow, first_of, setting, within_bounds, gone_on, holding, taken, payload_came}
+use Rattle.tcp_flow.proofs.Direct.{came_direct, due_number, nothing_kept}
 use Rattle.tcp_flow.specs.State.{state, IsState}
 use Rattle.tcp_flow.proofs.Steps.{came_nothing, came_held}
 use Rattle.tcp_flow.proofs.States.{by_state, on_ok_equal, settled_flow}
@@ -68,6 +68,36 @@ returns-clause-does g c f h =
     (sym c.has_as_much.ensures ∙ c.if-has_as_much.false))) in
     on_ok_equal r _ _ _ _ _ e (c.keep_within_bounds-2.ensures.does n
     (c.in_ok-go_on-2.ensures.does (holding S q) H)))
+
+pub returns-then-keeps_nothing-clause-does : goal.returns-then-keeps_nothing-clause-does
+unfolding first_of
+returns-then-keeps_nothing-clause-does g c f h =
+    let F = g.T.Listener.faulted in
+    let A = setting F c.args.pool.now.blocks in
+    let s = c.args.self.now in
+    let held = c.args.pool.now.held in
+    let p = payload s.id c.args.number c.args.octets.now in
+    let q = payload s.id c.left-number.result.0 c.left-number.result.1.now in
+    let G = IsState (g.T.Listener.observed c.take.new.to) c.take.new.self held in
+    let now : (is_some s.live && (is_to_come s.next q.number)) ≡ false =
+    not-true (is_some s.live && (is_to_come s.next q.number))
+    (sym c.is_due.ensures ∙ c.if-is_due.true) in
+    by_state (λ f. G (payload_came A f p)) _ s held f h (λ events o.
+    let S = state s held events in
+    let start : IsState _ s held S = record { observed = o; same = refl } in
+    let T = c.in_ok-take.ensures.does held S start in
+    let direct = came_direct A S p q c.left-number.ensures.left refl (omega arith)
+    (settled_flow _ s held S start c.requires.settled)
+    (sym c.is_empty.ensures ∙ c.if-is_empty.false)
+    (λ l. due_number s.next (is_some s.live) p q (omega arith) (omega arith) l
+    c.left-number.ensures.left
+    (elim (and_cases (is_some s.live) (is_to_come s.next q.number) now)
+    [ inl x ↦ absurd (both_ways (is_some s.live) x l) | inr x ↦ x ]))
+    now in
+    let none : (not (is_some (first_of (taken F S q))) && not (is_some (taken F S q).fin)) ≡ true =
+    subst (λ (f : Flow). (not (is_some (first_of f)) && not (is_some f.fin)) ≡ true) T.same
+    (sym c.keeps_nothing.ensures ∙ c.if-keeps_nothing.true) in
+    subst G (sym (nothing_kept A (length held + 1) (taken F S q) none) ∙ sym direct) T)
 
 pub returns-then-is_due-clause-does : goal.returns-then-is_due-clause-does
 returns-then-is_due-clause-does g c f h =
