@@ -15,7 +15,8 @@ use tcp_waiting::onward;
 
 impl Connections {
     ghost use Rattle.tcp_connections.specs.Connections.{is_first, is_chosen, acknowledgement_taken};
-    ghost use Rattle.tcp_connections.specs.Connections.{payload_taken, began, fin_taken};
+    ghost use Rattle.tcp_connections.specs.Connections.{payload_taken, began, arrived, fin_taken};
+    ghost use Rattle.tcp_flow.specs.Flow.{End};
     ghost use Rattle.tcp_connections.specs.State.{HasState, Makes, times};
 
     /// The opposite flow's octets are acknowledged.
@@ -134,6 +135,7 @@ impl Connections {
     }
 
     /// A FIN comes, where the segment has one.
+    #[inline]
     pub(crate) fn fin<L: Listener + Drop>(
         &mut self,
         id: u32,
@@ -149,10 +151,28 @@ impl Connections {
         if !segment.fin {
             return Ok(());
         }
+        self.fin_of_flow(id, number_behind(segment), to)
+    }
+
+    /// A FIN of a flow comes, with the number behind the payload: nothing happens before its first
+    /// stream.
+    #[inline(never)]
+    fn fin_of_flow<L: Listener + Drop>(
+        &mut self,
+        id: u32,
+        number: u32,
+        to: &mut Streams<L>,
+    ) -> Result<(), ListenerFault>
+        requires state { HasState (L.observed to.old.listener) to.old.live.items self.old }
+        ensures does { Makes result (λ w. arrived L.faulted w id (End number))
+            (L.observed to.old.listener) to.old.live.items self.old
+            (L.observed to.new.listener) to.new.live.items self.new }
+        ensures cause { OnErr result (L.failed to.new.listener) }
+    {
         let Some(mut flow) = self.flow(id) else {
             return Ok(());
         };
-        flow.fin(number_behind(segment), &mut self.pool, to)?;
+        flow.fin(number, &mut self.pool, to)?;
         self.flows[id as usize] = Some(flow);
         Ok(())
     }
