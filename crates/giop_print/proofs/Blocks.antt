@@ -4,7 +4,7 @@ use Rattle.std.proofs.Math.Seq.{drop-append-add}
 use Rattle.std.proofs.lemmas.List.{drop_all, drop-drop, drop-append-le, take_all}
 use Rattle.std.proofs.lemmas.Simd.{put_chunk_is}
 use borrow.Rule.Slice.PartMut.{put_mid, mid_of}
-use lib.Lanes.{put_chunk, chunk}
+use lib.Lanes.{put_chunk}
 
 -- all octets of an array from one on
 all_from : (octets : List ℕ) (a : ℕ) → a ≤ 256 → length octets ≡ 256 →
@@ -28,23 +28,22 @@ last_behind octets at within size =
 
 -- the array with a block in it, up to a place
 placed : (octets block : List ℕ) (a : ℕ) → length octets ≡ 256 → length block ≡ 16 → a ≤ 240 →
-    put_mid a (256 - a) octets (put_chunk 0 (mid_of a (256 - a) octets) (chunk 0 16 block))
+    put_mid a (256 - a) octets (put_chunk 0 (mid_of a (256 - a) octets) block)
     ≡ take a octets ++ (block ++ drop (a + 16) octets)
 placed octets block a size few within =
     let from : mid_of a (256 - a) octets ≡ drop a octets =
     all_from octets a (omega (arith, within)) size in
-    let whole : chunk 0 16 block ≡ block = take_all 16 block (omega (arith, few)) in
     let rest = length-drop a octets in
     let none : drop (256 - a) (drop a octets) ≡ [] =
     drop_all (256 - a) (drop a octets) (omega (arith, rest, size)) in
     let room : 0 + length block ≤ length (drop a octets) = omega (arith, few, rest, size, within) in
-    rw (from, whole, put_chunk_is 0 (drop a octets) block room, none, few, drop-drop 16 a octets)
+    rw (from, put_chunk_is 0 (drop a octets) block room, none, few, drop-drop 16 a octets)
     (ap (λ t. take a octets ++ t) (append-nil (block ++ drop (a + 16) octets)))
 
 pub block_before : (octets block : List ℕ) (at count : ℕ) → length octets ≡ 256 →
     length block ≡ 16 → 16 ≤ at → at ≤ 256 → count ≤ 16 →
     drop (at - count) (put_mid (at - 16) (256 - (at - 16)) octets
-    (put_chunk 0 (mid_of (at - 16) (256 - (at - 16)) octets) (chunk 0 16 block)))
+    (put_chunk 0 (mid_of (at - 16) (256 - (at - 16)) octets) block))
     ≡ drop (16 - count) block ++ drop at octets
 block_before octets block at count size few room within less =
     let before = take (at - 16) octets in

@@ -1,4 +1,5 @@
 mod Blocks
+mod DigitLanes
 pub mod Writing
 mod Gathering
 mod Spelling

@@ -1,5 +1,5 @@
 -- The code spells octets and numbers of a line as the specs do, octet by octet.
-use Rattle.std.proofs.Common.{◌≡◌, ℕ, zero, suc, ◌+◌, ◌-◌, ◌*◌, ◌/◌, ◌%◌, ◌^◌, ◌<◌, ◌≤◌, List, [], ◌∷◌, ◌++◌, length, get_or, refl, sym, ap, ◌∙◌, arith, append_assoc, append-nil, pow-suc, add-one, drop, flat_map, Bool, true, ◌&&◌, T, eqb, eqb→eq, eq-zero-or-pos, inl, inr}
+use Rattle.std.proofs.Common.{◌≡◌, ℕ, zero, suc, ◌+◌, ◌-◌, ◌*◌, ◌/◌, ◌%◌, ◌^◌, ◌<◌, ◌≤◌, List, [], ◌∷◌, ◌++◌, length, get_or, refl, sym, ap, ◌∙◌, arith, append_assoc, append-nil, pow-suc, add-one, take, drop, take-append-drop, flat_map, Bool, true, ◌&&◌, T, eqb, eqb→eq, eq-zero-or-pos, inl, inr}
 use Rattle.std.proofs.lemmas.Nat.{pow-add, shr-shr}
 use Rattle.std.proofs.lemmas.List.{drop_all, drop_more}
 use lib.Ieee.Fits.{and_l, and_r}
@@ -13,6 +13,14 @@ use Rattle.giop_print.specs.Lines.{spaced_hex}
 pub hex_append : (xs ys : List ℕ) → hex (xs ++ ys) ≡ hex xs ++ hex ys
 unfolding hex
 hex_append xs ys = flat_map-append hex_octet xs ys
+
+-- the first octets, and those behind them
+pub hex_parted : (n : ℕ) (xs text : List ℕ) →
+    hex (take n xs) ++ (hex (drop n xs) ++ text) ≡ hex xs ++ text
+hex_parted n xs text =
+    sym (append_assoc (hex (take n xs)) (hex (drop n xs)) text)
+    ∙ ap (λ z. z ++ text) (sym (hex_append (take n xs) (drop n xs))
+    ∙ ap hex (take-append-drop n xs))
 
 pub escaped_append : (xs ys : List ℕ) → escaped (xs ++ ys) ≡ escaped xs ++ escaped ys
 unfolding escaped
@@ -99,11 +107,6 @@ escaped_before text before xs i p h e = rw (from_end xs i p h, e)
     (sym (append_assoc (escaped_octet (get_or xs (i - 1) 0)) (flat_map escaped_octet (drop i xs))
     text))
 
--- the digits of one octet more of a number, from the lowest
-pub hex_number_none : (text : List ℕ) (n : ℕ) → text ≡ hex_number 0 n ++ text
-unfolding hex_number
-hex_number_none text n = refl
-
 -- the two digits of an octet of a number
 high_digit : (k n : ℕ) → n / 2 ^ (8 * k) % 256 / 16 ≡ n / 16 ^ (2 * k + 1) % 16
 high_digit k n =
@@ -115,18 +118,44 @@ low_digit k n =
     let e : 4 * (2 * k) ≡ 8 * k = omega arith in
     rw (pow-16 (2 * k), e) (omega arith)
 
-pub hex_number_before : (text before : List ℕ) (k n : ℕ) → before ≡ hex_number (2 * k) n ++ text →
-    hex_octet (n / 2 ^ (8 * k) % 256) ++ before ≡ hex_number (2 * (k + 1)) n ++ text
+-- the octets of a number from the one at k, each by one shift more
+abbrev shifted : ℕ → ℕ → ℕ
+shifted zero n = n
+shifted (suc k) n = shifted k n / 256
+
+abbrev pub number_octets : ℕ → ℕ → List ℕ
+number_octets zero n = []
+number_octets (suc k) n = shifted k n % 256 ∷ number_octets k n
+
+shifted_is : (k n : ℕ) → shifted k n ≡ n / 2 ^ (8 * k)
+shifted_is zero n = omega arith
+shifted_is (suc k) n =
+    let e : 8 * suc k ≡ 8 * k + 8 = omega arith in
+    rw (shifted_is k n, e) (shr-shr n (8 * k) 8)
+
+pub number_spelled : (k n : ℕ) → hex (number_octets k n) ≡ hex_number (2 * k) n
+unfolding hex hex_number
+number_spelled zero n = refl
+number_spelled (suc k) n =
+    let s : 2 * suc k ≡ suc (suc (2 * k)) = omega arith in
+    rw (s, shifted_is k n, high_digit, low_digit, number_spelled k n, add-one) refl
+
+-- the last digits of a number
+digits_behind : (k digits n : ℕ) → drop k (hex_number (k + digits) n) ≡ hex_number digits n
 unfolding hex_number
-hex_number_before text before k n e =
-    let s : 2 * (k + 1) ≡ suc (suc (2 * k)) = omega arith in
-    rw (s, high_digit, low_digit, e, add-one) refl
+digits_behind zero digits n = let e : 0 + digits ≡ digits = omega arith in rw e refl
+digits_behind (suc k) digits n =
+    let e : suc k + digits ≡ suc (k + digits) = omega arith in rw e (digits_behind k digits n)
+
+pub last_digits : (digits n : ℕ) → digits ≤ 16 →
+    drop (16 - digits) (hex_number 16 n) ≡ hex_number digits n
+last_digits digits n few =
+    let e : 16 - digits + digits ≡ 16 = omega arith in
+    rw e at (digits_behind (16 - digits) digits n)
 
 pub ruleset spelling_steps = (
   hex_last,
   hex_before,
   escaped_last,
   escaped_before,
-  hex_number_none,
-  hex_number_before,
 )

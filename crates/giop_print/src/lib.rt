@@ -1,6 +1,7 @@
 //! The lines of a dump: their text, and the sinks that they are written to.
 #![tactic(auto)]
 
+mod digits;
 mod encapsulation_lines;
 mod line;
 mod lines;

@@ -1,10 +1,11 @@
 //! A line that is spelled from its end to its front, so that the digits of a number go straight to their place.
 
-ghost use Rattle.std.specs.Prelude.{◌≡◌, ◌≤◌, ◌<◌, ◌+◌, ◌-◌, ◌*◌, [], ◌∷◌, ◌++◌, length, drop, decimal};
+ghost use Rattle.std.specs.Prelude.{◌≡◌, ◌≤◌, ◌<◌, ◌+◌, ◌-◌, ◌*◌, [], ◌∷◌, ◌++◌, length, take, drop, decimal};
 ghost use Rattle.std.specs.Fmt.{signed_decimal};
 ghost use Rattle.giop_print.specs.Text.{hex_octet, hex, hex_number, escaped_octet, escaped, quoted};
 ghost use Rattle.giop_print.specs.Lines.{piece_octets, split_text};
 
+use crate::digits::{digit_pairs, number_digits};
 use crate::value::Piece;
 use itoa::write_digits;
 use std::simd::prelude::*;
@@ -30,14 +31,14 @@ pub struct Line {
 impl Line {
     ghost use Rattle.giop_print.specs.Line.{line_text, line_room};
 
-    /// A line of which nothing is spelled.
+    /// A line of which nothing is spelled. Its end is there already where it is put first.
     #[inline]
     pub fn new() -> Line
         ensures text { line_text result ≡ [] }
         ensures room { line_room result ≡ 256 }
     {
         Line {
-            octets: [0; ROOM],
+            octets: [b'\n'; ROOM],
             at: ROOM,
         }
     }
@@ -117,8 +118,19 @@ impl Line {
         ensures text { line_text self.new ≡ drop (16 - count) block.now ++ line_text self.old }
         ensures room { line_room self.new + count ≡ line_room self.old }
     {
+        self.put_lanes(u8x16::from_slice(block), count);
+    }
+
+    /// Puts the last lanes of a vector, so many, before what was spelled.
+    #[inline(always)]
+    fn put_lanes(&mut self, block: u8x16, count: usize)
+        requires within { count ≤ 16 }
+        requires room { 16 ≤ line_room self.old }
+        ensures text { line_text self.new ≡ drop (16 - count) block ++ line_text self.old }
+        ensures room { line_room self.new + count ≡ line_room self.old }
+    {
         let at = self.at;
-        u8x16::from_slice(block).copy_to_slice(&mut self.octets[at - BLOCK..]);
+        block.copy_to_slice(&mut self.octets[at - BLOCK..]);
         self.at = at - count;
     }
 
@@ -158,9 +170,40 @@ impl Line {
         self.put(PAIRS[pair]);
     }
 
-    /// Puts two digits for each octet before what was spelled.
+    /// Puts two digits for each octet before what was spelled: of 16 octets at once, from the last,
+    /// and of those in front of them one by one.
+    #[inline(always)]
     #[tactic(auto, using(crate::proofs::Spelling::spelling_steps))]
     pub(crate) fn put_hex(&mut self, octets: &[u8])
+        requires { 2 * length octets.now ≤ line_room self.old }
+        ensures text { line_text self.new ≡ hex octets.now ++ line_text self.old }
+        ensures room { line_room self.new + 2 * length octets.now ≡ line_room self.old }
+    {
+        let mut left = octets.len();
+        while left >= BLOCK {
+            left -= BLOCK;
+            self.put_hex_block(&octets[left..]);
+        }
+        self.put_hex_octets(&octets[..left]);
+    }
+
+    /// Puts two digits for each of the first 16 octets before what was spelled.
+    #[inline(always)]
+    fn put_hex_block(&mut self, octets: &[u8])
+        requires size { 16 ≤ length octets.now }
+        requires room { 32 ≤ line_room self.old }
+        ensures text { line_text self.new ≡ hex (take 16 octets.now) ++ line_text self.old }
+        ensures room { line_room self.new + 32 ≡ line_room self.old }
+    {
+        let (first, others) = digit_pairs(u8x16::from_slice(octets));
+        self.put_lanes(others, BLOCK);
+        self.put_lanes(first, BLOCK);
+    }
+
+    /// Puts two digits for each octet before what was spelled, one octet after another.
+    #[inline(always)]
+    #[tactic(auto, using(crate::proofs::Spelling::spelling_steps))]
+    fn put_hex_octets(&mut self, octets: &[u8])
         requires { 2 * length octets.now ≤ line_room self.old }
         ensures text { line_text self.new ≡ hex octets.now ++ line_text self.old }
         ensures room { line_room self.new + 2 * length octets.now ≡ line_room self.old }
@@ -217,18 +260,13 @@ impl Line {
 
     /// Puts the digits of a number of so many octets, two for each, before what was spelled.
     #[inline]
-    #[tactic(auto, using(crate::proofs::Spelling::spelling_steps))]
     pub(crate) fn put_bits(&mut self, n: u64, octets: u8)
         requires octets { octets ≤ 8 }
         requires room { 16 ≤ line_room self.old }
         ensures text { line_text self.new ≡ hex_number (2 * octets) n ++ line_text self.old }
         ensures room { line_room self.new + 2 * octets ≡ line_room self.old }
     {
-        let mut done = 0;
-        while done < octets {
-            self.put_octet(((n >> (8 * done)) % 256) as u8);
-            done += 1;
-        }
+        self.put_lanes(number_digits(n), 2 * usize::from(octets));
     }
 
     /// Puts what a piece has after its offset, where `next` follows its octets, before what was spelled: a space and

@@ -1,0 +1,41 @@
+//! Hexadecimal digits, 16 at a time.
+
+ghost use Rattle.std.specs.Prelude.{◌≡◌, ◌<◌, map, take, drop};
+ghost use Rattle.std.specs.Simd.Lanes.{Each1};
+ghost use Rattle.giop_print.specs.Text.{hex_digit, hex, hex_number};
+
+use std::simd::prelude::*;
+
+/// The digit of each of some numbers below 16: behind 9 come the letters.
+#[inline(always)]
+fn digits(numbers: u8x16) -> u8x16
+    requires { Each1 (λ number. number < 16) numbers }
+    ensures { result ≡ map hex_digit numbers }
+{
+    let letters = numbers.simd_gt(u8x16::splat(9));
+    let further = letters.select(u8x16::splat(b'a' - b'0' - 10), u8x16::splat(0));
+    numbers + u8x16::splat(b'0') + further
+}
+
+/// The two digits of each of 16 octets: those of the first eight, and those of the others.
+#[inline(always)]
+pub(crate) fn digit_pairs(octets: u8x16) -> (u8x16, u8x16)
+    ensures first { result.0 ≡ hex (take 8 octets) }
+    ensures others { result.1 ≡ hex (drop 8 octets) }
+{
+    let high = octets >> u8x16::splat(4);
+    let low = octets & u8x16::splat(15);
+    let (first, others) = high.interleave(low);
+    (digits(first), digits(others))
+}
+
+/// The 16 digits of a number.
+#[inline(always)]
+pub(crate) fn number_digits(n: u64) -> u8x16
+    ensures { result ≡ hex_number 16 n }
+{
+    let octets = u64x2::from_array([n, 0]).to_le_bytes();
+    let turned = octets.swizzle([7, 6, 5, 4, 3, 2, 1, 0, 7, 6, 5, 4, 3, 2, 1, 0]);
+    let (digits, _) = digit_pairs(turned);
+    digits
+}
