@@ -1,12 +1,14 @@
 -- The definitions of connections, a case at a time.
-use Rattle.std.proofs.Common.{◌≡◌, ℕ, zero, suc, ◌+◌, ◌-◌, ◌<◌, ◌≤◌, true, false, cond, nat_lt, length, set, get_or, Some, None, refl, sym, ◌∙◌, ap, arith, add-one}
+use Rattle.std.proofs.Common.{◌≡◌, ℕ, zero, suc, ◌+◌, ◌-◌, ◌<◌, ◌≤◌, true, false, cond, nat_lt, List, length, set, get_or, Option, Some, None, refl, sym, ◌∙◌, ap, arith, add-one}
 use Rattle.std.proofs.lemmas.Bool.{cond-true, cond-false, lt-ltb, le-ltb}
+use Rattle.std.proofs.lemmas.List.{set-get_or}
 use Rattle.tcp_segment.specs.Segments.{Segment}
 use Rattle.tcp_flow.specs.declared.flow.CloseCause.{CloseCause}
 use Rattle.tcp_flow.specs.declared.flow.CloseCause.TheVariants.{Reset, Syn, Room}
 use Rattle.tcp_flow.specs.declared.flow.FlowState.{FlowState}
-use Rattle.tcp_flow.specs.Flow.{Reader, Arrival, Octets, End, Acknowledged, setting, closed, gap, step as flow_step, held_by_others}
+use Rattle.tcp_flow.specs.Flow.{Flow, Reader, Setting, Arrival, Octets, End, Acknowledged, setting, closed, gap, step as flow_step, held_by_others}
 use Rattle.tcp_flow.specs.State.{state}
+use Rattle.tcp_flow.proofs.Steps.{missed_none}
 use Rattle.tcp_streams.specs.declared.pair.Side.{Side}
 use Rattle.tcp_streams.specs.Pairs.{pair_of, opposite, flow_id}
 use Rattle.tcp_streams.specs.Lives.{lives, elder_side}
@@ -68,6 +70,38 @@ pub acknowledged_some : (F : Reader) (w : State) (id : ℕ) (s : Segment) (numbe
     ≡ arrived F w id (Acknowledged number)
 unfolding acknowledgement_taken
 acknowledged_some F w id s number e = rw (e, acknowledgement_taken) refl
+
+-- where nothing waits, an acknowledgement changes nothing
+none_missed : (A : Setting) (f : Flow) (number : ℕ) → length f.held ≡ 0 →
+    flow_step A f (Acknowledged number) ≡ f
+unfolding flow_step
+none_missed A f number none = missed_none A.faulted (length f.held) number f (omega (arith, none))
+
+same_flow : (w : State) (id : ℕ) (s : FlowState) → flow_at w id ≡ Some s →
+    with_flow w id (state s w.held w.events) ≡ w
+unfolding with_flow
+same_flow w id s e =
+    ap (λ (flows : List (Option FlowState)). record w { flows = flows })
+    (ap (set w.flows id) (sym e) ∙ set-get_or w.flows id None)
+
+none_arrived : (F : Reader) (w : State) (id number : ℕ) (o : Option FlowState) →
+    length w.held ≡ 0 → flow_at w id ≡ o → arrived F w id (Acknowledged number) ≡ w
+none_arrived F w id number None none e = arrived_none F w id (Acknowledged number) e
+none_arrived F w id number (Some s) none e =
+    arrived_some F w id (Acknowledged number) s e
+    ∙ ap (with_flow w id)
+    (none_missed (setting F w.blocks) (state s w.held w.events) number none)
+    ∙ same_flow w id s e
+
+none_taken : (F : Reader) (w : State) (id : ℕ) (s : Segment) (o : Option ℕ) →
+    length w.held ≡ 0 → s.acknowledgement ≡ o → acknowledgement_taken F w id s ≡ w
+none_taken F w id s None none e = acknowledged_none F w id s e
+none_taken F w id s (Some number) none e =
+    acknowledged_some F w id s number e ∙ none_arrived F w id number (flow_at w id) none refl
+
+pub none_waits : (F : Reader) (w : State) (id : ℕ) (s : Segment) → length w.held ≡ 0 →
+    acknowledgement_taken F w id s ≡ w
+none_waits F w id s none = none_taken F w id s s.acknowledgement none refl
 
 pub payload_first : (F : Reader) (w : State) (id : ℕ) (s : Segment) → flow_at w id ≡ None →
     is_first w.ports s ≡ true → payload_taken F w id s ≡ began F w id (first_number s) s.payload

@@ -33,6 +33,10 @@ impl Connections {
             (L.observed to.new.listener) to.new.live.items self.new }
         ensures cause { OnErr result (L.failed to.new.listener) }
     {
+        // Where nothing waits, nothing is missing before it.
+        if self.pool.len() == 0 {
+            return Ok(());
+        }
         let Some(number) = segment.acknowledgement else {
             return Ok(());
         };

@@ -89,7 +89,7 @@ impl Connections {
             return self.take_unknown(pair, side, segment, to);
         };
         let id = flow_id(self.table.room(place), side);
-        if is_anew(self.live_at(id), segment) {
+        if self.is_anew(id, segment) {
             self.forget(place, side, CloseCause::Syn, to)?;
             return self.take_unknown(pair, side, segment, to);
         }
@@ -223,18 +223,20 @@ impl Connections {
             None => None,
         }
     }
-}
 
-/// Whether a segment begins its connection anew: a SYN without ACK, but not that of the live
-/// stream.
-fn is_anew(live: Option<u32>, segment: Segment<'_>) -> bool
-    ensures { result ≡ spec_is_anew live (segment_view segment.entry) }
-{
-    if !segment.syn || segment.acknowledgement.is_some() {
-        return false;
-    }
-    match live {
-        Some(number) => number != onward(segment.sequence, 1),
-        None => true,
+    /// Whether a segment begins its connection anew: a SYN without ACK, but not that of the live
+    /// stream of its flow.
+    #[inline]
+    fn is_anew(&self, id: u32, segment: Segment<'_>) -> bool
+        ensures { result ≡ spec_is_anew (live_of (get_or self.now.flows.items id None))
+            (segment_view segment.entry) }
+    {
+        if !segment.syn || segment.acknowledgement.is_some() {
+            return false;
+        }
+        match self.live_at(id) {
+            Some(number) => number != onward(segment.sequence, 1),
+            None => true,
+        }
     }
 }

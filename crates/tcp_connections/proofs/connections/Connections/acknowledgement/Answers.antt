@@ -1,4 +1,4 @@
-use Rattle.std.proofs.Common.{◌≡◌, ◌≤◌, Some, refl, sym, ◌∙◌, arith}
+use Rattle.std.proofs.Common.{◌≡◌, ◌≤◌, Some, length, refl, sym, ap, ◌∙◌, arith}
 use Rattle.tcp_segment.specs.Segments.{segment_view}
 use Rattle.tcp_flow.specs.Flow.{Flow, Acknowledged}
 use Rattle.std.specs.Vec.{with_item}
@@ -6,11 +6,17 @@ use Rattle.tcp_waiting.specs.Payload.{blocks_of}
 use Rattle.tcp_flow.specs.State.{state}
 use Rattle.tcp_connections.specs.Connections.{State, flow_at, acknowledgement_taken}
 use Rattle.tcp_connections.specs.State.{state_of}
-use Rattle.tcp_connections.proofs.Cases.{acknowledged_none, acknowledged_some, arrived_none, arrived_some}
+use Rattle.tcp_connections.proofs.Cases.{none_waits, acknowledged_none, acknowledged_some, arrived_none, arrived_some}
 use Rattle.tcp_connections.proofs.Sound.{some_within, apart_some}
 use Rattle.tcp_connections.proofs.Living.{step_turn}
 use Rattle.tcp_connections.proofs.States.{makes_by, moved, flow_done, beside_own, turn_start, small_id}
 use Rattle.tcp_connections.proofs.connections.Connections.acknowledgement.Goals as goal
+
+pub returns-then-len-eq0-clause-does : goal.returns-then-len-eq0-clause-does
+returns-then-len-eq0-clause-does g c w h =
+    moved _ _ _ _ _ (none_waits g.L.Listener.faulted w c.args.id (segment_view c.args.segment)
+    (ap (λ (u : State). length u.held) (sym h.same) ∙ sym c.len.ensures.held
+    ∙ c.if-len-eq0.true)) h
 
 pub returns-in_default-clause-does : goal.returns-in_default-clause-does
 returns-in_default-clause-does g c w h =

@@ -113,9 +113,9 @@ returns-then-is_anew-clause-does g c w h =
     let id : c.flow_id-id.result ≡ flow_id (room_at w place) (pair_of V.flow).1 =
     c.flow_id-id.ensures.id ∙ ap (λ (r : ℕ). flow_id r c.pair_of-side.result.1) at
     ∙ ap (λ q. flow_id (room_at w place) q.1) c.pair_of-side.ensures in
-    let live : live_at w (flow_id (room_at w place) (pair_of V.flow).1) ≡ c.live_at.result =
-    sym (c.live_at.ensures ∙ ap (λ (u : State). live_at u c.flow_id-id.result) h.same
-    ∙ ap (live_at w) id) in
+    let live : live_at w (flow_id (room_at w place) (pair_of V.flow).1)
+    ≡ live_at (state_of c.args.self.now w.events) c.flow_id-id.result =
+    sym (ap (λ (u : State). live_at u c.flow_id-id.result) h.same ∙ ap (live_at w) id) in
     let anew : is_anew (live_at w (flow_id (room_at w place) (pair_of V.flow).1)) V ≡ true =
     ap (λ l. is_anew l V) live ∙ sym c.is_anew.ensures ∙ c.if-is_anew.true in
     moved_ok c.take_unknown-then-is_anew.result _ _ _ _ _
@@ -144,9 +144,9 @@ returns-then-is_anew-clause-count g c =
     let id : c.flow_id-id.result ≡ flow_id (room_at w place) (pair_of V.flow).1 =
     c.flow_id-id.ensures.id ∙ ap (λ (r : ℕ). flow_id r c.pair_of-side.result.1) at
     ∙ ap (λ q. flow_id (room_at w place) q.1) c.pair_of-side.ensures in
-    let live : live_at w (flow_id (room_at w place) (pair_of V.flow).1) ≡ c.live_at.result =
-    sym (c.live_at.ensures ∙ ap (λ (u : State). live_at u c.flow_id-id.result) h.same
-    ∙ ap (live_at w) id) in
+    let live : live_at w (flow_id (room_at w place) (pair_of V.flow).1)
+    ≡ live_at (state_of c.args.self.now w.events) c.flow_id-id.result =
+    sym (ap (λ (u : State). live_at u c.flow_id-id.result) h.same ∙ ap (live_at w) id) in
     let anew : is_anew (live_at w (flow_id (room_at w place) (pair_of V.flow).1)) V ≡ true =
     ap (λ l. is_anew l V) live ∙ sym c.is_anew.ensures ∙ c.if-is_anew.true in
     segments_of c.take_unknown-then-is_anew.result _ _ _ _ _
@@ -183,9 +183,9 @@ returns-clause-does g c w h =
     let id : c.flow_id-id.result ≡ flow_id (room_at w place) (pair_of V.flow).1 =
     c.flow_id-id.ensures.id ∙ ap (λ (r : ℕ). flow_id r c.pair_of-side.result.1) at
     ∙ ap (λ q. flow_id (room_at w place) q.1) c.pair_of-side.ensures in
-    let live : live_at w (flow_id (room_at w place) (pair_of V.flow).1) ≡ c.live_at.result =
-    sym (c.live_at.ensures ∙ ap (λ (u : State). live_at u c.flow_id-id.result) h.same
-    ∙ ap (live_at w) id) in
+    let live : live_at w (flow_id (room_at w place) (pair_of V.flow).1)
+    ≡ live_at (state_of c.args.self.now w.events) c.flow_id-id.result =
+    sym (ap (λ (u : State). live_at u c.flow_id-id.result) h.same ∙ ap (live_at w) id) in
     let known : is_anew (live_at w (flow_id (room_at w place) (pair_of V.flow).1)) V ≡ false =
     ap (λ l. is_anew l V) live ∙ sym c.is_anew.ensures ∙ c.if-is_anew.false in
     moved_ok c.take_known.result _ _ _ _ _ (step_known F w V place some known)
@@ -210,9 +210,9 @@ returns-clause-count g c =
     let id : c.flow_id-id.result ≡ flow_id (room_at w place) (pair_of V.flow).1 =
     c.flow_id-id.ensures.id ∙ ap (λ (r : ℕ). flow_id r c.pair_of-side.result.1) at
     ∙ ap (λ q. flow_id (room_at w place) q.1) c.pair_of-side.ensures in
-    let live : live_at w (flow_id (room_at w place) (pair_of V.flow).1) ≡ c.live_at.result =
-    sym (c.live_at.ensures ∙ ap (λ (u : State). live_at u c.flow_id-id.result) h.same
-    ∙ ap (live_at w) id) in
+    let live : live_at w (flow_id (room_at w place) (pair_of V.flow).1)
+    ≡ live_at (state_of c.args.self.now w.events) c.flow_id-id.result =
+    sym (ap (λ (u : State). live_at u c.flow_id-id.result) h.same ∙ ap (live_at w) id) in
     let known : is_anew (live_at w (flow_id (room_at w place) (pair_of V.flow).1)) V ≡ false =
     ap (λ l. is_anew l V) live ∙ sym c.is_anew.ensures ∙ c.if-is_anew.false in
     segments_of c.take_known.result _ _ _ _ _
