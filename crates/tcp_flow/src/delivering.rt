@@ -48,6 +48,7 @@ impl FlowState {
     }
 
     /// A payload is taken: delivered, or a stream begins in it, or it is nothing.
+    #[inline(always)]
     pub(crate) fn take<T: Listener>(
         &mut self,
         number: u32,
