@@ -15,6 +15,14 @@ use Rattle.tcp_connections.specs.Connections.{place_of, place_among}
 order : IsTotalOrder C
 order = total-law
 
+own_reverse : (r : Ordering) → r ≡ ordering_reverse r → r ≡ Equal
+own_reverse Less e = cc
+own_reverse Equal e = refl
+own_reverse Greater e = cc
+
+pub same_pair : (p : EndpointPair) → C p p ≡ Equal
+same_pair p = own_reverse (C p p) (order.antisymm p p)
+
 all_at : (P : EndpointPair → Type 0) (xs : List EndpointPair) (i : ℕ) (d : EndpointPair) →
     AllByRecursion P xs → i < length xs → P (get_or xs i d)
 all_at P [] i d h l = absurd (omega (arith, l))

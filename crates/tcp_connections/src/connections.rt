@@ -26,6 +26,8 @@ pub struct Connections {
     pub(crate) flows: Vec<Option<FlowState>>,
     pub(crate) pool: Pool,
     segments: u64,
+    /// The place that the connection of the last segment had: a guess, since others come and go.
+    recent: usize,
 }
 
 impl Connections {
@@ -65,6 +67,7 @@ impl Connections {
             flows,
             pool,
             segments: 0,
+            recent: 0,
         })
     }
 
@@ -117,6 +120,7 @@ impl Connections {
         let room = self.table.room(place);
         let id = flow_id(room, side);
         self.stamps.note(room, self.segments);
+        self.recent = place;
         self.acknowledgement(flow_id(room, other(side)), segment, to)?;
         self.payload(id, segment, to)?;
         self.fin(id, segment, to)?;
@@ -179,12 +183,16 @@ impl Connections {
         Ok(room)
     }
 
-    /// The place of a pair among those that are known.
+    /// The place of a pair among those that are known: first that of the last segment is looked at.
     fn place_of(&self, pair: &EndpointPair) -> Option<usize>
         requires sound { IsSound (state_of self.now []) }
         ensures place { result ≡ place_of pair.now self.now.table.keys.items }
         ensures within { IfSome result (λ place. place < vec_len self.now.table.keys) }
     {
+        let recent = self.recent;
+        if recent < self.table.len() && *self.table.key(recent) == *pair {
+            return Some(recent);
+        }
         match self.table.place(pair) {
             Ok(place) => Some(place),
             Err(_) => None,

@@ -1,6 +1,15 @@
-use Rattle.std.proofs.Common.{sym, arith}
-use Rattle.tcp_connections.proofs.Search.{searched, unfound}
+use Rattle.std.proofs.Common.{rules, ◌≡◌, sym, ap, ◌∙◌, arith}
+use Rattle.tcp_streams.specs.Pairs.{compare_pairs}
+use Rattle.tcp_connections.proofs.Search.{found, same_pair, searched, unfound}
 use Rattle.tcp_connections.proofs.connections.Connections.place_of.Goals as goal
+
+pub returns-then-eq-clause-place : goal.returns-then-eq-clause-place
+returns-then-eq-clause-place c =
+    let same : c.key.result.now ≡ c.args.pair.now = search rules in
+    sym (found c.args.pair.now c.args.self.now.table.keys.items c.args.self.now.recent
+    c.requires.sound.order (omega arith)
+    (λ d. ap (λ k. compare_pairs k c.args.pair.now) (sym (c.key.ensures d) ∙ same)
+    ∙ same_pair c.args.pair.now))
 
 pub returns-in-Ok-clause-place : goal.returns-in-Ok-clause-place
 returns-in-Ok-clause-place c =
