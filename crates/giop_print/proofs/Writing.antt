@@ -1,6 +1,6 @@
 -- Writing a text in parts, one call after the other: all of it, or a front of it before a put
 -- failed.
-use Rattle.std.proofs.Common.{◌≡◌, Result, Ok, Err, IsErr, ℕ, suc, get_or, flat_map, ◌+◌, ◌-◌, ◌≤◌, List, [], ◌∷◌, ◌++◌, length, take, drop, take-add, ◌<◌, length-take, length-drop, Option, Some, None, refl, sym, ap, ◌∙◌, arith, append-nil, append_assoc, add-one, length-append, min, inl, inr}
+use Rattle.std.proofs.Common.{◌≡◌, Result, Ok, Err, IsErr, ℕ, suc, get_or, flat_map, ◌+◌, ◌-◌, ◌≤◌, List, [], ◌∷◌, ◌++◌, length, take, drop, take-add, ◌<◌, length-take, length-drop, drop-drop, Option, Some, None, refl, sym, ap, ◌∙◌, subst, arith, append-nil, append_assoc, add-one, length-append, min, inl, inr}
 use Rattle.std.proofs.Math.Seq.{take-append-add, take-append_seam, take-suc}
 use Rattle.std.proofs.lemmas.List.Concat.{flat_map-append}
 use Rattle.std.proofs.lemmas.List.{take-append-le, take_all, take-append-drop}
@@ -79,6 +79,26 @@ wrote-took a b c bytes at n h p q =
           (take n (drop at bytes)) p.written q.written);
       puts = omega (arith, p.puts, q.puts, q.some);
       failures = q.failures ∙ p.failures;
+    }
+
+-- all but a rest is written, and a put takes some of that
+pub record LeavesRest (before after : OutLog) (bytes rest : List ℕ) : Type 0 where
+  pub within : length rest ≤ length bytes
+  pub behind : rest ≡ drop (length bytes - length rest) bytes
+  pub wrote : Wrote before after (take (length bytes - length rest) bytes)
+
+pub rest-took : (a b c : OutLog) (bytes rest : List ℕ) (n : ℕ) → 0 < length rest →
+    LeavesRest a b bytes rest → Took b c rest n → LeavesRest a c bytes (drop n rest)
+rest-took a b c bytes rest n some left took =
+    let at = length bytes - length rest in
+    let l = length-drop n rest in
+    let e : length bytes - length (drop n rest) ≡ at + n =
+    omega (arith, left.within, took.within) in
+    record {
+      within = omega (arith, left.within);
+      behind = rw e (ap (drop n) left.behind ∙ drop-drop n at bytes);
+      wrote = rw e (wrote-took a b c bytes at n (omega (arith, left.within)) left.wrote
+          (subst (λ r. Took b c r n) left.behind took));
     }
 
 pub front-failed : (a b c : OutLog) (bytes : List ℕ) (at : ℕ) → at < length bytes →

@@ -5,13 +5,13 @@ ghost use Rattle.std.specs.Prelude.{◌+◌, ◌≤◌, ◌++◌, length};
 ghost use Rattle.giop_print.specs.Output.{Writes};
 ghost use Rattle.giop_print.specs.Lines.{encapsulation_line, order_line, inner_rest_line};
 
-use crate::lines::{content_line, kind_line};
+use crate::line::Line;
+use crate::lines::{counted_line, kind_line, put_content, spelled_line};
 use crate::position::Position;
 use crate::sink::{Out, OutFault};
 use crate::value::{Piece, SplitPiece};
 use crate::words::order_word;
 use giop_cdr::Order;
-use itoa::Buffer;
 
 /// The line of an encapsulation: how many octets it has.
 pub fn encapsulation_line<O: Out, P: Position>(
@@ -23,9 +23,7 @@ pub fn encapsulation_line<O: Out, P: Position>(
     ensures { Writes result (O.log out.old) (O.log out.new)
         (encapsulation_line message (P.spelled path.now) length) }
 {
-    let mut digits = Buffer::new();
-    let length = digits.format(length).as_bytes();
-    kind_line(out, message, path, b" encapsulation ", length)
+    counted_line(out, message, path, b" encapsulation ", length)
 }
 
 /// The line of an encapsulation's byte order.
@@ -58,6 +56,7 @@ pub fn inner_rest_line<O: Out, P: Position>(
 
 /// The line of a part of an encapsulation's rest that came in two: the octets that were held, and those that follow
 /// them, at most 32 in all.
+#[tactic(auto, unfolding(crate::specs::Lines::content_line))]
 pub fn split_inner_rest_line<O: Out, P: Position>(
     out: &mut O,
     message: u64,
@@ -76,5 +75,8 @@ pub fn split_inner_rest_line<O: Out, P: Position>(
         rest: octets,
         more: false,
     };
-    content_line(out, message, path, b" rest @", rest)
+    let mut line = Line::new();
+    put_content(&mut line, rest);
+    line.put_octets(b" rest @");
+    spelled_line(out, message, path, &mut line)
 }

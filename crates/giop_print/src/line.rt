@@ -233,6 +233,7 @@ impl Line {
     }
 
     /// Puts what stands for the octets between quotes before what was spelled.
+    #[inline(never)]
     #[tactic(auto, using(crate::proofs::Spelling::spelling_steps))]
     pub(crate) fn put_escaped(&mut self, octets: &[u8])
         requires { 4 * length octets.now ≤ line_room self.old }
@@ -271,6 +272,7 @@ impl Line {
 
     /// Puts what a piece has after its offset, where `next` follows its octets, before what was spelled: a space and
     /// its text between quotes, or a space and its digits where it has octets.
+    #[inline(always)]
     pub(crate) fn put_piece(&mut self, piece: Piece<'_>, next: &[u8])
         requires size { length (piece_octets piece) + length next.now ≤ 32 }
         requires room { 131 ≤ line_room self.old }

@@ -1,17 +1,17 @@
 //! The lines of a dump, written to any `Out` (docs/FORMATS.md). A function returns Ok where its whole line was
 //! written; else a put failed, and a front of the line was written. Messages are named by their numbers.
 
-ghost use Rattle.std.specs.Prelude.{◌≡◌, ◌+◌, ◌≤◌, [], ◌++◌, length, codes};
+ghost use Rattle.std.specs.Prelude.{◌≡◌, ◌+◌, ◌≤◌, [], ◌++◌, length, codes, decimal};
 ghost use Rattle.giop_cdr.specs.Primitives.{size_of};
 ghost use Rattle.giop_print.specs.Output.{Writes};
 ghost use Rattle.giop_print.specs.Line.{line_text, line_room, numbered, headed, Spells};
-ghost use Rattle.giop_print.specs.Lines.{kind_line, kind_word, spaced, number_text, piece_octets, split_text, more_word, value_line, content_line, piece_line, split_piece_line, rest_line, start_line, call_line, continues_line, cancelled_line, fault_line, end_line, stream_fault_line, unfinished_line, total_line};
+ghost use Rattle.giop_print.specs.Lines.{kind_line, kind_word, spaced, number_text, piece_octets, split_text, more_word, value_line, piece_line, split_piece_line, rest_line, start_line, call_line, continues_line, cancelled_line, fault_line, end_line, stream_fault_line, unfinished_line, total_line};
 
 use crate::line::Line;
 use crate::position::Position;
 use crate::sink::{Out, OutFault, put_parts};
 use crate::value::{MessageHeader, Piece, SplitPiece, Value};
-use crate::words::{more_word, order_word, piece_word, put_kind, truth_word, type_word};
+use crate::words::{order_word, put_kind, put_more, put_piece_word, truth_word, type_word};
 use giop_cdr::{Number, Prim, size};
 use itoa::Buffer;
 
@@ -28,12 +28,29 @@ pub fn value_line<O: Out, P: Position>(
     match value {
         Value::Primitive(prim, number) => number_line(out, message, path, prim, number),
         Value::Enum(name) => kind_line(out, message, path, b" enum ", name),
-        Value::Count(count) => {
-            let mut digits = Buffer::new();
-            let count = digits.format(count).as_bytes();
-            kind_line(out, message, path, b" count ", count)
-        }
+        Value::Count(count) => counted_line(out, message, path, b" count ", count),
     }
+}
+
+/// The line of how many there are of something, whose word has its spaces.
+#[tactic(auto, unfolding(crate::specs::Lines::kind_line))]
+#[inline(always)]
+pub(crate) fn counted_line<O: Out, P: Position>(
+    out: &mut O,
+    message: u64,
+    path: &P,
+    kind: &[u8],
+    count: u32,
+) -> Result<(), OutFault>
+    requires { length kind.now ≤ 128 }
+    ensures { Writes result (O.log out.old) (O.log out.new)
+        (kind_line message (P.spelled path.now) kind.now (decimal count)) }
+{
+    let mut line = Line::new();
+    line.put(b'\n');
+    line.put_number(u64::from(count));
+    line.put_octets(kind);
+    spelled_line(out, message, path, &mut line)
 }
 
 /// The line of a primitive's number.
@@ -183,7 +200,7 @@ fn placed_line<O: Out, P: Position>(
 }
 
 /// What begins a line of a message at a position, and the rest of it, which is spelled with its kind.
-fn spelled_line<O: Out, P: Position>(
+pub(crate) fn spelled_line<O: Out, P: Position>(
     out: &mut O,
     message: u64,
     path: &P,
@@ -239,7 +256,7 @@ pub fn piece_line<O: Out, P: Position>(
 }
 
 /// The line of a piece that came in two, at most 32 octets in all.
-#[inline(always)]
+#[tactic(auto, unfolding(crate::specs::Lines::content_line))]
 pub fn split_piece_line<O: Out, P: Position>(
     out: &mut O,
     message: u64,
@@ -251,29 +268,28 @@ pub fn split_piece_line<O: Out, P: Position>(
         (split_piece_line message (P.spelled path.now) piece.entry.held piece.entry.rest.now
         piece.entry.offset piece.entry.more) }
 {
-    content_line(out, message, path, piece_word(piece.held), piece)
+    let mut line = Line::new();
+    put_content(&mut line, piece);
+    put_piece_word(&mut line, piece.held);
+    spelled_line(out, message, path, &mut line)
 }
 
-/// The line of a part of a content, which came in two.
-#[tactic(auto, unfolding(crate::specs::Lines::content_line))]
-pub fn content_line<O: Out, P: Position>(
-    out: &mut O,
-    message: u64,
-    path: &P,
-    word: &[u8],
-    piece: SplitPiece<'_>,
-) -> Result<(), OutFault>
-    requires { length (piece_octets piece.held) + length piece.rest.now ≤ 32 }
-    ensures { Writes result (O.log out.old) (O.log out.new)
-        (content_line message (P.spelled path.now) word.now piece.entry.offset
-        (split_text piece.entry.held piece.entry.rest.now) (more_word piece.entry.more)) }
+/// Puts what the line of a part of a content, which came in two, has behind its word on an empty line: its offset,
+/// its octets, whether more comes, and the line feed.
+#[inline(always)]
+pub(crate) fn put_content(line: &mut Line, piece: SplitPiece<'_>)
+    requires size { length (piece_octets piece.held) + length piece.rest.now ≤ 32 }
+    requires empty { line_text line.old ≡ [] }
+    requires room { line_room line.old ≡ 256 }
+    ensures text { line_text line.new ≡ decimal piece.entry.offset
+        ++ (split_text piece.entry.held piece.entry.rest.now
+        ++ (more_word piece.entry.more ++ codes "\n")) }
+    ensures room { 99 ≤ line_room line.new }
 {
-    let mut line = Line::new();
     line.put(b'\n');
-    line.put_octets(more_word(piece.more));
+    put_more(line, piece.more);
     line.put_piece(piece.held, piece.rest);
     line.put_number(piece.offset);
-    placed_line(out, message, path, word, &mut line)
 }
 
 /// The line of at most 32 octets that stand at this offset in the rest.
@@ -321,7 +337,7 @@ pub fn start_line<O: Out>(out: &mut O, message: u64, header: MessageHeader) -> R
     let mut digits = Buffer::new();
     let mut line = Line::new();
     line.put(b'\n');
-    line.put_octets(more_word(header.more));
+    put_more(&mut line, header.more);
     line.put_number(u64::from(header.size));
     line.put_octets(b" size ");
     line.put_octets(type_word(header.kind, &mut digits));

@@ -29,9 +29,10 @@ pub trait Out {
     fn put_all(&mut self, octets: &[u8]) -> Result<(), OutFault>
         ensures { Writes result (log self.old) (log self.new) octets.now }
     {
-        let mut at = 0;
-        while at < octets.len() {
-            at += self.put(&octets[at..])?;
+        let mut rest = octets;
+        while !rest.is_empty() {
+            let taken = self.put(rest)?;
+            rest = &rest[taken..];
         }
         Ok(())
     }

@@ -39,12 +39,16 @@ pub fn type_word(kind: u8, digits: &mut Buffer) -> &[u8]
     }
 }
 
-/// What ends a line after which more comes.
-pub fn more_word(more: bool) -> &'static [u8]
-    ensures value { result.now ≡ more_word more }
-    ensures short { length result.now ≤ 5 }
+/// Puts what ends a line after which more comes before what was spelled of it.
+#[inline(always)]
+pub fn put_more(line: &mut Line, more: bool)
+    requires { 5 ≤ line_room line.old }
+    ensures text { line_text line.new ≡ more_word more ++ line_text line.old }
+    ensures room { line_room line.old ≤ line_room line.new + 5 }
 {
-    if more { b" more" } else { b"" }
+    if more {
+        line.put_octets(b" more");
+    }
 }
 
 /// The word of a boolean.
@@ -78,12 +82,15 @@ pub fn put_kind(line: &mut Line, prim: Prim)
     }
 }
 
-/// The word of a piece's kind, up to its offset.
-pub fn piece_word(piece: Piece<'_>) -> &'static [u8]
-    ensures { result.now ≡ piece_word piece.entry }
+/// Puts the word of a piece's kind, up to its offset, before what was spelled of a line.
+#[inline(always)]
+pub fn put_piece_word(line: &mut Line, piece: Piece<'_>)
+    requires { 9 ≤ line_room line.old }
+    ensures text { line_text line.new ≡ piece_word piece.entry ++ line_text line.old }
+    ensures room { line_room line.old ≤ line_room line.new + 9 }
 {
     match piece {
-        Piece::Text(_) => b" string @",
-        Piece::Octets(_) => b" octets @",
+        Piece::Text(_) => line.put_octets(b" string @"),
+        Piece::Octets(_) => line.put_octets(b" octets @"),
     }
 }
