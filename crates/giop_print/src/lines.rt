@@ -11,7 +11,7 @@ use crate::line::Line;
 use crate::position::Position;
 use crate::sink::{Out, OutFault, put_parts};
 use crate::value::{MessageHeader, Piece, SplitPiece, Value};
-use crate::words::{order_word, put_kind, put_more, put_piece_word, truth_word, type_word};
+use crate::words::{put_kind, put_more, put_order, put_piece_word, put_type, truth_word};
 use giop_cdr::{Number, Prim, size};
 use itoa::Buffer;
 
@@ -334,15 +334,14 @@ pub fn start_line<O: Out>(out: &mut O, message: u64, header: MessageHeader) -> R
     ensures { Writes result (O.log out.old) (O.log out.new)
         (start_line message header.minor header.order header.kind header.size header.more) }
 {
-    let mut digits = Buffer::new();
     let mut line = Line::new();
     line.put(b'\n');
     put_more(&mut line, header.more);
     line.put_number(u64::from(header.size));
     line.put_octets(b" size ");
-    line.put_octets(type_word(header.kind, &mut digits));
+    put_type(&mut line, header.kind);
     line.put(b' ');
-    line.put_octets(order_word(header.order));
+    put_order(&mut line, header.order);
     line.put(b' ');
     line.put_number(u64::from(header.minor));
     line.put_octets(b" start 1.");

@@ -7,7 +7,6 @@ ghost use Rattle.giop_print.specs.Lines.{order_word, type_word, more_word, truth
 use crate::line::Line;
 use crate::value::Piece;
 use giop_cdr::{Order, Prim};
-use itoa::Buffer;
 
 /// The word of an order.
 pub fn order_word(order: Order) -> &'static [u8]
@@ -20,22 +19,37 @@ pub fn order_word(order: Order) -> &'static [u8]
     }
 }
 
-/// The word of a message type, or above 7 its number.
+/// Puts the word of an order before what was spelled of a line.
+#[inline(always)]
+pub fn put_order(line: &mut Line, order: Order)
+    requires { 6 ≤ line_room line.old }
+    ensures text { line_text line.new ≡ order_word order ++ line_text line.old }
+    ensures room { line_room line.old ≤ line_room line.new + 6 }
+{
+    match order {
+        Order::Big => line.put_octets(b"big"),
+        Order::Little => line.put_octets(b"little"),
+    }
+}
+
+/// Puts the word of a message type, or above 7 its number, before what was spelled of a line.
 #[tactic(auto, unfolding(crate::specs::Lines::type_word))]
-pub fn type_word(kind: u8, digits: &mut Buffer) -> &[u8]
-    ensures value { result.now ≡ type_word kind }
-    ensures short { length result.now ≤ 15 }
+#[inline(always)]
+pub fn put_type(line: &mut Line, kind: u8)
+    requires { 20 ≤ line_room line.old }
+    ensures text { line_text line.new ≡ type_word kind ++ line_text line.old }
+    ensures room { line_room line.old ≤ line_room line.new + 20 }
 {
     match kind {
-        0 => b"Request",
-        1 => b"Reply",
-        2 => b"CancelRequest",
-        3 => b"LocateRequest",
-        4 => b"LocateReply",
-        5 => b"CloseConnection",
-        6 => b"MessageError",
-        7 => b"Fragment",
-        _ => digits.format(kind).as_bytes(),
+        0 => line.put_octets(b"Request"),
+        1 => line.put_octets(b"Reply"),
+        2 => line.put_octets(b"CancelRequest"),
+        3 => line.put_octets(b"LocateRequest"),
+        4 => line.put_octets(b"LocateReply"),
+        5 => line.put_octets(b"CloseConnection"),
+        6 => line.put_octets(b"MessageError"),
+        7 => line.put_octets(b"Fragment"),
+        _ => line.put_number(u64::from(kind)),
     }
 }
 
