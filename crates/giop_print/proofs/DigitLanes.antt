@@ -1,32 +1,22 @@
 -- The lanes of a vector are spelled as the specs spell octets and numbers.
-use Rattle.std.proofs.Common.{◌≡◌, ℕ, zero, suc, ◌+◌, ◌/◌, ◌%◌, ◌^◌, ◌<◌, true, List, [], ◌∷◌, ◌++◌, length, map, take, drop, replicate, cond, ltb, eqb, bit_and, Fits, w8, refl, ap, ap₂, ◌∙◌, subst, arith}
-use Rattle.std.proofs.lemmas.Bool.{agree_below_at, eqb-true}
+use Rattle.std.proofs.Common.{◌≡◌, ℕ, suc, ◌+◌, ◌*◌, ◌/◌, ◌%◌, ◌^◌, ◌<◌, ◌≤◌, List, [], ◌∷◌, ◌++◌, length, map, take, drop, replicate, leb, cond, bit_and, Fits, w8, refl, ap, ap₂, ◌∙◌, subst, arith}
+use Rattle.std.proofs.lemmas.Bool.{cond-false, lt-leb}
 use Rattle.std.proofs.lemmas.Nat.{and_mask}
-use Rattle.std.proofs.lemmas.Simd.{zip2_splat, pick_l_whole}
-use lib.Lanes.{Each1, zip2, pick_l, sel_l, top}
+use Rattle.std.proofs.lemmas.Simd.{zip2_splat, pick_l_whole, swz_l}
+use Rattle.std.specs.Prelude.{codes}
+use lib.Lanes.{Each1, zip2, pick_l}
 use Rattle.giop_print.specs.Text.{hex_digit, hex}
 
--- a lane's digit, as it is computed
-abbrev lane_digit : ℕ → ℕ
-lane_digit d = ((d + 48) % 2 ^ 8 + cond (top 7 (cond (ltb 9 d) 255 0)) 39 0) % 2 ^ 8
-
-lane_is_digit : (d : ℕ) → d < 16 → lane_digit d ≡ hex_digit d
-lane_is_digit d h =
-    eqb-true _ _ (agree_below_at (λ x. eqb (lane_digit x) (hex_digit x)) (λ _. true) 16 d refl h)
-
-abbrev sums : List ℕ → List ℕ → List ℕ
-sums = zip2 (λ a b. (a + b) % 2 ^ 8)
-
-pub lanes_are_digits : (n : ℕ) (v : List ℕ) → length v ≡ n → Each1 (λ d. d < 16) v →
-    sums (sums v (replicate n 48))
-    (sel_l (map (top 7) (zip2 (λ a b. cond (ltb a b) 255 0) (replicate n 9) v))
-    (replicate n 39) (replicate n 0))
-    ≡ map hex_digit v
-lanes_are_digits n [] e h = refl
-lanes_are_digits zero (x ∷ xs) e h = absurd (omega arith)
-lanes_are_digits (suc n) (x ∷ xs) e h =
-    let rest = lanes_are_digits n xs (omega arith) h.1 in
-    λ i. lane_is_digit x h.0 i ∷ rest i
+-- the digits of numbers, from this lane of a vector on
+pub looked_up : (js : List ℕ) (i : ℕ) → i + length js ≤ 16 → Each1 (λ j. j < 16) js →
+    swz_l w8 16 (codes "0123456789abcdef") i js ≡ map hex_digit js
+looked_up [] i within below = refl
+looked_up (j ∷ js) i within below =
+    let same : 16 * (i / 16) + j ≡ j = omega arith in
+    let rest = looked_up js (suc i) (omega arith) below.1 in
+    let here : cond (leb 128 j) 0 (hex_digit (16 * (i / 16) + j)) ≡ hex_digit j =
+    cond-false _ _ _ (lt-leb 128 j (omega (arith, below.0))) ∙ ap hex_digit same in
+    λ k. here k ∷ rest k
 
 abbrev low : ℕ → ℕ
 low x = bit_and x 15

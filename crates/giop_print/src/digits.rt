@@ -6,15 +6,13 @@ ghost use Rattle.giop_print.specs.Text.{hex_digit, hex, hex_number};
 
 use std::simd::prelude::*;
 
-/// The digit of each of some numbers below 16: behind 9 come the letters.
+/// The digit of each of some numbers below 16, in one step where the processor looks up lanes.
 #[inline(always)]
 fn digits(numbers: u8x16) -> u8x16
     requires { Each1 (λ number. number < 16) numbers }
     ensures { result ≡ map hex_digit numbers }
 {
-    let letters = numbers.simd_gt(u8x16::splat(9));
-    let further = letters.select(u8x16::splat(b'a' - b'0' - 10), u8x16::splat(0));
-    numbers + u8x16::splat(b'0') + further
+    u8x16::from_array(*b"0123456789abcdef").swizzle_dyn(numbers)
 }
 
 /// The two digits of each of 16 octets: those of the first eight, and those of the others.
