@@ -31,7 +31,7 @@ pub struct Line {
 impl Line {
     ghost use Rattle.giop_print.specs.Line.{line_text, line_room};
 
-    /// A line of which nothing is spelled. Its end is there already where it is put first.
+    /// A line of which nothing is spelled. Its room is filled with LFs, so that the one that ends it is there already.
     #[inline]
     pub fn new() -> Line
         ensures text { line_text result ≡ [] }

@@ -423,6 +423,29 @@ pub fn cancelled_line<O: Out>(out: &mut O, message: u64, by: u64) -> Result<(), 
 pub fn fault_line<O: Out>(out: &mut O, message: u64, word: &str, place: u64) -> Result<(), OutFault>
     ensures { Writes result (O.log out.old) (O.log out.new) (fault_line message word.now place) }
 {
+    if word.len() > SHORT {
+        return long_fault_line(out, message, word, place);
+    }
+    let mut line = Line::new();
+    line.put(b'\n');
+    line.put_number(place);
+    line.put_octets(b" at ");
+    line.put_octets(word.as_bytes());
+    line.put_octets(b" fault ");
+    numbered_line(out, message, &mut line)
+}
+
+/// The same of any word, in parts.
+#[tactic(auto, unfolding(crate::specs::Lines::fault_line))]
+#[inline(never)]
+fn long_fault_line<O: Out>(
+    out: &mut O,
+    message: u64,
+    word: &str,
+    place: u64,
+) -> Result<(), OutFault>
+    ensures { Writes result (O.log out.old) (O.log out.new) (fault_line message word.now place) }
+{
     let mut message_digits = Buffer::new();
     let mut place_digits = Buffer::new();
     put_parts(
