@@ -18,7 +18,8 @@ use Rattle.giop_sig.specs.ItemReading.{Declared, structure_at, exception_at}
 use Rattle.giop_sig.specs.CallReading.{operation_at}
 use Rattle.giop_sig.specs.EnumReading.{enumeration_at}
 use Rattle.giop_sig.specs.UnionReading.{union_at}
-use Rattle.giop_sig.specs.FileReading.{declaration_after, declaration_at, declarations_run, version_at, head_at, file_at}
+use Rattle.giop_sig.specs.Repeats.{in_steps}
+use Rattle.giop_sig.specs.FileReading.{declaration_after, declaration_at, declaration_or_end, declarations_step, misplaced_after, version_at, head_at, file_at}
 use Rattle.giop_sig.proofs.PlaceLaws.{size, declare_more}
 use Rattle.giop_sig.proofs.ReadingLaws.{Breaks, Out}
 use Rattle.giop_sig.proofs.DeclaredLaws.{TakenDeclaration, structure_reads, structure_takes, raise_reads, raise_takes}
@@ -156,8 +157,15 @@ FileOut s ds r =
     MatchResult r (λ t. (t ≡ scope_after s ds)
     × ((k : Kind) → Each (λ s d. OfDeclaration k s d) s ds)) (λ e. BrokenIn e.kind s ds)
 
-file_more : (s : Scope) (d : Declaration) (ds : List Declaration) (r : Result Scope Refusal)
-    → ((k : Kind) → OfDeclaration k s d) → FileOut (declare s d) ds r → FileOut s (d ∷ ds) r
+abbrev scope_of : Declared → Result Scope Refusal
+scope_of d = Ok d.0
+
+abbrev then_declarations : ℕ → Bool × Declared → Result Declared Refusal
+then_declarations n x = cond x.0 (Ok x.1) (in_steps declarations_step misplaced_after n x.1)
+
+file_more : (s : Scope) (d : Declaration) (ds : List Declaration) (r : Result Declared Refusal)
+    → ((k : Kind) → OfDeclaration k s d) → FileOut (declare s d) ds (r >>= scope_of)
+    → FileOut s (d ∷ ds) (r >>= scope_of)
 unfolding Each
 file_more s d ds (Ok t) keeps o = (o.0, λ k. (keeps k, o.1 k))
 file_more s d ds (Err e) keeps o = broken_later e.kind s d ds o
@@ -165,12 +173,15 @@ file_more s d ds (Err e) keeps o = broken_later e.kind s d ds o
 file_on : (n : ℕ) (s : Scope) (d : Declaration) (ds : List Declaration)
     (r : Result Declared Refusal) → DeclarationOut s d (spell_all ds) r
     → ((rest : List ℕ) → AreTokens rest (spell_all ds)
-    → FileOut (declare s d) ds (declarations_run n (declare s d) rest))
-    → FileOut s (d ∷ ds) (r >>= λ x. declarations_run n x.0 x.1)
+    → FileOut (declare s d) ds
+    (in_steps declarations_step misplaced_after n (declare s d, rest) >>= scope_of))
+    → FileOut s (d ∷ ds) (((r >>= λ x. Ok (false, x)) >>= then_declarations n) >>= scope_of)
 file_on n s d ds (Ok x) o on =
     let g = o.out in
-    subst (λ (y : Declared). FileOut s (d ∷ ds) (declarations_run n y.0 y.1)) (sym g.is)
-    (file_more s d ds (declarations_run n (declare s d) g.rest) g.keeps (on g.rest g.tokens))
+    subst (λ (y : Declared). FileOut s (d ∷ ds)
+    (in_steps declarations_step misplaced_after n y >>= scope_of)) (sym g.is)
+    (file_more s d ds (in_steps declarations_step misplaced_after n (declare s d, g.rest)) g.keeps
+    (on g.rest g.tokens))
 file_on n s d ds (Err e) o on = record {
   before = [];
   broken = d;
@@ -199,26 +210,16 @@ not_over (Call o n ps) text more h =
     (spell_return o (word n ∷ mark marks.OpenParenthesis ∷ spell_params ps
     (mark marks.Semicolon ∷ more))) h
 
-run_on : (n : ℕ) (s : Scope) (text : List ℕ) → end_at text ≡ Ok false
-    → declarations_run (suc n) s text ≡ (declaration_at s text >>= λ d. declarations_run n d.0 d.1)
-unfolding declarations_run
-run_on n s text h = rw h refl
-
-run_over : (n : ℕ) (s : Scope) (text : List ℕ) → end_at text ≡ Ok true
-    → declarations_run (suc n) s text ≡ Ok s
-unfolding declarations_run
-run_over n s text h = rw h refl
-
 declarations_read : UnionReads → (ds : List Declaration) (n : ℕ) (s : Scope) (text : List ℕ)
     → length ds < n → 0 < size s → Each HasItsWords s ds → AreTokens text (spell_all ds)
-    → FileOut s ds (declarations_run n s text)
-unfolding Each
+    → FileOut s ds (in_steps declarations_step misplaced_after n (s, text) >>= scope_of)
+unfolding Each in_steps declarations_step
 declarations_read union [] zero s text lt some free h = absurd (omega arith)
 declarations_read union (d ∷ ds) zero s text lt some free h = absurd (omega arith)
 declarations_read union [] (suc n) s text lt some free h =
-    rw (run_over n s text (end_again text h)) (refl, λ k. tt)
+    rw (end_again text h) (refl, λ k. tt)
 declarations_read union (d ∷ ds) (suc n) s text lt some free h =
-    rw (run_on n s text (not_over d text (spell_all ds) h))
+    rw (not_over d text (spell_all ds) h)
     (file_on n s d ds (declaration_at s text)
     (declaration_reads union d s text (spell_all ds) some free.0 h)
     (λ rest m. declarations_read union ds n (declare s d) rest (omega arith)
@@ -286,18 +287,19 @@ more_words s t d ds some is words =
     subst (λ u. Each HasItsWords u ds) is (words
     (omega (arith, (declare_more s d).longer, ap size is)))
 
-over_by : (n : ℕ) (s : Scope) (text : List ℕ) (t : Scope) (v : Bool) → end_at text ≡ Ok v
-    → cond v (Ok s) (declaration_at s text >>= λ d. declarations_run n d.0 d.1) ≡ Ok t → UnionReads
-    → UnionTakes
-    → ((s : Scope) (text : List ℕ) → declarations_run n s text ≡ Ok t → TakenAll s text)
+over_by : (n : ℕ) (s : Scope) (text : List ℕ) (v : Bool) (x : Bool × Declared) (t : Declared)
+    → end_at text ≡ Ok v → declaration_or_end (s, text) v ≡ Ok x → then_declarations n x ≡ Ok t
+    → UnionReads → UnionTakes
+    → ((s : Scope) (text : List ℕ)
+    → in_steps declarations_step misplaced_after n (s, text) ≡ Ok t → TakenAll s text)
     → TakenAll s text
 unfolding Each
-over_by n s text t true over e reads takes on =
+over_by n s text true x t over e run reads takes on =
     record { declarations = []; words = λ some. tt; tokens = end_from text over }
-over_by n s text t false over e reads takes on =
-    let d = bind_ok (declaration_at s text) (λ d. declarations_run n d.0 d.1) t e in
+over_by n s text false x t over e run reads takes on =
+    let d = bind_ok (declaration_at s text) (λ d. Ok (false, d)) x e in
     let k = declaration_takes takes s text d.0 d.1 in
-    let rest = on (d.0).0 (d.0).1 d.2 in
+    let rest = on (d.0).0 (d.0).1 (ap (then_declarations n) (ok_is (false, d.0) x d.2) ∙ run) in
     let more = spell_all rest.declarations in
     let tokens : AreTokens text (spell k.declaration more) = k.took.front more rest.tokens in
     record {
@@ -311,14 +313,14 @@ over_by n s text t false over e reads takes on =
       tokens = tokens;
     }
 
-declarations_take : UnionReads → UnionTakes → (n : ℕ) (s : Scope) (text : List ℕ) (t : Scope)
-    → declarations_run n s text ≡ Ok t → TakenAll s text
-unfolding declarations_run
+declarations_take : UnionReads → UnionTakes → (n : ℕ) (s : Scope) (text : List ℕ) (t : Declared)
+    → in_steps declarations_step misplaced_after n (s, text) ≡ Ok t → TakenAll s text
+unfolding in_steps declarations_step
 declarations_take reads takes zero s text t e = absurd cc
 declarations_take reads takes (suc n) s text t e =
-    let o = bind_ok (end_at text) (λ over.
-    cond over (Ok s) (declaration_at s text >>= λ d. declarations_run n d.0 d.1)) t e in
-    over_by n s text t o.0 o.1 o.2 reads takes
+    let x = bind_ok (declarations_step (s, text)) (then_declarations n) t e in
+    let o = bind_ok (end_at text) (declaration_or_end (s, text)) x.0 x.1 in
+    over_by n s text o.0 x.0 t o.1 o.2 x.2 reads takes
     (λ s text run. declarations_take reads takes n s text t run)
 
 -- the version that a file begins with
@@ -362,10 +364,10 @@ pub file_takes : UnionReads → UnionTakes → (text : List ℕ) (t : Scope) →
     → file_at text ≡ Ok t → (file : SignatureFile) × Spells text file
 unfolding file_at
 file_takes reads takes text t short e =
-    let h = bind_ok (head_at text) (λ h. declarations_run (length text) (first_scope h.0) h.1) t e
-    in
+    let h = bind_ok _ _ t e in
+    let d = bind_ok _ _ t h.2 in
     let head = head_takes text h.0 h.1 in
-    let all = declarations_take reads takes (length text) (first_scope (h.0).0) (h.0).1 t h.2 in (
+    let all = declarations_take reads takes (length text) (first_scope (h.0).0) (h.0).1 d.0 d.1 in (
       record { version = (h.0).0; declarations = all.declarations },
       record {
         short = short;

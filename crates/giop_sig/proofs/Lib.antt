@@ -40,7 +40,6 @@ mod LabelLaws
 mod TokensFew
 mod SpellLaws
 mod SizeLaws
-mod FileLoop
 mod FileLaws
 mod FileRules
 mod Told

@@ -100,39 +100,15 @@ pub union_takes : (s : Scope) (whole text : List ℕ) (x : Declared)
 unfolding union_at OfDeclaration
 union_takes s whole text x before e =
     let at = left_of text in
-    let d = bind_ok (declared_at s s.table.declared text)
-    (λ d. keyword_at (codes "switch") d.1 >>= λ w. mark_at marks.OpenParenthesis w >>= λ b.
-    switch_at at s b >>= λ t. mark_at marks.CloseParenthesis t.2
-    >>= λ q. mark_at marks.OpenBrace q >>= λ o. cases_at at t.1 t.0 o >>= λ cs.
-    mark_at marks.Semicolon cs.2
-    >>= λ r. added at cs.0 (union_node t.1 cs) >>= λ u. Ok (with_named d.0 u, r)) x e in
+    let d = bind_ok {A = List ℕ × List ℕ} _ _ x e in
     let n = (d.0).0 in
-    let w = bind_ok (keyword_at (codes "switch") (d.0).1)
-    (λ w. mark_at marks.OpenParenthesis w >>= λ b. switch_at at s b >>= λ t.
-    mark_at marks.CloseParenthesis t.2 >>= λ q. mark_at marks.OpenBrace q
-    >>= λ o. cases_at at t.1 t.0 o >>= λ cs. mark_at marks.Semicolon cs.2
-    >>= λ r. added at cs.0 (union_node t.1 cs) >>= λ u. Ok (with_named n u, r)) x d.2 in
-    let b = bind_ok (mark_at marks.OpenParenthesis w.0)
-    (λ b. switch_at at s b >>= λ t. mark_at marks.CloseParenthesis t.2 >>= λ q.
-    mark_at marks.OpenBrace q >>= λ o. cases_at at t.1 t.0 o
-    >>= λ cs. mark_at marks.Semicolon cs.2
-    >>= λ r. added at cs.0 (union_node t.1 cs) >>= λ u. Ok (with_named n u, r)) x w.2 in
-    let t = bind_ok (switch_at at s b.0)
-    (λ t. mark_at marks.CloseParenthesis t.2 >>= λ q. mark_at marks.OpenBrace q >>= λ o.
-    cases_at at t.1 t.0 o >>= λ cs. mark_at marks.Semicolon cs.2
-    >>= λ r. added at cs.0 (union_node t.1 cs) >>= λ u. Ok (with_named n u, r)) x b.2 in
-    let q = bind_ok (mark_at marks.CloseParenthesis (t.0).2)
-    (λ q. mark_at marks.OpenBrace q >>= λ o. cases_at at (t.0).1 (t.0).0 o >>= λ cs.
-    mark_at marks.Semicolon cs.2 >>= λ r. added at cs.0 (union_node (t.0).1 cs)
-    >>= λ u. Ok (with_named n u, r)) x t.2 in
-    let o = bind_ok (mark_at marks.OpenBrace q.0)
-    (λ o. cases_at at (t.0).1 (t.0).0 o >>= λ cs. mark_at marks.Semicolon cs.2
-    >>= λ r. added at cs.0 (union_node (t.0).1 cs) >>= λ u. Ok (with_named n u, r)) x q.2 in
-    let cs = bind_ok (cases_at at (t.0).1 (t.0).0 o.0)
-    (λ cs. mark_at marks.Semicolon cs.2 >>= λ r. added at cs.0 (union_node (t.0).1 cs) >>= λ u.
-    Ok (with_named n u, r)) x o.2 in
-    let r = bind_ok (mark_at marks.Semicolon (cs.0).2)
-    (λ r. added at (cs.0).0 (union_node (t.0).1 cs.0) >>= λ u. Ok (with_named n u, r)) x cs.2 in
+    let w = bind_ok {A = List ℕ} _ _ x d.2 in
+    let b = bind_ok {A = List ℕ} _ _ x w.2 in
+    let t = bind_ok {A = TypeRead} _ _ x b.2 in
+    let q = bind_ok {A = List ℕ} _ _ x t.2 in
+    let o = bind_ok {A = List ℕ} _ _ x q.2 in
+    let cs = bind_ok {A = CasesRead} _ _ x o.2 in
+    let r = bind_ok {A = List ℕ} _ _ x cs.2 in
     let u = bind_ok (added at (cs.0).0 (union_node (t.0).1 cs.0)) (λ u. Ok (with_named n u, r.0)) x
     r.2 in
     let a = declared_takes s s.table.declared text d.0 d.1 in

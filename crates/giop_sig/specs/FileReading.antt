@@ -1,6 +1,6 @@
 -- Reading a signature file from left to right (steps), and which of its refusals is the first
 -- (meaning).
-use Rattle.std.specs.Prelude.{◌≡◌, ◌⊎◌, ℕ, zero, suc, if◌then◌else◌, List, length, Result, Ok, Err, codes}
+use Rattle.std.specs.Prelude.{◌≡◌, ◌⊎◌, ℕ, Bool, true, false, if◌then◌else◌, List, length, Result, Ok, Err, codes}
 use Rattle.std.specs.Str.{bytes_eq}
 use Rattle.giop_tokens.specs.declared.fault.Refusal.{Refusal}
 use Rattle.giop_tokens.specs.declared.fault.SigFault.{SigFault}
@@ -16,6 +16,7 @@ use Rattle.giop_sig.specs.ItemReading.{Declared, structure_at, exception_at}
 use Rattle.giop_sig.specs.CallReading.{operation_at}
 use Rattle.giop_sig.specs.EnumReading.{enumeration_at}
 use Rattle.giop_sig.specs.UnionReading.{union_at}
+use Rattle.giop_sig.specs.Repeats.{in_steps}
 
 abbrev pub declaration_after : Scope → List ℕ → List ℕ → List ℕ → Result Declared Refusal
 declaration_after s text w rest =
@@ -30,12 +31,20 @@ declaration_at s text = do
   w ← word_at text
   declaration_after s text w.0 w.1
 
--- declarations up to the end of the text, in so many steps
-unfoldable pub declarations_run : ℕ → Scope → List ℕ → Result Scope Refusal
-declarations_run zero s text = Err (misplaced text)
-declarations_run (suc n) s text = do
-  over ← end_at text
-  if over then Ok s else (declaration_at s text >>= λ d. declarations_run n d.0 d.1)
+abbrev pub declaration_or_end : Declared → Bool → Result (Bool × Declared) Refusal
+declaration_or_end d true = Ok (true, d)
+declaration_or_end d false = do
+  next ← declaration_at d.0 d.1
+  Ok (false, next)
+
+-- the end of the text, or a declaration more
+unfoldable pub declarations_step : Declared → Result (Bool × Declared) Refusal
+declarations_step d = do
+  over ← end_at d.1
+  declaration_or_end d over
+
+abbrev pub misplaced_after : Declared → Refusal
+misplaced_after d = misplaced d.1
 
 -- the version of the format, a number
 unfoldable pub version_at : List ℕ → Result (ℕ × List ℕ) Refusal
@@ -54,7 +63,8 @@ head_at text = do
 unfoldable pub file_at : List ℕ → Result Scope Refusal
 file_at text = do
   h ← head_at text
-  declarations_run (length text) (first_scope h.0) h.1
+  d ← in_steps declarations_step misplaced_after (length text) (first_scope h.0, h.1)
+  Ok d.0
 
 -- the refusal of a text that is too long
 abbrev pub text_too_long : SigFault

@@ -5,7 +5,8 @@ ghost use Rattle.giop_sig.specs.Grammar.{SignatureFile};
 ghost use Rattle.giop_sig.specs.Scopes.{table};
 ghost use Rattle.giop_sig.specs.Validity.{IsValid, Spells, Refuses};
 ghost use Rattle.giop_sig.specs.Outcomes.{Gives};
-ghost use Rattle.giop_sig.specs.FileReading.{declaration_at, declarations_run, version_at, head_at, file_at, text_too_long, IsFirstRefusal};
+ghost use Rattle.giop_sig.specs.Repeats.{in_steps};
+ghost use Rattle.giop_sig.specs.FileReading.{declaration_at, declarations_step, misplaced_after, version_at, head_at, file_at, text_too_long, IsFirstRefusal};
 
 use crate::catalogue::Catalogue;
 use crate::draft::Draft;
@@ -51,21 +52,39 @@ fn declaration_at<'a>(
     }
 }
 
-/// Declarations up to the end of the text, in so many steps.
-fn declarations(
+/// The end of the text, or a declaration more: whether it was the end, and what follows.
+#[tactic(auto, unfolding(crate::specs::FileReading::declarations_step))]
+fn declarations_step<'a>(
+    alloc: Global,
+    draft: &mut Draft,
+    text: &'a [u8],
+) -> Result<(bool, &'a [u8]), ParseStop>
+    ensures { Gives (λ x. (x.0, (draft.new, x.1.now))) result
+        (declarations_step (draft.old, text.now)) }
+{
+    if ends(text)? {
+        return Ok((true, text));
+    }
+    Ok((false, declaration_at(alloc, draft, text)?))
+}
+
+/// Declarations up to the end of the text, in so many steps; what follows them.
+fn declarations<'a>(
     alloc: Global,
     draft: &mut Draft,
     steps: usize,
-    text: &[u8],
-) -> Result<(), ParseStop>
-    ensures { Gives (λ x. draft.new) result (declarations_run steps draft.old text.now) }
+    text: &'a [u8],
+) -> Result<&'a [u8], ParseStop>
+    ensures { Gives (λ x. (draft.new, x.now)) result
+        (in_steps declarations_step misplaced_after steps (draft.old, text.now)) }
 {
     let mut rest = text;
     for _ in 0..steps {
-        if ends(rest)? {
-            return Ok(());
+        let (over, after) = declarations_step(alloc, draft, rest)?;
+        if over {
+            return Ok(after);
         }
-        rest = declaration_at(alloc, draft, rest)?;
+        rest = after;
     }
     Err(ParseStop::Refused(misplaced(rest)))
 }
