@@ -24,13 +24,14 @@ use Rattle.giop_sig.specs.Validity.{Kind, OfItem, OfItems, OfType, OfReturn, OfO
 use Rattle.giop_sig.specs.Outcomes.{refused}
 use Rattle.giop_sig.specs.TypeReading.{added, type_at}
 use Rattle.giop_sig.specs.ItemReading.{item_at, Declared}
-use Rattle.giop_sig.specs.CallReading.{ReturnRead, return_at, new_operation_at, direction_of, direction_at, in_request, in_reply, Params, ParameterLists, params_of, param_end, param_step, ParamsRead, parameter_lists_of, params_run, no_parameters, params_at, operation_at}
+use Rattle.giop_sig.specs.CallReading.{ReturnRead, return_at, new_operation_at, direction_of, direction_at, in_request, in_reply, with_param, Params, ParameterLists, param_end, param_step, too_many_params, ParamsRead, params_read, params_run, no_parameters, params_at, operation_at}
 use Rattle.giop_sig.proofs.PlaceLaws.{size, within_same, within_on, node_more, item_more, item_names, params_more, return_more, return_names, return_operations, structs_more}
 use Rattle.giop_sig.proofs.ReadingLaws.{Out, good, broken, out_bind, out_more, Apart, if_apart}
 use Rattle.giop_sig.proofs.TypeLaws.{added_bind, is_not, type_reads}
 use Rattle.giop_sig.proofs.ItemLaws.{made_item, item_reads, some_none, unused_reads}
 use Rattle.giop_sig.proofs.ItemTaken.{none_of}
-use Rattle.giop_sig.proofs.CallTaken.{TakenReturn, return_takes, OperationTaken, new_operation_takes, TakenList, list_takes}
+use Rattle.giop_sig.proofs.RepeatLaws.{step_first}
+use Rattle.giop_sig.proofs.CallTaken.{TakenReturn, return_takes, then_run, OperationTaken, new_operation_takes, TakenList, list_takes}
 use Rattle.giop_sig.proofs.DeclaredLaws.{TakenDeclaration}
 
 -- ---- what an operation returns
@@ -166,8 +167,11 @@ more_apart : (ps : List Param) (more : List Token)
 more_apart [] more = refl
 more_apart (p ∷ ps) more = refl
 
-abbrev made_param : ParameterLists → Scope → Param → List Param → List ℕ → Params
-made_param w s p ps rest = params_of w p.direction (made_item s p.item []) rest (is_last ps)
+abbrev way_on : ParameterLists → Scope → Param → ParameterLists
+way_on w s p = with_param w p.direction (item_part p.item (add_item s p.item))
+
+abbrev made_param : ParameterLists → Scope → Param → List Param → List ℕ → Bool × Params
+made_param w s p ps rest = (is_last ps, ((add_item s p.item).0, way_on w s p, rest))
 
 behind_reads : (w : ParameterLists) (s : Scope) (p : Param) (ps : List Param) (rule : Kind → Type 0)
     (types : List Node) (rest : List ℕ) (more : List Token)
@@ -188,7 +192,7 @@ param_reads : (at : ℕ) (w : ParameterLists) (s : Scope) (p : Param) (ps : List
     (more : List Token) → 0 < size s → OfItem kinds.Syntax s.names 255 w.seen p.item
     → AreTokens text (spell_param p (spell_more_params ps more))
     → Out (made_param w s p ps) (λ k. OfItem k s.names 255 w.seen p.item)
-    (add_item s p.item).0.table.types (after_param ps more) (param_step at w s text)
+    (add_item s p.item).0.table.types (after_param ps more) (param_step at (s, w, text))
 unfolding param_step
 param_reads at w s p ps text more some free h =
     rw (direction_again p.direction text (spell_item p.item (spell_more_params ps more)) h)
@@ -218,9 +222,6 @@ reply_on : (d : Direction) (p : Part) (q r : List Part)
 reply_on directions.In p q r = refl
 reply_on _ p q r = append_assoc q (p ∷ []) r
 
-abbrev way_on : ParameterLists → Scope → Param → ParameterLists
-way_on w s p = parameter_lists_of (params_of w p.direction (made_item s p.item []) [] false)
-
 made_on : (w : ParameterLists) (s : Scope) (p : Param) (ps : List Param) (rule : Kind → Type 0)
     (types : List Node) (more : List Token) (r : Result ParamsRead Refusal)
     → Out (made_params (way_on w s p) (add_item s p.item).0 ps) rule types more r
@@ -235,11 +236,6 @@ made_on w s p ps rule types more r o =
     (subst (λ rs. Out {X = ParamsRead} (λ rest.
     (t.0, in_request p.direction one w.request ++ t.1, rs, rest)) rule types more r)
     (reply_on p.direction one w.reply t.2) o)
-
-abbrev then_run : ℕ → ℕ → Params → Result ParamsRead Refusal
-then_run at n m =
-    cond m.closed (Ok (m.scope, m.request, m.reply, m.rest))
-    (params_run at n (parameter_lists_of m) m.scope m.rest)
 
 -- the last parameter ends the reading
 last_reads : (at n : ℕ) (w : ParameterLists) (s : Scope) (p : Param) (rule : Kind → Type 0)
@@ -268,11 +264,11 @@ param_named : (at : ℕ) (w : ParameterLists) (s : Scope) (names : Names) (p : P
     → OfItem kinds.Syntax names 255 w.seen p.item
     → AreTokens text (spell_param p (spell_more_params ps more))
     → Out (made_param w s p ps) (λ k. OfItem k names 255 w.seen p.item)
-    (add_item s p.item).0.table.types (after_param ps more) (param_step at w s text)
+    (add_item s p.item).0.table.types (after_param ps more) (param_step at (s, w, text))
 param_named at w s names p ps text more same some free h =
     subst (λ ns. Out (made_param w s p ps) (λ k. OfItem k ns 255 w.seen p.item)
     (add_item s p.item).0.table.types (after_param ps more)
-    (param_step at w s text)) same
+    (param_step at (s, w, text))) same
     (param_reads at w s p ps text more some
     (subst (λ ns. OfItem kinds.Syntax ns 255 w.seen p.item) (sym same) free) h)
 
@@ -283,33 +279,35 @@ pub params_reads : (ps : List Param) (p : Param) (at n : ℕ) (w : ParameterList
     → OfItems kinds.Syntax names 255 w.seen (items_of (p ∷ ps))
     → AreTokens text (spell_param p (spell_more_params ps more))
     → Out (made_params w s (p ∷ ps)) (λ k. OfItems k names 255 w.seen (items_of (p ∷ ps)))
-    (add_params s (p ∷ ps)).0.table.types more (params_run at n w s text)
-unfolding OfItems params_run add_params
+    (add_params s (p ∷ ps)).0.table.types more (params_run at n (s, w, text))
+unfolding OfItems add_params
 params_reads ps p at zero w s names text more same some fuel few free h = absurd (omega arith)
 params_reads [] p at (suc n) w s names text more same some fuel few free h =
-    out_bind (param_step at w s text) (then_run at n)
+    rw (step_first (param_step at) too_many_params params_read n (s, w, text))
+    (out_bind (param_step at (s, w, text)) (then_run at n)
     (param_named at w s names p [] text more same some free.0 h)
     (λ rest m keeps. made_on w s p [] (λ k. OfItems k names 255 w.seen (items_of (p ∷ [])))
     (add_params s (p ∷ [])).0.table.types more
     (then_run at n (made_param w s p [] rest))
     (last_reads at n w s p (λ k. OfItems k names 255 w.seen (items_of (p ∷ []))) rest more m
     (λ k. (keeps k, tt))))
-    (λ k h. h.0) within_same
+    (λ k h. h.0) within_same)
 params_reads (q ∷ qs) p at (suc n) w s names text more same some fuel few free h =
-    out_bind (param_step at w s text) (then_run at n)
+    rw (step_first (param_step at) too_many_params params_read n (s, w, text))
+    (out_bind (param_step at (s, w, text)) (then_run at n)
     (param_named at w s names p (q ∷ qs) text more same some free.0 h)
     (λ rest m keeps.
     let lt = (keeps kinds.Limit).1.1 in
     let v = way_on w s p in
     made_on w s p (q ∷ qs) (λ k. OfItems k names 255 w.seen (items_of (p ∷ q ∷ qs)))
     (add_params s (p ∷ q ∷ qs)).0.table.types more
-    (params_run at n v (add_item s p.item).0 rest)
+    (params_run at n ((add_item s p.item).0, v, rest))
     (out_more (params_reads qs q at n v (add_item s p.item).0 names rest more
     (item_names s p.item ∙ same) (omega (arith, (item_more s p.item).longer))
     (omega (arith, length-append w.seen (p.item.name ∷ [])))
     (omega (arith, length-append w.seen (p.item.name ∷ []))) free.1 m)
     (λ k h. (keeps k, h)) (λ k h. h.1)))
-    (λ k h. h.0) (params_more (add_item s p.item).0 (q ∷ qs))
+    (λ k h. h.0) (params_more (add_item s p.item).0 (q ∷ qs)))
 
 none_reads : (returned : List Part) (s : Scope) (names : Names) (rest : List ℕ)
     (more : List Token) → AreTokens rest more

@@ -27,8 +27,10 @@ use Rattle.giop_sig.specs.ScopeViews.{IsScope}
 use Rattle.giop_sig.specs.Outcomes.{refused}
 use Rattle.giop_sig.specs.TypeReading.{added, type_at}
 use Rattle.giop_sig.specs.ItemReading.{ItemRead, item_at}
-use Rattle.giop_sig.specs.CallReading.{ReturnRead, return_after, return_at, new_operation_at, direction_of, as_direction, direction_at, in_request, in_reply, Params, ParameterLists, params_of, param_end, param_step, ParamsRead, parameter_lists_of, params_run, no_parameters, params_after, params_at}
+use Rattle.giop_sig.specs.CallReading.{ReturnRead, return_after, return_at, new_operation_at, direction_of, as_direction, direction_at, in_request, in_reply, with_param, Params, ParameterLists, param_end, param_step, too_many_params, ParamsRead, params_read, params_run, no_parameters, params_after, params_at}
+use Rattle.giop_sig.specs.Repeats.{in_steps}
 use Rattle.giop_sig.proofs.ReadingLaws.{Took}
+use Rattle.giop_sig.proofs.RepeatLaws.{step_first}
 use Rattle.giop_sig.proofs.TypeTaken.{Grows, grows_none, grows_on, type_takes, added_grows}
 use Rattle.giop_sig.proofs.ItemTaken.{none_of, unused_is, AreParts, parts_stay, TakenItem, item_takes}
 
@@ -174,9 +176,6 @@ pub record TakenParams (w : ParameterLists) (s : Scope) (text : List ℕ) (x : P
     pub grows : Grows s x.0
     pub sound : IsScope s → AreParts s w.request → AreParts s w.reply → SoundWays x
 
-abbrev way_on : ParameterLists → Direction → ItemRead → ParameterLists
-way_on w d i = parameter_lists_of (params_of w d i [] false)
-
 last_param : (w : ParameterLists) (s : Scope) (text r : List ℕ) (d : Direction × List ℕ)
     (i : ItemRead)
     → Takes text (word (direction_word d.0)) d.1 → TakenItem s 255 w.seen d.1 i
@@ -208,7 +207,7 @@ param_on : (w : ParameterLists) (s : Scope) (text r : List ℕ) (d : Direction �
     (i : ItemRead)
     (x : ParamsRead) → Takes text (word (direction_word d.0)) d.1 → TakenItem s 255 w.seen d.1 i
     → mark_if marks.Comma i.2 ≡ Ok (Some r)
-    → TakenParams (way_on w d.0 i) i.0 r x → TakenParams w s text x
+    → TakenParams (with_param w d.0 i.1) i.0 r x → TakenParams w s text x
 unfolding OfItems
 param_on w s text r d i x t a e k = record {
   first = record { direction = d.0; item = a.item };
@@ -240,26 +239,26 @@ param_on w s text r d i x t a e k = record {
       (reply_parts i.0 d.0 i.1 w.reply (parts_stay s i.0 w.reply a.grows r) p);
 }
 
-abbrev then_run : ℕ → ℕ → Params → Result ParamsRead Refusal
-then_run at n m =
-    cond m.closed (Ok (m.scope, m.request, m.reply, m.rest))
-    (params_run at n (parameter_lists_of m) m.scope m.rest)
+abbrev pub then_run : ℕ → ℕ → Bool × Params → Result ParamsRead Refusal
+then_run at n x = cond x.0 (Ok x.1) (in_steps (param_step at) too_many_params n x.1) >>= params_read
 
 behind_by : (at n : ℕ) (w : ParameterLists) (s : Scope) (text : List ℕ) (d : Direction × List ℕ)
     (i : ItemRead)
-    (m : Params) (x : ParamsRead) (c : Option (List ℕ)) → Takes text (word (direction_word d.0)) d.1
+    (m : Bool × Params) (x : ParamsRead) (c : Option (List ℕ)) → Takes text (word (direction_word d.0)) d.1
     → TakenItem s 255 w.seen d.1 i → mark_if marks.Comma i.2 ≡ Ok c
     → param_end w d.0 i c ≡ Ok m → then_run at n m ≡ Ok x
-    → ((w : ParameterLists) (s : Scope) (text : List ℕ) → params_run at n w s text ≡ Ok x
+    → ((w : ParameterLists) (s : Scope) (text : List ℕ) → params_run at n (s, w, text) ≡ Ok x
     → TakenParams w s text x) → TakenParams w s text x
 behind_by at n w s text d i m x (Some r) t a h e run on =
-    let last : params_run at n (way_on w d.0 i) i.0 r ≡ Ok x =
-    ap (then_run at n) (ok_is (params_of w d.0 i r false) m e) ∙ run in
-    param_on w s text r d i x t a h (on (way_on w d.0 i) i.0 r last)
+    let v = with_param w d.0 i.1 in
+    let last : params_run at n (i.0, v, r) ≡ Ok x =
+    ap (then_run at n) (ok_is (false, (i.0, v, r)) m e) ∙ run in
+    param_on w s text r d i x t a h (on v i.0 r last)
 behind_by at n w s text d i m x None t a h e run on =
-    let r = bind_ok (mark_at marks.CloseParenthesis i.2) (λ r. Ok (params_of w d.0 i r true)) m e in
+    let v = with_param w d.0 i.1 in
+    let r = bind_ok (mark_at marks.CloseParenthesis i.2) (λ r. Ok (true, (i.0, v, r))) m e in
     let last : Ok (i.0, in_request d.0 i.1 w.request, in_reply d.0 i.1 w.reply, r.0) ≡ Ok x =
-    ap (then_run at n) (ok_is (params_of w d.0 i r.0 true) m r.2) ∙ run in
+    ap (then_run at n) (ok_is (true, (i.0, v, r.0)) m r.2) ∙ run in
     subst (TakenParams w s text) (ok_is (
       i.0,
       in_request d.0 i.1 w.request,
@@ -268,11 +267,12 @@ behind_by at n w s text d i m x None t a h e run on =
     ) x last) (last_param w s text r.0 d i t a r.1)
 
 pub params_takes : (at n : ℕ) (w : ParameterLists) (s : Scope) (text : List ℕ) (x : ParamsRead)
-    → params_run at n w s text ≡ Ok x → TakenParams w s text x
-unfolding params_run param_step
+    → params_run at n (s, w, text) ≡ Ok x → TakenParams w s text x
+unfolding in_steps param_step
 params_takes at zero w s text x e = absurd cc
 params_takes at (suc n) w s text x e =
-    let m = bind_ok (param_step at w s text) (then_run at n) x e in
+    let m = bind_ok (param_step at (s, w, text)) (then_run at n) x
+    (sym (step_first (param_step at) too_many_params params_read n (s, w, text)) ∙ e) in
     let d = bind_ok (direction_at text) (λ d. item_at at 255 w.seen s d.1 >>= λ i.
     mark_if marks.Comma i.2 >>= λ c. param_end w d.0 i c) m.0 m.1 in
     let i = bind_ok (item_at at 255 w.seen s (d.0).1)

@@ -20,12 +20,14 @@ use Rattle.giop_sig.specs.Scopes.{Names, Scope, part, item_part, place, add_arra
 use Rattle.giop_sig.specs.Validity.{Kind, IsFree, is_among, OfNewName, OfSome, OfItem, OfItems, OfDeclared}
 use Rattle.giop_sig.specs.Outcomes.{refused}
 use Rattle.giop_sig.specs.TypeReading.{enclosed_at, type_at}
-use Rattle.giop_sig.specs.ItemReading.{new_name_at, declared_at, array_type, ItemRead, item_at, Members, member_at, member_step, MembersRead, members_run}
+use Rattle.giop_sig.specs.ItemReading.{new_name_at, declared_at, array_type, ItemRead, item_at, Members, member_at, member_step, too_many_members, MembersRead, members_read, members_run}
 use Rattle.giop_sig.proofs.PlaceLaws.{size, within_same, length_more, item_more, item_names, items_more}
 use Rattle.giop_sig.proofs.ReadingLaws.{Out, good, broken, out_bind, out_more, Apart, if_apart}
 use Rattle.giop_sig.proofs.SizeReads.{enclosed_reads}
 use Rattle.giop_sig.proofs.TypeLaws.{added_bind, type_reads}
-use Rattle.giop_sig.proofs.ItemTaken.{none_of, unused}
+use Rattle.giop_sig.proofs.ItemTaken.{none_of, unused, then_run}
+use Rattle.giop_sig.proofs.RepeatLaws.{step_first}
+use Rattle.giop_sig.specs.Repeats.{in_steps}
 
 -- ---- a list that isn't empty
 
@@ -162,31 +164,26 @@ pub type_apart : (e : TypeExpr) (more : List Token) → Apart marks.CloseBrace (
 type_apart (Base p) more = refl
 type_apart _ more = refl
 
-abbrev made_member : List (List ℕ) → List Part → Scope → Item → List ℕ → Members
-made_member seen parts s i rest =
-    record {
-      scope = (add_item s i).0;
-      seen = seen ++ i.name ∷ [];
-      parts = parts ++ item_part i (add_item s i) ∷ [];
-      rest = rest;
-      closed = false;
-    }
+abbrev made_member : List (List ℕ) → List Part → Scope → Item → List ℕ → Bool × Members
+made_member seen parts s i rest = (
+  false,
+  (
+    (add_item s i).0,
+    seen ++ i.name ∷ [],
+    parts ++ item_part i (add_item s i) ∷ [],
+    rest,
+  ),
+)
 
 member_reads : (at : ℕ) (seen : List (List ℕ)) (parts : List Part) (s : Scope) (i : Item)
     (text : List ℕ) (more : List Token) → 0 < size s → OfItem kinds.Syntax s.names 256 seen i
     → AreTokens text (spell_item i (mark marks.Semicolon ∷ more))
     → Out (made_member seen parts s i) (λ k. OfItem k s.names 256 seen i)
-    (add_item s i).0.table.types more (member_at at seen parts s text)
+    (add_item s i).0.table.types more (member_at at (s, seen, parts, text))
 unfolding member_at
 member_reads at seen parts s i text more some free h =
     out_bind (item_at at 256 seen s text) (λ i. mark_at marks.Semicolon i.2
-    >>= λ r. Ok (record {
-      scope = i.0;
-      seen = seen ++ (i.1).name ∷ [];
-      parts = parts ++ i.1 ∷ [];
-      rest = r;
-      closed = false;
-    }))
+    >>= λ r. Ok (false, (i.0, seen ++ (i.1).name ∷ [], parts ++ i.1 ∷ [], r)))
     (item_reads at 256 seen s i text (mark marks.Semicolon ∷ more) some free refl h)
     (λ rest m keeps. rw (mark_again marks.Semicolon rest more m) (good m.0 m.2 keeps)) (λ k w. w)
     within_same
@@ -194,20 +191,18 @@ member_reads at seen parts s i text more some free h =
 abbrev pub made_members : List Part → Scope → List Item → List ℕ → MembersRead
 made_members parts s is rest = ((add_items s is).0, parts ++ (add_items s is).1, rest)
 
-run_on : (at n : ℕ) (seen : List (List ℕ)) (parts : List Part) (s : Scope) (text : List ℕ)
-    → mark_if marks.CloseBrace text ≡ Ok None
-    → members_run at (suc n) seen parts s text
-    ≡ (member_at at seen parts s text
-    >>= λ m. cond m.closed (Ok (m.scope, m.parts, m.rest))
-    (members_run at n m.seen m.parts m.scope m.rest))
-unfolding members_run member_step
-run_on at n seen parts s text h = rw h refl
+run_on : (at n : ℕ) (m : Members) → mark_if marks.CloseBrace m.3 ≡ Ok None
+    → members_run at (suc n) m ≡ (member_at at m >>= then_run at n)
+unfolding member_step
+run_on at n m h =
+    let one : (member_step at m >>= then_run at n) ≡ (member_at at m >>= then_run at n) =
+    rw h refl in
+    step_first (member_step at) too_many_members members_read n m ∙ one
 
-run_end : (at n : ℕ) (seen : List (List ℕ)) (parts : List Part) (s : Scope) (text rest : List ℕ)
-    → mark_if marks.CloseBrace text ≡ Ok (Some rest)
-    → members_run at (suc n) seen parts s text ≡ Ok (s, parts, rest)
-unfolding members_run member_step
-run_end at n seen parts s text rest h = rw h refl
+run_end : (at n : ℕ) (m : Members) (rest : List ℕ) → mark_if marks.CloseBrace m.3 ≡ Ok (Some rest)
+    → members_run at (suc n) m ≡ Ok (m.0, m.2, rest)
+unfolding in_steps member_step
+run_end at n m rest h = rw h refl
 
 closes : (seen : List (List ℕ)) (parts : List Part) (s : Scope) (names : Names) (rest : List ℕ)
     (more : List Token) → AreTokens rest more
@@ -239,27 +234,33 @@ made_on parts s i is names seen more r first o =
 
 -- a member, and then the others
 member_on : (at n : ℕ) (seen : List (List ℕ)) (parts : List Part) (s : Scope) (names : Names)
-    (i : Item) (is : List Item) (more : List Token) → s.names ≡ names → (r : Result Members Refusal)
-    → Out (made_member seen parts s i) (λ k. OfItem k names 256 seen i)
+    (i : Item) (is : List Item) (more : List Token) → s.names ≡ names
+    → (r : Result (Bool × Members) Refusal) → Out (made_member seen parts s i) (λ k. OfItem k names 256 seen i)
     (add_item s i).0.table.types (spell_items is more) r
     → ((rest : List ℕ) → AreTokens rest (spell_items is more)
     → ((k : Kind) → OfItem k names 256 seen i)
     → Out (made_members (parts ++ item_part i (add_item s i) ∷ []) (add_item s i).0 is)
     (λ k. OfItems k names 256 (seen ++ i.name ∷ []) is)
     (add_items (add_item s i).0 is).0.table.types more
-    (members_run at n (seen ++ i.name ∷ []) (parts ++ item_part i (add_item s i) ∷ [])
-    (add_item s i).0 rest))
+    (members_run at n (
+      (add_item s i).0,
+      seen ++ i.name ∷ [],
+      parts ++ item_part i (add_item s i) ∷ [],
+      rest,
+    )))
     → Out (made_members parts s (i ∷ is)) (λ k. OfItems k names 256 seen (i ∷ is))
     (add_items s (i ∷ is)).0.table.types more
-    (r >>= λ m. cond m.closed (Ok (m.scope, m.parts, m.rest))
-    (members_run at n m.seen m.parts m.scope m.rest))
+    (r >>= then_run at n)
 unfolding OfItems add_items
 member_on at n seen parts s names i is more same r o on =
-    out_bind r (λ m. cond m.closed (Ok (m.scope, m.parts, m.rest))
-    (members_run at n m.seen m.parts m.scope m.rest)) o
+    out_bind r (then_run at n) o
     (λ rest m keeps. made_on parts s i is names seen more
-    (members_run at n (seen ++ i.name ∷ []) (parts ++ item_part i (add_item s i) ∷ [])
-    (add_item s i).0 rest) keeps (on rest m keeps))
+    (members_run at n (
+      (add_item s i).0,
+      seen ++ i.name ∷ [],
+      parts ++ item_part i (add_item s i) ∷ [],
+      rest,
+    )) keeps (on rest m keeps))
     (λ k w. w.0) (items_more (add_item s i).0 is)
 
 pub members_reads : (is : List Item) (at n : ℕ) (seen : List (List ℕ)) (parts : List Part)
@@ -267,24 +268,24 @@ pub members_reads : (is : List Item) (at n : ℕ) (seen : List (List ℕ)) (part
     → n + length seen ≡ 257 → length seen ≤ 256
     → OfItems kinds.Syntax names 256 seen is → AreTokens text (spell_items is more)
     → Out (made_members parts s is) (λ k. OfItems k names 256 seen is)
-    (add_items s is).0.table.types more (members_run at n seen parts s text)
+    (add_items s is).0.table.types more (members_run at n (s, seen, parts, text))
 unfolding OfItems
 members_reads [] at zero seen parts s names text more same some n few free h = absurd (omega arith)
 members_reads (i ∷ is) at zero seen parts s names text more same some n few free h =
     absurd (omega arith)
 members_reads [] at (suc n) seen parts s names text more same some fuel few free h =
-    rw (run_end at n seen parts s text h.0 (mark_if_again marks.CloseBrace text more h))
+    rw (run_end at n (s, seen, parts, text) h.0 (mark_if_again marks.CloseBrace text more h))
     (closes seen parts s names h.0 more h.2)
 members_reads (i ∷ is) at (suc n) seen parts s names text more same some fuel few free h =
     let apart = if_apart marks.CloseBrace text
     (spell_item i (mark marks.Semicolon ∷ spell_items is more))
     (type_apart i.type (word i.name ∷ spell_length i.length
     (mark marks.Semicolon ∷ spell_items is more))) h in
-    rw (run_on at n seen parts s text apart)
-    (member_on at n seen parts s names i is more same (member_at at seen parts s text)
+    rw (run_on at n (s, seen, parts, text) apart)
+    (member_on at n seen parts s names i is more same (member_at at (s, seen, parts, text))
     (subst (λ ns. Out (made_member seen parts s i) (λ k. OfItem k ns 256 seen i)
     (add_item s i).0.table.types (spell_items is more)
-    (member_at at seen parts s text)) same
+    (member_at at (s, seen, parts, text))) same
     (member_reads at seen parts s i text (spell_items is more) some
     (subst (λ ns. OfItem kinds.Syntax ns 256 seen i) (sym same) free.0) h))
     (λ rest m keeps.

@@ -23,8 +23,10 @@ use Rattle.giop_sig.specs.Validity.{IsFree, is_among, OfItem, OfItems}
 use Rattle.giop_sig.specs.ScopeViews.{IsScope}
 use Rattle.giop_sig.specs.Outcomes.{refused}
 use Rattle.giop_sig.specs.TypeReading.{TypeRead, added, enclosed_at, type_at}
-use Rattle.giop_sig.specs.ItemReading.{new_name_at, declared_at, array_type, ItemRead, item_at, Members, member_at, member_after, member_step, MembersRead, members_run, members_at, unless_closed, filled_at, new_repository_at}
+use Rattle.giop_sig.specs.ItemReading.{new_name_at, declared_at, array_type, ItemRead, item_at, Members, member_at, member_after, member_step, too_many_members, MembersRead, members_read, members_run, members_at, unless_closed, filled_at, new_repository_at}
+use Rattle.giop_sig.specs.Repeats.{in_steps}
 use Rattle.giop_sig.proofs.ReadingLaws.{Took}
+use Rattle.giop_sig.proofs.RepeatLaws.{step_first}
 use Rattle.giop_sig.proofs.TypeTaken.{Grows, grows_none, grows_on, grows_known, Sound, sound_added, added_grows, added_is, TakenType, type_takes}
 use Rattle.giop_sig.proofs.SizeTaken.{enclosed_takes, bound_free}
 
@@ -222,46 +224,42 @@ member_on n seen parts s text r i x a e t = record {
       (record { inner = h.known; short = a.short }));
 }
 
-abbrev then_run : ℕ → ℕ → Members → Result MembersRead Refusal
-then_run at n m =
-    cond m.closed (Ok (m.scope, m.parts, m.rest)) (members_run at n m.seen m.parts m.scope m.rest)
+abbrev pub then_run : ℕ → ℕ → Bool × Members → Result MembersRead Refusal
+then_run at n x =
+    cond x.0 (Ok x.1) (in_steps (member_step at) too_many_members n x.1) >>= members_read
 
 member_by : (at n : ℕ) (seen : List (List ℕ)) (parts : List Part) (s : Scope) (text : List ℕ)
-    (m : Members) (x : MembersRead) (c : Found) → mark_if marks.CloseBrace text ≡ Ok c
-    → member_after at seen parts s text c ≡ Ok m → then_run at n m ≡ Ok x
+    (m : Bool × Members) (x : MembersRead) (c : Found) → mark_if marks.CloseBrace text ≡ Ok c
+    → member_after at (s, seen, parts, text) c ≡ Ok m → then_run at n m ≡ Ok x
     → ((seen : List (List ℕ)) (parts : List Part) (s : Scope) (text : List ℕ)
-    → members_run at n seen parts s text ≡ Ok x → TakenMembers n seen parts s text x)
+    → members_run at n (s, seen, parts, text) ≡ Ok x → TakenMembers n seen parts s text x)
     → TakenMembers (suc n) seen parts s text x
 unfolding member_at
 member_by at n seen parts s text m x (Some r) h e run on =
     let last : Ok (s, parts, r) ≡ Ok x = ap (then_run at n)
-    (ok_is (record { scope = s; seen = seen; parts = parts; rest = r; closed = true }) m e)
+    (ok_is (true, (s, seen, parts, r)) m e)
     ∙ run in
     subst (TakenMembers (suc n) seen parts s text) (ok_is (s, parts, r) x last)
     (closes n seen parts s text r h)
 member_by at n seen parts s text m x None h e run on =
     let i = bind_ok _ _ m e in
     let r = bind_ok _ _ m i.2 in
-    let last : members_run at n (seen ++ ((i.0).1).name ∷ []) (parts ++ (i.0).1 ∷ []) (i.0).0 r.0
-    ≡ Ok x =
-    ap (then_run at n) (ok_is (record {
-      scope = (i.0).0;
-      seen = seen ++ ((i.0).1).name ∷ [];
-      parts = parts ++ (i.0).1 ∷ [];
-      rest = r.0;
-      closed = false;
-    }) m r.2) ∙ run in
+    let next : Members = ((i.0).0, seen ++ ((i.0).1).name ∷ [], parts ++ (i.0).1 ∷ [], r.0) in
+    let last : members_run at n next ≡ Ok x =
+    ap (then_run at n) (ok_is (false, next) m r.2) ∙ run in
     member_on n seen parts s text r.0 i.0 x (item_takes at 256 seen s text i.0 i.1) r.1
     (on (seen ++ ((i.0).1).name ∷ []) (parts ++ (i.0).1 ∷ []) (i.0).0 r.0 last)
 
 pub members_takes : (at n : ℕ) (seen : List (List ℕ)) (parts : List Part) (s : Scope)
-    (text : List ℕ) (x : MembersRead) → members_run at n seen parts s text ≡ Ok x
+    (text : List ℕ) (x : MembersRead) → members_run at n (s, seen, parts, text) ≡ Ok x
     → TakenMembers n seen parts s text x
-unfolding members_run member_step
+unfolding in_steps member_step
 members_takes at zero seen parts s text x e = absurd cc
 members_takes at (suc n) seen parts s text x e =
-    let m = bind_ok (member_step at seen parts s text) (then_run at n) x e in
-    let c = bind_ok (mark_if marks.CloseBrace text) (member_after at seen parts s text) m.0 m.1 in
+    let before : Members = (s, seen, parts, text) in
+    let m = bind_ok (member_step at before) (then_run at n) x
+    (sym (step_first (member_step at) too_many_members members_read n before) ∙ e) in
+    let c = bind_ok (mark_if marks.CloseBrace text) (member_after at before) m.0 m.1 in
     member_by at n seen parts s text m.0 x c.0 c.1 c.2 m.2
     (λ seen parts s text run. members_takes at n seen parts s text x run)
 

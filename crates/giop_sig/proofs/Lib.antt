@@ -26,10 +26,8 @@ mod TypeTaken
 mod SizeReads
 mod TypeLaws
 mod TypeSteps
-mod MemberLoop
 mod ItemTaken
 mod ItemLaws
-mod ParamLoop
 mod CallTaken
 mod DeclaredLaws
 mod CallLaws

@@ -1,9 +1,10 @@
 -- Any loop of the reader against reading in repeated steps.
-use Rattle.std.proofs.Common.{◌≡◌, ℕ, suc, ◌+◌, ◌-◌, ◌<◌, ◌≤◌, Bool, true, false, Result, Ok, Err, refl, sym, ◌∙◌, arith}
+use Rattle.std.proofs.Common.{◌≡◌, ℕ, suc, ◌+◌, ◌-◌, ◌<◌, ◌≤◌, Bool, true, false, cond, Result, Ok, Err, refl, sym, ap, ◌∙◌, arith}
 use Rattle.giop_tokens.specs.declared.fault.Refusal.{Refusal}
 use Rattle.giop_sig.specs.declared.parse_stop.ParseStop.{ParseStop}
 use Rattle.giop_sig.specs.declared.parse_stop.ParseStop.TheVariants as stops
 use Rattle.giop_sig.specs.Outcomes.{Stops}
+use Rattle.giop_tokens.specs.Reading.{◌>>=◌}
 use Rattle.giop_sig.specs.Repeats.{in_steps}
 
 module _ {S : Type 0} (step : S → Result (Bool × S) Refusal) (limit : S → Refusal) (most i : ℕ)
@@ -39,3 +40,23 @@ module _ {S : Type 0} (step : S → Result (Bool × S) Refusal) (limit : S → R
       let k : most - i ≡ 0 = omega arith in
       let one : in_steps step limit (most - i) s ≡ Err (limit s) = rw k refl in
       sym so_far ∙ one
+
+-- what stops a reading stops what is made of it
+pub stops_on : {X Y : Type 0} (e : ParseStop) (r : Result X Refusal) (f : X → Result Y Refusal)
+    → Stops e r → Stops e (r >>= f)
+stops_on stops.Memory r f h = tt
+stops_on (stops.Refused q) r f h = ap (λ x. x >>= f) h
+
+bind_bind : {A B C : Type 0} (r : Result A Refusal) (f : A → Result B Refusal)
+    (g : B → Result C Refusal) → ((r >>= f) >>= g) ≡ (r >>= λ x. f x >>= g)
+bind_bind (Ok x) f g = refl
+bind_bind (Err e) f g = refl
+
+-- what is made of the last state, by the first step
+pub step_first : {S Y : Type 0} (step : S → Result (Bool × S) Refusal) (limit : S → Refusal)
+    (make : S → Result Y Refusal) (left : ℕ) (s : S)
+    → (in_steps step limit (suc left) s >>= make)
+    ≡ (step s >>= λ x. cond x.0 (Ok x.1) (in_steps step limit left x.1) >>= make)
+unfolding in_steps
+step_first step limit make left s =
+    bind_bind (step s) (λ x. cond x.0 (Ok x.1) (in_steps step limit left x.1)) make

@@ -1,5 +1,5 @@
 -- Reading operations from left to right (steps).
-use Rattle.std.specs.Prelude.{ℕ, zero, suc, Bool, true, false, if◌then◌else◌, nat_le, List, [], ◌∷◌, ◌++◌, length, Option, Some, None, Result, Ok, Err, codes}
+use Rattle.std.specs.Prelude.{ℕ, Bool, true, false, if◌then◌else◌, nat_le, List, [], ◌∷◌, ◌++◌, length, Option, Some, None, Result, Ok, Err, codes}
 use Rattle.std.specs.Option.{is_some}
 use Rattle.std.specs.Str.{bytes_eq}
 use Rattle.giop_tokens.specs.declared.fault.Refusal.{Refusal}
@@ -17,6 +17,7 @@ use Rattle.giop_sig.specs.Scopes.{Scope, part, with_call}
 use Rattle.giop_sig.specs.Outcomes.{refused}
 use Rattle.giop_sig.specs.TypeReading.{added, type_at}
 use Rattle.giop_sig.specs.ItemReading.{ItemRead, item_at, Declared}
+use Rattle.giop_sig.specs.Repeats.{in_steps}
 
 -- ---- what an operation returns
 
@@ -69,15 +70,6 @@ in_reply directions.In p ps = ps
 in_reply directions.Out p ps = ps ++ p ∷ []
 in_reply directions.Inout p ps = ps ++ p ∷ []
 
--- parameters that were read, with their names, and whether the closing mark was
-pub record Params : Type 0 where
-  pub scope : Scope
-  pub seen : List (List ℕ)
-  pub request : List Part
-  pub reply : List Part
-  pub rest : List ℕ
-  pub closed : Bool
-
 -- the lists to which a parameter of a direction is added
 pub record ParameterLists : Type 0 where
   pub seen : List (List ℕ)
@@ -93,44 +85,36 @@ with_param w d p =
       reply = in_reply d p w.reply;
     }
 
-abbrev pub params_of : ParameterLists → Direction → ItemRead → List ℕ → Bool → Params
-params_of w d i rest closed =
-    record {
-      scope = i.0;
-      seen = w.seen ++ (i.1).name ∷ [];
-      request = in_request d i.1 w.request;
-      reply = in_reply d i.1 w.reply;
-      rest = rest;
-      closed = closed;
-    }
+-- parameters that were read, and what follows them
+abbrev pub Params : Type 0
+Params = Scope × ParameterLists × List ℕ
 
-abbrev pub param_end : ParameterLists → Direction → ItemRead → Option (List ℕ) →
-    Result Params Refusal
-param_end w d i (Some r) = Ok (params_of w d i r false)
+abbrev pub param_end : ParameterLists → Direction → ItemRead → Option (List ℕ)
+    → Result (Bool × Params) Refusal
+param_end w d i (Some r) = Ok (false, (i.0, with_param w d i.1, r))
 param_end w d i None = do
   r ← mark_at marks.CloseParenthesis i.2
-  Ok (params_of w d i r true)
+  Ok (true, (i.0, with_param w d i.1, r))
 
 -- a parameter, and the comma or the closing mark after it
-unfoldable pub param_step : ℕ → ParameterLists → Scope → List ℕ → Result Params Refusal
-param_step at w s text = do
-  d ← direction_at text
-  i ← item_at at 255 w.seen s d.1
+unfoldable pub param_step : ℕ → Params → Result (Bool × Params) Refusal
+param_step at x = do
+  d ← direction_at x.2
+  i ← item_at at 255 (x.1).seen x.0 d.1
   c ← mark_if marks.Comma i.2
-  param_end w d.0 i c
+  param_end x.1 d.0 i c
+
+abbrev pub too_many_params : Params → Refusal
+too_many_params x = refused kinds.Limit x.2
 
 abbrev pub ParamsRead : Type 0
 ParamsRead = Scope × List Part × List Part × List ℕ
 
-abbrev pub parameter_lists_of : Params → ParameterLists
-parameter_lists_of m = record { seen = m.seen; request = m.request; reply = m.reply }
+abbrev pub params_read : Params → Result ParamsRead Refusal
+params_read x = Ok (x.0, (x.1).request, (x.1).reply, x.2)
 
-unfoldable pub params_run : ℕ → ℕ → ParameterLists → Scope → List ℕ → Result ParamsRead Refusal
-params_run at zero w s text = Err (refused kinds.Limit text)
-params_run at (suc n) w s text = do
-  m ← param_step at w s text
-  if m.closed then Ok (m.scope, m.request, m.reply, m.rest)
-      else params_run at n (parameter_lists_of m) m.scope m.rest
+abbrev pub params_run : ℕ → ℕ → Params → Result ParamsRead Refusal
+params_run at n x = in_steps (param_step at) too_many_params n x >>= params_read
 
 abbrev pub no_parameters : List Part → ParameterLists
 no_parameters returned = record { seen = []; request = []; reply = returned }
@@ -138,7 +122,7 @@ no_parameters returned = record { seen = []; request = []; reply = returned }
 abbrev pub params_after : ℕ → List Part → Scope → List ℕ → Option (List ℕ)
     → Result ParamsRead Refusal
 params_after at returned s text (Some r) = Ok (s, [], returned, r)
-params_after at returned s text None = params_run at 256 (no_parameters returned) s text
+params_after at returned s text None = params_run at 256 (s, no_parameters returned, text)
 
 -- parameters up to the closing mark
 unfoldable pub params_at : ℕ → List Part → Scope → List ℕ → Result ParamsRead Refusal

@@ -1,5 +1,5 @@
 -- Reading members from left to right: items, structs and exceptions (steps).
-use Rattle.std.specs.Prelude.{ℕ, zero, suc, Bool, true, false, if◌then◌else◌, nat_le, nat_lt, List, [], ◌∷◌, ◌++◌, length, Option, Some, None, Result, Ok, Err}
+use Rattle.std.specs.Prelude.{ℕ, Bool, true, false, if◌then◌else◌, nat_le, nat_lt, List, [], ◌∷◌, ◌++◌, length, Option, Some, None, Result, Ok, Err}
 use Rattle.std.specs.Map.{lookup}
 use Rattle.std.specs.Option.{is_some}
 use Rattle.std.specs.Str.{bytes_eq}
@@ -16,6 +16,7 @@ use Rattle.giop_sig.specs.Scopes.{Scope, AddedType, part, with_named, with_raise
 use Rattle.giop_sig.specs.Validity.{is_among}
 use Rattle.giop_sig.specs.Outcomes.{refused}
 use Rattle.giop_sig.specs.TypeReading.{added, enclosed_at, type_at}
+use Rattle.giop_sig.specs.Repeats.{in_steps}
 
 -- ---- names
 
@@ -52,51 +53,41 @@ item_at at most seen s text = do
 
 -- ---- members
 
--- members that were read, with their names, and whether the closing mark was
-pub record Members : Type 0 where
-  pub scope : Scope
-  pub seen : List (List ℕ)
-  pub parts : List Part
-  pub rest : List ℕ
-  pub closed : Bool
+-- the names of the members that were read, the members, and what follows them
+abbrev pub Members : Type 0
+Members = Scope × List (List ℕ) × List Part × List ℕ
 
-unfoldable pub member_at : ℕ → List (List ℕ) → List Part → Scope → List ℕ → Result Members Refusal
-member_at at seen parts s text = do
-  i ← item_at at 256 seen s text
+unfoldable pub member_at : ℕ → Members → Result (Bool × Members) Refusal
+member_at at m = do
+  i ← item_at at 256 m.1 m.0 m.3
   r ← mark_at marks.Semicolon i.2
-  Ok (record {
-    scope = i.0;
-    seen = seen ++ (i.1).name ∷ [];
-    parts = parts ++ i.1 ∷ [];
-    rest = r;
-    closed = false;
-  })
+  Ok (false, (i.0, m.1 ++ (i.1).name ∷ [], m.2 ++ i.1 ∷ [], r))
 
-abbrev pub member_after : ℕ → List (List ℕ) → List Part → Scope → List ℕ
-    → Option (List ℕ) → Result Members Refusal
-member_after at seen parts s text (Some r) =
-    Ok (record { scope = s; seen = seen; parts = parts; rest = r; closed = true })
-member_after at seen parts s text None = member_at at seen parts s text
+abbrev pub member_after : ℕ → Members → Option (List ℕ) → Result (Bool × Members) Refusal
+member_after at m (Some r) = Ok (true, (m.0, m.1, m.2, r))
+member_after at m None = member_at at m
 
 -- the closing mark, or a member more
-unfoldable pub member_step : ℕ → List (List ℕ) → List Part → Scope → List ℕ → Result Members Refusal
-member_step at seen parts s text = do
-  c ← mark_if marks.CloseBrace text
-  member_after at seen parts s text c
+unfoldable pub member_step : ℕ → Members → Result (Bool × Members) Refusal
+member_step at m = do
+  c ← mark_if marks.CloseBrace m.3
+  member_after at m c
+
+abbrev pub too_many_members : Members → Refusal
+too_many_members m = refused kinds.Limit m.3
 
 abbrev pub MembersRead : Type 0
 MembersRead = Scope × List Part × List ℕ
 
+abbrev pub members_read : Members → Result MembersRead Refusal
+members_read m = Ok (m.0, m.2, m.3)
+
 -- members up to the closing mark, in so many steps
-unfoldable pub members_run : ℕ → ℕ → List (List ℕ) → List Part → Scope → List ℕ
-    → Result MembersRead Refusal
-members_run at zero seen parts s text = Err (refused kinds.Limit text)
-members_run at (suc n) seen parts s text = do
-  m ← member_step at seen parts s text
-  if m.closed then Ok (m.scope, m.parts, m.rest) else members_run at n m.seen m.parts m.scope m.rest
+abbrev pub members_run : ℕ → ℕ → Members → Result MembersRead Refusal
+members_run at n m = in_steps (member_step at) too_many_members n m >>= members_read
 
 abbrev pub members_at : ℕ → Scope → List ℕ → Result MembersRead Refusal
-members_at at s text = members_run at 257 [] [] s text
+members_at at s text = members_run at 257 (s, [], [], text)
 
 abbrev pub unless_closed : List ℕ → Option (List ℕ) → Result (List ℕ) Refusal
 unless_closed text None = Ok text

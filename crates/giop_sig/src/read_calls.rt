@@ -158,17 +158,8 @@ fn param_step<'a>(
     parameters: &mut Parameters<'a>,
     text: &'a [u8],
 ) -> Result<(bool, &'a [u8]), ParseStop>
-    ensures { Gives
-        (λ x. record {
-          scope = draft.new;
-          seen = map (λ n. n.now) parameters.new.seen.items;
-          request = map part_view parameters.new.request.items;
-          reply = map part_view parameters.new.reply.items;
-          rest = x.1.now;
-          closed = x.0;
-        })
-        result
-        (param_step at (parameter_lists_view parameters.old) draft.old text.now) }
+    ensures { Gives (λ x. (x.0, (draft.new, parameter_lists_view parameters.new, x.1.now))) result
+        (param_step at (draft.old, parameter_lists_view parameters.old, text.now)) }
 {
     let (direction, rest) = direction_at(text)?;
     let (name, t, rest) = item_at(draft, at, PARAMS_MAX, parameters.seen.as_slice(), rest)?;
@@ -207,8 +198,8 @@ fn params_run<'a>(
     text: &'a [u8],
 ) -> Result<(Vec<PartEntry>, Vec<PartEntry>, &'a [u8]), ParseStop>
     ensures { Gives (λ x. (draft.new, map part_view x.0.items, map part_view x.1.items, x.2.now))
-        result (params_run at 256 (no_parameters (map part_view returned.items)) draft.old
-        text.now) }
+        result (params_run at 256
+        (draft.old, no_parameters (map part_view returned.items), text.now)) }
 {
     let mut parameters = Parameters {
         seen: Vec::new(alloc),

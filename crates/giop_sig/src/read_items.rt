@@ -145,16 +145,22 @@ fn member_step<'a>(
     text: &'a [u8],
 ) -> Result<(bool, &'a [u8]), ParseStop>
     ensures { Gives
-        (λ x. record {
-          scope = draft.new;
-          seen = map (λ n. n.now) seen.new.items;
-          parts = map part_view parts.new.items;
-          rest = x.1.now;
-          closed = x.0;
-        })
+        (λ x. (
+          x.0,
+          (
+            draft.new,
+            map (λ n. n.now) seen.new.items,
+            map part_view parts.new.items,
+            x.1.now,
+          ),
+        ))
         result
-        (member_step at (map (λ n. n.now) seen.old.items)
-        (map part_view parts.old.items) draft.old text.now) }
+        (member_step at (
+          draft.old,
+          map (λ n. n.now) seen.old.items,
+          map part_view parts.old.items,
+          text.now,
+        )) }
 {
     if let Some(rest) = starts_with_mark(text, Mark::CloseBrace)? {
         return Ok((true, rest));

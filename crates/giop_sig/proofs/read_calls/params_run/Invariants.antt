@@ -1,10 +1,13 @@
 use Rattle.std.proofs.Common.{◌≡◌, ◌-◌, map}
-use Rattle.giop_sig.specs.CallReading.{params_run, no_parameters}
+use Rattle.giop_sig.specs.Repeats.{in_steps}
+use Rattle.giop_sig.specs.CallReading.{param_step, too_many_params, no_parameters}
 use Rattle.giop_sig.specs.ParameterViews.{parameter_lists_view}
 use Rattle.giop_sig.specs.UnionCases.{part_view}
 use Rattle.giop_sig.proofs.read_calls.params_run.Given as goal
 
 abbrev pub invariant-loop : goal.invariant-loop
 invariant-loop l =
-    params_run l.at (256 - l.counter) (parameter_lists_view l.parameters) l.draft l.rest
-    ≡ params_run l.at 256 (no_parameters (map part_view l.fn.returned.items)) l.fn.draft l.text
+    in_steps (param_step l.at) too_many_params (256 - l.counter)
+    (l.draft, parameter_lists_view l.parameters, l.rest)
+    ≡ in_steps (param_step l.at) too_many_params 256
+    (l.fn.draft, no_parameters (map part_view l.fn.returned.items), l.text)
