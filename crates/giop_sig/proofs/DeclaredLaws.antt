@@ -21,7 +21,7 @@ use Rattle.giop_sig.specs.ItemReading.{declared_at, members_at, filled_at, Decla
 use Rattle.giop_sig.proofs.PlaceLaws.{size, within_same, within_on, Grown, node_more, struct_more}
 use Rattle.giop_sig.proofs.ReadingLaws.{Out, good, broken, out_bind, if_apart, Took}
 use Rattle.giop_sig.proofs.TypeLaws.{added_bind}
-use Rattle.giop_sig.proofs.ItemLaws.{declared_reads, members_reads, some_keeps, type_apart, some_none}
+use Rattle.giop_sig.proofs.ItemLaws.{declared_reads, members_reads, some_keeps, filled_end, filled_on, type_apart, some_none}
 use Rattle.giop_sig.proofs.ItemTaken.{none_of, DeclaredTaken, declared_takes, filled_takes, members_takes, TakenMembers, RepositoryTaken, new_repository_takes}
 
 -- reading a text that begins with members
@@ -29,13 +29,13 @@ filled_reads : (types : List Node) (is : List Item) (text : List ℕ) (more : Li
     → AreTokens text (spell_items is more)
     → Out {X = List ℕ} (λ rest. rest) (λ k. OfSome k is) types
     (spell_items is more) (filled_at text)
-unfolding filled_at
-filled_reads types [] text more h = rw (mark_if_again marks.CloseBrace text more h)
+filled_reads types [] text more h =
+    rw (filled_end text h.0 (mark_if_again marks.CloseBrace text more h))
     (broken (refused kinds.Empty text) (λ none. none))
 filled_reads types (i ∷ is) text more h =
-    rw (if_apart marks.CloseBrace text (spell_items (i ∷ is) more)
+    rw (filled_on text (if_apart marks.CloseBrace text (spell_items (i ∷ is) more)
     (type_apart i.type (word i.name ∷ spell_length i.length
-    (mark marks.Semicolon ∷ spell_items is more))) h) (good text h (some_keeps i is))
+    (mark marks.Semicolon ∷ spell_items is more))) h)) (good text h (some_keeps i is))
 
 -- ---- structs
 

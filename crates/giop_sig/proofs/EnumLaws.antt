@@ -20,14 +20,14 @@ use Rattle.giop_sig.specs.Scopes.{Scope, with_named, declare}
 use Rattle.giop_sig.specs.Validity.{Kind, IsFree, OfNewName, OfSome, OfNames, OfDeclaration, is_among}
 use Rattle.giop_sig.specs.Outcomes.{refused}
 use Rattle.giop_sig.specs.TypeReading.{added}
-use Rattle.giop_sig.specs.ItemReading.{new_name_at, declared_at, Declared}
+use Rattle.giop_sig.specs.ItemReading.{new_name_at, declared_at, filled_at, Declared}
 use Rattle.giop_sig.specs.Repeats.{in_steps}
-use Rattle.giop_sig.specs.EnumReading.{NamesRead, enumerator_at, names_end, names_step, too_many_names, names_by, names_at, enumeration_at}
+use Rattle.giop_sig.specs.EnumReading.{NamesRead, enumerator_at, names_end, names_step, too_many_names, names_at, enumeration_at}
 use Rattle.giop_sig.proofs.PlaceLaws.{Within, within_same, node_more}
 use Rattle.giop_sig.proofs.ReadingLaws.{lift, Out, good, broken, out_bind, if_apart, Took}
 use Rattle.giop_sig.proofs.TypeLaws.{added_bind}
-use Rattle.giop_sig.proofs.ItemTaken.{new_name_takes, declared_takes}
-use Rattle.giop_sig.proofs.ItemLaws.{new_name_reads, declared_reads, some_keeps}
+use Rattle.giop_sig.proofs.ItemTaken.{new_name_takes, declared_takes, filled_takes}
+use Rattle.giop_sig.proofs.ItemLaws.{new_name_reads, declared_reads, some_keeps, filled_end, filled_on}
 
 -- what is read, in another form
 pub out_as : {X : Type 0} {made made2 : List ℕ → X} {rule rule2 : Kind → Type 0}
@@ -120,9 +120,10 @@ pub all_names_reads : (names : List (List ℕ)) (text : List ℕ) (types : List 
     types more (names_at text)
 unfolding names_at
 all_names_reads [] text types more free h =
-    rw (mark_if_again marks.CloseBrace text more h) (broken (refused kinds.Empty text) (λ k. k.0))
+    rw (filled_end text h.0 (mark_if_again marks.CloseBrace text more h))
+    (broken (refused kinds.Empty text) (λ k. k.0))
 all_names_reads (n ∷ names) text types more free h =
-    rw (if_apart marks.CloseBrace text (word n ∷ spell_more_names names more) refl h)
+    rw (filled_on text (if_apart marks.CloseBrace text (word n ∷ spell_more_names names more) refl h))
     (out_as (in_steps names_step too_many_names 1025 ([], text))
     (names_reads 1025 names [] n text types more refl free h) (λ rest. refl)
     (λ k keeps. (some_keeps n names k, keeps)) (λ k whole. whole.1) within_same)
@@ -272,22 +273,20 @@ pub record TakenAll (text : List ℕ) (x : NamesRead) : Type 0 where
   pub took : Took (spell_names x.0) (OfNames kinds.Syntax [] x.0) text x.1
   pub fits : AreEnumerators x.0
 
-all_by : (text : List ℕ) (x : NamesRead) (o : Option (List ℕ))
-    → names_by text o ≡ Ok x → TakenAll text x
-all_by text x (Some rest) e = absurd cc
-all_by text x None e =
-    let k = names_taken 1025 [] text x e in
+all_taken : (text : List ℕ) (x : NamesRead) → TakenNames [] text x → TakenAll text x
+all_taken text x k =
     let names : x.0 ≡ k.name ∷ k.others = k.all in
     record {
       took = rw names k.took;
-      fits =
-          k.fits (record { few = omega arith; short = λ i d lt. absurd (omega arith) });
+      fits = k.fits (record { few = omega arith; short = λ i d lt. absurd (omega arith) });
     }
 
 pub all_names_taken : (text : List ℕ) (x : NamesRead) → names_at text ≡ Ok x → TakenAll text x
 unfolding names_at
-all_names_taken text x e = let a = bind_ok (mark_if marks.CloseBrace text) (names_by text) x e in
-    all_by text x a.0 a.2
+all_names_taken text x e =
+    let f = bind_ok (filled_at text) (λ f. in_steps names_step too_many_names 1025 ([], f)) x e in
+    subst (λ t. TakenAll t x) (sym (filled_takes text f.0 f.1).0)
+    (all_taken f.0 x (names_taken 1025 [] f.0 x f.2))
 
 -- an enum that was read
 pub record TakenEnumeration (s : Scope) (text : List ℕ) (x : Declared) : Type 0 where

@@ -20,7 +20,7 @@ use Rattle.giop_sig.specs.Scopes.{Names, Scope, part, item_part, place, add_arra
 use Rattle.giop_sig.specs.Validity.{Kind, IsFree, is_among, OfNewName, OfSome, OfItem, OfItems, OfDeclared}
 use Rattle.giop_sig.specs.Outcomes.{refused}
 use Rattle.giop_sig.specs.TypeReading.{enclosed_at, type_at}
-use Rattle.giop_sig.specs.ItemReading.{new_name_at, declared_at, array_type, ItemRead, item_at, Members, member_at, member_step, too_many_members, MembersRead, members_read, members_run}
+use Rattle.giop_sig.specs.ItemReading.{new_name_at, declared_at, array_type, ItemRead, item_at, Members, member_at, member_step, too_many_members, MembersRead, members_read, members_run, filled_at}
 use Rattle.giop_sig.proofs.PlaceLaws.{size, within_same, length_more, item_more, item_names, items_more}
 use Rattle.giop_sig.proofs.ReadingLaws.{Out, good, broken, out_bind, out_more, Apart, if_apart}
 use Rattle.giop_sig.proofs.SizeReads.{enclosed_reads}
@@ -34,6 +34,15 @@ use Rattle.giop_sig.specs.Repeats.{in_steps}
 pub some_keeps : {X : Type 0} (x : X) (xs : List X) (k : Kind) → OfSome k (x ∷ xs)
 some_keeps x xs kinds.Token = tt
 some_keeps x xs _ = tt
+
+pub filled_end : (text rest : List ℕ) → mark_if marks.CloseBrace text ≡ Ok (Some rest)
+    → filled_at text ≡ Err (refused kinds.Empty text)
+unfolding filled_at
+filled_end text rest h = rw h refl
+
+pub filled_on : (text : List ℕ) → mark_if marks.CloseBrace text ≡ Ok None → filled_at text ≡ Ok text
+unfolding filled_at
+filled_on text h = rw h refl
 
 -- ---- names
 

@@ -23,7 +23,7 @@ use Rattle.giop_sig.specs.UnionReading.{Cases, chosen, CasesRead, cases_at, can_
 use Rattle.giop_sig.proofs.PlaceLaws.{size, within_same, within_on, Grown, node_more, place_more, place_names}
 use Rattle.giop_sig.proofs.ReadingLaws.{Out, good, broken, out_bind, out_more, Apart}
 use Rattle.giop_sig.proofs.TypeLaws.{added_bind, placed, type_reads}
-use Rattle.giop_sig.proofs.ItemLaws.{declared_reads, some_keeps}
+use Rattle.giop_sig.proofs.ItemLaws.{declared_reads, some_keeps, filled_end, filled_on}
 use Rattle.giop_sig.proofs.EnumLaws.{out_as}
 use Rattle.giop_sig.proofs.UnionLaws.{made_cases, made_more, labels_apart, cases_run}
 
@@ -84,15 +84,6 @@ made_is (c ∷ cs) node s labels names cases otherwise =
     }
 
 -- ---- all cases
-
-filled_end : (text rest : List ℕ) → mark_if marks.CloseBrace text ≡ Ok (Some rest)
-    → filled_at text ≡ Err (refused kinds.Empty text)
-unfolding filled_at
-filled_end text rest h = rw h refl
-
-filled_on : (text : List ℕ) → mark_if marks.CloseBrace text ≡ Ok None → filled_at text ≡ Ok text
-unfolding filled_at
-filled_on text h = rw h refl
 
 cases_reads : (at switch : ℕ) (node : Node) (known : Names) (s : Scope) (cs : List UnionCase)
     (text : List ℕ) (more : List Token) → s.names ≡ known → 0 < size s → switch < size s

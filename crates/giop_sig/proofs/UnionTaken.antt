@@ -23,11 +23,11 @@ use Rattle.giop_sig.specs.Scopes.{Scope, label_number, labels_of}
 use Rattle.giop_sig.specs.Validity.{OfItem, OfValueName, OfLabel, OfLabels, OfCases}
 use Rattle.giop_sig.specs.ScopeViews.{IsScope}
 use Rattle.giop_sig.specs.Outcomes.{refused}
-use Rattle.giop_sig.specs.ItemReading.{ItemRead, item_at, unless_closed, filled_at}
+use Rattle.giop_sig.specs.ItemReading.{ItemRead, item_at, filled_at}
 use Rattle.giop_sig.specs.Repeats.{in_steps}
 use Rattle.giop_sig.specs.UnionReading.{token_value, value_at, Mark, LabelRead, fitting, number_of_value, unseen_label, label_by, label_at, LabelsRead, with_label, begins_label, label_or_end, labels_step, too_many_labels, labels_by, labels_at, Cases, no_cases, chosen, with_case, CasesRead, case_at, case_or_end, cases_step, too_many_cases, cases_at}
 use Rattle.giop_sig.proofs.TypeTaken.{Grows, grows_none, grows_on, grows_known}
-use Rattle.giop_sig.proofs.ItemTaken.{TakenItem, item_takes}
+use Rattle.giop_sig.proofs.ItemTaken.{TakenItem, item_takes, filled_takes}
 use Rattle.giop_sig.proofs.LabelReads.{then_labels}
 use Rattle.giop_sig.proofs.UnionLaws.{then_cases}
 
@@ -408,16 +408,6 @@ sound_none s = record {
   below = tt;
 }
 
-filled_by : (text some : List ℕ) (o : Option (List ℕ))
-    → unless_closed text o ≡ Ok some → text ≡ some
-filled_by text some None e = ok_is text some e
-filled_by text some (Some r) e = absurd cc
-
-filled_is : (text some : List ℕ) → filled_at text ≡ Ok some → text ≡ some
-unfolding filled_at
-filled_is text some e = let o = bind_ok (mark_if marks.CloseBrace text) (unless_closed text) some
-    e in filled_by text some o.0 o.2
-
 pub cases_taken : (at switch : ℕ) (s : Scope) (text : List ℕ) (x : CasesRead)
     → cases_at at switch s text ≡ Ok x → TakenUnionCases s text x
 unfolding cases_at
@@ -429,7 +419,7 @@ cases_taken at switch s text x e =
       cases = t.cases;
       free = λ node. t.free node [];
       front = λ more m. subst (λ b. AreTokens b (spell_cases t.cases more))
-          (sym (filled_is text some.0 some.1)) (t.front more m);
+          (sym (filled_takes text some.0 some.1).0) (t.front more m);
       grows = t.grows;
       scope = λ is. (t.sound is (sound_none s)).0;
       parts = λ is. (t.sound is (sound_none s)).1.parts;

@@ -12,7 +12,7 @@ use Rattle.giop_sig.specs.Scopes.{Scope, with_named}
 use Rattle.giop_sig.specs.Validity.{is_among}
 use Rattle.giop_sig.specs.Outcomes.{refused}
 use Rattle.giop_sig.specs.TypeReading.{added}
-use Rattle.giop_sig.specs.ItemReading.{new_name_at, declared_at, Declared}
+use Rattle.giop_sig.specs.ItemReading.{new_name_at, declared_at, filled_at, Declared}
 use Rattle.giop_sig.specs.Repeats.{in_steps}
 
 -- enumerators, and what follows them
@@ -42,15 +42,11 @@ names_step seen = do
 abbrev pub too_many_names : NamesRead → Refusal
 too_many_names names = refused kinds.Limit names.1
 
-abbrev pub names_by : List ℕ → Option (List ℕ) → Result NamesRead Refusal
-names_by text (Some rest) = Err (refused kinds.Empty text)
-names_by text None = in_steps names_step too_many_names 1025 ([], text)
-
 -- the enumerators of an enum, after its opening mark
 unfoldable pub names_at : List ℕ → Result NamesRead Refusal
 names_at text = do
-  closed ← mark_if marks.CloseBrace text
-  names_by text closed
+  some ← filled_at text
+  in_steps names_step too_many_names 1025 ([], some)
 
 -- an enum, after its word
 unfoldable pub enumeration_at : Scope → List ℕ → Result Declared Refusal

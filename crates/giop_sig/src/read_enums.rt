@@ -8,7 +8,7 @@ ghost use Rattle.giop_sig.specs.EnumReading.{enumerator_at, names_step, too_many
 use crate::draft::Draft;
 use crate::entries::Entry;
 use crate::parse_stop::ParseStop;
-use crate::read_items::{declared_at, type_end_at};
+use crate::read_items::{declared_at, filled_at, type_end_at};
 use crate::read_types::refused;
 use giop_tokens::{Mark, SigFaultKind, identifier, left_of, mark, starts_with_mark};
 use std::alloc::Global;
@@ -92,10 +92,7 @@ fn some_names(alloc: Global, text: &[u8]) -> Result<(Vec<Vec<u8>>, &[u8]), Parse
 fn names_at(alloc: Global, text: &[u8]) -> Result<(Vec<Vec<u8>>, &[u8]), ParseStop>
     ensures { Gives (λ x. (map (λ n. n.items) x.0.items, x.1.now)) result (names_at text.now) }
 {
-    match starts_with_mark(text, Mark::CloseBrace)? {
-        Some(_) => Err(ParseStop::Refused(refused(SigFaultKind::Empty, text))),
-        None => some_names(alloc, text),
-    }
+    some_names(alloc, filled_at(text)?)
 }
 
 /// An enum, after its word; what follows it.

@@ -14,7 +14,7 @@ use crate::draft::Draft;
 use crate::entries::{CaseEntry, Entry};
 use crate::labels::{LabelValue, label_number, value_at};
 use crate::parse_stop::ParseStop;
-use crate::read_items::{WORDS_MAX, declared_at, item_at, part_of, type_end_at};
+use crate::read_items::{WORDS_MAX, declared_at, filled_at, item_at, part_of, type_end_at};
 use crate::read_types::{refused, type_at};
 use crate::types::{Selected, TypeId};
 use giop_cdr::{Number, Prim};
@@ -334,7 +334,7 @@ fn some_cases<'a>(
 }
 
 /// Cases up to the closing mark, one at least.
-#[tactic(auto, unfolding(crate::specs::UnionReading::cases_at, crate::specs::ItemReading::filled_at))]
+#[tactic(auto, unfolding(crate::specs::UnionReading::cases_at))]
 fn cases_at<'a>(
     alloc: Global,
     draft: &mut Draft,
@@ -345,10 +345,7 @@ fn cases_at<'a>(
     ensures { Gives (λ x. (draft.new, cases_view x.0, x.1.now)) result
         (cases_at at switch.0 draft.old text.now) }
 {
-    match starts_with_mark(text, Mark::CloseBrace)? {
-        Some(_) => Err(ParseStop::Refused(refused(SigFaultKind::Empty, text))),
-        None => some_cases(alloc, draft, at, switch, text),
-    }
+    some_cases(alloc, draft, at, switch, filled_at(text)?)
 }
 
 /// The entry of a union with a discriminator of this type.
