@@ -25,7 +25,7 @@ use Rattle.giop_sig.specs.Scopes.{Scope, AddedType, part}
 use Rattle.giop_sig.specs.Validity.{OfItems, OfReturn, items_of}
 use Rattle.giop_sig.specs.ScopeViews.{IsScope}
 use Rattle.giop_sig.specs.Outcomes.{refused}
-use Rattle.giop_sig.specs.TypeReading.{added, type_at}
+use Rattle.giop_sig.specs.TypeReading.{TypeRead, added, type_at}
 use Rattle.giop_sig.specs.ItemReading.{ItemRead, item_at}
 use Rattle.giop_sig.specs.CallReading.{ReturnRead, return_after, return_at, new_operation_at, direction_of, as_direction, direction_at, in_request, in_reply, with_param, Params, ParameterLists, param_end, param_step, too_many_params, ParamsRead, params_read, params_run, no_parameters, params_after, params_at}
 use Rattle.giop_sig.specs.Repeats.{in_steps}
@@ -56,8 +56,7 @@ return_by at s text x (Some r) h e = subst (TakenReturn s text) (ok_is (s, [], r
   sound = λ is. (is, no_parts s);
 })
 return_by at s text x None h e =
-    let t = bind_ok (type_at at 25 s text) (λ t. Ok (t.0, part (codes "return") t.1 ∷ [], t.2)) x e
-    in
+    let t = bind_ok {A = TypeRead} _ _ x e in
     let k = type_takes at 25 s text t.0 t.1 in
     subst (TakenReturn s text) (ok_is ((t.0).0, part (codes "return") (t.0).1 ∷ [], (t.0).2) x t.2)
     (record {
@@ -273,10 +272,8 @@ params_takes at zero w s text x e = absurd cc
 params_takes at (suc n) w s text x e =
     let m = bind_ok (param_step at (s, w, text)) (then_run at n) x
     (sym (step_first (param_step at) too_many_params params_read n (s, w, text)) ∙ e) in
-    let d = bind_ok (direction_at text) (λ d. item_at at 255 w.seen s d.1 >>= λ i.
-    mark_if marks.Comma i.2 >>= λ c. param_end w d.0 i c) m.0 m.1 in
-    let i = bind_ok (item_at at 255 w.seen s (d.0).1)
-    (λ i. mark_if marks.Comma i.2 >>= λ c. param_end w (d.0).0 i c) m.0 d.2 in
+    let d = bind_ok {A = Direction × List ℕ} _ _ m.0 m.1 in
+    let i = bind_ok {A = ItemRead} _ _ m.0 d.2 in
     let c = bind_ok (mark_if marks.Comma (i.0).2) (λ c. param_end w (d.0).0 i.0 c) m.0 i.2 in
     behind_by at n w s text d.0 i.0 m.0 x c.0 (direction_takes text d.0 d.1)
     (item_takes at 255 w.seen s (d.0).1 i.0 i.1) c.1 c.2 m.2

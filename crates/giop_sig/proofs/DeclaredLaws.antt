@@ -124,9 +124,7 @@ structure_takes s whole text x before e =
     let o = bind_ok _ _ x n.2 in
     let f = bind_ok _ _ x o.2 in
     let m = bind_ok _ _ x f.2 in
-    let r = bind_ok (mark_at marks.Semicolon (m.0).2)
-    (λ r. added at (m.0).0 (nodes.members (m.0).1) >>= λ p. Ok (with_named (n.0).0 p, r)) x m.2
-    in
+    let r = bind_ok {A = List ℕ} _ _ x m.2 in
     let p = bind_ok (added at (m.0).0 (nodes.members (m.0).1)) (λ p. Ok (with_named (n.0).0 p, r.0))
     x r.2 in
     subst (TakenDeclaration s whole) (ok_is (with_named (n.0).0 p.0, r.0) x p.2)
@@ -222,9 +220,7 @@ raise_takes s whole text x before e =
     let i = bind_ok _ _ x n.2 in
     let o = bind_ok _ _ x i.2 in
     let m = bind_ok _ _ x o.2 in
-    let r = bind_ok (mark_at marks.Semicolon (m.0).2)
-    (λ r. added at (m.0).0 (nodes.members (m.0).1) >>= λ p.
-    Ok (with_raised (n.0).0 (i.0).0 p, r)) x m.2 in
+    let r = bind_ok {A = List ℕ} _ _ x m.2 in
     let p = bind_ok (added at (m.0).0 (nodes.members (m.0).1))
     (λ p. Ok (with_raised (n.0).0 (i.0).0 p, r.0)) x r.2 in
     subst (TakenDeclaration s whole) (ok_is (with_raised (n.0).0 (i.0).0 p.0, r.0) x p.2)

@@ -263,8 +263,7 @@ unfolding in_steps names_step
 names_taken zero seen text x e = absurd cc
 names_taken (suc left) seen text x e =
     let s = bind_ok (names_step (seen, text)) (then_names left) x e in
-    let y = bind_ok (enumerator_at seen text)
-    (λ names. mark_if marks.Comma names.1 >>= names_end names) s.0 s.1 in
+    let y = bind_ok {A = NamesRead} _ _ s.0 s.1 in
     let o = bind_ok (mark_if marks.Comma (y.0).1) (names_end y.0) s.0 y.2 in
     behind_name left seen text y.0 o.0 s.0 x (names_taken left) (name_taken seen text y.0 y.1) o.1
     o.2 s.2
@@ -284,7 +283,7 @@ all_taken text x k =
 pub all_names_taken : (text : List ℕ) (x : NamesRead) → names_at text ≡ Ok x → TakenAll text x
 unfolding names_at
 all_names_taken text x e =
-    let f = bind_ok (filled_at text) (λ f. in_steps names_step too_many_names 1025 ([], f)) x e in
+    let f = bind_ok {A = List ℕ} _ _ x e in
     subst (λ t. TakenAll t x) (sym (filled_takes text f.0 f.1).0)
     (all_taken f.0 x (names_taken 1025 [] f.0 x f.2))
 

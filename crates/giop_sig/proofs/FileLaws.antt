@@ -338,8 +338,7 @@ version_takes : (text : List ℕ) (x : ℕ × List ℕ) → version_at text ≡ 
     → (is_version x.0 ≡ true) × Takes text (number x.0) x.1
 unfolding version_at
 version_takes text x e =
-    let n = bind_ok (number_at text) (λ n.
-    cond (is_version n.0) (Ok (n.0, n.1)) (Err (misplaced text))) x e in
+    let n = bind_ok {A = ℕ × List ℕ} _ _ x e in
     let is = version_by text n.0 x (is_version (n.0).0) refl n.2 in
     subst (λ (y : ℕ × List ℕ). (is_version y.0 ≡ true) × Takes text (number y.0) y.1) is.1
     (is.0, number_takes text n.0 n.1)
@@ -348,8 +347,7 @@ head_takes : (text : List ℕ) (x : ℕ × List ℕ) → head_at text ≡ Ok x �
 unfolding head_at
 head_takes text x e =
     let k = bind_ok _ _ x e in
-    let v = bind_ok (version_at k.0) (λ v. mark_at marks.Semicolon v.1 >>= λ r. Ok (v.0, r)) x k.2
-    in
+    let v = bind_ok {A = ℕ × List ℕ} _ _ x k.2 in
     let r = bind_ok (mark_at marks.Semicolon (v.0).1) (λ r. Ok ((v.0).0, r)) x v.2 in
     let is = version_takes k.0 v.0 v.1 in
     subst (TakenHead text) (ok_is ((v.0).0, r.0) x r.2) (record {

@@ -212,8 +212,7 @@ text_took : (at : ℕ) (s : Scope) (text w rest : List ℕ) (x : TypeRead) → T
     → w ≡ codes "string" → text_at at s rest ≡ Ok x → TakenType s text x
 unfolding text_at OfType
 text_took at s text w rest x t same e =
-    let b = bind_ok (enclosed_at marks.OpenAngle marks.CloseAngle rest)
-    (λ b. text_type at s b.0 >>= λ t. Ok (t.0, t.1, b.1)) x e in
+    let b = bind_ok {A = Option ℕ × List ℕ} _ _ x e in
     let p = bind_ok (text_type at s (b.0).0) (λ t. Ok (t.0, t.1, (b.0).1)) x b.2 in
     let bound = enclosed_takes marks.OpenAngle marks.CloseAngle rest b.0 b.1 in
     subst (TakenType s text) (ok_is ((p.0).0, (p.0).1, (b.0).1) x p.2) (record {
@@ -263,12 +262,10 @@ sequence_took : (at : ℕ) (element : List ℕ → Result TypeRead Refusal) (s :
     → Takes text (word w) rest → w ≡ codes "sequence"
     → sequence_at at element rest ≡ Ok x → TakenType s text x
 sequence_took at element s text w rest x takes t same e =
-    let i = bind_ok (mark_at marks.OpenAngle rest) (λ inner. element inner >>= after_element at) x e
-    in
+    let i = bind_ok {A = List ℕ} _ _ x e in
     let y = bind_ok (element i.0) (after_element at) x i.2 in
     let b = bind_ok _ _ x y.2 in
-    let r = bind_ok (mark_at marks.CloseAngle (b.0).1)
-    (λ r. added at (y.0).0 (sequence_node (b.0).0 (y.0).1) >>= λ t. Ok (t.0, t.1, r)) x b.2 in
+    let r = bind_ok {A = List ℕ} _ _ x b.2 in
     let p = bind_ok (added at (y.0).0 (sequence_node (b.0).0 (y.0).1)) (λ t. Ok (t.0, t.1, r.0)) x
     r.2 in
     subst (TakenType s text) (ok_is ((p.0).0, (p.0).1, r.0) x p.2)
@@ -303,8 +300,7 @@ encapsulation_took : (at : ℕ) (held : List ℕ → Result TypeRead Refusal) (s
     → cond v (held_at at held rest) (Err (misplaced text)) ≡ Ok x → TakenType s text x
 encapsulation_took at held s text w rest x false takes t same has e = absurd cc
 encapsulation_took at held s text w rest x true takes t same has e =
-    let i = bind_ok (mark_at marks.OpenAngle rest) (λ inner. held inner >>= after_encapsulated at) x
-    e in
+    let i = bind_ok {A = List ℕ} _ _ x e in
     let y = bind_ok (held i.0) (after_encapsulated at) x i.2 in
     let r = bind_ok _ _ x y.2 in
     let p = bind_ok (added at (y.0).0 (nodes.encapsulation (y.0).1)) (λ t. Ok (t.0, t.1, r.0)) x r.2

@@ -115,9 +115,7 @@ label_taken_by : (node : Node) (seen : List Mark) (text : List ℕ) (o : Option 
     (x : LabelRead) → keyword_if (codes "case") text ≡ Ok o
     → label_by node seen text o ≡ Ok x → TakenLabel text x.1
 label_taken_by node seen text (Some inner) x h e =
-    let v = bind_ok (number_of_value node inner)
-    (λ v. unseen_label seen v.0 inner >>= λ m. mark_at marks.Colon v.1 >>= λ rest. Ok (m, rest))
-    x e in
+    let v = bind_ok {A = LabelRead} _ _ x e in
     let m = bind_ok (unseen_label seen (v.0).0 inner)
     (λ m. mark_at marks.Colon (v.0).1 >>= λ rest. Ok (m, rest)) x v.2 in
     let r = bind_ok (mark_at marks.Colon (v.0).1) (λ rest. Ok (m.0, rest)) x m.2 in
@@ -130,9 +128,7 @@ label_taken_by node seen text (Some inner) x h e =
           (t.taken.front (mark marks.Colon ∷ more) (mark_takes marks.Colon (v.0).1 r.0 r.1 more k));
     })
 label_taken_by node seen text None x h e =
-    let w = bind_ok (keyword_at (codes "default") text)
-    (λ inner. unseen_label seen None text >>= λ m. mark_at marks.Colon inner >>= λ rest.
-    Ok (m, rest)) x e in
+    let w = bind_ok {A = List ℕ} _ _ x e in
     let m = bind_ok (unseen_label seen None text)
     (λ m. mark_at marks.Colon w.0 >>= λ rest. Ok (m, rest)) x w.2 in
     let r = bind_ok (mark_at marks.Colon w.0) (λ rest. Ok (m.0, rest)) x m.2 in
@@ -316,9 +312,7 @@ case_taken : (at switch : ℕ) (x y : CasesRead) → case_at at switch x ≡ Ok 
 unfolding case_at
 case_taken at switch x y e =
     let ls = bind_ok _ _ y e in
-    let i = bind_ok (item_at at 256 (x.1).names x.0 (ls.0).3)
-    (λ i. mark_at marks.Semicolon i.2 >>= λ rest. Ok (i.0, with_case x.1 ls.0 i.1, rest)) y ls.2
-    in
+    let i = bind_ok {A = ItemRead} _ _ y ls.2 in
     let r = bind_ok (mark_at marks.Semicolon (i.0).2)
     (λ rest. Ok ((i.0).0, with_case x.1 ls.0 (i.0).1, rest)) y i.2 in
     subst (TakenCase x) (ok_is ((i.0).0, with_case x.1 ls.0 (i.0).1, r.0) y r.2)
@@ -412,8 +406,7 @@ pub cases_taken : (at switch : ℕ) (s : Scope) (text : List ℕ) (x : CasesRead
     → cases_at at switch s text ≡ Ok x → TakenUnionCases s text x
 unfolding cases_at
 cases_taken at switch s text x e =
-    let some = bind_ok (filled_at text) (λ some.
-    in_steps (cases_step at switch) too_many_cases 257 (s, no_cases, some)) x e in
+    let some = bind_ok {A = List ℕ} _ _ x e in
     let t = cases_run_taken at switch 257 (s, no_cases, some.0) x some.2 in
     record {
       cases = t.cases;
