@@ -293,7 +293,7 @@ fn header(number: u32) -> Literal
 }
 
 /// The names of an enum.
-fn names_of(alloc: Global, names: &[&[u8]]) -> Result<Vec<Vec<u8>>, AllocError>
+pub(crate) fn names_of(alloc: Global, names: &[&[u8]]) -> Result<Vec<Vec<u8>>, AllocError>
     ensures { IfOk result (λ v. map (λ n. n.items) v.items ≡ map (λ n. n.now) names.now) }
 {
     let mut all = Vec::new(alloc);

@@ -1,69 +1,29 @@
 //! Reading enums.
-ghost use Rattle.std.specs.Prelude.{◌≡◌, ◌++◌, ◌∷◌, map, []};
+ghost use Rattle.std.specs.Prelude.{◌≡◌, map, []};
 ghost use Rattle.giop_sig.specs.Outcomes.{Gives};
-ghost use Rattle.giop_sig.specs.Validity.{is_among};
 ghost use Rattle.giop_sig.specs.Repeats.{in_steps};
-ghost use Rattle.giop_sig.specs.EnumReading.{enumerator_at, names_step, too_many_names, names_at, enumeration_at};
+ghost use Rattle.giop_sig.specs.EnumReading.{names_step, too_many_names, names_at, enumeration_at};
 
+use crate::builtin::names_of;
 use crate::draft::Draft;
 use crate::entries::Entry;
 use crate::parse_stop::ParseStop;
-use crate::read_items::{declared_at, filled_at, type_end_at};
+use crate::read_items::{declared_at, filled_at, new_name_at, type_end_at};
 use crate::read_types::refused;
-use giop_tokens::{Mark, SigFaultKind, identifier, left_of, mark, starts_with_mark};
+use giop_tokens::{Mark, SigFaultKind, left_of, mark, starts_with_mark};
 use std::alloc::Global;
 
 /// The most names of an enum.
 const NAMES_MAX: usize = 1024;
 
-/// Whether a name is one of these.
-fn is_among(names: &[Vec<u8>], name: &[u8]) -> bool
-    ensures { result ≡ is_among (map (λ n. n.items) names.now) name.now }
-{
-    names.iter().any(|one| one.as_slice() == name)
-}
-
-/// Adds a name.
-fn add_name(alloc: Global, names: &mut Vec<Vec<u8>>, name: &[u8]) -> Result<(), ParseStop>
-    ensures { Gives (λ x. map (λ n. n.items) names.new.items) result
-        (Ok (map (λ n. n.items) names.old.items ++ name.now ∷ [])) }
-{
-    names.push(Vec::from_slice(alloc, name)?)?;
-    Ok(())
-}
-
-/// An enumerator after others; what follows it.
-#[tactic(auto, unfolding(crate::specs::EnumReading::enumerator_at, crate::specs::ItemReading::new_name_at))]
-fn enumerator<'a>(
-    alloc: Global,
-    names: &mut Vec<Vec<u8>>,
-    text: &'a [u8],
-) -> Result<&'a [u8], ParseStop>
-    ensures { Gives (λ x. (map (λ n. n.items) names.new.items, x.now)) result
-        (enumerator_at (map (λ n. n.items) names.old.items) text.now) }
-{
-    let (name, rest) = identifier(text)?;
-    if is_among(names, name) {
-        return Err(ParseStop::Refused(refused(SigFaultKind::Duplicate, text)));
-    }
-    if names.len() >= NAMES_MAX {
-        return Err(ParseStop::Refused(refused(SigFaultKind::Limit, text)));
-    }
-    add_name(alloc, names, name)?;
-    Ok(rest)
-}
-
 /// An enumerator, and the mark after it; whether that is the closing one.
-#[tactic(auto, unfolding(crate::specs::EnumReading::names_step))]
-fn names_step<'a>(
-    alloc: Global,
-    names: &mut Vec<Vec<u8>>,
-    text: &'a [u8],
-) -> Result<(&'a [u8], bool), ParseStop>
-    ensures { Gives (λ x. (x.1, (map (λ n. n.items) names.new.items, x.0.now))) result
-        (names_step (map (λ n. n.items) names.old.items, text.now)) }
+#[tactic(auto, unfolding(crate::specs::EnumReading::names_step, crate::specs::EnumReading::enumerator_at))]
+fn names_step<'a>(names: &mut Vec<&'a [u8]>, text: &'a [u8]) -> Result<(&'a [u8], bool), ParseStop>
+    ensures { Gives (λ x. (x.1, (map (λ n. n.now) names.new.items, x.0.now))) result
+        (names_step (map (λ n. n.now) names.old.items, text.now)) }
 {
-    let rest = enumerator(alloc, names, text)?;
+    let (name, rest) = new_name_at(NAMES_MAX, names.as_slice(), text)?;
+    names.push(name)?;
     match starts_with_mark(rest, Mark::Comma)? {
         Some(after) => Ok((after, false)),
         None => Ok((mark(rest, Mark::CloseBrace)?, true)),
@@ -71,14 +31,14 @@ fn names_step<'a>(
 }
 
 /// The enumerators of an enum that isn't empty.
-fn some_names(alloc: Global, text: &[u8]) -> Result<(Vec<Vec<u8>>, &[u8]), ParseStop>
-    ensures { Gives (λ x. (map (λ n. n.items) x.0.items, x.1.now)) result
+fn some_names<'a>(alloc: Global, text: &'a [u8]) -> Result<(Vec<&'a [u8]>, &'a [u8]), ParseStop>
+    ensures { Gives (λ x. (map (λ n. n.now) x.0.items, x.1.now)) result
         (in_steps names_step too_many_names 1025 ([], text.now)) }
 {
     let mut names = Vec::new(alloc);
     let mut rest = text;
     for _ in 0..1025u32 {
-        let (after, closed) = names_step(alloc, &mut names, rest)?;
+        let (after, closed) = names_step(&mut names, rest)?;
         if closed {
             return Ok((names, after));
         }
@@ -89,8 +49,8 @@ fn some_names(alloc: Global, text: &[u8]) -> Result<(Vec<Vec<u8>>, &[u8]), Parse
 
 /// The enumerators of an enum, after its opening mark.
 #[tactic(auto, unfolding(crate::specs::EnumReading::names_at))]
-fn names_at(alloc: Global, text: &[u8]) -> Result<(Vec<Vec<u8>>, &[u8]), ParseStop>
-    ensures { Gives (λ x. (map (λ n. n.items) x.0.items, x.1.now)) result (names_at text.now) }
+fn names_at<'a>(alloc: Global, text: &'a [u8]) -> Result<(Vec<&'a [u8]>, &'a [u8]), ParseStop>
+    ensures { Gives (λ x. (map (λ n. n.now) x.0.items, x.1.now)) result (names_at text.now) }
 {
     some_names(alloc, filled_at(text)?)
 }
@@ -109,5 +69,6 @@ pub(crate) fn enumeration<'a>(
     let (name, rest) = declared_at(draft, count, text)?;
     let rest = mark(rest, Mark::OpenBrace)?;
     let (names, rest) = names_at(alloc, rest)?;
-    type_end_at(draft, left_of(text), name, Entry::Enumeration(names), rest)
+    let kept = names_of(alloc, names.as_slice())?;
+    type_end_at(draft, left_of(text), name, Entry::Enumeration(kept), rest)
 }

@@ -1,11 +1,16 @@
-use Rattle.std.proofs.Common.{arith}
+use Rattle.std.proofs.Common.{length, map, sym, ap, subst, ◌∙◌, arith}
+use Rattle.giop_sig.specs.Table.{IsFormed}
+use Rattle.giop_sig.specs.Table as nodes
 use Rattle.giop_sig.proofs.ItemTaken.{declared_takes}
 use Rattle.giop_sig.proofs.EnumLaws.{all_names_taken}
 use Rattle.giop_sig.proofs.read_enums.enumeration.Goals as goal
 
 pub type_end_at-requires-clause-formed : goal.type_end_at-requires-clause-formed
-type_end_at-requires-clause-formed c = let k = (all_names_taken _ _ c.in_ok-names.ensures).fits in
-    (k.few, k.short)
+type_end_at-requires-clause-formed c =
+    let types = c.args.draft.now.table.types in
+    let k = (all_names_taken _ _ c.in_ok-names.ensures).fits in
+    subst (λ names. IsFormed types (length types) (nodes.enumeration names))
+    (sym (c.in_ok-kept.ensures ∙ ap (map (λ n. n.now)) c.as_slice.ensures.value)) (k.few, k.short)
 
 pub type_end_at-requires-clause-short : goal.type_end_at-requires-clause-short
 type_end_at-requires-clause-short c = (declared_takes c.args.draft.now _ _ _
