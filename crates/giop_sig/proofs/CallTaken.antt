@@ -1,6 +1,6 @@
 -- Parameters that were read: the text that was read spells them, and they can be members of
 -- structs.
-use Rattle.std.proofs.Common.{◌≡◌, ℕ, zero, suc, ◌+◌, ◌<◌, ◌≤◌, Bool, true, false, cond, leb, List, [], ◌∷◌, ◌++◌, length, Option, Some, None, Result, Ok, Err, refl, sym, ap, subst, ◌∙◌, lit≤, arith}
+use Rattle.std.proofs.Common.{◌≡◌, ℕ, zero, suc, ◌+◌, ◌<◌, ◌≤◌, Bool, true, false, cond, leb, List, [], ◌∷◌, ◌++◌, length, Option, Some, None, Result, Ok, refl, sym, ap, subst, ◌∙◌, lit≤, arith}
 use Rattle.std.specs.Prelude.{codes}
 use Rattle.std.specs.Option.{is_some}
 use Rattle.std.specs.Str.{bytes_eq}
@@ -14,7 +14,6 @@ use Rattle.giop_tokens.specs.declared.marks.Mark.TheVariants as marks
 use Rattle.giop_tokens.specs.Tokens.{Token, word, mark, AreTokens}
 use Rattle.giop_tokens.specs.Reading.{◌>>=◌}
 use Rattle.giop_tokens.specs.Readers.{word_at, mark_at, mark_if, keyword_if}
-use Rattle.giop_tokens.specs.Names.{operation_name_at}
 use Rattle.giop_tokens.proofs.ReaderLaws.{bind_ok, ok_is, Takes, word_takes, mark_takes, mark_if_takes, keyword_if_takes, operation_name_word}
 use Rattle.giop_sig.specs.declared.read_calls.Direction.{Direction}
 use Rattle.giop_sig.specs.declared.read_calls.Direction.TheVariants as directions
@@ -24,9 +23,8 @@ use Rattle.giop_sig.specs.Grammar.{TypeExpr, Param, direction_word, spell_item, 
 use Rattle.giop_sig.specs.Scopes.{Scope, AddedType, part}
 use Rattle.giop_sig.specs.Validity.{OfItems, OfReturn, items_of}
 use Rattle.giop_sig.specs.ScopeViews.{IsScope}
-use Rattle.giop_sig.specs.Outcomes.{refused}
-use Rattle.giop_sig.specs.TypeReading.{TypeRead, added, type_at}
-use Rattle.giop_sig.specs.ItemReading.{ItemRead, item_at}
+use Rattle.giop_sig.specs.TypeReading.{TypeRead, added}
+use Rattle.giop_sig.specs.ItemReading.{ItemRead}
 use Rattle.giop_sig.specs.CallReading.{ReturnRead, return_after, return_at, new_operation_at, direction_of, as_direction, direction_at, in_request, in_reply, with_param, Params, ParameterLists, param_end, param_step, too_many_params, ParamsRead, params_read, params_run, no_parameters, params_after, params_at}
 use Rattle.giop_sig.specs.Repeats.{in_steps}
 use Rattle.giop_sig.proofs.ReadingLaws.{Took}

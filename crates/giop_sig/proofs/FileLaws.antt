@@ -9,7 +9,7 @@ use Rattle.giop_tokens.specs.declared.fault.SigFaultKind.TheVariants as kinds
 use Rattle.giop_tokens.specs.declared.marks.Mark.TheVariants as marks
 use Rattle.giop_tokens.specs.Tokens.{Token, word, number, repository, mark, next, AreTokens}
 use Rattle.giop_tokens.specs.Reading.{◌>>=◌}
-use Rattle.giop_tokens.specs.Readers.{misplaced, word_at, number_at, mark_at, keyword_at, is_end, end_at}
+use Rattle.giop_tokens.specs.Readers.{misplaced, word_at, mark_at, is_end, end_at}
 use Rattle.giop_tokens.proofs.ReaderLaws.{bind_ok, ok_is, Takes, word_again, number_again, mark_again, keyword_again, end_again, end_other, word_takes, number_takes, mark_takes, keyword_takes}
 use Rattle.giop_sig.specs.Grammar.{TypeExpr, Item, UnionCase, spell_type, spell_names, spell_items, spell_cases, spell_params, spell_return, Declaration, Enumeration, Structure, DeclaredUnion, DeclaredException, Call, spell, spell_all, SignatureFile, is_version, spell_file}
 use Rattle.giop_sig.specs.Scopes.{Scope, first_scope, declare, scope_after}

@@ -1,5 +1,5 @@
 -- Reading the spelling of members gives them, or a rule that they break.
-use Rattle.std.proofs.Common.{◌≡◌, inl, ℕ, zero, suc, ◌+◌, ◌<◌, ◌≤◌, Bool, true, false, cond, ltb, leb, List, [], ◌∷◌, ◌++◌, length, Option, Some, None, Result, Ok, Err, append_assoc, refl, sym, subst, ◌∙◌, arith}
+use Rattle.std.proofs.Common.{◌≡◌, inl, ℕ, zero, suc, ◌+◌, ◌<◌, ◌≤◌, Bool, true, false, ltb, leb, List, [], ◌∷◌, ◌++◌, length, Option, Some, None, Result, Ok, Err, append_assoc, refl, sym, subst, ◌∙◌, arith}
 use Rattle.std.specs.Map.{lookup}
 use Rattle.std.specs.Option.{is_some}
 use Rattle.std.specs.Str.{bytes_eq}
@@ -15,7 +15,7 @@ use Rattle.giop_tokens.specs.Names.{too_long, identifier_at}
 use Rattle.giop_tokens.proofs.ReaderLaws.{mark_again, mark_if_again, identifier_again, identifier_long}
 use Rattle.giop_sig.specs.Table.{Node, Part}
 use Rattle.giop_sig.specs.Table as nodes
-use Rattle.giop_sig.specs.Grammar.{TypeExpr, Base, Text, Reference, Named, SequenceOf, EncapsulationOf, Item, spell_length, spell_type, spell_item, spell_items}
+use Rattle.giop_sig.specs.Grammar.{TypeExpr, Base, Item, spell_length, spell_type, spell_item, spell_items}
 use Rattle.giop_sig.specs.Scopes.{Names, Scope, part, item_part, place, add_array, add_item, add_items}
 use Rattle.giop_sig.specs.Validity.{Kind, IsFree, is_among, OfNewName, OfSome, OfItem, OfItems, OfDeclared}
 use Rattle.giop_sig.specs.Outcomes.{refused}

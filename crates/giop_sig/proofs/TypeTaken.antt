@@ -14,7 +14,6 @@ use Rattle.giop_tokens.specs.declared.fault.SigFaultKind.TheVariants as kinds
 use Rattle.giop_tokens.specs.declared.marks.Mark.TheVariants as marks
 use Rattle.giop_sig.specs.declared.numbers.TheConstants.{STRING, IOR, BUILTIN_LEN}
 use Rattle.giop_tokens.specs.Tokens.{word, mark, AreTokens}
-use Rattle.giop_tokens.specs.Reading.{◌>>=◌}
 use Rattle.giop_tokens.specs.Readers.{misplaced, word_at, mark_at}
 use Rattle.giop_tokens.specs.Names.{is_reserved}
 use Rattle.giop_tokens.proofs.ReaderLaws.{bind_ok, ok_is, Takes, word_takes, mark_takes}
@@ -29,7 +28,7 @@ use Rattle.giop_sig.specs.Scopes.{has_encapsulations, Scope, AddedType, named, b
 use Rattle.giop_sig.specs.Validity.{OfType}
 use Rattle.giop_sig.specs.ScopeViews.{IsKnown, IsKnownType, IsDeclaredName, IsScope}
 use Rattle.giop_sig.specs.Outcomes.{refused}
-use Rattle.giop_sig.specs.TypeReading.{too_deep, too_many_types, added, enclosed_at, most_at, TypeRead, base_of, text_type, text_at, after_element, sequence_at, after_encapsulated, held_at, encapsulation_at, found_type, named_type, leaf_after, leaf_at, type_after, type_at}
+use Rattle.giop_sig.specs.TypeReading.{too_deep, too_many_types, added, TypeRead, base_of, text_type, text_at, after_element, sequence_at, after_encapsulated, held_at, encapsulation_at, found_type, named_type, leaf_after, leaf_at, type_after, type_at}
 use Rattle.giop_sig.proofs.SizeTaken.{enclosed_takes, most_takes, bound_free}
 use Rattle.giop_sig.proofs.ScopeLaws.{known_stays, scope_grows}
 use Rattle.giop_sig.proofs.ReadingLaws.{Took}

@@ -6,8 +6,6 @@ use Rattle.std.proofs.lemmas.List.{length-append}
 use Rattle.giop_tokens.specs.declared.fault.SigFaultKind.TheVariants as kinds
 use Rattle.giop_tokens.specs.declared.marks.Mark.TheVariants as marks
 use Rattle.giop_tokens.specs.Tokens.{word, mark, left_of}
-use Rattle.giop_tokens.specs.Reading.{◌>>=◌}
-use Rattle.giop_tokens.specs.Readers.{mark_at, keyword_at}
 use Rattle.giop_tokens.proofs.ReaderLaws.{bind_ok, ok_is, Takes, mark_takes, keyword_takes}
 use Rattle.giop_sig.specs.Table.{Node, node_at, IsScalarNode, IsFormed}
 use Rattle.giop_sig.specs.Table as nodes
@@ -17,7 +15,7 @@ use Rattle.giop_sig.specs.Validity.{OfType, IsDiscriminator, OfCases, OfDeclarat
 use Rattle.giop_sig.specs.ScopeViews.{IsScope}
 use Rattle.giop_sig.specs.Outcomes.{refused}
 use Rattle.giop_sig.specs.TypeReading.{TypeRead, added, type_at}
-use Rattle.giop_sig.specs.ItemReading.{declared_at, Declared}
+use Rattle.giop_sig.specs.ItemReading.{Declared}
 use Rattle.giop_sig.specs.UnionReading.{CasesRead, cases_at, can_switch, switch_at, union_at}
 use Rattle.giop_sig.proofs.TypeTaken.{Grows, grows_on, TakenType, type_takes}
 use Rattle.giop_sig.proofs.ItemTaken.{declared_takes}

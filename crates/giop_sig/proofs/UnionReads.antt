@@ -1,5 +1,5 @@
 -- Reading the spelling of a union, after its word, gives the union or a rule that it breaks.
-use Rattle.std.proofs.Common.{◌≡◌, ℕ, ◌+◌, ◌<◌, Bool, true, false, cond, ltb, List, [], ◌∷◌, ◌++◌, length, Some, None, Ok, Err, append_assoc, ltb-true, ltb-false, refl, sym, ap, subst, ◌∙◌, arith}
+use Rattle.std.proofs.Common.{◌≡◌, ℕ, ◌+◌, ◌<◌, Bool, true, false, cond, ltb, List, [], ◌∷◌, ◌++◌, length, Ok, Err, append_assoc, ltb-true, ltb-false, refl, sym, ap, subst, ◌∙◌, arith}
 use Rattle.std.specs.Prelude.{codes}
 use Rattle.std.proofs.lemmas.List.{length-append, append-nil, get_or_past}
 use Rattle.giop_cdr.specs.declared.prim.Primitive.TheVariants as prims
@@ -7,7 +7,7 @@ use Rattle.giop_tokens.specs.declared.fault.SigFaultKind.TheVariants as kinds
 use Rattle.giop_tokens.specs.declared.marks.Mark.TheVariants as marks
 use Rattle.giop_tokens.specs.Tokens.{Token, word, mark, left_of, AreTokens}
 use Rattle.giop_tokens.specs.Reading.{◌>>=◌}
-use Rattle.giop_tokens.specs.Readers.{mark_at, mark_if, keyword_at}
+use Rattle.giop_tokens.specs.Readers.{mark_at, keyword_at}
 use Rattle.giop_tokens.proofs.ReaderLaws.{mark_again, mark_if_again, keyword_again}
 use Rattle.giop_sig.specs.declared.types.Selected.{Selected}
 use Rattle.giop_sig.specs.declared.types.Selected.TheVariants as selecteds
@@ -18,7 +18,7 @@ use Rattle.giop_sig.specs.Scopes.{Names, Scope, AddedType, with_node, has_defaul
 use Rattle.giop_sig.specs.Validity.{Kind, IsDiscriminator, OfType, OfSwitch, OfSome, OfCases, OfDeclaration, placed_node}
 use Rattle.giop_sig.specs.Outcomes.{refused}
 use Rattle.giop_sig.specs.TypeReading.{added, type_at}
-use Rattle.giop_sig.specs.ItemReading.{declared_at, filled_at, Declared}
+use Rattle.giop_sig.specs.ItemReading.{declared_at, Declared}
 use Rattle.giop_sig.specs.UnionReading.{Cases, chosen, CasesRead, cases_at, can_switch, switch_at, union_at}
 use Rattle.giop_sig.proofs.PlaceLaws.{size, within_same, within_on, Grown, node_more, place_more, place_names}
 use Rattle.giop_sig.proofs.ReadingLaws.{Out, good, broken, out_bind, out_more, Apart}

@@ -10,9 +10,9 @@ use Rattle.std.proofs.lemmas.Slice.Eq.{bytes_eq-Decides}
 use Rattle.giop_cdr.specs.declared.number.Number.{Number}
 use Rattle.giop_tokens.specs.declared.fault.SigFaultKind.TheVariants as kinds
 use Rattle.giop_tokens.specs.declared.marks.Mark.TheVariants as marks
-use Rattle.giop_tokens.specs.Tokens.{Token, word, number, negative, repository, mark, next, AreTokens}
+use Rattle.giop_tokens.specs.Tokens.{Token, word, number, negative, mark, next, AreTokens}
 use Rattle.giop_tokens.specs.Reading.{◌>>=◌}
-use Rattle.giop_tokens.specs.Readers.{misplaced, mark_at, mark_if, keyword_at, keyword_if}
+use Rattle.giop_tokens.specs.Readers.{misplaced, mark_at, mark_if, keyword_if}
 use Rattle.giop_tokens.specs.Names.{is_reserved}
 use Rattle.giop_tokens.proofs.ReaderLaws.{bind_ok, ok_is, mark_takes, mark_if_takes, keyword_takes, keyword_if_takes}
 use Rattle.giop_sig.specs.declared.types.Selected.{Selected}
@@ -23,7 +23,7 @@ use Rattle.giop_sig.specs.Scopes.{Scope, label_number, labels_of}
 use Rattle.giop_sig.specs.Validity.{OfItem, OfValueName, OfLabel, OfLabels, OfCases}
 use Rattle.giop_sig.specs.ScopeViews.{IsScope}
 use Rattle.giop_sig.specs.Outcomes.{refused}
-use Rattle.giop_sig.specs.ItemReading.{ItemRead, item_at, filled_at}
+use Rattle.giop_sig.specs.ItemReading.{ItemRead}
 use Rattle.giop_sig.specs.Repeats.{in_steps}
 use Rattle.giop_sig.specs.UnionReading.{token_value, value_at, Mark, LabelRead, fitting, number_of_value, unseen_label, label_by, label_at, LabelsRead, with_label, begins_label, label_or_end, labels_step, too_many_labels, labels_by, labels_at, Cases, no_cases, chosen, with_case, CasesRead, case_at, case_or_end, cases_step, too_many_cases, cases_at}
 use Rattle.giop_sig.proofs.TypeTaken.{Grows, grows_none, grows_on, grows_known}
