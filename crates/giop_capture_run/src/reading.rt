@@ -14,7 +14,7 @@ use giop_run::{RunFault, Source};
 const TURNS: u64 = 1 << 40;
 
 /// How many octets a read may give.
-const ROOM: usize = 65_536;
+const ROOM: usize = 16_384;
 
 /// Hands on the packets that octets of a capture complete. Answers whether the reading goes on: it does not behind a fault of
 /// the capture, which no more octets are read of.
@@ -58,7 +58,7 @@ fn read_once<S: Source, L: PacketListener>(
         → L.taken to.old start (taken_of p)
         → (s : List ℕ) × HasReadOnce result (L.taken to.new start) capture.new p s
         (S.log source.old) (S.log source.new) }
-    ensures count { OnOk result (octets_of capture.new ≤ octets_of capture.old + 65_536) }
+    ensures count { OnOk result (octets_of capture.new ≤ octets_of capture.old + 16_384) }
     ensures reads { (S.log source.new).reads ≡ counted (S.log source.old).reads }
     ensures cause { result ≡ Err RunFault.Out → L.failed to.new }
     ensures kept { result ≡ Err RunFault.Read → to.new ≡ to.old }

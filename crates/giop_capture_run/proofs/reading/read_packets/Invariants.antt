@@ -12,6 +12,6 @@ invariant-loop-turn g l =
           × ReadAll (g.L.PacketListener.taken l.to start) l.capture [] s
           (g.S.Source.log l.fn.source) (g.S.Source.log l.source)
           × (l._turn ≤ length s);
-      count : octets_of l.capture ≤ l._turn * 65536;
+      count : octets_of l.capture ≤ l._turn * 16384;
       reads : (g.S.Source.log l.source).reads ≤ (g.S.Source.log l.fn.source).reads + l._turn;
     }
