@@ -31,14 +31,14 @@ pub struct Line {
 impl Line {
     ghost use Rattle.giop_print.specs.Line.{line_text, line_room};
 
-    /// A line of which nothing is spelled. Its room is filled with LFs, so that the one that ends it is there already.
+    /// A line of which nothing is spelled. Its room is filled with spaces, of which none ends a line.
     #[inline]
     pub fn new() -> Line
         ensures text { line_text result ≡ [] }
         ensures room { line_room result ≡ 256 }
     {
         Line {
-            octets: [b'\n'; ROOM],
+            octets: [b' '; ROOM],
             at: ROOM,
         }
     }
