@@ -30,7 +30,7 @@ use Rattle.giop_sig.specs.Repeats.{in_steps}
 use Rattle.giop_sig.proofs.ReadingLaws.{Took}
 use Rattle.giop_sig.proofs.RepeatLaws.{step_first}
 use Rattle.giop_sig.proofs.TypeTaken.{Grows, grows_none, grows_on, type_takes, added_grows}
-use Rattle.giop_sig.proofs.ItemTaken.{none_of, unused_is, AreParts, parts_stay, TakenItem, item_takes}
+use Rattle.giop_sig.proofs.ItemTaken.{none_of, unused_is, AreParts, no_parts, parts_stay, TakenItem, item_takes}
 
 -- ---- what an operation returns
 
@@ -40,9 +40,6 @@ pub record TakenReturn (s : Scope) (text : List ℕ) (x : ReturnRead) : Type 0 w
   pub grows : Grows s x.0
   pub few : length x.1 ≤ 1
   pub sound : IsScope s → IsScope x.0 × AreParts x.0 x.1
-
-no_parts : (s : Scope) → AreParts s []
-no_parts s = λ k d lt. absurd (omega arith)
 
 return_by : (at : ℕ) (s : Scope) (text : List ℕ) (x : ReturnRead) (c : Option (List ℕ))
     → keyword_if (codes "void") text ≡ Ok c → return_after at s text c ≡ Ok x → TakenReturn s text x
@@ -241,7 +238,8 @@ then_run at n x = cond x.0 (Ok x.1) (in_steps (param_step at) too_many_params n 
 
 behind_by : (at n : ℕ) (w : ParameterLists) (s : Scope) (text : List ℕ) (d : Direction × List ℕ)
     (i : ItemRead)
-    (m : Bool × Params) (x : ParamsRead) (c : Option (List ℕ)) → Takes text (word (direction_word d.0)) d.1
+    (m : Bool × Params) (x : ParamsRead) (c : Option (List ℕ))
+    → Takes text (word (direction_word d.0)) d.1
     → TakenItem s 255 w.seen d.1 i → mark_if marks.Comma i.2 ≡ Ok c
     → param_end w d.0 i c ≡ Ok m → then_run at n m ≡ Ok x
     → ((w : ParameterLists) (s : Scope) (text : List ℕ) → params_run at n (s, w, text) ≡ Ok x

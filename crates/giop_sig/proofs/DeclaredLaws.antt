@@ -1,8 +1,9 @@
 -- Structs and exceptions, both ways: reading the spelling of one gives it or a rule that it breaks,
 -- and the text that was read spells it.
-use Rattle.std.proofs.Common.{◌≡◌, ℕ, ◌<◌, ◌≤◌, Bool, true, false, cond, List, [], ◌∷◌, length, None, Ok, Err, refl, sym, subst, arith}
+use Rattle.std.proofs.Common.{◌≡◌, ℕ, ◌<◌, ◌≤◌, true, false, List, [], ◌∷◌, length, None, Ok, refl, sym, subst, arith}
 use Rattle.std.specs.Prelude.{codes}
 use Rattle.std.specs.Option.{is_some}
+use Rattle.std.proofs.lemmas.Bool.{false≢true}
 use Rattle.giop_tokens.specs.declared.fault.SigFaultKind.TheVariants as kinds
 use Rattle.giop_tokens.specs.declared.marks.Mark.TheVariants as marks
 use Rattle.giop_tokens.specs.Tokens.{Token, word, repository, mark, left_of, AreTokens}
@@ -20,7 +21,7 @@ use Rattle.giop_sig.specs.ItemReading.{declared_at, members_at, filled_at, Decla
 use Rattle.giop_sig.proofs.PlaceLaws.{size, within_same, within_on, Grown, node_more, struct_more}
 use Rattle.giop_sig.proofs.ReadingLaws.{Out, good, broken, out_bind, if_apart, Took}
 use Rattle.giop_sig.proofs.TypeLaws.{added_bind}
-use Rattle.giop_sig.proofs.ItemLaws.{declared_reads, members_reads, some_keeps, filled_end, filled_on, type_apart, some_none}
+use Rattle.giop_sig.proofs.ItemLaws.{declared_reads, members_reads, some_keeps, filled_end, filled_on, type_apart, some_none, unused_reads}
 use Rattle.giop_sig.proofs.ItemTaken.{none_of, DeclaredTaken, declared_takes, filled_takes, members_takes, TakenMembers, RepositoryTaken, new_repository_takes}
 
 -- reading a text that begins with members
@@ -139,24 +140,17 @@ repository_keeps s r short new kinds.Duplicate = new
 repository_keeps s r short new kinds.Limit = short
 repository_keeps s r short new _ = tt
 
-repository_by : (types : List Node) (s : Scope) (text r rest : List ℕ) (more : List Token)
-    (b : Bool) → length r ≤ 128 → is_some (exception_in s.table r) ≡ b → AreTokens rest more
-    → Out {X = List ℕ × List ℕ} (λ rest. (r, rest)) (λ k. OfRepository k s r) types more
-    (cond b (Err (refused kinds.Duplicate text)) (Ok (r, rest)))
-repository_by types s text r rest more true few q m =
-    broken (refused kinds.Duplicate text) (some_none (exception_in s.table r) q)
-repository_by types s text r rest more false few q m =
-    good rest m (repository_keeps s r few (none_of (exception_in s.table r) q))
-
 repository_reads : (types : List Node) (s : Scope) (text r : List ℕ) (more : List Token)
     → AreTokens text (repository r ∷ more)
     → Out {X = List ℕ × List ℕ} (λ rest. (r, rest)) (λ k. OfRepository k s r) types more
     (new_repository_at s text)
 unfolding new_repository_at
 repository_reads types s text r more h =
+    let known = exception_in s.table r in
+    let few = repository_few text (r, h.0) (repository_again text r more h) in
     rw (repository_again text r more h)
-    (repository_by types s text r h.0 more (is_some (exception_in s.table r))
-    (repository_few text (r, h.0) (repository_again text r more h)) refl h.2)
+    (unused_reads (is_some known) false text r h.0 h.2 (some_none known)
+    (λ q k. false≢true q) (λ q f. repository_keeps s r few (none_of known q)))
 
 pub raise_reads : (s : Scope) (w i : List ℕ) (is : List Item) (text : List ℕ) (more : List Token)
     → 0 < size s → OfDeclaration kinds.Syntax s (DeclaredException w i is)

@@ -121,7 +121,8 @@ all_names_reads [] text types more free h =
     rw (filled_end text h.0 (mark_if_again marks.CloseBrace text more h))
     (broken (refused kinds.Empty text) (λ k. k.0))
 all_names_reads (n ∷ names) text types more free h =
-    rw (filled_on text (if_apart marks.CloseBrace text (word n ∷ spell_more_names names more) refl h))
+    rw (filled_on text (if_apart marks.CloseBrace text (word n ∷ spell_more_names names more) refl
+    h))
     (out_as (in_steps names_step too_many_names 1025 ([], text))
     (names_reads 1025 names [] n text types more refl free h) (λ rest. refl)
     (λ k keeps. (some_keeps n names k, keeps)) (λ k whole. whole.1) within_same)

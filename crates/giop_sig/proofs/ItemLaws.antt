@@ -244,7 +244,8 @@ made_on parts s i is names seen more r first o =
 -- a member, and then the others
 member_on : (at n : ℕ) (seen : List (List ℕ)) (parts : List Part) (s : Scope) (names : Names)
     (i : Item) (is : List Item) (more : List Token) → s.names ≡ names
-    → (r : Result (Bool × Members) Refusal) → Out (made_member seen parts s i) (λ k. OfItem k names 256 seen i)
+    → (r : Result (Bool × Members) Refusal)
+    → Out (made_member seen parts s i) (λ k. OfItem k names 256 seen i)
     (add_item s i).0.table.types (spell_items is more) r
     → ((rest : List ℕ) → AreTokens rest (spell_items is more)
     → ((k : Kind) → OfItem k names 256 seen i)

@@ -275,7 +275,7 @@ filled_takes text x e = let c = bind_ok (mark_if marks.CloseBrace text) (unless_
 
 -- ---- what the code asks
 
-no_parts : (s : Scope) → AreParts s []
+pub no_parts : (s : Scope) → AreParts s []
 no_parts s = λ k d lt. absurd (omega arith)
 
 -- members that were read can be a struct's
@@ -317,22 +317,19 @@ pub record RepositoryTaken (s : Scope) (text : List ℕ) (x : List ℕ × List �
   pub new : exception_in s.table x.0 ≡ None
   pub front : Takes text (repository x.0) x.1
 
-repository_by : (s : Scope) (text : List ℕ) (i x : List ℕ × List ℕ) (b : Bool)
-    → length i.0 ≤ 128 → is_some (exception_in s.table i.0) ≡ b
-    → Takes text (repository i.0) i.1
-    → cond b (Err (refused kinds.Duplicate text)) (Ok (i.0, i.1)) ≡ Ok x → RepositoryTaken s text x
-repository_by s text i x true few q t e = absurd cc
-repository_by s text i x false few q t e =
-    subst (RepositoryTaken s text) (ok_is i x e)
-    (record { short = few; new = none_of (exception_in s.table i.0) q; front = t })
-
 pub new_repository_takes : (s : Scope) (text : List ℕ) (x : List ℕ × List ℕ)
     → new_repository_at s text ≡ Ok x → RepositoryTaken s text x
 unfolding new_repository_at
 new_repository_takes s text x e =
     let a = bind_ok _ _ x e in
-    repository_by s text a.0 x (is_some (exception_in s.table (a.0).0))
-    (repository_few text a.0 a.1) refl (repository_takes text a.0 a.1) a.2
+    let known = exception_in s.table (a.0).0 in
+    let u = unused_is (is_some known) false text a.0 x a.2 in
+    subst (RepositoryTaken s text) u.0
+    (record {
+      short = repository_few text a.0 a.1;
+      new = none_of known u.1;
+      front = repository_takes text a.0 a.1;
+    })
 
 -- an id that was new is still new
 pub still_different : (s t : Scope) (r : List ℕ) → Grows s t → exception_in s.table r ≡ None
