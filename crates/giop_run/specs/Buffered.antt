@@ -1,17 +1,22 @@
--- The log of lines in a buffer before a writer, as an out, and what is buffered (state).
-use Rattle.std.specs.Prelude.{ℕ, List, Option}
-use Rattle.std.specs.Io.Buffered.{writer_buffer, writer_contents}
+-- The octets in a buffer, and the log of lines in one before a writer, as an out (state).
+use Rattle.std.specs.Prelude.{ℕ, List, take, Option}
+use Rattle.std.specs.Io.KnownBytes.{append_known}
 use Rattle.giop_print.specs.Output.{OutLog}
+use Rattle.giop_run.specs.declared.buffer.Buffer.{Buffer}
 use Rattle.giop_run.specs.declared.lines.Lines.{Lines}
+
+-- the octets that wait in a buffer: those at the head of its room
+abbrev pub buffered : Buffer → List ℕ
+buffered b = take b.kept b.octets.items
+
+-- what is buffered of lines
+abbrev pub lines_kept : {W : Type 0} → Lines W → List ℕ
+lines_kept l = buffered l.buffer
 
 -- what the writer has, and after it what is buffered; `contents` is the writer's log
 abbrev pub lines_log : {W : Type 0} → (W → Option (List ℕ)) → Lines W → OutLog
 lines_log contents l = record {
-  written = writer_contents contents l.buffer;
+  written = append_known (contents l.writer) (lines_kept l);
   puts = l.puts;
   failures = l.failures;
 }
-
--- what is buffered
-abbrev pub lines_kept : {W : Type 0} → Lines W → List ℕ
-lines_kept l = writer_buffer l.buffer

@@ -2,6 +2,7 @@
 //! around their steps.
 #![tactic(auto)]
 
+mod buffer;
 mod command_line;
 mod console;
 mod fault;

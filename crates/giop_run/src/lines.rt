@@ -1,22 +1,22 @@
 //! An out that buffers lines for a writer.
 
-ghost use Rattle.std.specs.Prelude.{◌≡◌, [], IfOk};
-ghost use Rattle.std.specs.Io.KnownBytes.{append_known};
+ghost use Rattle.std.specs.Prelude.{◌≡◌, ◌≤◌, [], length, take, IfOk, OnOk, MatchResult};
+ghost use Rattle.std.specs.Io.KnownBytes.{Appends, Keeps, append_known};
+ghost use Rattle.giop_print.specs.Output.{Took, Failed};
 
+use super::buffer::{Buffer, ROOM};
 use super::flush::Flush;
 use super::source::one_more;
-use giop_print::{Out, OutFault};
+use giop_print::{Line, Out, OutFault};
 use std::alloc::{AllocError, Global};
-use std::io::{BufWriter, Write};
-
-// How many octets the buffer holds.
-const ROOM: usize = 65_536;
+use std::io::Write;
 
 /// An out that buffers lines for a writer until they are flushed. It fails where its writer does, and where that takes
-/// none of some octets.
+/// none of some octets; the octets that were not taken stay buffered then.
 #[derive(Drop)]
 pub struct Lines<W: Write + Drop> {
-    buffer: BufWriter<W>,
+    writer: W,
+    buffer: Buffer,
     puts: u64,
     failures: u64,
 }
@@ -30,11 +30,9 @@ impl<W: Write + Drop> Lines<W> {
             ≡ record { written = W.contents writer; puts = 0; failures = 0 }) }
         ensures empty { IfOk result (λ lines. lines_kept lines ≡ []) }
     {
-        let Ok(buffer) = BufWriter::with_capacity(alloc, ROOM, writer) else {
-            return Err(AllocError);
-        };
         Ok(Lines {
-            buffer,
+            writer,
+            buffer: Buffer::new(alloc)?,
             puts: 0,
             failures: 0,
         })
@@ -45,7 +43,40 @@ impl<W: Write + Drop> Lines<W> {
         ensures { append_known (W.contents result.now) (lines_kept self.now)
             ≡ (lines_log W.contents self.now).written }
     {
-        self.buffer.get_ref()
+        &self.writer
+    }
+
+    /// Hands the octets that are buffered to the writer.
+    fn empty(&mut self) -> Result<(), OutFault>
+        ensures written { Keeps (lines_log W.contents self.old).written
+            (lines_log W.contents self.new).written }
+        ensures puts { self.new.puts ≡ self.old.puts }
+        ensures failures { self.new.failures ≡ self.old.failures }
+        ensures none { OnOk result (lines_kept self.new ≡ []) }
+    {
+        let octets = self.buffer.octets();
+        let taken = hand_over(&mut self.writer, octets);
+        let is_all = taken == octets.len();
+        self.buffer.remove(taken);
+        if is_all { Ok(()) } else { Err(OutFault) }
+    }
+
+    /// Puts octets for which there is no room until those that are buffered are handed to the writer.
+    #[cold]
+    #[inline(never)]
+    fn put_behind(&mut self, octets: &[u8]) -> Result<usize, OutFault>
+        ensures { MatchResult result
+            (λ n. Took (lines_log W.contents self.old) (lines_log W.contents self.new) octets.now n)
+            (λ _. Failed (lines_log W.contents self.old) (lines_log W.contents self.new)) }
+    {
+        self.puts = one_more(self.puts);
+        if self.empty().is_err() {
+            self.failures = one_more(self.failures);
+            return Err(OutFault);
+        }
+        let taken = octets.len().min(ROOM);
+        self.buffer.add(&octets[..taken]);
+        Ok(taken)
     }
 }
 
@@ -54,14 +85,24 @@ impl<W: Write + Drop> Out for Lines<W> {
 
     ghost log = { lines_log W.contents };
 
+    #[inline]
     fn put(&mut self, octets: &[u8]) -> Result<usize, OutFault> {
-        self.puts = one_more(self.puts);
-        let taken = self.buffer.write(octets).unwrap_or(0);
-        if taken == 0 && !octets.is_empty() {
-            self.failures = one_more(self.failures);
-            return Err(OutFault);
+        if octets.len() > self.buffer.room() {
+            return self.put_behind(octets);
         }
-        Ok(taken)
+        self.puts = one_more(self.puts);
+        self.buffer.add(octets);
+        Ok(octets.len())
+    }
+
+    #[inline]
+    fn put_line(&mut self, line: &mut Line) -> Result<(), OutFault> {
+        let text = line.text();
+        if text.len() > self.buffer.room() {
+            return self.put_all(text);
+        }
+        self.buffer.add(text);
+        Ok(())
     }
 }
 
@@ -71,10 +112,27 @@ impl<W: Write + Drop> Flush for Lines<W> {
     ghost kept = { lines_kept };
 
     fn flush(&mut self) -> Result<(), OutFault> {
-        if self.buffer.flush().is_err() {
+        if self.empty().is_err() || self.writer.flush().is_err() {
             self.failures = one_more(self.failures);
             return Err(OutFault);
         }
         Ok(())
     }
+}
+
+/// Hands octets to a writer until that has all of them, takes none or fails, and returns how many it took.
+fn hand_over<W: Write>(writer: &mut W, octets: &[u8]) -> usize
+    ensures within { result ≤ length octets.now }
+    ensures written { Appends (W.contents writer.old) (W.contents writer.new)
+        (take result octets.now) }
+{
+    let mut taken = 0;
+    while taken < octets.len() {
+        match writer.write(&octets[taken..]) {
+            Ok(0) => return taken,
+            Ok(some) => taken += some,
+            Err(_) => return taken,
+        }
+    }
+    taken
 }

@@ -1,5 +1,5 @@
 -- Each outcome of feeding all that a source gives, from the reads and feeds before it.
-use Rattle.std.proofs.Common.{◌+◌, [], ◌++◌, ◌∙◌, refl, arith}
+use Rattle.std.proofs.Common.{◌+◌, [], ◌++◌, ◌∙◌, arith}
 use Rattle.std.proofs.lemmas.Result.{err_from_is_err_and}
 use Rattle.giop_run.proofs.TextLemmas.{adds_up}
 use Rattle.giop_run.proofs.ReadLemmas.{one_more_read}
