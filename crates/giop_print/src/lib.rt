@@ -19,8 +19,8 @@ pub use encapsulation_lines::{
 pub use line::Line;
 pub use lines::{
     call_line, cancelled_line, continues_line, end_line, fault_line, line_behind, numbered_line,
-    piece_line, put_number_end, rest_line, split_piece_line, split_rest_line, start_line,
-    stream_fault_line, total_line, unfinished_line, value_line,
+    piece_line, put_number_end, put_piece_end, rest_line, split_piece_line, split_rest_line,
+    start_line, stream_fault_line, total_line, unfinished_line, value_line,
 };
 pub use path::{Path, Root, put_root};
 pub use position::Position;

@@ -5,7 +5,7 @@ ghost use Rattle.std.specs.Prelude.{◌≡◌, ◌+◌, ◌≤◌, [], ◌++◌,
 ghost use Rattle.giop_cdr.specs.Primitives.{size_of};
 ghost use Rattle.giop_print.specs.Output.{Writes};
 ghost use Rattle.giop_print.specs.Line.{line_text, line_room, numbered, headed, Spells};
-ghost use Rattle.giop_print.specs.Lines.{kind_line, kind_word, spaced, number_text, piece_octets, split_text, more_word, value_line, piece_line, split_piece_line, rest_line, start_line, call_line, continues_line, cancelled_line, fault_line, end_line, stream_fault_line, unfinished_line, total_line};
+ghost use Rattle.giop_print.specs.Lines.{kind_line, kind_word, spaced, number_text, piece_octets, piece_word, split_text, more_word, value_line, piece_line, split_piece_line, rest_line, start_line, call_line, continues_line, cancelled_line, fault_line, end_line, stream_fault_line, unfinished_line, total_line};
 
 use crate::line::Line;
 use crate::position::Position;
@@ -269,9 +269,24 @@ pub fn split_piece_line<O: Out, P: Position>(
         piece.entry.offset piece.entry.more) }
 {
     let mut line = Line::new();
-    put_content(&mut line, piece);
-    put_piece_word(&mut line, piece.held);
+    put_piece_end(&mut line, piece);
     spelled_line(out, message, path, &mut line)
+}
+
+/// Puts what the line of a piece has after its path on an empty line: its word, its offset, its octets, whether more
+/// comes, and the line feed.
+#[inline(always)]
+pub fn put_piece_end(line: &mut Line, piece: SplitPiece<'_>)
+    requires size { length (piece_octets piece.held) + length piece.rest.now ≤ 32 }
+    requires empty { line_text line.old ≡ [] }
+    requires room { line_room line.old ≡ 256 }
+    ensures text { line_text line.new ≡ piece_word piece.entry.held
+        ++ (decimal piece.entry.offset ++ (split_text piece.entry.held piece.entry.rest.now
+        ++ (more_word piece.entry.more ++ codes "\n"))) }
+    ensures room { 90 ≤ line_room line.new }
+{
+    put_content(line, piece);
+    put_piece_word(line, piece.held);
 }
 
 /// Puts what the line of a part of a content, which came in two, has behind its word on an empty line: its offset,
