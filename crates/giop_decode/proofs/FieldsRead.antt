@@ -71,6 +71,13 @@ here_spelled C root outer switch =
     (open_parts C 0 outer)) switch
     ∙ ap (λ text. text ++ end_text C switch) (frames_spelled C [] outer)))
 
+-- the same of the innermost part, at any offset
+pub path_spelled : (C : Table) (here : ℕ) (root : Root) (outer : List Frame) →
+    root_word root ++ frames_text C outer ≡ path_text root (path_in [] (open_parts C here outer))
+path_spelled C here root outer =
+    ap (λ text. root_word root ++ text) (sym (append-nil (frames_text C outer)))
+    ∙ (here_spelled C root outer None ∙ stands_at C here root outer)
+
 -- no room for what is left of a path
 pub spells_end : (a b : Line) (end text : List ℕ) → line_text b ≡ end ++ line_text a →
     line_room b + length end ≡ line_room a → Spells false a b text

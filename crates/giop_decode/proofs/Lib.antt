@@ -39,5 +39,6 @@ mod Whole
 mod Passing
 mod OctetsLeft
 mod NextParts
+mod NextPieces
 mod WholeTexts
 pub mod ReadingLaws

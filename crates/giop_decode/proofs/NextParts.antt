@@ -33,15 +33,14 @@ use Rattle.giop_decode.specs.ReadResult.{Coding, PathSegment, Line, Number, Lead
 use Rattle.giop_decode.specs.ReadingSteps.{around, path_in}
 use Rattle.giop_decode.specs.Passes.{Gives, Passes}
 use Rattle.giop_decode.specs.Runs.{TakenTogether, TakesSome}
-use Rattle.giop_decode.specs.Transitions.{AreKnown, IsClean, IsKnown, Link, StandAt, gone_on, is_inside, leaf_type, open_part, open_parts, part_in}
+use Rattle.giop_decode.specs.Transitions.{AreKnown, HaveOctetsLeft, IsClean, IsKnown, Link, StandAt, gone_on, is_inside, leaf_type, open_part, open_parts, part_in}
 use Rattle.giop_decode.proofs.Advancing.{comes_by, same_some, stands_at}
 use Rattle.giop_decode.proofs.Beginning.{all_push, map_push}
 use Rattle.giop_decode.proofs.Counting.{ahead_free, free_ticked_by}
 use Rattle.giop_decode.proofs.Going.{PartPopped, Next, part_popped, next_in, goes_next, part_is}
 use Rattle.giop_decode.proofs.Surrounding.{ahead_by, around_unless_ended, behind_stopped, free_coding_by, free_ended, free_first, free_ticked, front_gone, inside_push, outside_pop, places_ticked}
 use Rattle.giop_decode.proofs.TransitionsInFrames.{around_done}
-use Rattle.giop_decode.proofs.FieldsRead.{here_spelled}
-use Rattle.giop_decode.proofs.FieldsRead.{stands_at as path_at}
+use Rattle.giop_decode.proofs.FieldsRead.{path_spelled}
 use Rattle.giop_decode.proofs.Linking.{link_pop, link_push}
 use Rattle.giop_decode.proofs.Noting.{stopped_silent}
 use Rattle.giop_decode.proofs.Passing.{last_says, passed_broken, passed_some}
@@ -117,6 +116,12 @@ stand_free at (f ∷ frames) h =
     let n = free_first f.inside (is_inside frames) h in
     (rw n.0 tt, stand_free at frames n.1)
 
+pub places_free : (C : Table) (here : ℕ) (frames : List Frame) → is_inside frames ≡ false →
+    HaveOctetsLeft frames → open_parts C here frames ≡ open_parts C (here + 1) frames
+places_free C here frames h ahead =
+    sym (places_ticked C here frames ahead)
+    ∙ ap (open_parts C (here + 1)) (sym (free_ticked frames h))
+
 frames_text-push : (C : Table) (frames : List Frame) (f : Frame) →
     frames_text C (frames ++ f ∷ []) ≡ frames_text C frames
     ++ segment_text (segment_in (open_part C 0 f))
@@ -139,6 +144,13 @@ number_text_is : (message : ℕ) (place : List ℕ) (p : Primitive) (n : ℕ) (n
 unfolding kind_line
 number_text_is message place p n number e = rw e refl
 
+-- what a line begins with, and what follows that
+pub headed_is : (message : ℕ) (place rest : List ℕ) →
+    headed message place [] ++ rest ≡ headed message place rest
+headed_is message place rest =
+    ap (λ t. codes "m" ++ t) (append_assoc (decimal message) (codes " " ++ (place ++ [])) rest
+    ∙ ap (λ t. decimal message ++ (codes " " ++ (t ++ rest))) (append-nil place))
+
 -- the line behind what it begins with
 pub line_is : (message : ℕ) (place segment kind text : List ℕ) →
     headed message place [] ++ (segment ++ (kind ++ (text ++ codes "\n")))
@@ -146,11 +158,9 @@ pub line_is : (message : ℕ) (place segment kind text : List ℕ) →
 unfolding kind_line
 line_is message place segment kind text =
     let rest = kind ++ (text ++ codes "\n") in
-    ap (λ t. codes "m" ++ t) (append_assoc (decimal message) (codes " " ++ (place ++ []))
-    (segment ++ rest)
-    ∙ ap (λ t. decimal message ++ (codes " " ++ t))
-    (ap (λ t. t ++ (segment ++ rest)) (append-nil place)
-    ∙ sym (append_assoc place segment rest)))
+    headed_is message place (segment ++ rest)
+    ∙ ap (λ t. codes "m" ++ (decimal message ++ (codes " " ++ t)))
+    (sym (append_assoc place segment rest))
 
 -- the innermost frame, in no encapsulation
 module _ (C : Table) (d : Decoder) (of : TypeId) (frame : Frame) (f : Fits C d)
@@ -250,9 +260,8 @@ module _ (C : Table) (d : Decoder) (part : PartAhead) (f : Fits C d)
           let seg = segment_text (segment_in (open_part C 0 part.frame)) in
           append_assoc (root_word d.root) (frames_text C above) seg
           ∙ (ap (λ t. root_word d.root ++ t)
-          (sym (ap (frames_text C) h.outer ∙ frames_text-push C above part.frame)
-          ∙ sym (append-nil (frames_text C d.outer.items)))
-          ∙ (here_spelled C d.root d.outer.items None ∙ path_at C here d.root d.outer.items))
+          (sym (ap (frames_text C) h.outer ∙ frames_text-push C above part.frame))
+          ∙ path_spelled C here d.root d.outer.items)
 
   above_free : is_inside above ≡ false
   above_free = free_above C d part.of part.frame f h.leaf h.outside h.outer
@@ -321,11 +330,9 @@ module _ (C : Table) (d : Decoder) (part : PartAhead) (f : Fits C d)
         ≡ transition_result C (tree C part.of.0) new transitions.Ended lines (here + 1)
     come here lines =
         let ps = open_parts C (here + 1) d.outer.items in
-        let there : open_parts C here d.outer.items ≡ ps =
-        sym (places_ticked C here d.outer.items f.ahead)
-        ∙ ap (open_parts C (here + 1)) (sym (free_ticked d.outer.items free)) in
         let leaf = innermost.Number next in
-        ap (λ qs. around (plain d.order) [] qs (Done lines (here + 1) [])) there
+        ap (λ qs. around (plain d.order) [] qs (Done lines (here + 1) []))
+        (places_free C here d.outer.items free f.ahead)
         ∙ (around_done (plain d.order) [] ps lines (here + 1)
         ∙ (ap (with_front lines) (gone (plain d.order) [] (here + 1))
         ∙ (front_gone C lines (here + 1) new.outer.items (Some leaf)

@@ -193,7 +193,7 @@ module _ (C : Table) (d : Decoder) (of : TypeId) (total offset : ℕ) (octets : 
   content : ContentFits (tree C of.0) (tree C of.0) total offset d.piece.items
   content = (stands_at C d f (innermost.Content of total offset) e).fits
 
-  no_carry : d.carry ≡ []
+  pub no_carry : d.carry ≡ []
   no_carry =
       let leaf = innermost.Content of total offset in
       let it : f.leaf ≡ leaf = same_some f.leaf leaf (sym f.goes_on ∙ e) in

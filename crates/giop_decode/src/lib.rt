@@ -15,6 +15,7 @@ mod lookahead;
 mod notes;
 mod octets_left;
 mod parts;
+mod pieces;
 mod progress;
 mod restored;
 mod run;

@@ -89,16 +89,8 @@ impl Decoder {
         ensures { TakesSome catalogue.now self.old self.new octets.now
             (O.log out.old) (O.log out.new) result }
     {
-        let depth = self.outer.len() - 1;
         let mut line = Line::new();
-        let front = put_front(
-            catalogue,
-            self.message,
-            self.root,
-            &self.outer[..depth],
-            &mut line,
-        );
-        if !front {
+        if !self.put_front_of_parts(catalogue, &mut line) {
             return self.take_one(catalogue, octets, out);
         }
         self.take_several(catalogue, octets, line.text(), out)
@@ -248,6 +240,26 @@ impl Decoder {
             _ => None,
         }
     }
+
+    /// Puts what the lines of the innermost part's parts begin with, up to their own segment, on an empty line, and
+    /// answers whether that is at most 128 octets.
+    fn put_front_of_parts(&self, catalogue: &Catalogue, line: &mut Line) -> bool
+        requires known { AreKnown catalogue.now self.now.outer.items }
+        requires some { 0 < length self.now.outer.items }
+        requires empty { line_text line.old ≡ [] }
+        requires room { line_room line.old ≡ 256 }
+        ensures text { IsTrue result → line_text line.new ≡ front_text catalogue.now self.now }
+        ensures short { IsTrue result → length (line_text line.new) ≤ 128 }
+    {
+        let depth = self.outer.len() - 1;
+        put_front(
+            catalogue,
+            self.message,
+            self.root,
+            &self.outer[..depth],
+            line,
+        )
+    }
 }
 
 /// The line of a number that is a part, of which the front is spelled.
@@ -274,7 +286,8 @@ fn part_line<O: Out>(
 
 /// Puts what the lines of the parts in these begin with, up to their own segment, on an empty line, and answers
 /// whether that is at most 128 octets.
-fn put_front(
+#[inline(always)]
+pub(crate) fn put_front(
     catalogue: &Catalogue,
     message: u64,
     root: Root,

@@ -61,7 +61,7 @@ impl Decoder {
 
     /// Takes some of the octets, of which there is at least one: a number or the rest of a piece that stands whole at
     /// their head, or those that only add to what is held, and one more. Numbers that are parts of one part are taken
-    /// together.
+    /// together, and so are full pieces of an octet sequence.
     #[inline(never)]
     fn take_some<O: Out>(
         &mut self,
@@ -79,6 +79,9 @@ impl Decoder {
         }
         let coded = (self.order, self.at);
         let Some(ahead) = self.number_ahead(catalogue, coded, octets) else {
+            if self.has_pieces(catalogue, octets) {
+                return self.take_pieces(catalogue, octets, out);
+            }
             return self.take_other(catalogue, coded, octets, out);
         };
         if self.has_parts(octets) {

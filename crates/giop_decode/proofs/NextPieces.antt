@@ -1,0 +1,215 @@
+-- Full pieces of an octet sequence, behind each of which more comes: what one of them does.
+use Rattle.std.proofs.Common.{◌≡◌, Result, Ok, IsErr, ℕ, ◌+◌, ◌-◌, ◌%◌, ◌<◌, true, false, List, [], ◌∷◌, ◌++◌, length, take, Some, refl, sym, ◌∙◌, ap, subst, arith, append-nil, codes, decimal}
+use Rattle.std.proofs.Math.Bool.{and-false}
+use Rattle.giop_decode.specs.declared.decoder.Decoder.{Decoder}
+use Rattle.giop_decode.specs.declared.leaf.Leaf.{Leaf as Innermost}
+use Rattle.giop_decode.specs.declared.leaf.Leaf.TheVariants as innermost
+use Rattle.giop_decode.specs.declared.leaf.Step.{Step}
+use Rattle.giop_decode.specs.declared.leaf.Transition.TheVariants as transitions
+use Rattle.giop_decode.specs.declared.leaf.Output.TheVariants as outputs
+use Rattle.giop_decode.specs.declared.pieces.PieceAhead.{PieceAhead}
+use Rattle.giop_decode.specs.declared.progress.Progress.{Progress}
+use Rattle.giop_decode.specs.declared.progress.Progress.TheVariants as progress
+use Rattle.giop_decode.specs.DecoderState.{Fits, HoldsNoted}
+use Rattle.giop_decode.specs.DecoderSteps.{emitted, transition_result}
+use Rattle.giop_decode.specs.NameBuffer.{string_offset}
+use Rattle.giop_decode.specs.NextPieces.{IsPieceAhead, behind_piece}
+use Rattle.giop_decode.specs.Noted.{Noted, ends_in_string, is_header_root, is_member, names_operation, noted}
+use Rattle.giop_decode.specs.NotingSteps.{transition_in_string, transition_offset}
+use Rattle.giop_decode.specs.Passes.{Gives, Passes}
+use Rattle.giop_decode.specs.ReadResult.{Line, Piece, Short, line, plain}
+use Rattle.giop_decode.specs.ReadingSteps.{around, path_in}
+use Rattle.giop_decode.specs.Runs.{TakenTogether, TakesSome}
+use Rattle.giop_decode.specs.Segments.{frames_text}
+use Rattle.giop_decode.specs.Spelling.{value_text}
+use Rattle.giop_decode.specs.Transitions.{IsClean, Link, is_inside, leaf_of, leaf_type, open_parts}
+use Rattle.giop_decode.proofs.Advancing.{comes_by, same_some}
+use Rattle.giop_decode.proofs.Counting.{ahead_free, free_ticked_by}
+use Rattle.giop_decode.proofs.FieldsRead.{path_spelled}
+use Rattle.giop_decode.proofs.NextParts.{headed_is, places_free, stand_free}
+use Rattle.giop_decode.proofs.Noting.{stopped_silent}
+use Rattle.giop_decode.proofs.Passing.{last_says, passed_broken, passed_some}
+use Rattle.giop_decode.proofs.Segments.{said_one}
+use Rattle.giop_decode.proofs.SoFar.{AllSay}
+use Rattle.giop_decode.proofs.Surrounding.{around_gone, free_ended}
+use Rattle.giop_decode.proofs.Whole.{IsAtLast, at_last, comes_full, is_at_last, no_carry}
+use Rattle.giop_print.specs.Line.{headed}
+use Rattle.giop_print.specs.Lines.{content_line, more_word, spaced_hex}
+use Rattle.giop_print.specs.Output.{OutLog, Wrote, WroteFront}
+use Rattle.giop_print.specs.Paths.{root_word}
+use Rattle.giop_sig.specs.Table.{Table}
+use Rattle.giop_sig.specs.Trees.{tree}
+use Rattle.giop_sig.specs.Types.{Octets}
+
+-- the line of a full piece behind what it begins with
+pub line_is : (message offset : ℕ) (place octets rest : List ℕ) →
+    rest ≡ codes " octets @" ++ (decimal offset ++ (spaced_hex (octets ++ []) ++ (more_word true
+    ++ codes "\n"))) →
+    headed message place [] ++ rest
+    ≡ content_line message place (codes " octets @") offset (spaced_hex octets) (more_word true)
+unfolding content_line
+line_is message offset place octets rest e = rw (e, append-nil octets)
+    (headed_is message place (codes " octets @" ++ (decimal offset ++ (spaced_hex octets
+    ++ (more_word true ++ codes "\n")))))
+
+-- the same line, as that of a value
+piece_text_is : (message offset : ℕ) (place octets : List ℕ) (bound : _) →
+    content_line message place (codes " octets @") offset (spaced_hex octets) (more_word true)
+    ≡ value_text message place (Piece (Octets bound) offset octets true)
+unfolding content_line
+piece_text_is message offset place octets bound = refl
+
+module _ (C : Table) (d : Decoder) (ahead : PieceAhead) (f : Fits C d)
+    (h : IsPieceAhead C d ahead) (outside : d.inside ≡ false) where
+  abbrev octets : List ℕ
+  octets = ahead.octets.now
+
+  abbrev rest : List ℕ
+  rest = take 32 octets
+
+  abbrev next : Innermost
+  next = innermost.Content ahead.of ahead.total (ahead.offset + 32)
+
+  abbrev step : Step
+  step = record {
+    transition = transitions.More next;
+    output = outputs.Piece ahead.offset true;
+  }
+
+  free : is_inside d.outer.items ≡ false
+  free = sym f.inside ∙ outside
+
+  taken_together : TakenTogether C d octets ahead.of 32 step rest
+  taken_together =
+      comes_full C d ahead.of ahead.total ahead.offset octets 32 f h.leaf
+      (ahead_free (length octets - 1) d.outer.items free f.ahead) h.more
+      (ap (λ xs. 32 - length xs) (sym h.none_held)) h.whole
+
+  -- the decoder at the last of the piece's octets: none was counted
+  abbrev there : Decoder
+  there = at_last d ((d.at + 31) % 8) d.outer
+
+  on : IsAtLast d there 32
+  on = is_at_last d 32 ((d.at + 31) % 8) d.outer refl (free_ticked_by 31 d.outer.items free)
+
+  -- its path, and its line
+  abbrev place : List ℕ
+  place = root_word d.root ++ frames_text C d.outer.items
+
+  abbrev text : List ℕ
+  text = content_line d.message place (codes " octets @") ahead.offset (spaced_hex rest)
+      (more_word true)
+
+  given : (here at : ℕ) (lines : List Line) → Gives C there ahead.of.0 step rest here at lines →
+      lines ≡ line at (path_in [] (open_parts C here d.outer.items))
+      (Piece (Octets h.bound) ahead.offset rest true) ∷ []
+  given here at lines says = rw (h.is, h.none_held) at says
+
+  piece_says : (Says : List ℕ → Type 0) → Says text → AllSay C d octets 31 Says
+  piece_says Says w =
+      last_says C d octets ahead.of 32 step rest f taken_together there on Says
+      (λ here at lines says.
+      subst Says (piece_text_is d.message ahead.offset place rest h.bound
+      ∙ said_one d.message d.root at (path_in [] (open_parts C here d.outer.items)) place
+      (Piece (Octets h.bound) ahead.offset rest true) lines
+      (path_spelled C here d.root d.outer.items) (given here at lines says)) w)
+
+  abbrev new : Decoder
+  new = behind_piece d ahead
+
+  come : (here : ℕ) (lines : List Line) →
+      emitted C there ahead.of.0 step.transition step.output lines here
+      ≡ transition_result C (tree C ahead.of.0) new step.transition lines (here + 1)
+  come here lines =
+      ap (λ ps. around (plain d.order) [] ps (Short lines (here + 1) [] (leaf_of C next d.carry [])))
+      (places_free C here d.outer.items free f.ahead)
+      ∙ rw h.none_held (around_gone C (plain d.order) [] (here + 1) d.outer.items lines
+      (leaf_of C next d.carry []) f.known_outer)
+
+  -- a piece that isn't the last names no operation
+  unnamed : (here at : ℕ) (lines : List Line) → Gives C there ahead.of.0 step rest here at lines →
+      false ≡ names_operation (is_header_root d.root) lines
+  unnamed here at lines says =
+      let path = path_in [] (open_parts C here d.outer.items) in
+      rw (
+        given here at lines says,
+        and-false (is_member (codes "operation") path),
+        and-false (is_header_root d.root),
+      ) refl
+
+  -- nothing is noted of an octet sequence
+  kept : (o : Noted) (here at : ℕ) (lines : List Line) → HoldsNoted d.notes o →
+      Gives C there ahead.of.0 step rest here at lines →
+      HoldsNoted d.notes (noted (is_header_root d.root) o lines)
+  kept o here at lines held says =
+      rw (given here at lines says) (record {
+        request_id = held.request_id;
+        status = held.status;
+        expects_reply = held.expects_reply;
+        name = held.name;
+      })
+
+  silent : (here : ℕ) (lines : List Line) →
+      ends_in_string (emitted C there ahead.of.0 step.transition step.output lines here)
+      ≡ transition_in_string (tree C ahead.of.0) step.transition
+  silent here lines =
+      ap ends_in_string (come here lines)
+      ∙ (stopped_silent C d.outer.items d.carry d.piece.items (Some next) lines (here + 1)
+      (rw h.is refl)
+      ∙ rw h.is refl)
+
+  piece_passes : Passes C there new ahead.of.0 step rest progress.More
+  piece_passes =
+      record {
+        order = refl;
+        root = refl;
+        message = refl;
+        here = λ here k. (
+          let small = f.at in omega (arith, k.0, small),
+          stand_free (here + 1) d.outer.items free,
+        );
+        next = λ goes_on. record {
+          known_outer = f.known_outer;
+          inside = f.inside;
+          ahead = f.ahead;
+          known = λ leaf is. subst (λ l. leaf_type l < length C.types) (at_next leaf is) known;
+          clean = λ leaf is. subst (λ l. IsClean l d.carry d.piece.items) (at_next leaf is)
+              (no_carry C d ahead.of ahead.total ahead.offset octets 32 f h.leaf
+              (ahead_free (length octets - 1) d.outer.items free f.ahead));
+          link = λ root leaf link is. subst (λ l. Link C root d.outer.items (leaf_type l))
+              (at_next leaf is) link;
+          going = tt;
+          offset = λ leaf is.
+              subst (λ l. string_offset (tree C (leaf_type l)) l
+              ≡ transition_offset (tree C ahead.of.0) step.transition)
+              (at_next leaf is) refl;
+        };
+        steps = λ here lines says.
+            comes_by C (tree C ahead.of.0) new false false step.transition lines
+            (here + 1) progress.More _
+            (unnamed here (here + 1) lines says) (sym (free_ended d.outer.items free))
+            (come here lines) refl;
+        inside = silent;
+        id = λ no. refl;
+        notes = λ o here at lines held says. kept o here at lines held says;
+      }
+    where
+      at_next : (leaf : Innermost) → Some next ≡ Some leaf → next ≡ leaf
+      at_next leaf is = same_some next leaf is
+
+      known : ahead.of.0 < length C.types
+      known = subst (λ l. leaf_type l < length C.types)
+          (same_some f.leaf (innermost.Content ahead.of ahead.total ahead.offset)
+          (sym f.goes_on ∙ h.leaf)) f.known
+
+  pub piece_some : {E : Type 0} (a c : OutLog) → Wrote a c text →
+      TakesSome {E = E} C d new octets a c (Ok (32, progress.More))
+  piece_some a c said =
+      passed_some C d octets ahead.of 32 step rest f taken_together there on new
+      progress.More piece_passes a c (piece_says (Wrote a c) said)
+
+  pub piece_broken : {E : Type 0} (r : Result (ℕ × Progress) E) (after : Decoder)
+      (a c : OutLog) → IsErr r → WroteFront a c text → TakesSome C d after octets a c r
+  piece_broken r after a c is said =
+      passed_broken C d octets ahead.of 32 step rest f taken_together there on r after a c is
+      (piece_says (WroteFront a c) said)

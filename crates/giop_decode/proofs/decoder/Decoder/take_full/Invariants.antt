@@ -1,0 +1,18 @@
+use Rattle.std.proofs.Common.{◌≡◌, ◌-◌, ◌≤◌, false, length}
+use Rattle.giop_decode.specs.NextPieces.{path_front}
+use Rattle.giop_decode.proofs.SoFar.{TakenSoFar}
+use Rattle.giop_decode.proofs.decoder.Decoder.take_full.Given as goal
+
+abbrev pub invariant-loop-piece : goal.invariant-loop-piece
+invariant-loop-piece g l =
+    record {
+      so_far : TakenSoFar l.catalogue l.initial.self l.self l.octets l.taken
+          (g.O.Out.log l.initial.out) (g.O.Out.log l.out);
+      within : l.taken ≤ length l.octets;
+      outside : l.self.inside ≡ false;
+      front : l.front ≡ path_front l.catalogue l.self;
+      short : length l.front ≤ 90;
+    }
+
+abbrev pub decreases-loop-piece : goal.decreases-loop-piece
+decreases-loop-piece g l = length l.octets - l.taken

@@ -1,0 +1,40 @@
+-- Full pieces of an octet sequence, behind each of which more comes (steps).
+use Rattle.std.specs.Prelude.{◌≡◌, ℕ, ◌+◌, ◌-◌, ◌<◌, ◌≤◌, List, [], ◌++◌, length, Option, Some}
+use Rattle.giop_decode.specs.declared.decoder.Decoder.{Decoder}
+use Rattle.giop_decode.specs.declared.leaf.Leaf.TheVariants as innermost
+use Rattle.giop_decode.specs.declared.pieces.PieceAhead.{PieceAhead}
+use Rattle.giop_decode.specs.Segments.{frames_text}
+use Rattle.giop_print.specs.Line.{headed}
+use Rattle.giop_print.specs.Paths.{root_word}
+use Rattle.giop_sig.specs.Table.{Table}
+use Rattle.giop_sig.specs.Trees.{tree}
+use Rattle.giop_sig.specs.Types.{Octets}
+
+-- what a line begins with, up to the end of its path, where the frames are the parts around it
+abbrev pub path_front : Table → Decoder → List ℕ
+path_front C d = headed d.message (root_word d.root ++ frames_text C d.outer.items) []
+
+-- A full piece of an octet sequence stands whole at the head of its octets: none of it is held, and
+-- more comes behind it.
+pub record IsPieceAhead (C : Table) (d : Decoder) (ahead : PieceAhead) : Type 0 where
+  pub leaf : d.leaf ≡ Some (innermost.Content ahead.of ahead.total ahead.offset)
+  pub bound : Option ℕ
+  pub is : tree C ahead.of.0 ≡ Octets bound
+  pub more : 32 < ahead.total - ahead.offset
+  pub whole : 32 ≤ length ahead.octets.now
+  pub none_held : d.piece.items ≡ []
+
+-- the decoder behind that piece: 32 octets further it stands at the same offset modulo 8
+abbrev pub behind_piece : Decoder → PieceAhead → Decoder
+behind_piece d ahead = record {
+  order = d.order;
+  root = d.root;
+  message = d.message;
+  at = d.at;
+  outer = d.outer;
+  inside = d.inside;
+  leaf = Some (innermost.Content ahead.of ahead.total (ahead.offset + 32));
+  carry = d.carry;
+  piece = d.piece;
+  notes = d.notes;
+}

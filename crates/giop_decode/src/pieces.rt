@@ -1,0 +1,182 @@
+//! Full pieces of an octet sequence, taken one after another: what their lines begin with is spelled once.
+
+ghost use Rattle.std.specs.Prelude.{◌≡◌, ℕ, ◌<◌, ◌≤◌, false, true, List, [], length, take, codes, IfOk, IfSome, OnOk};
+ghost use Rattle.giop_decode.specs.DecoderState.{Fits};
+ghost use Rattle.giop_decode.specs.NextPieces.{IsPieceAhead, behind_piece, path_front};
+ghost use Rattle.giop_decode.specs.Runs.{TakesSome};
+ghost use Rattle.giop_print.specs.Line.{headed};
+ghost use Rattle.giop_print.specs.Lines.{content_line, more_word, spaced_hex};
+ghost use Rattle.giop_print.specs.Output.{Writes};
+
+use crate::decoder::Decoder;
+use crate::leaf::Leaf;
+use crate::parts::put_front;
+use crate::progress::Progress;
+use giop_print::{Line, Out, OutFault, Piece, SplitPiece, line_behind, put_piece_end};
+use giop_sig::{Catalogue, Shape, TypeId};
+
+/// A full piece of an octet sequence, of which no octet is held, and behind which more comes.
+#[derive(Clone, Copy, Debug)]
+struct PieceAhead<'a> {
+    /// The octets at whose head it stands.
+    octets: &'a [u8],
+    of: TypeId,
+    /// How many octets the content has.
+    total: u32,
+    /// Where the piece begins in it.
+    offset: u32,
+}
+
+/// How many octets a full piece has.
+const PIECE: usize = 32;
+
+/// How many octets there must be that full pieces are taken one after another.
+const RUN: usize = 2 * PIECE;
+
+/// How many octets may stand in a line before the word of its piece.
+const FRONT: usize = 90;
+
+impl Decoder {
+    /// Whether two full pieces of an octet sequence stand whole at the head of these octets, and more of it comes
+    /// behind them.
+    #[inline(always)]
+    pub(crate) fn has_pieces(&self, catalogue: &Catalogue, octets: &[u8]) -> bool
+        requires { Fits catalogue.now self.now }
+    {
+        match self.next_piece(catalogue, octets) {
+            Some(piece) => (piece.total - piece.offset) as usize > RUN && octets.len() >= RUN,
+            None => false,
+        }
+    }
+
+    /// Takes some of the octets, of which there is at least one: full pieces of an octet sequence that stand whole at
+    /// their head, and some of what is behind them. Writes their lines.
+    #[inline(never)]
+    pub(crate) fn take_pieces<O: Out>(
+        &mut self,
+        catalogue: &Catalogue,
+        octets: &[u8],
+        out: &mut O,
+    ) -> Result<(usize, Progress), OutFault>
+        requires fits { Fits catalogue.now self.old }
+        requires octets { 0 < length octets.now }
+        requires outside { self.old.inside ≡ false }
+        ensures { TakesSome catalogue.now self.old self.new octets.now
+            (O.log out.old) (O.log out.new) result }
+    {
+        let mut line = Line::new();
+        let front = put_front(
+            catalogue,
+            self.message,
+            self.root,
+            self.outer.as_slice(),
+            &mut line,
+        );
+        if !front || line.text().len() > FRONT {
+            return self.take_one(catalogue, octets, out);
+        }
+        self.take_full(catalogue, octets, line.text(), out)
+    }
+
+    /// The same where what their lines begin with is spelled.
+    #[inline(always)]
+    fn take_full<O: Out>(
+        &mut self,
+        catalogue: &Catalogue,
+        octets: &[u8],
+        front: &[u8],
+        out: &mut O,
+    ) -> Result<(usize, Progress), OutFault>
+        requires fits { Fits catalogue.now self.old }
+        requires octets { 0 < length octets.now }
+        requires outside { self.old.inside ≡ false }
+        requires front { front.now ≡ path_front catalogue.now self.old }
+        requires short { length front.now ≤ 90 }
+        ensures { TakesSome catalogue.now self.old self.new octets.now
+            (O.log out.old) (O.log out.new) result }
+    {
+        let mut taken = 0;
+        while let Some(piece) = self.next_piece(catalogue, &octets[taken..]) {
+            let (count, _) = self.take_piece(catalogue, piece, front, out)?;
+            taken += count;
+        }
+        if taken == octets.len() {
+            return Ok((taken, Progress::More));
+        }
+        let (rest, progress) = self.take_one(catalogue, &octets[taken..], out)?;
+        Ok((taken + rest, progress))
+    }
+
+    /// The full piece that comes next, where it is an octet sequence's and stands whole at the head of these octets.
+    #[inline(always)]
+    fn next_piece<'a>(&self, catalogue: &Catalogue, octets: &'a [u8]) -> Option<PieceAhead<'a>>
+        requires { Fits catalogue.now self.now }
+        ensures ahead { IfSome result (λ piece. IsPieceAhead catalogue.now self.now piece) }
+        ensures octets { IfSome result (λ piece. piece.octets.now ≡ octets.now) }
+    {
+        let Some(Leaf::Content { of, total, offset }) = self.leaf else {
+            return None;
+        };
+        if total.saturating_sub(offset) <= 32 || octets.len() < PIECE || !self.piece.is_empty() {
+            return None;
+        }
+        match catalogue.shape(of) {
+            Shape::Octets(_) => Some(PieceAhead {
+                octets,
+                of,
+                total,
+                offset,
+            }),
+            _ => None,
+        }
+    }
+
+    /// Takes the octets of that piece, and writes its line, of which the front is spelled.
+    #[inline(always)]
+    fn take_piece<O: Out>(
+        &mut self,
+        catalogue: &Catalogue,
+        piece: PieceAhead<'_>,
+        front: &[u8],
+        out: &mut O,
+    ) -> Result<(usize, Progress), OutFault>
+        requires fits { Fits catalogue.now self.old }
+        requires ahead { IsPieceAhead catalogue.now self.old piece }
+        requires outside { self.old.inside ≡ false }
+        requires front { front.now ≡ path_front catalogue.now self.old }
+        requires short { length front.now ≤ 90 }
+        ensures takes { TakesSome catalogue.now self.old self.new piece.entry.octets.now
+            (O.log out.old) (O.log out.new) result }
+        ensures more { IfOk result (λ taken. taken.1 ≡ Progress.More) }
+        ensures next { OnOk result (self.new ≡ behind_piece self.old piece.entry) }
+    {
+        piece_line(piece, front, out)?;
+        self.leaf = Some(Leaf::Content {
+            of: piece.of,
+            total: piece.total,
+            offset: piece.offset + 32,
+        });
+        Ok((PIECE, Progress::More))
+    }
+}
+
+/// The line of that piece, of which the front is spelled.
+#[inline(always)]
+fn piece_line<O: Out>(piece: PieceAhead<'_>, front: &[u8], out: &mut O) -> Result<(), OutFault>
+    requires whole { 32 ≤ length piece.octets.now }
+    requires short { length front.now ≤ 90 }
+    ensures { (message : ℕ) (place : List ℕ) → front.now ≡ headed message place [] →
+        Writes result (O.log out.old) (O.log out.new) (content_line message place
+        (codes " octets @") piece.entry.offset
+        (spaced_hex (take 32 piece.entry.octets.now)) (more_word true)) }
+{
+    let mut line = Line::new();
+    let piece = SplitPiece {
+        offset: u64::from(piece.offset),
+        held: Piece::Octets(&piece.octets[..PIECE]),
+        rest: &[],
+        more: true,
+    };
+    put_piece_end(&mut line, piece);
+    line_behind(out, front, &mut line)
+}
