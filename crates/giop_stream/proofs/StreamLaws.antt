@@ -1,6 +1,6 @@
 -- What other crates may use of a stream, beside the contracts. No other file of this crate's proofs
 -- can be cited from outside.
-use Rattle.std.proofs.Common.{◌≡◌, ℕ, List, [], ◌∷◌, ◌++◌}
+use Rattle.std.proofs.Common.{◌≡◌, ℕ, List, ◌++◌}
 use Rattle.giop_sig.specs.Table.{Table}
 use Rattle.giop_message.specs.HeaderEnds.{HeaderEnd, AreSilent}
 use Rattle.giop_message.specs.Signatures.{RequestTable, Answers, signatures_of, by_list}

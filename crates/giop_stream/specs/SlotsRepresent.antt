@@ -57,6 +57,12 @@ pub record AreReady (C : Table) (at : ℕ) (s : Slots) : Type 0 where
   pub current_ready : IsReady C at (current_of s.owner)
   pub each_ready : Each (λ slot. IsReady C at slot.value.message) s.slots.entries
 
+-- there is as much room as before: as many messages may be open, and if each message in the slots
+-- could take the octet at a place, each still can
+pub record KeepsRoom (old new : Slots) : Type 0 where
+  pub most : new.slots.most ≡ old.slots.most
+  pub ready : (C : Table) (at : ℕ) → AreReady C at old → AreReady C at new
+
 pub record IsSlot (C : Table) (l : Answers) (kept : OpenEntry) (slot : Slot) : Type 0 where
   pub number : kept.value.number ≡ slot.open_as.opener.number
   pub header : kept.value.header ≡ slot.open_as.opener.header

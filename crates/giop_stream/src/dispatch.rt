@@ -10,7 +10,7 @@ ghost use Rattle.giop_stream.specs.Rules.{most_open};
 ghost use Rattle.giop_stream.specs.Framing.{Message, with_payload};
 ghost use Rattle.giop_stream.specs.Events.{MessageKey, Open, events_at_header, events_at_request_id, events_at_end, events_of_octet, message_key, opener_of};
 ghost use Rattle.giop_stream.specs.Effects.{Tracked, effects, with_octet};
-ghost use Rattle.giop_stream.specs.SlotsRepresent.{SlotsRepresent, AreReady};
+ghost use Rattle.giop_stream.specs.SlotsRepresent.{SlotsRepresent, AreReady, KeepsRoom};
 ghost use Rattle.giop_stream.specs.DoesEffect.{DoesEffect, one_if, never, all};
 ghost use Rattle.giop_stream.specs.HeaderEndsOfStream.{owner_header_ends};
 ghost use Rattle.giop_message.specs.HeaderEnds.{AgreesAtEnds, after_ends};
@@ -37,8 +37,7 @@ fn opens<O: Out>(slots: &mut Slots, now: Current, id: u32, out: &mut O) -> Resul
         DoesEffect C l one_if result (O.log out.old) (O.log out.new) slots.new
         (effects (message_reader C l) c (events_at_request_id slots.old.slots.most c.still_open m))
         (Some (message_key m)) }
-    ensures ready { (C : Table) (n : ℕ) → AreReady C n slots.old → AreReady C n slots.new }
-    ensures most { slots.new.slots.most ≡ slots.old.slots.most }
+    ensures room { KeepsRoom slots.old slots.new }
 {
     if slots.find(id).is_some() {
         return slots.fault_message(now.number, FramingFault::IdOpen, now.place, out);
@@ -58,8 +57,7 @@ fn cancels<O: Out>(slots: &mut Slots, now: Current, id: u32, out: &mut O) -> Res
         DoesEffect C l never result (O.log out.old) (O.log out.new) slots.new
         (effects (message_reader C l) c (events_at_request_id slots.old.slots.most c.still_open m))
         (Some (message_key m)) }
-    ensures ready { (C : Table) (n : ℕ) → AreReady C n slots.old → AreReady C n slots.new }
-    ensures most { slots.new.slots.most ≡ slots.old.slots.most }
+    ensures room { KeepsRoom slots.old slots.new }
 {
     let Some(k) = slots.find(id) else {
         return Ok(());
@@ -78,8 +76,7 @@ fn fault_unopened<O: Out>(slots: &mut Slots, now: Current, out: &mut O) -> Resul
         DoesEffect C l one_if result (O.log out.old) (O.log out.new) slots.new
         (effects (message_reader C l) c (events_at_request_id slots.old.slots.most c.still_open m))
         None }
-    ensures ready { (C : Table) (n : ℕ) → AreReady C n slots.old → AreReady C n slots.new }
-    ensures most { slots.new.slots.most ≡ slots.old.slots.most }
+    ensures room { KeepsRoom slots.old slots.new }
 {
     let faulted = slots.fault_message(now.number, FramingFault::NoOpen, now.place, out);
     slots.set_no_owner();
@@ -103,8 +100,7 @@ pub fn passes<O: Out>(
         DoesEffect C l one_if result (O.log out.old) (O.log out.new) slots.new
         (effects (message_reader C l) c (events_at_request_id slots.old.slots.most c.still_open m))
         (Some o.opener) }
-    ensures ready { (C : Table) (n : ℕ) → AreReady C n slots.old → AreReady C n slots.new }
-    ensures most { slots.new.slots.most ≡ slots.old.slots.most }
+    ensures room { KeepsRoom slots.old slots.new }
 {
     let opener = slots.at(k);
     let (number, order) = (opener.number, order_of(&opener.header));
@@ -128,8 +124,7 @@ fn continues<O: Out>(
         DoesEffect C l one_if result (O.log out.old) (O.log out.new) slots.new
         (effects (message_reader C l) c (events_at_request_id slots.old.slots.most c.still_open m))
         (opener_key (opener_of c.still_open m)) }
-    ensures ready { (C : Table) (n : ℕ) → AreReady C n slots.old → AreReady C n slots.new }
-    ensures most { slots.new.slots.most ≡ slots.old.slots.most }
+    ensures room { KeepsRoom slots.old slots.new }
 {
     match slots.find(id) {
         Some(k) => passes(slots, k, now, out),
@@ -149,8 +144,7 @@ pub fn named<O: Out>(
         DoesEffect C l one_if result (O.log out.old) (O.log out.new) slots.new
         (effects (message_reader C l) c (events_at_request_id slots.old.slots.most c.still_open m))
         (owner_after_id c.still_open m) }
-    ensures ready { (C : Table) (n : ℕ) → AreReady C n slots.old → AreReady C n slots.new }
-    ensures most { slots.new.slots.most ≡ slots.old.slots.most }
+    ensures room { KeepsRoom slots.old slots.new }
 {
     if is_fragment(&now.header) {
         return continues(slots, now, id, out);
@@ -177,8 +171,7 @@ pub fn ends<O: Out>(
         IsAtOctet catalogue.now l slots.old c m now → length m.payload ≡ size m.header →
         DoesEffect catalogue.now l one_if result (O.log out.old) (O.log out.new) slots.new
         (effects (message_reader catalogue.now l) c (events_at_end c.still_open m)) None }
-    ensures ready { AreReady catalogue.now (now.place + 1) slots.new }
-    ensures most { slots.new.slots.most ≡ slots.old.slots.most }
+    ensures room { KeepsRoom slots.old slots.new }
 {
     if is_short(&now.header) {
         let faulted = slots.fault_message(now.number, FramingFault::Short, now.place, out);
@@ -199,8 +192,7 @@ fn at_fourth_octet<O: Out>(slots: &mut Slots, now: Current, out: &mut O) -> Resu
         DoesEffect C l one_if result (O.log out.old) (O.log out.new) slots.new
         (effects (message_reader C l) c (id_events slots.old.slots.most c.still_open m))
         (owner_of_next c.still_open m) }
-    ensures ready { (C : Table) (n : ℕ) → AreReady C n slots.old → AreReady C n slots.new }
-    ensures most { slots.new.slots.most ≡ slots.old.slots.most }
+    ensures room { KeepsRoom slots.old slots.new }
 {
     if now.payload_count == 4 {
         let id = slots.request_id();

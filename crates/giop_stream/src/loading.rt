@@ -11,7 +11,7 @@ ghost use Rattle.giop_checkpoint.specs.Refusals.{IsOurs};
 ghost use Rattle.giop_checkpoint.specs.declared.record.RecordKind.TheVariants as record_kinds;
 ghost use Rattle.giop_stream.specs.Rules.{rules, most_open};
 ghost use Rattle.giop_stream.specs.OpenSlots.{Slot as Held};
-ghost use Rattle.giop_stream.specs.SlotsRepresent.{AreReady, IsBare, IsReady, current_of};
+ghost use Rattle.giop_stream.specs.SlotsRepresent.{AreReady, KeepsRoom, IsBare, IsReady, current_of};
 ghost use Rattle.giop_stream.specs.declared.slots.PayloadOwner.TheVariants.{Current};
 ghost use Rattle.giop_stream.specs.FramingView.{framing_view};
 ghost use Rattle.giop_stream.specs.EngineState.{state_of, Own};
@@ -306,14 +306,13 @@ fn add_open(
 
 /// Adds an open message that is over.
 fn add_over(slots: &mut Slots, first: &FirstRecord<'_>, id: u32) -> bool
-    ensures ready { (C : Table) (n : ℕ) → AreReady C n slots.old → AreReady C n slots.new }
+    ensures room { KeepsRoom slots.old slots.new }
     ensures owner { slots.new.owner ≡ slots.old.owner }
     ensures again { (C : Table) (l : Answers) (n : ℕ) (held : Held) →
         IsOpenEntry C l n first.now held →
         first.now.record.record_kind ≡ record_kinds.Over id →
         length slots.old.slots.entries < slots.old.slots.most →
         (result ≡ true) × HasAdded C l slots.old slots.new (held ∷ []) }
-    ensures most { slots.new.slots.most ≡ slots.old.slots.most }
 {
     is_zero(first) && push(slots, first, id, None)
 }

@@ -66,7 +66,7 @@ impl Slots {
     ghost use Rattle.giop_message.specs.Signatures.{signatures_of};
     ghost use Rattle.giop_message.specs.Messages.{message, message_lines};
     ghost use Rattle.giop_message.specs.ReaderOfTable.{first_request_id};
-    ghost use Rattle.giop_stream.specs.SlotsRepresent.{AreSlots, RepresentsMessage, SlotsRepresent, AreReady, IsBare, effect_to};
+    ghost use Rattle.giop_stream.specs.SlotsRepresent.{AreSlots, RepresentsMessage, SlotsRepresent, AreReady, KeepsRoom, IsBare, effect_to};
     ghost use Rattle.giop_stream.specs.DoesEffect.{DoesEffect, one_if, never};
     ghost use Rattle.giop_stream.specs.OpenSlots.{Slot as Held, left_open};
     ghost use Rattle.giop_stream.specs.PayloadRuns.{run_effect};
@@ -228,8 +228,7 @@ impl Slots {
             SlotsRepresent C l self.old c (Some w) → w.number ≡ number → Rising c.still_open →
             DoesEffect C l one_if result (O.log out.old) (O.log out.new) self.new
             (effect_to C l place c (Some w) (Faults fault)) (Some w) }
-        ensures ready { (C : Table) (n : ℕ) → AreReady C n self.old → AreReady C n self.new }
-        ensures most { self.new.slots.most ≡ self.old.slots.most }
+        ensures room { KeepsRoom self.old self.new }
     {
         match &mut self.owner {
             PayloadOwner::Current(message) => fault_message(message, number, fault, place, out),
@@ -253,8 +252,7 @@ impl Slots {
             SlotsRepresent catalogue.now l self.old c owner_of_next → Rising c.still_open →
             DoesEffect catalogue.now l one_if result (O.log out.old) (O.log out.new) self.new
             (effect_to catalogue.now l place c owner_of_next Closes) None }
-        ensures ready { AreReady catalogue.now (place + 1) self.new }
-        ensures most { self.new.slots.most ≡ self.old.slots.most }
+        ensures room { KeepsRoom self.old self.new }
     {
         match &mut self.owner {
             PayloadOwner::Current(message) => {
@@ -287,8 +285,7 @@ impl Slots {
             w.number ≡ number → w.header ≡ header →
             SlotsRepresent C l self.new (effect_to C l place c (Some w) (Opens id)).tracked
             (Some w) }
-        ensures ready { (C : Table) (n : ℕ) → AreReady C n self.old → AreReady C n self.new }
-        ensures most { self.new.slots.most ≡ self.old.slots.most }
+        ensures room { KeepsRoom self.old self.new }
     {
         let message = self.owner.take_current();
         self.owner = PayloadOwner::Open(Some(self.slots.len()));
@@ -306,8 +303,7 @@ impl Slots {
             (o : Open) →
             SlotsRepresent C l self.old c owner_of_next → slice_get c.still_open k ≡ Some o →
             SlotsRepresent C l self.new c (Some o.opener) }
-        ensures ready { (C : Table) (n : ℕ) → AreReady C n self.old → AreReady C n self.new }
-        ensures most { self.new.slots.most ≡ self.old.slots.most }
+        ensures room { KeepsRoom self.old self.new }
     {
         self.owner = PayloadOwner::Open(Some(k));
     }
@@ -316,8 +312,7 @@ impl Slots {
     pub fn set_no_owner(&mut self)
         ensures kept { (C : Table) (l : Answers) (c : Tracked) (owner_of_next : Option MessageKey) →
             SlotsRepresent C l self.old c owner_of_next → SlotsRepresent C l self.new c None }
-        ensures ready { (C : Table) (n : ℕ) → AreReady C n self.old → AreReady C n self.new }
-        ensures most { self.new.slots.most ≡ self.old.slots.most }
+        ensures room { KeepsRoom self.old self.new }
     {
         match &mut self.owner {
             PayloadOwner::Current(None) => {}
@@ -375,8 +370,7 @@ impl Slots {
             slice_get c.still_open k ≡ Some o → Rising c.still_open →
             DoesEffect C l never result (O.log out.old) (O.log out.new) self.new
             (effect_to C l place c (Some o.opener) (Cancelled by)) (Some w) }
-        ensures ready { (C : Table) (n : ℕ) → AreReady C n self.old → AreReady C n self.new }
-        ensures most { self.new.slots.most ≡ self.old.slots.most }
+        ensures room { KeepsRoom self.old self.new }
     {
         match self.slots.take(k) {
             Some(entry) => {

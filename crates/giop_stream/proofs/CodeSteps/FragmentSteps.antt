@@ -1,7 +1,7 @@
 -- The last octet of a header and the request id of a Fragment that continues an open message: the
 -- stream with them, and that the code does their steps. They write the start, the request id, and
 -- what its last octet does.
-use Rattle.std.proofs.Common.{◌≡◌, ℕ, suc, ◌+◌, ◌^◌, ◌<◌, ◌≤◌, true, List, [], ◌∷◌, ◌++◌, length, take, refl, sym, ap, subst, ◌∙◌, append_assoc, append-nil, length-append, take_all, Option, Some, None, Result, arith}
+use Rattle.std.proofs.Common.{◌≡◌, ℕ, suc, ◌+◌, ◌^◌, ◌<◌, ◌≤◌, true, List, [], ◌∷◌, ◌++◌, length, refl, sym, ap, subst, ◌∙◌, append_assoc, append-nil, length-append, take_all, Option, Some, None, Result, arith}
 use Rattle.std.specs.Prelude.{◌==◌, OnOk}
 use Rattle.std.proofs.lemmas.Bool.{and_parts, eqb-true, le-ltb, ne_eqb}
 use Rattle.std.proofs.lemmas.List.{length_push}
@@ -21,7 +21,7 @@ use Rattle.giop_stream.specs.HeaderOctets.{wrong}
 use Rattle.giop_stream.specs.Rules.{Rules, rules_by}
 use Rattle.giop_stream.specs.Framing.{Message, Cut, with_payload, limit, cut, messages}
 use Rattle.giop_stream.specs.Kinds.{refused}
-use Rattle.giop_stream.specs.Events.{Takes, MessageKey, Event, Open, changed, message_key, id, events_at_header, events_of_octet, open_after}
+use Rattle.giop_stream.specs.Events.{Takes, MessageKey, Open, changed, message_key, id, events_at_header, events_of_octet, open_after}
 use Rattle.giop_stream.specs.Lines.{Line, lines}
 use Rattle.giop_stream.specs.Text.{lines_text}
 use Rattle.giop_stream.specs.Stream.{fault_count}
@@ -30,7 +30,7 @@ use Rattle.giop_stream.specs.SlotsRepresent.{SlotsRepresent, event, effect_to}
 use Rattle.giop_stream.specs.PayloadRuns.{run_effect}
 use Rattle.giop_stream.specs.PayloadOwner.{IsBeforeOctet, IsNewest, SaysId, end_events, owner_of_next, owner_of_next_in, owner_after}
 use Rattle.giop_stream.specs.Continuation.{IsContinuation, IsBeforeContinuation, continuation_effect}
-use Rattle.giop_stream.specs.HeaderEndsOfStream.{run_header_ends, owner_header_ends, header_ends_at, header_ends_from}
+use Rattle.giop_stream.specs.HeaderEndsOfStream.{run_header_ends, owner_header_ends, header_ends_from}
 use Rattle.giop_stream.specs.EngineView.{FramingView}
 use Rattle.giop_stream.specs.EngineState.{State, state_of}
 use Rattle.giop_stream.specs.EngineStep.{runs}

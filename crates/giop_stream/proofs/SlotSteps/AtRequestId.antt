@@ -1,32 +1,28 @@
 -- The last octet of a request id, as the code does it, by the slot that it finds.
-use Rattle.std.proofs.Common.{◌≡◌, ℕ, ◌<◌, ◌≤◌, Bool, true, false, List, [], ◌∷◌, length, refl, sym, ap, ◌∙◌, Option, Some, None, arith}
+use Rattle.std.proofs.Common.{◌≡◌, ℕ, ◌<◌, ◌≤◌, Bool, true, false, List, [], length, refl, sym, ap, ◌∙◌, Option, Some, None, arith}
 use Rattle.std.specs.Prelude.{◌==◌, ◌||◌, slice_get, option_map, is_some}
 use Rattle.std.specs.List.{find, position_from}
 use Rattle.giop_sig.specs.Table.{Table}
 use Rattle.giop_message.specs.Signatures.{Answers}
 use Rattle.giop_message.specs.ReaderOfTable.{message_reader}
-use Rattle.giop_message.specs.Headers.{order, is_fragment, is_opener, is_cancel, has_name}
-use Rattle.giop_stream.specs.declared.fault.FramingFault.TheVariants.{NoOpen, IdOpen, TooManyOpen, FragmentOrder}
+use Rattle.giop_message.specs.Headers.{is_fragment, is_opener, is_cancel, has_name}
+use Rattle.giop_stream.specs.declared.fault.FramingFault.TheVariants.{NoOpen, IdOpen, TooManyOpen}
 use Rattle.giop_stream.specs.declared.slots.Slots.{Slots}
 use Rattle.giop_stream.specs.declared.current.Current.{Current}
 use Rattle.giop_stream.specs.Rules.{rules_by}
 use Rattle.giop_stream.specs.Framing.{Message}
-use Rattle.giop_stream.specs.Events.{MessageKey, Open, Opens, Faults, Cancelled, message_key, opener_of, events_at_request_id, same_order}
+use Rattle.giop_stream.specs.Events.{MessageKey, Open, Opens, Faults, Cancelled, message_key, opener_of, events_at_request_id}
 use Rattle.giop_stream.specs.OpenSlots.{slots_of}
-use Rattle.giop_stream.specs.Effects.{Tracked, Effect, effects, one_effect, no_effect, line_effect, lines_of, goes_on, lines_for}
-use Rattle.giop_stream.specs.Lines.{Line, lines_of_event, up_to_last_line}
-use Rattle.giop_stream.specs.Text.{line_text}
-use Rattle.giop_stream.specs.Stream.{fault_count}
-use Rattle.giop_cdr.specs.declared.order.Order.{Order}
+use Rattle.giop_stream.specs.Effects.{Tracked, effects, one_effect, no_effect, lines_of, lines_for}
+use Rattle.giop_stream.specs.Lines.{lines_of_event, up_to_last_line}
 use Rattle.giop_stream.specs.Kinds.{may_be_cancelled}
 use Rattle.giop_stream.specs.declared.slots.Slot.{Slot as Contents}
-use Rattle.giop_print.specs.Lines.{continues_line}
 use Rattle.giop_stream.specs.SlotsRepresent.{SlotsRepresent, event}
 use Rattle.giop_stream.specs.PayloadOwner.{IsAtRequestId, opener_key, owner_after_id}
 use Rattle.giop_stream.proofs.SlotSteps.EventsOnSlots.{open_slot}
 use Rattle.giop_stream.proofs.SlotSteps.SlotLists.{are_as_many, entry_there, slots_many}
 use Rattle.giop_stream.proofs.SlotSteps.FindingOpen.{none_open, one_open}
-use Rattle.giop_stream.proofs.SlotSteps.Cases.{opener_twice, opener_no_room, opener_opens, fragment_unknown, fragment_in_order, fragment_out_of_order, cancel_misses, cancel_spares, cancel_closes, other_id}
+use Rattle.giop_stream.proofs.SlotSteps.Cases.{opener_twice, opener_no_room, opener_opens, fragment_unknown, cancel_misses, cancel_spares, cancel_closes, other_id}
 
 -- the open message with this request id, and its index
 pub record IsFound (c : Tracked) (m : Message) (k : ℕ) : Type 0 where

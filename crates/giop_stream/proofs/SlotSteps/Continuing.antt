@@ -1,10 +1,10 @@
 -- A Fragment that continues an open message, as the code does it: at its request id, and where the
 -- last octet of its header and its request id come together.
-use Rattle.std.proofs.Common.{◌≡◌, ℕ, suc, ◌-◌, ◌<◌, ◌≤◌, Bool, true, false, List, [], ◌∷◌, ◌++◌, length, take, refl, sym, ap, subst, ◌∙◌, Option, Some, None, Result, arith}
+use Rattle.std.proofs.Common.{◌≡◌, ℕ, ◌<◌, Bool, true, false, List, [], ◌∷◌, ◌++◌, length, take, refl, sym, ap, subst, ◌∙◌, Option, Some, None, Result, arith}
 use Rattle.std.specs.Prelude.{◌==◌}
 use Rattle.std.specs.List.{find}
 use Rattle.std.proofs.lemmas.Bool.{eq-eqb}
-use Rattle.std.proofs.lemmas.List.{length_push, take_all}
+use Rattle.std.proofs.lemmas.List.{length_push}
 use Rattle.giop_cdr.specs.declared.order.Order.{Order}
 use Rattle.giop_cdr.specs.Numbers.{num}
 use Rattle.giop_sig.specs.Table.{Table}
@@ -27,11 +27,11 @@ use Rattle.giop_stream.specs.Text.{line_text, start_line}
 use Rattle.giop_stream.specs.Events.{MessageKey, Takes, Faults, Open, message_key, id, opener_of, events_at_request_id, events_of_octet, same_order}
 use Rattle.giop_stream.specs.Lines.{Line, Said}
 use Rattle.giop_stream.specs.Stream.{fault_count}
-use Rattle.giop_stream.specs.Effects.{Tracked, Effect, effects, then_effect, one_effect, no_effect, line_effect, goes_on, starts, tracked_at, lines_of, with_octet, IsNotOpen, slots_at}
+use Rattle.giop_stream.specs.Effects.{Tracked, Effect, effects, then_effect, one_effect, no_effect, line_effect, goes_on, starts, lines_of, with_octet, IsNotOpen, slots_at}
 use Rattle.giop_stream.specs.SlotsRepresent.{AreSlots, PayloadBelongs, SlotsRepresent, current_of, index_of, event, effect_to}
 use Rattle.giop_stream.specs.PayloadOwner.{IsAtRequestId, IsAtOctet, SaysId, opener_key, owner_of_next, owner_after, id_events}
 use Rattle.giop_stream.specs.DoesEffect.{DoesEffect}
-use Rattle.giop_stream.specs.Continuation.{IsOpenAt, IsContinuing, IsBeforeContinuation}
+use Rattle.giop_stream.specs.Continuation.{IsContinuing, IsBeforeContinuation}
 use Rattle.giop_stream.proofs.Lists.{each_weaker}
 use Rattle.giop_stream.proofs.SlotSteps.Performing.{BeginsSo}
 use Rattle.giop_stream.proofs.SlotSteps.Cases.{fragment_in_order, fragment_out_of_order}

@@ -1,17 +1,18 @@
--- Lists of slots: those of the code against those of the specs, one by one; and which are ready for
--- an octet.
-use Rattle.std.proofs.Common.{◌≡◌, ℕ, zero, suc, ◌<◌, ◌≤◌, List, [], ◌∷◌, ◌++◌, length, get_or, refl, ap, Option, Some, None, arith}
+-- Lists of slots: those of the code against those of the specs, one by one; which are ready for an
+-- octet, and which keep room.
+use Rattle.std.proofs.Common.{◌≡◌, ℕ, zero, suc, ◌<◌, ◌≤◌, List, [], ◌∷◌, ◌++◌, length, get_or, refl, ap, ◌∙◌, Option, Some, None, arith}
 use Rattle.std.specs.Prelude.{slice_get, slice_set, option_map}
 use Rattle.std.specs.List.{remove, AllByRecursion as Each}
 use Rattle.giop_message.specs.declared.message.Message.{Message}
 use Rattle.giop_entry_table.specs.EntryTable.{revalued}
 use Rattle.giop_stream.specs.declared.slots.Slot.{Slot as Contents}
+use Rattle.giop_stream.specs.declared.slots.Slots.{Slots}
 use Rattle.giop_sig.specs.Table.{Table}
 use Rattle.giop_message.specs.Signatures.{Answers}
 use Rattle.giop_stream.specs.Events.{Open}
 use Rattle.giop_stream.specs.OpenSlots.{Slot, OctetsByNumber, slots_of}
 use Rattle.giop_stream.specs.Effects.{Tracked}
-use Rattle.giop_stream.specs.SlotsRepresent.{OpenEntry, with_message, IsReady, IsSlot, AreSlots}
+use Rattle.giop_stream.specs.SlotsRepresent.{OpenEntry, with_message, IsReady, KeepsRoom, IsSlot, AreSlots}
 
 pub slots_get : (c : Tracked) (k : ℕ) (o : Open) → slice_get c.still_open k ≡ Some o
     → slice_get (slots_of c.known c.still_open) k
@@ -172,3 +173,8 @@ pub push_ready : (C : Table) (n : ℕ) (ks : List OpenEntry) (x : OpenEntry) →
     Each (λ slot. IsReady C n slot.value.message) (ks ++ x ∷ [])
 push_ready C n [] x h hs = (h, tt)
 push_ready C n (y ∷ ks) x h hs = (hs.0, push_ready C n ks x h hs.1)
+
+-- two calls that each keep room keep it together
+pub room_then : {old between new : Slots} → KeepsRoom old between → KeepsRoom between new
+    → KeepsRoom old new
+room_then a b = record { most = b.most ∙ a.most; ready = λ C n h. b.ready C n (a.ready C n h) }

@@ -15,6 +15,9 @@ returns-then-now-size_of-clause-does g c =
     (c.ends.ensures.does l c' m h (last_here c.args.catalogue.now l c.args.slots.now c' m c.args.now
     h payload_count here))
 
+pub returns-then-now-size_of-clause-ready : goal.returns-then-now-size_of-clause-ready
+returns-then-now-size_of-clause-ready g c = c.ends.ensures.room.ready _ _ c.requires.ready
+
 pub returns-clause-does : goal.returns-clause-does
 returns-clause-does g c =
     λ l c' m h payload_count.

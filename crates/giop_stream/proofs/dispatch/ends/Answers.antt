@@ -1,6 +1,7 @@
 use Rattle.std.proofs.Common.{refl}
 use Rattle.giop_stream.proofs.SlotSteps.Performing.{does_nothing, performs_on}
 use Rattle.giop_stream.proofs.SlotSteps.Ending.{own_short, ends_short, ends_followed, ends_closed}
+use Rattle.giop_stream.proofs.SlotSteps.SlotLists.{room_then}
 use Rattle.giop_stream.proofs.dispatch.ends.Goals as goal
 
 pub returns-then-is_short-clause-does : goal.returns-then-is_short-clause-does
@@ -14,9 +15,9 @@ returns-then-is_short-clause-does g c =
     (λ k. c.set_no_owner.ensures.kept C l _ _ k)
     (c.fault_message-faulted.ensures.does C l c' _ keeps h.current.number h.rising))
 
-pub returns-then-is_short-clause-ready : goal.returns-then-is_short-clause-ready
-returns-then-is_short-clause-ready g c =
-    c.set_no_owner.ensures.ready _ _ (c.fault_message-faulted.ensures.ready _ _ c.requires.ready)
+pub returns-then-is_short-clause-room : goal.returns-then-is_short-clause-room
+returns-then-is_short-clause-room g c =
+    room_then c.fault_message-faulted.ensures.room c.set_no_owner.ensures.room
 
 pub returns-then-is_followed-clause-does : goal.returns-then-is_followed-clause-does
 returns-then-is_followed-clause-does g c =
@@ -25,10 +26,6 @@ returns-then-is_followed-clause-does g c =
     c.if-is_short.ensures c.if-is_followed.ensures)
     (does_nothing _ _ refl (c.set_no_owner-then-is_followed.ensures.kept c.args.catalogue.now l _ _
     h.keeps))
-
-pub returns-then-is_followed-clause-ready : goal.returns-then-is_followed-clause-ready
-returns-then-is_followed-clause-ready g c =
-    c.set_no_owner-then-is_followed.ensures.ready _ _ c.requires.ready
 
 pub returns-clause-does : goal.returns-clause-does
 returns-clause-does g c =

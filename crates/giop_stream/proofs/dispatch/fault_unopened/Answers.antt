@@ -1,6 +1,7 @@
 use Rattle.std.proofs.Common.{refl}
 use Rattle.giop_stream.proofs.SlotSteps.Performing.{performs_on}
 use Rattle.giop_stream.proofs.SlotSteps.AtRequestId.{unknown}
+use Rattle.giop_stream.proofs.SlotSteps.SlotLists.{room_then}
 use Rattle.giop_stream.proofs.dispatch.fault_unopened.Goals as goal
 
 pub returns-clause-does : goal.returns-clause-does
@@ -11,6 +12,5 @@ returns-clause-does g c =
     (λ k. c.set_no_owner.ensures.kept C l _ _ k)
     (c.fault_message-faulted.ensures.does C l c' _ h.keeps h.current.number h.rising))
 
-pub returns-clause-ready : goal.returns-clause-ready
-returns-clause-ready g c =
-    λ C n h. c.set_no_owner.ensures.ready C n (c.fault_message-faulted.ensures.ready C n h)
+pub returns-clause-room : goal.returns-clause-room
+returns-clause-room g c = room_then c.fault_message-faulted.ensures.room c.set_no_owner.ensures.room

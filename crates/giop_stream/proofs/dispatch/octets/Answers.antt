@@ -19,7 +19,7 @@ take-requires g c =
 pub at_last_octet-requires : goal.at_last_octet-requires
 at_last_octet-requires g c =
     record {
-      ready = c.at_fourth_octet.ensures.ready _ _
+      ready = c.at_fourth_octet.ensures.room.ready _ _
           (ready_later c.args.catalogue.now _ _ _ (omega (arith, c.requires.come))
           c.in_ok-taken.ensures.ready);
     }

@@ -2,6 +2,7 @@ use Rattle.std.proofs.Common.{[], sym, ◌∙◌}
 use Rattle.giop_stream.proofs.SlotSteps.Performing.{no_faults, wrote_line, line_then, line_failed}
 use Rattle.giop_stream.proofs.SlotSteps.AtRequestId.{opener_slot}
 use Rattle.giop_stream.proofs.SlotSteps.Continuing.{in_order, out_of_order, goes_text, goes_faults, goes_first, orders}
+use Rattle.giop_stream.proofs.SlotSteps.SlotLists.{room_then}
 use Rattle.giop_stream.proofs.dispatch.passes.Goals as goal
 
 pub returns-in_err-continues_line-clause-does : goal.returns-in_err-continues_line-clause-does
@@ -47,6 +48,5 @@ returns-clause-does g c =
     (goes_faults m o _) c.in_ok-continues_line.ensures
     (c.fault_message.ensures.does C l c' _ passed number h.rising))
 
-pub returns-clause-ready : goal.returns-clause-ready
-returns-clause-ready g c =
-    λ C n h. c.fault_message.ensures.ready C n (c.set_open_owner.ensures.ready C n h)
+pub returns-clause-room : goal.returns-clause-room
+returns-clause-room g c = room_then c.set_open_owner.ensures.room c.fault_message.ensures.room

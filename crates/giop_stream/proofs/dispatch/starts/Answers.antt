@@ -25,7 +25,7 @@ returns-in-Some-clause-does g c =
 
 pub returns-in-Some-clause-ready : goal.returns-in-Some-clause-ready
 returns-in-Some-clause-ready g c =
-    all_ok c.fault_message.result (c.fault_message.ensures.ready _ _
+    all_ok c.fault_message.result (c.fault_message.ensures.room.ready _ _
     (c.begin.ensures.ready _ (ready_later _ _ _ _ (omega arith) c.requires.ready)
     (omega (arith, c.args.now.behind_header))))
 

@@ -52,7 +52,8 @@ returns-in_err-faulted-clause-does g c =
     (first_failed _ _ c.from_residual-in_err-faulted.result _ _ failed named)))
 
 pub at_last_octet-requires : goal.at_last_octet-requires
-at_last_octet-requires g c = record { ready = c.in_ok-faulted.ensures.ready _ _ c.requires.ready }
+at_last_octet-requires g c =
+    record { ready = c.in_ok-faulted.ensures.room.ready _ _ c.requires.ready }
 
 pub returns-in_err-ended-clause-does : goal.returns-in_err-ended-clause-does
 returns-in_err-ended-clause-does g c =

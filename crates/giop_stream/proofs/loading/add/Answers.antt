@@ -23,8 +23,7 @@ returns-in-Open-clause-one_current c l own is =
     c.in-Open.is)
 
 pub returns-in-Over-clause-ready : goal.returns-in-Over-clause-ready
-returns-in-Over-clause-ready c e = c.add_over.ensures.ready c.args.catalogue.now (c.args.octets + 1)
-    c.requires.ready
+returns-in-Over-clause-ready c e = c.add_over.ensures.room.ready _ _ c.requires.ready
 
 pub returns-in-Over-clause-one_open : goal.returns-in-Over-clause-one_open
 returns-in-Over-clause-one_open c l held is room =

@@ -1,8 +1,11 @@
 use Rattle.giop_stream.proofs.Restored.Loaded.{over_again, added_one}
 use Rattle.giop_stream.proofs.loading.add_over.Goals as goal
 
-pub returns-then-is_zero-clause-ready : goal.returns-then-is_zero-clause-ready
-returns-then-is_zero-clause-ready c C n ready = c.push.ensures.ready C n ready tt
+pub returns-then-is_zero-clause-room : goal.returns-then-is_zero-clause-room
+returns-then-is_zero-clause-room c = record {
+  most = c.push.ensures.most;
+  ready = λ C n ready. c.push.ensures.ready C n ready tt;
+}
 
 pub returns-then-is_zero-clause-again : goal.returns-then-is_zero-clause-again
 returns-then-is_zero-clause-again c C l n held is over room =

@@ -40,14 +40,19 @@ returns-in-None-clause-does g c =
     no_slot_says C l c.args.self.now c' (Some w) c.in-Open-Some.k index
     (none_behind _ _ c.in-None.ensures.value) h
 
-pub returns-in-Current-clause-ready : goal.returns-in-Current-clause-ready
-returns-in-Current-clause-ready g c =
-    λ C n h. record { current_ready = c.fault_message.ensures.ready C n; each_ready = h.each_ready }
+pub returns-in-Current-clause-room : goal.returns-in-Current-clause-room
+returns-in-Current-clause-room g c = record {
+  most = refl;
+  ready = λ C n h.
+      record { current_ready = c.fault_message.ensures.ready C n; each_ready = h.each_ready };
+}
 
-pub returns-in-Some-clause-ready : goal.returns-in-Some-clause-ready
-returns-in-Some-clause-ready g c =
-    λ C n h. record {
-      current_ready = tt;
-      each_ready = value_ready C n c.args.self.now.slots.entries c.in-Open-Some.k _
-          (c.fault_message-in-Some.ensures.ready C n) h.each_ready;
-    }
+pub returns-in-Some-clause-room : goal.returns-in-Some-clause-room
+returns-in-Some-clause-room g c = record {
+  most = refl;
+  ready = λ C n h. record {
+    current_ready = tt;
+    each_ready = value_ready C n c.args.self.now.slots.entries c.in-Open-Some.k _
+        (c.fault_message-in-Some.ensures.ready C n) h.each_ready;
+  };
+}

@@ -8,10 +8,12 @@ returns c = record {
       open_keeps C l c.args.self.now c.add.new.self c' w place c.args.number c.args.header c.args.id
       c.take_current-message.result c.len.result
       c.add.ensures.entries c.take_current-message.ensures c.len.ensures.value h apart n f;
-  most = c.add.ensures.most;
-  ready = λ C n h. record {
-    current_ready = tt;
-    each_ready = rw c.add.ensures.entries (push_ready C n c.args.self.now.slots.entries _
-        (rw c.take_current-message.ensures h.current_ready) h.each_ready);
+  room = record {
+    most = c.add.ensures.most;
+    ready = λ C n h. record {
+      current_ready = tt;
+      each_ready = rw c.add.ensures.entries (push_ready C n c.args.self.now.slots.entries _
+          (rw c.take_current-message.ensures h.current_ready) h.each_ready);
+    };
   };
 }

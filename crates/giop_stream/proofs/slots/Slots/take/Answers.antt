@@ -1,4 +1,4 @@
-use Rattle.std.proofs.Common.{Some, None, refl, ap, sym, arith, ◌∙◌}
+use Rattle.std.proofs.Common.{None, refl, ap, sym, arith, ◌∙◌}
 use Rattle.giop_stream.specs.declared.slots.PayloadOwner.TheVariants as owners
 use Rattle.giop_stream.specs.SlotsRepresent.{index_of}
 use Rattle.giop_stream.proofs.SlotSteps.SlotLists.{none_behind, all_later, value_ready}
