@@ -100,7 +100,7 @@ impl Calls {
         ensures most { self.new.most ≡ self.old.most }
     {
         match self.table.find(id) {
-            Some(place) => Some(self.table.remove(place).value),
+            Some(place) => Some(self.table.remove(place)),
             None => None,
         }
     }

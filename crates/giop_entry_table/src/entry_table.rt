@@ -161,26 +161,28 @@ impl<V> EntryTable<V> {
         ensures absent { IfNone result (self.new ≡ self.old) }
         ensures most { self.new.most ≡ self.old.most }
     {
-        if place < self.len() {
-            Some(self.remove(place))
-        } else {
-            None
+        match self.key(place) {
+            Some(key) => {
+                let value = self.remove(place);
+                Some(Entry { key, value })
+            }
+            None => None,
         }
     }
 
-    /// Removes the entry at this place, which there must be, and returns it; those after it move up.
+    /// Removes the entry at this place, which there must be, and returns its value; those after it move up.
     #[inline]
-    pub fn remove(&mut self, place: usize) -> Entry<V>
+    pub fn remove(&mut self, place: usize) -> V
         requires { place < length self.old.entries }
-        ensures value { slice_get self.old.entries place ≡ Some result }
+        ensures value { option_map (λ e. e.value) (slice_get self.old.entries place)
+            ≡ Some result }
         ensures entries { self.new.entries ≡ remove self.old.entries place }
         ensures len { length self.new.entries + 1 ≡ length self.old.entries }
         ensures most { self.new.most ≡ self.old.most }
     {
-        let key = self.keys.remove(place);
+        self.keys.remove(place);
         let number = self.numbers.remove(place);
-        let value = self.values.remove(number);
-        Entry { key, value }
+        self.values.remove(number)
     }
 
     /// Drops all entries, and keeps the memory.

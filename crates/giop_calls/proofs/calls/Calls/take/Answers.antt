@@ -15,8 +15,8 @@ invariant_of-self c =
 pub returns-in-Some-clause-value : goal.returns-in-Some-clause-value
 returns-in-Some-clause-value c =
     let place = sym c.find.ensures.value ∙ c.in-Some.is in
-    rw (← c.self.view_is) (ap (option_map (λ e. e.value))
-    (sym c.remove.ensures.value ∙ found_at _ _ _ place))
+    rw (← c.self.view_is) (sym c.remove.ensures.value
+    ∙ ap (option_map (λ e. e.value)) (found_at _ _ _ place))
 
 pub returns-in-Some-clause-entries : goal.returns-in-Some-clause-entries
 returns-in-Some-clause-entries c =

@@ -1,11 +1,12 @@
-use Rattle.std.proofs.Common.{arith}
+use Rattle.std.proofs.Common.{ap, arith}
 use Rattle.std.proofs.lemmas.List.Edits.{length-remove}
+use Rattle.std.specs.Option.{option_map}
 use Rattle.giop_entry_table.proofs.ListLemmas.{read-at}
 use Rattle.giop_entry_table.proofs.HoldingLemmas.{length-held, held-number, entry-of, IsTied-remove, entries-taken}
 use Rattle.giop_entry_table.proofs.entry_table.EntryTable.remove.Goals as goal
 
-pub remove-key-requires : goal.remove-key-requires
-remove-key-requires g c =
+pub remove-requires : goal.remove-requires
+remove-requires g c =
     let within = rw (← c.self.view_is, length-held _ _ _ c.self.invariant.0) at c.requires in
     omega (arith, within, c.self.invariant.0.as_many)
 
@@ -14,8 +15,8 @@ remove-number-requires g c =
     let within = rw (← c.self.view_is, length-held _ _ _ c.self.invariant.0) at c.requires in
     omega (arith, within)
 
-pub remove-value-requires : goal.remove-value-requires
-remove-value-requires g c =
+pub remove-requires-2 : goal.remove-requires-2
+remove-requires-2 g c =
     let within = rw (← c.self.view_is, length-held _ _ _ c.self.invariant.0) at c.requires in
     held-number _ _ _ c.args.place _ c.self.invariant.0 within
     (read-at _ _ _ within c.remove-number.ensures.value)
@@ -26,11 +27,11 @@ invariant_of-self g c =
     let room = c.self.invariant.1 in
     let within = rw (← c.self.view_is, length-held _ _ _ tied) at c.requires in
     let number = read-at _ _ _ within c.remove-number.ensures.value in
-    let gone = c.remove-value.ensures in
-    rw (c.remove-key.ensures.items, c.remove-number.ensures.items) (
+    let gone = c.remove-2.ensures in
+    rw (c.remove.ensures.items, c.remove-number.ensures.items) (
       IsTied-remove _ _ _ _ c.args.place tied within (rw number at gone.updates) gone.len,
       record {
-        keys_fit = omega (arith, c.remove-key.ensures.capacity, room.keys_fit);
+        keys_fit = omega (arith, c.remove.ensures.capacity, room.keys_fit);
         numbers_fit = omega (arith, c.remove-number.ensures.capacity, room.numbers_fit);
         values_fit = omega (arith, gone.capacity, room.values_fit);
       },
@@ -46,17 +47,16 @@ returns-clause-value g c =
     let tied = c.self.invariant.0 in
     let within = rw (← c.self.view_is, length-held _ _ _ tied) at c.requires in
     let number = read-at _ _ _ within c.remove-number.ensures.value in
-    let key = read-at _ _ _ (rw (← tied.as_many) at within) c.remove-key.ensures.value in
-    rw (← c.self.view_is, key) (entry-of _ _ _ c.args.place _ _ tied within number
-    c.remove-value.ensures.value)
+    rw (← c.self.view_is) (ap (option_map (λ e. e.value))
+    (entry-of _ _ _ c.args.place _ _ tied within number c.remove-2.ensures.value))
 
 pub returns-clause-entries : goal.returns-clause-entries
 returns-clause-entries g c =
     let tied = c.self.invariant.0 in
     let within = rw (← c.self.view_is, length-held _ _ _ tied) at c.requires in
     let number = read-at _ _ _ within c.remove-number.ensures.value in
-    rw (← c.self.view_is, c.remove-key.ensures.items, c.remove-number.ensures.items)
-    (entries-taken _ _ _ _ c.args.place tied within (rw number at c.remove-value.ensures.updates))
+    rw (← c.self.view_is, c.remove.ensures.items, c.remove-number.ensures.items)
+    (entries-taken _ _ _ _ c.args.place tied within (rw number at c.remove-2.ensures.updates))
 
 pub returns-clause-len : goal.returns-clause-len
 returns-clause-len g c =
