@@ -8,9 +8,6 @@ use std::simd::prelude::*;
 /// How many octets there is room for.
 pub(crate) const ROOM: usize = 65_536;
 
-/// How many octets a block has.
-const BLOCK: usize = 32;
-
 /// Octets that wait to be written.
 #[derive(Drop)]
 pub(crate) struct Buffer {
@@ -69,30 +66,30 @@ impl Buffer {
     }
 }
 
-/// Copies octets to the head of others. As many as most lines have are two blocks, which may overlap: a copy of a fixed
-/// size is a few moves, and one of any size a call.
+/// Copies octets to the head of others. As many as most lines have are two blocks of one size, which may overlap: a copy
+/// of a fixed size is a few moves, and one of any size a call.
 #[inline(always)]
 fn copy(octets: &[u8], room: &mut [u8])
     requires { length octets.now ≤ length room.old }
     ensures size { length room.new ≡ length room.old }
     ensures head { take (length octets.now) room.new ≡ octets.now }
 {
-    if (BLOCK..=2 * BLOCK).contains(&octets.len()) {
-        copy_ends(octets, room);
-    } else {
-        room[..octets.len()].copy_from_slice(octets);
+    match octets.len() {
+        32..=64 => copy_ends::<32>(octets, room),
+        65..=128 => copy_ends::<64>(octets, room),
+        _ => room[..octets.len()].copy_from_slice(octets),
     }
 }
 
-/// The same of 32 to 64 octets: the first 32, and then the last 32.
+/// The same of N to 2 N octets: the first N, and then the last N.
 #[inline(always)]
-fn copy_ends(octets: &[u8], room: &mut [u8])
+fn copy_ends<const N: usize>(octets: &[u8], room: &mut [u8])
     requires fits { length octets.now ≤ length room.old }
-    requires covers { (32 ≤ length octets.now) × (length octets.now ≤ 64) }
+    requires covers { (N ≤ length octets.now) × (length octets.now ≤ N + N) }
     ensures size { length room.new ≡ length room.old }
     ensures head { take (length octets.now) room.new ≡ octets.now }
 {
-    let last = octets.len() - BLOCK;
-    u8x32::from_slice(octets).copy_to_slice(room);
-    u8x32::from_slice(&octets[last..]).copy_to_slice(&mut room[last..]);
+    let last = octets.len() - N;
+    Simd::<u8, N>::from_slice(octets).copy_to_slice(room);
+    Simd::<u8, N>::from_slice(&octets[last..]).copy_to_slice(&mut room[last..]);
 }
