@@ -121,7 +121,8 @@ module _ (C : Table) (d : Decoder) (ahead : PieceAhead) (f : Fits C d)
       emitted C there ahead.of.0 step.transition step.output lines here
       ≡ transition_result C (tree C ahead.of.0) new step.transition lines (here + 1)
   come here lines =
-      ap (λ ps. around (plain d.order) [] ps (Short lines (here + 1) [] (leaf_of C next d.carry [])))
+      ap (λ ps. around (plain d.order) [] ps
+      (Short lines (here + 1) [] (leaf_of C next d.carry [])))
       (places_free C here d.outer.items free f.ahead)
       ∙ rw h.none_held (around_gone C (plain d.order) [] (here + 1) d.outer.items lines
       (leaf_of C next d.carry []) f.known_outer)

@@ -12,7 +12,8 @@ returns c =
     let left = kept - count in
     let room : length items ≡ 65536 = c.args.self.now.room in
     let within : kept ≤ 65536 = c.args.self.now.within in
-    let few : length (take kept items) ≡ kept = length-take-le kept items (omega (arith, room, within)) in
+    let few : length (take kept items) ≡ kept =
+    length-take-le kept items (omega (arith, room, within)) in
     let behind : length (drop count items) ≡ length items - count = length-drop count items in
     let whole : count + left ≡ kept = omega (arith, c.requires, few) in
     let base : left ≡ 0 + left = omega arith in
