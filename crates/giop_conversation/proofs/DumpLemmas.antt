@@ -21,7 +21,7 @@ use Rattle.giop_conversation.specs.Exchanges.{Exchanged, answer_of, notified}
 use Rattle.giop_conversation.specs.Directions.{DirectionView}
 use Rattle.giop_conversation.specs.StreamReads.{AgreeWith, IsSetAlike, HasStood, WritesTagged, reading_in}
 use Rattle.giop_conversation.specs.Followed.{other, direction}
-use Rattle.giop_conversation.specs.Captured.{Setup, Side, Connection, Dump, Step, Leads, side, with_side, calls_in, rules_in, calls_behind, delivered, delivered_lines, IsAnswered}
+use Rattle.giop_conversation.specs.Captured.{Setup, Side, Connection, Dump, Step, Leads, side, calls_in, rules_in, calls_behind, delivered, delivered_lines, IsAnswered}
 use Rattle.giop_conversation.specs.DumpHeld.{HoldsSide, HasCalls, HoldsConnection, ReadsBy, AreHeld}
 
 -- ---- one event more

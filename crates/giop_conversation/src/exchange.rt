@@ -236,13 +236,14 @@ impl<'a> Correspondent for Exchange<'a> {
     ) {
         match kept_name(name, expects_reply) {
             Some(name) => {
-                let mut call = Call {
-                    name: ArrayVec::new(),
+                let mut kept = ArrayVec::new();
+                kept.try_extend_from_slice(name).unwrap();
+                let call = Call {
+                    name: kept,
                     stream: self.stream,
                     message: number,
                     time: self.time,
                 };
-                call.name.try_extend_from_slice(name).unwrap();
                 self.own.add(id, call);
             }
             None => self.own.forget(id),

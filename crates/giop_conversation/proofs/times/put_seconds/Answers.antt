@@ -6,14 +6,16 @@ pub put_octets-requires : goal.put_octets-requires
 put_octets-requires c =
     let short = seconds_short c.args.nanoseconds c.ranges.nanoseconds.fits in
     let digits : length c.as_bytes.result.now ≤ 30 =
-    rw (c.as_bytes.ensures.value, c.format.ensures.text) short in
+    rw (c.as_bytes.ensures.value, c.format.ensures.text, c.seconds_of-seconds.ensures.seconds)
+    short in
     omega (arith, digits, c.put.ensures.room, c.put_nine.ensures.room, c.requires)
 
-pub returns-clause-room : goal.returns-clause-room
-returns-clause-room c =
+pub returns-in-Err-clause-room : goal.returns-in-Err-clause-room
+returns-in-Err-clause-room c =
     let short = seconds_short c.args.nanoseconds c.ranges.nanoseconds.fits in
     let digits : length c.as_bytes.result.now ≤ 30 =
-    rw (c.as_bytes.ensures.value, c.format.ensures.text) short in
+    rw (c.as_bytes.ensures.value, c.format.ensures.text, c.seconds_of-seconds.ensures.seconds)
+    short in
     omega (
       arith,
       digits,
