@@ -1,5 +1,5 @@
 -- The years and months that days make, and how long a number of seconds is.
-use Rattle.std.proofs.Common.{◌≡◌, ℕ, zero, suc, ◌+◌, ◌-◌, ◌*◌, ◌/◌, ◌%◌, ◌^◌, ◌≤◌, ◌<◌, List, ◌∷◌, ◌++◌, length, decimal, get_or, codes, nat_lt, Some, subst, Bool, true, false, ◌&&◌, T, eqb, eqb→eq, eq-zero-or-pos, nat_le, inl, inr, refl, sym, arith, add-one}
+use Rattle.std.proofs.Common.{◌≡◌, ℕ, zero, suc, ◌+◌, ◌-◌, ◌*◌, ◌/◌, ◌%◌, ◌^◌, ◌≤◌, ◌<◌, List, [], ◌∷◌, ◌++◌, length, decimal, get_or, codes, nat_lt, Some, subst, Bool, true, false, ◌&&◌, T, eqb, eqb→eq, eq-zero-or-pos, nat_le, inl, inr, refl, sym, ◌∙◌, arith, append-nil, append_assoc, add-one}
 use lib.Ieee.Fits.{and_l, and_r}
 use Rattle.giop_conversation.specs.declared.times.TheConstants.{PAIRS}
 use Rattle.httpdate.specs.Text.{two_digits}
@@ -8,7 +8,7 @@ use Rattle.std.proofs.lemmas.Bool.{cases_lt, leb-true, leb-false, le-ltb}
 use Rattle.httpdate.specs.Calendar.{days_in_year, days_of_years, days_in_month, days_of_months}
 use Rattle.httpdate.proofs.CalendarLemmas.{days_of_years_closed, days_of_months_closed}
 use Rattle.std.proofs.lemmas.Fmt.{length-decimal-le_wide}
-use Rattle.giop_conversation.specs.Times.{last_within, years, years_of, months_of, last_digits, second, day, time_text}
+use Rattle.giop_conversation.specs.Times.{last_within, years, years_of, months_of, last_digits, second, day, day_text, clock_text, second_text, instant_text, time_text}
 
 rises : (f : ℕ → ℕ) → ((n : ℕ) → f n ≤ f (suc n)) → (k more : ℕ) → f k ≤ f (more + k)
 rises f up k zero = let same : zero + k ≡ k = omega arith in rw same (omega arith)
@@ -215,6 +215,54 @@ nine_digits n text =
     both (omega arith) (both (omega arith) (both (omega arith) (both (omega arith)
     (both (omega arith) (both (omega arith) (both (omega arith) (both (omega arith)
     (both (omega arith) refl))))))))
+
+-- the first second of 1970
+pub first_day : (0 < days_of_years years) × (0 ≡ years_of 0)
+unfolding days_of_years
+first_day =
+    let found = year_found 0 0 0 (omega arith) refl (omega arith) in (found.0, found.1)
+
+first_date : (passed : ℕ) → passed ≡ 0 →
+    day_text passed (0 - days_of_years passed) ≡ codes "1970-01-01"
+unfolding day_text last_within days_of_months days_of_years
+first_date passed is = rw is refl
+
+pub first_second : second_text 0 ≡ codes "1970-01-01T00:00:00."
+unfolding second_text clock_text
+first_second = rw (first_date (years_of 0) (sym first_day.1)) refl
+
+-- a second by the year and the day that it is in
+pub second_is : (seconds passed days : ℕ) → passed ≡ years_of (seconds / 86_400) →
+    days ≡ seconds / 86_400 - days_of_years passed →
+    (day_text passed days ++ (codes "T" ++ (clock_text (seconds % 86_400) ++ codes "."))) ++ []
+    ≡ second_text seconds
+unfolding second_text
+second_is seconds passed days year day = append-nil _ ∙ rw (day, year) refl
+
+-- a time by its second
+pub time_is : (n seconds : ℕ) → seconds ≡ n / second →
+    nat_lt (seconds / 86_400) (days_of_years years) ≡ true →
+    time_text (Some n) ≡ second_text seconds ++ (last_digits 9 (n % second) ++ codes "Z")
+unfolding time_text instant_text
+time_is n seconds is early =
+    let same : n / day ≡ seconds / 86_400 = omega (arith, is) in
+    rw (same, early, is) refl
+
+pub time_put : (n seconds : ℕ) (octets text : List ℕ) → seconds ≡ n / second →
+    nat_lt (seconds / 86_400) (days_of_years years) ≡ true → octets ≡ second_text seconds →
+    octets ++ (last_digits 9 (n % second) ++ (codes "Z" ++ text)) ≡ time_text (Some n) ++ text
+unfolding last_digits
+time_put n seconds octets text is early shown =
+    rw (shown, time_is n seconds is early)
+    (sym (append_assoc (second_text seconds) (last_digits 9 (n % second) ++ codes "Z") text))
+
+-- none is so late
+pub none_put : (n seconds : ℕ) → seconds ≡ n / second →
+    nat_lt (seconds / 86_400) (days_of_years years) ≡ false → time_text (Some n) ≡ codes "-"
+unfolding time_text
+none_put n seconds is late =
+    let same : n / day ≡ seconds / 86_400 = omega (arith, is) in
+    rw (same, late) refl
 
 -- no year of four digits is so late
 pub late_text : (n : ℕ) → 18446744073709551616 ≤ n / second → time_text (Some n) ≡ codes "-"

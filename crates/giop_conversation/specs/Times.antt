@@ -58,12 +58,14 @@ second = 1_000_000_000
 abbrev pub day : ℕ
 day = 86_400 * second
 
+-- the second of a time, by the seconds from 1970 on: `2026-11-23T08:13:25.`
+unfoldable pub second_text : ℕ → List ℕ
+second_text seconds =
+    date_text (seconds / 86_400) ++ (codes "T" ++ (clock_text (seconds % 86_400) ++ codes "."))
+
 -- a time: `2026-11-23T08:13:25.580228123Z`
 unfoldable pub instant_text : ℕ → List ℕ
-instant_text n =
-    date_text (n / day) ++ (codes "T"
-    ++ (clock_text (n / second % 86_400) ++ (codes "." ++ (last_digits 9 (n % second)
-    ++ codes "Z"))))
+instant_text n = second_text (n / second) ++ (last_digits 9 (n % second) ++ codes "Z")
 
 -- where there is none, or it is behind the year 9999, it is `-`
 unfoldable pub time_text : Option ℕ → List ℕ

@@ -22,7 +22,7 @@ ghost use Rattle.giop_conversation.specs.Failing.{FailsByPut};
 ghost use Rattle.giop_conversation.specs.Directions.{HasRead};
 
 use crate::exchange::{Answering, Exchange, Raising, answers_are_known};
-use crate::lines::{answers_line, closed_line, raises_line, stream_line, time_line};
+use crate::lines::{answers_line, closed_line, raises_line, stream_line};
 use crate::tag::{Tag, stream_tag};
 use crate::tagged::Tagged;
 use giop_print::{Out, OutFault};
@@ -284,16 +284,18 @@ fn write_begin<O: Out>(flow: Option<Flow>, time: Option<u128>, out: &mut O) -> R
 /// Writes when a message began, where one did: the messages that had begun before and behind octets are counted.
 #[inline]
 fn write_time<O: Out>(
+    exchange: &mut Exchange<'_>,
     before: u64,
     behind: u64,
     time: Option<u128>,
     out: &mut O,
 ) -> Result<(), OutFault>
-    ensures { Writes result (O.log out.old) (O.log out.new)
+    ensures kept { exchange.new ≡ exchange.old }
+    ensures text { Writes result (O.log out.old) (O.log out.new)
         (if nat_lt before behind then spec_time_line behind time else []) }
 {
     if before < behind {
-        time_line(out, behind, time)
+        exchange.write_time(behind, time, out)
     } else {
         Ok(())
     }
@@ -358,7 +360,7 @@ fn write_due<O: Out>(
         ++ (answers_due exchange.old.answered time ++ raises_due exchange.old.raised)) }
 {
     if exchange.is_taken() {
-        return write_time(before, behind, time, out);
+        return write_time(exchange, before, behind, time, out);
     }
     let written = write_told(exchange, before, behind, time, out);
     exchange.forget_reply();
@@ -367,18 +369,19 @@ fn write_due<O: Out>(
 
 /// Writes when a message began, where one did, and then which call a Reply answers, and which exception it raises.
 fn write_told<O: Out>(
-    exchange: &Exchange<'_>,
+    exchange: &mut Exchange<'_>,
     before: u64,
     behind: u64,
     time: Option<u128>,
     out: &mut Tagged<O>,
 ) -> Result<(), OutFault>
+    ensures kept { exchange.new ≡ exchange.old }
     ensures fails { FailsByPut result out.old out.new }
     ensures text { Writes result (tagging_log out.old) (tagging_log out.new)
         ((if nat_lt before behind then spec_time_line behind time else [])
-        ++ (answers_due exchange.now.answered time ++ raises_due exchange.now.raised)) }
+        ++ (answers_due exchange.old.answered time ++ raises_due exchange.old.raised)) }
 {
-    match write_time(before, behind, time, out) {
+    match write_time(exchange, before, behind, time, out) {
         Ok(()) => write_reply(exchange, time, out),
         Err(fault) => Err(fault),
     }

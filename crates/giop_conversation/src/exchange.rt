@@ -2,13 +2,18 @@
 
 ghost use Rattle.std.specs.Prelude.{◌≡◌, ◌≤◌, ◌&&◌, [], None, length, is_none, IfOk, IfSome, MatchOption};
 ghost use Rattle.std.specs.Option.{option_map};
+ghost use Rattle.giop_print.specs.Output.{Writes};
 ghost use Rattle.giop_sig.specs.Table.{Table};
 ghost use Rattle.giop_message.specs.MessageState.{AreKnown};
+ghost use Rattle.giop_conversation.specs.Lines.{time_line};
 ghost use Rattle.giop_conversation.specs.Exchanges.{Exchanged, kept_name, answer_of, kept_exception};
 
+use crate::kept_second::KeptSecond;
+use crate::lines::time_line_by;
 use arrayvec::ArrayVec;
 use giop_calls::{Call, Calls, NAME_ROOM};
 use giop_message::Correspondent;
+use giop_print::{Out, OutFault};
 use giop_sig::{Catalogue, OpId};
 use std::alloc::{AllocError, Global};
 use std::marker::Model;
@@ -44,6 +49,8 @@ pub struct Exchange<'a> {
     replied: u64,
     answered: Option<Answering>,
     raised: Option<Raising>,
+    // That of the last time that was written, or an earlier one where that has none.
+    second: KeptSecond,
 }
 
 impl<'a> Model for Exchange<'a> {
@@ -92,6 +99,7 @@ impl<'a> Exchange<'a> {
             replied: 0,
             answered: None,
             raised: None,
+            second: KeptSecond::new(),
         })
     }
 
@@ -166,6 +174,20 @@ impl<'a> Exchange<'a> {
         ensures { result ≡ (is_none self.now.answered && is_none self.now.raised) }
     {
         self.answered.is_none() && self.raised.is_none()
+    }
+
+    /// Writes when the header of a message of the stream that is read was complete.
+    #[inline]
+    pub(crate) fn write_time<O: Out>(
+        &mut self,
+        message: u64,
+        time: Option<u128>,
+        out: &mut O,
+    ) -> Result<(), OutFault>
+        ensures kept { self.new ≡ self.old }
+        ensures text { Writes result (O.log out.old) (O.log out.new) (time_line message time) }
+    {
+        time_line_by(&mut self.second, out, message, time)
     }
 
     /// Forgets the calls of the stream that is read. Their memory is kept.

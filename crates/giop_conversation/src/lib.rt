@@ -6,6 +6,7 @@ mod conversation;
 mod conversations;
 mod direction;
 mod exchange;
+mod kept_second;
 mod laws;
 mod limits;
 mod lines;
@@ -15,6 +16,7 @@ mod times;
 
 pub use conversations::Conversations;
 pub use exchange::{Answering, Exchange, Raising, answers_are_known};
+pub use kept_second::put_time;
 pub use laws::{each_stream_is_dumped, lines_stand_below, lines_with_tags};
 pub use limits::{Limits, NoMemory};
 pub use lines::{
@@ -23,4 +25,4 @@ pub use lines::{
 };
 pub use tag::{Tag, no_tag, stream_tag};
 pub use tagged::Tagged;
-pub use times::{put_span, put_time};
+pub use times::put_span;

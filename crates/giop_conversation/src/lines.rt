@@ -5,7 +5,8 @@ ghost use Rattle.std.specs.Prelude.{◌≡◌};
 ghost use Rattle.giop_print.specs.Output.{Writes};
 ghost use Rattle.giop_conversation.specs.Lines.{stream_line, time_line, answers_line, raises_line, cause_word, closed_line, capture_fault_line, capture_total_line};
 
-use crate::times::{put_span, put_time};
+use crate::kept_second::{KeptSecond, put_time};
+use crate::times::put_span;
 use giop_calls::Call;
 use giop_print::{Line, Out, OutFault, numbered_line, put_parts};
 use itoa::Buffer;
@@ -39,14 +40,26 @@ pub fn stream_line<O: Out>(out: &mut O, flow: Flow, time: Option<u128>) -> Resul
 }
 
 /// The line of when the header of a message was complete.
+pub fn time_line<O: Out>(out: &mut O, message: u64, time: Option<u128>) -> Result<(), OutFault>
+    ensures { Writes result (O.log out.old) (O.log out.new) (time_line message time) }
+{
+    time_line_by(&mut KeptSecond::new(), out, message, time)
+}
+
+/// The same, its text taken from the kept second where the time is in that. Else the time's own second is kept from now on.
 #[tactic(auto, unfolding(crate::specs::Lines::time_line))]
 #[inline(never)]
-pub fn time_line<O: Out>(out: &mut O, message: u64, time: Option<u128>) -> Result<(), OutFault>
+pub(crate) fn time_line_by<O: Out>(
+    second: &mut KeptSecond,
+    out: &mut O,
+    message: u64,
+    time: Option<u128>,
+) -> Result<(), OutFault>
     ensures { Writes result (O.log out.old) (O.log out.new) (time_line message time) }
 {
     let mut line = Line::new();
     line.put(b'\n');
-    put_time(&mut line, time);
+    second.put_time(&mut line, time);
     line.put_octets(b" time ");
     numbered_line(out, message, &mut line)
 }

@@ -1,10 +1,10 @@
-//! Times and spans of time, spelled in a line.
+//! The parts of a time, and spans of time, spelled in a line.
 
 ghost use Rattle.std.specs.Prelude.{◌≡◌, ◌+◌, ◌-◌, ◌/◌, ◌%◌, ◌<◌, ◌≤◌, ◌++◌, length, codes, MatchOption};
 ghost use Rattle.giop_print.specs.Line.{line_text, line_room};
 ghost use Rattle.httpdate.specs.Calendar as calendar;
 ghost use Rattle.httpdate.specs.Text.{two_digits};
-ghost use Rattle.giop_conversation.specs.Times.{years, years_of, months_of, month_and_day, day_text, clock_text, last_digits, instant_text, time_text, seconds_text, span_text, second, day};
+ghost use Rattle.giop_conversation.specs.Times.{years, years_of, months_of, month_and_day, day_text, clock_text, last_digits, seconds_text, span_text, second, day};
 
 use giop_print::Line;
 use itoa::Buffer;
@@ -12,7 +12,7 @@ use itoa::Buffer;
 /// Nanoseconds of a second.
 const SECOND: u64 = 1_000_000_000;
 /// Seconds of a day.
-const DAY: u64 = 86_400;
+pub(crate) const DAY: u64 = 86_400;
 /// The years from 1970 to 9999.
 const YEARS: u16 = 8030;
 
@@ -47,7 +47,7 @@ fn days_of_years(passed: u16) -> u32
 }
 
 /// The whole years from 1970 on that so many days make, and the days that are left; none from the year 10000 on.
-fn years_of(days: u64) -> Option<(u16, u16)>
+pub(crate) fn years_of(days: u64) -> Option<(u16, u16)>
     ensures { MatchOption result (calendar.days_of_years years ≤ days)
         (λ found. (days < calendar.days_of_years years) × (found.0 ≡ years_of days)
         × (found.0 < years)
@@ -150,8 +150,9 @@ fn put_clock(line: &mut Line, seconds: u32)
 }
 
 /// Puts the last nine decimal digits of a number before what was spelled of a line.
+#[inline]
 #[tactic(auto, unfolding(crate::specs::Times::last_digits))]
-fn put_nine(line: &mut Line, n: u32)
+pub(crate) fn put_nine(line: &mut Line, n: u32)
     requires room { 9 ≤ line_room line.old }
     ensures text { line_text line.new ≡ last_digits 9 n ++ line_text line.old }
     ensures room { line_room line.new + 9 ≡ line_room line.old }
@@ -164,20 +165,17 @@ fn put_nine(line: &mut Line, n: u32)
     line.put(b'0' + (high / 10_000 % 10) as u8);
 }
 
-/// Puts a time, by the whole years from 1970 on, the days of the year before it, the seconds of
-/// the day and the nanoseconds of the second, before what was spelled of a line.
-fn put_instant(line: &mut Line, passed: u16, days: u16, seconds: u32, nanoseconds: u32)
-    requires room { 30 ≤ line_room line.old }
+/// Puts a second, by the whole years from 1970 on, the days of the year before it and the seconds of
+/// the day, before what was spelled of a line.
+pub(crate) fn put_second(line: &mut Line, passed: u16, days: u16, seconds: u32)
+    requires room { 20 ≤ line_room line.old }
     requires year { passed < years }
     requires within { days < calendar.days_in_year (1970 + passed) }
     requires day { seconds < 86_400 }
     ensures text { line_text line.new ≡ (day_text passed days ++ (codes "T"
-        ++ (clock_text seconds ++ (codes "." ++ (last_digits 9 nanoseconds ++ codes "Z")))))
-        ++ line_text line.old }
-    ensures room { line_room line.new + 30 ≡ line_room line.old }
+        ++ (clock_text seconds ++ codes "."))) ++ line_text line.old }
+    ensures room { line_room line.new + 20 ≡ line_room line.old }
 {
-    line.put(b'Z');
-    put_nine(line, nanoseconds);
     line.put(b'.');
     put_clock(line, seconds);
     line.put(b'T');
@@ -187,7 +185,7 @@ fn put_instant(line: &mut Line, passed: u16, days: u16, seconds: u32, nanosecond
 /// The whole seconds of a number of nanoseconds, and the nanoseconds behind them. Those that fit 64 bits, as most do,
 /// are divided so, which a processor does much quicker.
 #[inline]
-fn seconds_of(nanoseconds: u128) -> (u128, u32)
+pub(crate) fn seconds_of(nanoseconds: u128) -> (u128, u32)
     ensures seconds { result.0 ≡ nanoseconds / second }
     ensures rest { result.1 ≡ nanoseconds % second }
 {
@@ -197,31 +195,6 @@ fn seconds_of(nanoseconds: u128) -> (u128, u32)
             let whole = u128::from(SECOND);
             (nanoseconds / whole, (nanoseconds % whole) as u32)
         }
-    }
-}
-
-/// Puts the text of a time, in nanoseconds since 1970-01-01 UTC, before what was spelled of a line:
-/// `2026-11-23T08:13:25.580228123Z`. It is `-` where there is none, and from the year 10000 on.
-#[tactic(auto, unfolding(crate::specs::Times::time_text, crate::specs::Times::instant_text))]
-pub fn put_time(line: &mut Line, time: Option<u128>)
-    requires { 30 ≤ line_room line.old }
-    ensures text { line_text line.new ≡ time_text time ++ line_text line.old }
-    ensures room { line_room line.old ≤ line_room line.new + 30 }
-{
-    let Some(time) = time else {
-        line.put(b'-');
-        return;
-    };
-    let (seconds, nanoseconds) = seconds_of(time);
-    let Ok(seconds) = u64::try_from(seconds) else {
-        line.put(b'-');
-        return;
-    };
-    match years_of(seconds / DAY) {
-        Some((passed, days)) => {
-            put_instant(line, passed, days, (seconds % DAY) as u32, nanoseconds);
-        }
-        None => line.put(b'-'),
     }
 }
 

@@ -8,7 +8,8 @@ use Rattle.giop_conversation.proofs.direction.write_due.Goals as goal
 pub returns-then-is_taken-clause-taken : goal.returns-then-is_taken-clause-taken
 returns-then-is_taken-clause-taken g c =
     let s = c.args.exchange.now in
-    sym (taken_stays s (none_waits s (sym c.is_taken.ensures ∙ c.if-is_taken.true)))
+    c.write_time.ensures.kept
+    ∙ sym (taken_stays s (none_waits s (sym c.is_taken.ensures ∙ c.if-is_taken.true)))
 
 pub returns-then-is_taken-clause-text : goal.returns-then-is_taken-clause-text
 returns-then-is_taken-clause-text g c =
@@ -19,4 +20,4 @@ returns-then-is_taken-clause-text g c =
     subst (Writes c.write_time.result (tagging_log c.args.out.now)
     (tagging_log c.write_time.new.out))
     (sym (ap (λ (l : List ℕ). time ++ l) (none_due s c.args.time none) ∙ append-nil time))
-    c.write_time.ensures
+    c.write_time.ensures.text

@@ -1,0 +1,94 @@
+//! Times spelled in a line. The text of a second is kept, since most times are in the second of the one before.
+
+ghost use Rattle.std.specs.Prelude.{◌≡◌, ◌+◌, ◌/◌, ◌<◌, ◌≤◌, ◌++◌, IsTrue, nat_lt, MatchOption};
+ghost use Rattle.giop_print.specs.Line.{line_text, line_room};
+ghost use Rattle.httpdate.specs.Calendar.{days_of_years};
+ghost use Rattle.giop_conversation.specs.Times.{years, second_text, time_text};
+
+use crate::times::{DAY, put_nine, put_second, seconds_of, years_of};
+use giop_print::Line;
+
+/// A second before the year 10000, by its number, in seconds since 1970-01-01 UTC, and its text with the point behind it:
+/// `2026-11-23T08:13:25.`.
+#[derive(Drop)]
+pub struct KeptSecond {
+    second: u64,
+    text: [u8; 20],
+    ghost early: { second / 86_400 < days_of_years years },
+    ghost spelled: { text ≡ second_text second },
+}
+
+impl KeptSecond {
+    /// The first second of 1970.
+    pub fn new() -> KeptSecond {
+        KeptSecond {
+            second: 0,
+            text: *b"1970-01-01T00:00:00.",
+        }
+    }
+
+    /// A second by its number, in seconds since 1970-01-01 UTC; none from the year 10000 on.
+    #[inline(never)]
+    fn of(second: u64) -> Option<KeptSecond>
+        ensures { MatchOption result (days_of_years years ≤ second / 86_400)
+            (λ kept. (second / 86_400 < days_of_years years) × (kept.second ≡ second)) }
+    {
+        let (passed, days) = years_of(second / DAY)?;
+        let mut line = Line::new();
+        put_second(&mut line, passed, days, (second % DAY) as u32);
+        let mut text = [0; 20];
+        text.copy_from_slice(line.text());
+        Some(KeptSecond { second, text })
+    }
+
+    /// Keeps another second, where it is before the year 10000. Returns whether it is.
+    #[inline]
+    fn keep(&mut self, second: u64) -> bool
+        ensures early { result ≡ nat_lt (second / 86_400) (days_of_years years) }
+        ensures kept { IsTrue result → self.new.second ≡ second }
+    {
+        if second != self.second {
+            let Some(other) = KeptSecond::of(second) else {
+                return false;
+            };
+            *self = other;
+        }
+        true
+    }
+
+    /// Puts the text of a time, in nanoseconds since 1970-01-01 UTC, before what was spelled of a line:
+    /// `2026-11-23T08:13:25.580228123Z`. It is `-` where there is none, and from the year 10000 on.
+    #[inline]
+    #[tactic(auto, unfolding(crate::specs::Times::time_text))]
+    pub fn put_time(&mut self, line: &mut Line, time: Option<u128>)
+        requires { 30 ≤ line_room line.old }
+        ensures text { line_text line.new ≡ time_text time ++ line_text line.old }
+        ensures room { line_room line.old ≤ line_room line.new + 30 }
+    {
+        let Some(time) = time else {
+            line.put(b'-');
+            return;
+        };
+        let (seconds, nanoseconds) = seconds_of(time);
+        let Ok(second) = u64::try_from(seconds) else {
+            line.put(b'-');
+            return;
+        };
+        if self.keep(second) {
+            line.put(b'Z');
+            put_nine(line, nanoseconds);
+            line.put_octets(&self.text);
+        } else {
+            line.put(b'-');
+        }
+    }
+}
+
+/// Puts the text of a time before what was spelled of a line, as `KeptSecond::put_time` does.
+pub fn put_time(line: &mut Line, time: Option<u128>)
+    requires { 30 ≤ line_room line.old }
+    ensures text { line_text line.new ≡ time_text time ++ line_text line.old }
+    ensures room { line_room line.old ≤ line_room line.new + 30 }
+{
+    KeptSecond::new().put_time(line, time);
+}
