@@ -49,7 +49,7 @@ pub struct Exchange<'a> {
     replied: u64,
     answered: Option<Answering>,
     raised: Option<Raising>,
-    // That of the last time that was written, or an earlier one where that has none.
+    // The second of the last time that was written and had one; at first that of 1970.
     second: KeptSecond,
 }
 
@@ -176,7 +176,7 @@ impl<'a> Exchange<'a> {
         self.answered.is_none() && self.raised.is_none()
     }
 
-    /// Writes when the header of a message of the stream that is read was complete.
+    /// Writes the line that says when the header of this message was complete, in the stream that is read.
     #[inline]
     pub(crate) fn write_time<O: Out>(
         &mut self,

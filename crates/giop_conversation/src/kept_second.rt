@@ -1,6 +1,6 @@
 //! Times spelled in a line. The text of a second is kept, since most times are in the second of the one before.
 
-ghost use Rattle.std.specs.Prelude.{◌≡◌, ◌+◌, ◌/◌, ◌<◌, ◌≤◌, ◌++◌, IsTrue, nat_lt, MatchOption};
+ghost use Rattle.std.specs.Prelude.{◌≡◌, ◌+◌, ◌/◌, ◌<◌, ◌≤◌, ◌++◌, IsTrue, false, nat_lt, MatchOption};
 ghost use Rattle.giop_print.specs.Line.{line_text, line_room};
 ghost use Rattle.httpdate.specs.Calendar.{days_of_years};
 ghost use Rattle.giop_conversation.specs.Times.{years, second_text, time_text};
@@ -11,7 +11,7 @@ use giop_print::Line;
 /// A second before the year 10000, by its number, in seconds since 1970-01-01 UTC, and its text with the point behind it:
 /// `2026-11-23T08:13:25.`.
 #[derive(Drop)]
-pub struct KeptSecond {
+pub(crate) struct KeptSecond {
     second: u64,
     text: [u8; 20],
     ghost early: { second / 86_400 < days_of_years years },
@@ -41,11 +41,12 @@ impl KeptSecond {
         Some(KeptSecond { second, text })
     }
 
-    /// Keeps another second, where it is before the year 10000. Returns whether it is.
+    /// Keeps this second, unless it is from the year 10000 on: then the kept one stays. Returns whether it is kept.
     #[inline]
     fn keep(&mut self, second: u64) -> bool
         ensures early { result ≡ nat_lt (second / 86_400) (days_of_years years) }
         ensures kept { IsTrue result → self.new.second ≡ second }
+        ensures stays { result ≡ false → self.new.second ≡ self.old.second }
     {
         if second != self.second {
             let Some(other) = KeptSecond::of(second) else {
@@ -57,7 +58,7 @@ impl KeptSecond {
     }
 
     /// Puts the text of a time, in nanoseconds since 1970-01-01 UTC, before what was spelled of a line:
-    /// `2026-11-23T08:13:25.580228123Z`. It is `-` where there is none, and from the year 10000 on.
+    /// `2026-11-23T08:13:25.580228123Z`. It is `-` where there is no time, and from the year 10000 on.
     #[inline]
     #[tactic(auto, unfolding(crate::specs::Times::time_text))]
     pub fn put_time(&mut self, line: &mut Line, time: Option<u128>)

@@ -46,7 +46,8 @@ pub fn time_line<O: Out>(out: &mut O, message: u64, time: Option<u128>) -> Resul
     time_line_by(&mut KeptSecond::new(), out, message, time)
 }
 
-/// The same, its text taken from the kept second where the time is in that. Else the time's own second is kept from now on.
+/// The same, its text taken from the kept second where the time is in that. Else the second of the time is kept from now on,
+/// unless there is no time or it is from the year 10000 on.
 #[tactic(auto, unfolding(crate::specs::Lines::time_line))]
 #[inline(never)]
 pub(crate) fn time_line_by<O: Out>(

@@ -1,14 +1,14 @@
-//! Octets that wait to be written, in room of a fixed size.
+//! A buffer: octets that wait to be written, at the head of room of a fixed size.
 
 ghost use Rattle.std.specs.Prelude.{◌≡◌, ◌+◌, ◌≤◌, [], ◌++◌, length, take, drop, IfOk};
 
 use std::alloc::{AllocError, Global};
 use std::simd::prelude::*;
 
-/// How many octets there is room for.
+/// How many octets may wait: 64 KiB.
 pub(crate) const ROOM: usize = 65_536;
 
-/// Octets that wait to be written.
+/// Octets that wait, in the order of being added.
 #[derive(Drop)]
 pub(crate) struct Buffer {
     octets: Vec<u8>,
@@ -21,7 +21,7 @@ pub(crate) struct Buffer {
 impl Buffer {
     ghost use Rattle.giop_run.specs.Buffered.{buffered};
 
-    /// None, with all the room.
+    /// An empty buffer. Its memory is taken here.
     pub(crate) fn new(alloc: Global) -> Result<Buffer, AllocError>
         ensures { IfOk result (λ buffer. buffered buffer ≡ []) }
     {
@@ -33,7 +33,7 @@ impl Buffer {
 
     /// How many more there is room for.
     #[inline(always)]
-    pub(crate) fn room(&self) -> usize
+    pub(crate) fn left(&self) -> usize
         ensures { result + length (buffered self.now) ≡ 65536 }
     {
         ROOM - self.kept
@@ -66,8 +66,8 @@ impl Buffer {
     }
 }
 
-/// Copies octets to the head of others. As many as most lines have are two blocks of one size, which may overlap: a copy
-/// of a fixed size is a few moves, and one of any size a call.
+/// Copies octets to the head of a room. 32 to 128 octets, as most lines have, are copied as two blocks of one size, which
+/// may overlap: a copy of a fixed size is a few moves, and one of any size a call.
 #[inline(always)]
 fn copy(octets: &[u8], room: &mut [u8])
     requires { length octets.now ≤ length room.old }

@@ -11,8 +11,8 @@ use giop_print::{Line, Out, OutFault};
 use std::alloc::{AllocError, Global};
 use std::io::Write;
 
-/// An out that buffers lines for a writer until they are flushed. It fails where its writer does, and where that takes
-/// none of some octets; the octets that were not taken stay buffered then.
+/// An out that buffers octets for a writer, until there is no room for more or they are flushed. It fails where its writer
+/// does, and where that takes none of some octets; the octets that were not taken stay buffered then.
 #[derive(Drop)]
 pub struct Lines<W: Write + Drop> {
     writer: W,
@@ -46,8 +46,8 @@ impl<W: Write + Drop> Lines<W> {
         &self.writer
     }
 
-    /// Hands the octets that are buffered to the writer.
-    fn empty(&mut self) -> Result<(), OutFault>
+    /// Hands the octets that are buffered to the writer; those that it doesn't take stay.
+    fn hand_on(&mut self) -> Result<(), OutFault>
         ensures written { Keeps (lines_log W.contents self.old).written
             (lines_log W.contents self.new).written }
         ensures puts { self.new.puts ≡ self.old.puts }
@@ -70,7 +70,7 @@ impl<W: Write + Drop> Lines<W> {
             (λ _. Failed (lines_log W.contents self.old) (lines_log W.contents self.new)) }
     {
         self.puts = one_more(self.puts);
-        if self.empty().is_err() {
+        if self.hand_on().is_err() {
             self.failures = one_more(self.failures);
             return Err(OutFault);
         }
@@ -87,7 +87,7 @@ impl<W: Write + Drop> Out for Lines<W> {
 
     #[inline]
     fn put(&mut self, octets: &[u8]) -> Result<usize, OutFault> {
-        if octets.len() > self.buffer.room() {
+        if octets.len() > self.buffer.left() {
             return self.put_behind(octets);
         }
         self.puts = one_more(self.puts);
@@ -95,10 +95,11 @@ impl<W: Write + Drop> Out for Lines<W> {
         Ok(octets.len())
     }
 
+    // It isn't counted as a put: no more puts than octets is all that is said of it.
     #[inline]
     fn put_line(&mut self, line: &mut Line) -> Result<(), OutFault> {
         let text = line.text();
-        if text.len() > self.buffer.room() {
+        if text.len() > self.buffer.left() {
             return self.put_all(text);
         }
         self.buffer.add(text);
@@ -112,7 +113,7 @@ impl<W: Write + Drop> Flush for Lines<W> {
     ghost kept = { lines_kept };
 
     fn flush(&mut self) -> Result<(), OutFault> {
-        if self.empty().is_err() || self.writer.flush().is_err() {
+        if self.hand_on().is_err() || self.writer.flush().is_err() {
             self.failures = one_more(self.failures);
             return Err(OutFault);
         }
