@@ -5,7 +5,7 @@ pub mod NextOctet
 pub mod EngineStep
 pub mod EngineLaws
 pub mod EngineAlive
-pub mod SlotsToState
+pub mod StateShown
 pub mod MessageEnds
 pub mod MessageOctets
 pub mod PayloadRunSteps

@@ -8,8 +8,6 @@ pub mod Soundness
 pub mod UnfinishedAreOpen
 pub mod UnfinishedAtFinish
 pub mod AfterMoreEvents
-pub mod KeptSlots
 pub mod StepCases
 pub mod EventsByEngine
-pub mod CurrentIsOpen
 pub mod FaultsBound

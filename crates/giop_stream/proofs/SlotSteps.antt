@@ -11,7 +11,6 @@ pub mod Ending
 pub mod AfterOctet
 pub mod Parts
 pub mod AtHeader
-pub mod StateToSlots
 pub mod RequestIds
 pub mod Cases
 pub mod ReadingEffects

@@ -12,7 +12,8 @@ use Rattle.giop_stream.specs.declared.current.Current.{Current}
 use Rattle.giop_stream.specs.declared.fragment.Continuation.{Continuation}
 use Rattle.giop_stream.specs.Framing.{Message, with_payload}
 use Rattle.giop_stream.specs.Events.{MessageKey, Rising, id, events_of_octet}
-use Rattle.giop_stream.specs.Effects.{Tracked, Effect, effects, line_effect, starts, with_octet}
+use Rattle.giop_stream.specs.Effects.{Effect, effects, line_effect, starts, with_octet}
+use Rattle.giop_stream.specs.OpenSlots.{Tracked}
 use Rattle.giop_stream.specs.SlotsRepresent.{SlotsRepresent}
 use Rattle.giop_stream.specs.PayloadOwner.{IsCurrent, IsBeforeOctet}
 

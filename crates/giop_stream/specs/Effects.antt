@@ -1,18 +1,15 @@
 -- What the events of an octet do, one after the other: to the open messages, to what is kept of
 -- each message, and the lines that they give (steps).
 use Rattle.std.specs.Prelude.{Bool, true, ◌≡◌, ℕ, ◌<◌, ◌≤◌, false, List, [], ◌∷◌, ◌++◌, length, Option, Some, None, if◌then◌else◌, option_map}
-use Rattle.std.specs.List.{list_any, AllByRecursion as Each}
+use Rattle.std.specs.List.{list_any}
+use Rattle.giop_sig.specs.Table.{Table}
 use Rattle.giop_message.specs.MessageReader.{MessageReader}
-use Rattle.giop_stream.specs.Rules.{Rules}
-use Rattle.giop_stream.specs.Events.{EventKind, Begins, Takes, Opens, Continues, Cancelled, Faults, Closes, MessageKey, Event, Open, place, octet, changed, joined, open_after}
+use Rattle.giop_message.specs.ReaderOfTable.{message_reader}
+use Rattle.giop_message.specs.Signatures.{Answers}
+use Rattle.giop_stream.specs.Events.{EventKind, Begins, Takes, Opens, Continues, Cancelled, Faults, Closes, MessageKey, Event, Open, place, octet, changed, joined}
 use Rattle.giop_stream.specs.Lines.{Line, Started, ContinuesMessage, lines_of_event, is_last_of, up_to_last_line}
 use Rattle.giop_stream.specs.Framing.{Message, with_payload}
-use Rattle.giop_stream.specs.OpenSlots.{Slot, OctetsByNumber, octets_of, slots_of}
-
--- the open messages, and what is kept of each message
-pub record Tracked : Type 0 where
-  pub still_open : List Open
-  pub known : OctetsByNumber
+use Rattle.giop_stream.specs.OpenSlots.{OctetsByNumber, Tracked}
 
 pub record Effect : Type 0 where
   pub tracked : Tracked
@@ -85,10 +82,6 @@ no_part o = record { octets = o; lines = [] }
 abbrev pub then_part : Part → Part → Part
 then_part one more = record { octets = more.octets; lines = one.lines ++ more.lines }
 
--- what is tracked of the messages of a stream
-unfoldable pub tracked_after : Rules → List ℕ → Tracked
-tracked_after R p = record { still_open = open_after R.most p; known = octets_of R p }
-
 -- ---- What an event does to the slots.
 
 -- the event opens nothing and closes nothing
@@ -111,14 +104,6 @@ goes (Cancelled j) = true
 goes (Faults fault) = false
 goes Closes = true
 
--- no open message has this number
-abbrev pub IsNotOpen : ℕ → List Open → Type 0
-IsNotOpen n still_open = Each (λ o. o.opener.number ≡ n → ⊥) still_open
-
--- the slots of what is tracked
-abbrev pub slots_at : Tracked → List Slot
-slots_at c = slots_of c.known c.still_open
-
 -- ---- The effects of one event, of none, and of more after some.
 
 abbrev pub one_effect : MessageReader → Tracked → ℕ → MessageKey → EventKind → Effect
@@ -131,6 +116,15 @@ no_effect c = record { tracked = c; lines = [] }
 
 abbrev pub then_effect : Effect → Effect → Effect
 then_effect one more = record { tracked = more.tracked; lines = one.lines ++ more.lines }
+
+-- an event of a message at a place
+abbrev pub event : ℕ → MessageKey → EventKind → Event
+event at subject what = record { place = at; subject = subject; what = what }
+
+-- its effect on what is tracked, and its lines; none where the octets belong to no message
+abbrev pub effect_to : Table → Answers → ℕ → Tracked → Option MessageKey → EventKind → Effect
+effect_to C l at c None what = no_effect c
+effect_to C l at c (Some w) what = one_effect (message_reader C l) c at w what
 
 -- an effect with this line before its own
 abbrev pub line_effect : Line → Effect → Effect

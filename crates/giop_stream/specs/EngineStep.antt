@@ -1,6 +1,6 @@
 -- What the next octet of a stream changes in what an engine holds, and its lines; and what is
 -- written at the finish (steps).
-use Rattle.std.specs.Prelude.{ℕ, suc, ◌+◌, ◌-◌, Bool, ◌&&◌, List, [], ◌∷◌, ◌++◌, length, map, flat_map, Option, Some, None, is_none, ◌==◌, nat_lt, if◌then◌else◌, option_map}
+use Rattle.std.specs.Prelude.{ℕ, suc, ◌+◌, ◌-◌, Bool, ◌&&◌, ◌||◌, List, [], ◌∷◌, ◌++◌, length, flat_map, Option, Some, None, is_none, ◌==◌, nat_lt, nat_le, if◌then◌else◌}
 use Rattle.std.specs.List.{find}
 use Rattle.giop_cdr.specs.Numbers.{num}
 use Rattle.giop_print.specs.Lines.{unfinished_line, total_line}
@@ -8,14 +8,14 @@ use Rattle.giop_stream.specs.Rules.{Rules}
 use Rattle.giop_message.specs.Headers.{order, size, is_fragment}
 use Rattle.giop_checkpoint.specs.declared.fault.StreamFault.{StreamFault}
 use Rattle.giop_stream.specs.declared.status.Totals.{Totals}
-use Rattle.giop_stream.specs.Events.{Event, Open, Now, events_with_id}
+use Rattle.giop_stream.specs.Events.{MessageKey, Event, Open, Now, events_with_id}
 use Rattle.giop_stream.specs.Lines.{Line, stop_line}
 use Rattle.giop_stream.specs.Stream.{fault_count, with_truncated}
 use Rattle.giop_stream.specs.Text.{truncated_line}
-use Rattle.giop_stream.specs.OpenSlots.{slots_of, kept, left_open}
-use Rattle.giop_stream.specs.Effects.{Tracked, Effect, effects}
+use Rattle.giop_stream.specs.OpenSlots.{is_open, Tracked, slots_at, left_by, left_open}
+use Rattle.giop_stream.specs.Effects.{Effect, effects}
 use Rattle.giop_stream.specs.Octet.{Octet, AfterStop, Ends, Held, Of, octet_in}
-use Rattle.giop_stream.specs.EngineState.{State, Own, own_for, owner_for, held_for}
+use Rattle.giop_stream.specs.EngineState.{State, opener_key}
 
 pub record Step : Type 0 where
   pub state : State
@@ -28,8 +28,7 @@ fresh = record {
   stop = None;
   held = [];
   left = 0;
-  slots = [];
-  own = None;
+  tracked = record { still_open = []; known = λ i. Some [] };
   owner = None;
 }
 
@@ -38,41 +37,37 @@ octet_at s x = octet_in s.stop s.held s.totals.messages s.totals.octets (size s.
 
 -- ---- An octet of a message.
 
--- the octets kept of the message itself; of one that begins, none so far
-abbrev pub own_octets : State → Now → Option (List ℕ)
-own_octets s now = if now.payload_count == 0 then Some [] else option_map (λ o. o.octets) s.own
-
-unfoldable pub still_open_of : State → List Open
-still_open_of s = map (λ slot. slot.open_as) s.slots
-
-unfoldable pub tracked_of : State → Now → Tracked
-tracked_of s now = record {
-  still_open = still_open_of s;
-  known =
-      kept s.slots now.subject.number (own_octets s now);
-}
-
--- its request id, where the octet is the last of that
+-- its request id, where the octet is the last of that; these octets of it are kept
 abbrev pub id_by : Now → Option (List ℕ) → ℕ
 id_by now None = 0
 id_by now (Some xs) = num (order now.subject.header) (xs ++ now.octet ∷ [])
 
 unfoldable pub id_of : State → Now → ℕ
-id_of s now = id_by now (own_octets s now)
+id_of s now = id_by now (s.tracked.known now.subject.number)
 
 -- the open message of this number
-abbrev pub numbered : List Open → Option ℕ → Option Open
+abbrev pub numbered : List Open → Option MessageKey → Option Open
 numbered still_open None = None
-numbered still_open (Some number) = find (λ o. o.opener.number == number) still_open
+numbered still_open (Some w) = find (λ o. o.opener.number == w.number) still_open
 
 -- at the last octet of a request id, the open message with that id; after it, the open message that
 -- the octet belongs to
 unfoldable pub other_of : State → Now → Option Open
-other_of s now = if now.payload_count == 4 then find (λ o. o.id == id_of s now) (still_open_of s)
-    else numbered (still_open_of s) s.owner
+other_of s now = if now.payload_count == 4 then find (λ o. o.id == id_of s now) s.tracked.still_open
+    else numbered s.tracked.still_open s.owner
 
 unfoldable pub events_at : ℕ → State → Now → List Event
-events_at most s now = events_with_id most (still_open_of s) now (id_of s now) (other_of s now)
+events_at most s now =
+    events_with_id most s.tracked.still_open now (id_of s now) (other_of s now)
+
+-- the header octets held after the octet
+abbrev pub held_for : Now → List ℕ
+held_for now = if nat_lt now.payload_count (size now.subject.header) then now.subject.header else []
+
+-- the owner of the next octets; `other` is the open message that a Fragment continues
+abbrev pub owner_for : Now → Option Open → Option MessageKey
+owner_for now other = if is_fragment now.subject.header && nat_le 4 now.payload_count then
+    opener_key other else Some now.subject
 
 unfoldable pub stepped : State → Now → Effect → Step
 stepped s now effect =
@@ -88,10 +83,8 @@ stepped s now effect =
         stop = None;
         held = held_for now;
         left = size now.subject.header - now.payload_count;
-        slots = slots_of effect.tracked.known effect.tracked.still_open;
-        own = if goes_on then own_for effect.tracked.known effect.tracked.still_open now else None;
-        owner = if goes_on then owner_for effect.tracked.known effect.tracked.still_open now
-            (other_of s now) else None;
+        tracked = effect.tracked;
+        owner = if goes_on then owner_for now (other_of s now) else None;
       };
       lines = effect.lines;
     }
@@ -128,7 +121,7 @@ abbrev pub step_by : Rules → State → Octet → Step
 step_by R s AfterStop = record { state = s; lines = [] }
 step_by R s (Ends fault) = ended s fault
 step_by R s (Held front) = held_on s front
-step_by R s (Of now) = stepped s now (effects R.reading (tracked_of s now) (events_at R.most s now))
+step_by R s (Of now) = stepped s now (effects R.reading s.tracked (events_at R.most s now))
 
 unfoldable pub step : Rules → State → ℕ → Step
 step R s x = step_by R s (octet_at s x)
@@ -147,12 +140,14 @@ runs R s xs = record { state = run_state R s xs; lines = run R s xs }
 
 -- ---- The finish.
 
-abbrev pub left_own : Option Own → List ℕ
-left_own None = []
-left_own (Some o) = if is_fragment o.message_key.header then [] else o.message_key.number ∷ []
+-- the owner of the next octets, where it is neither open nor a Fragment
+unfoldable pub left_current : Tracked → Option MessageKey → List ℕ
+left_current c None = []
+left_current c (Some w) = if is_open c.still_open w.number || is_fragment w.header then [] else
+    left_by w.number (c.known w.number)
 
 unfoldable pub left_over : State → List ℕ
-left_over s = flat_map left_open s.slots ++ left_own s.own
+left_over s = flat_map left_open (slots_at s.tracked) ++ left_current s.tracked s.owner
 
 unfoldable pub is_cut_short : State → Bool
 is_cut_short s = is_none s.stop && nat_lt 0 (length s.held)

@@ -9,8 +9,8 @@ use Rattle.giop_message.specs.HeaderEnds.{HeaderEnd, told_after, header_ends}
 use Rattle.giop_stream.specs.Rules.{Rules}
 use Rattle.giop_stream.specs.Framing.{Message, limit, cut}
 use Rattle.giop_stream.specs.Events.{MessageKey, open_after}
-use Rattle.giop_stream.specs.Effects.{Tracked, tracked_after}
-use Rattle.giop_stream.specs.PayloadOwner.{owner_of_next}
+use Rattle.giop_stream.specs.OpenSlots.{Tracked, tracked_after}
+use Rattle.giop_stream.specs.EngineState.{owner_of_next}
 
 -- what ends of a message in `octets`, after the octets of it that came before; nothing of a message
 -- that is over

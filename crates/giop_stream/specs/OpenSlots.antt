@@ -1,9 +1,9 @@
--- What is kept of each message of a stream, and of its open ones, determined by the whole stream
+-- The open messages of a stream, and what is kept of each message, determined by the whole stream
 -- (state).
-use Rattle.std.specs.Prelude.{ℕ, Bool, List, [], ◌∷◌, map, Option, Some, None, ◌==◌, if◌then◌else◌}
-use Rattle.std.specs.List.{list_any}
+use Rattle.std.specs.Prelude.{◌≡◌, ℕ, Bool, List, [], ◌∷◌, map, Option, Some, None, ◌==◌, if◌then◌else◌}
+use Rattle.std.specs.List.{list_any, AllByRecursion as Each}
 use Rattle.giop_stream.specs.Rules.{Rules}
-use Rattle.giop_stream.specs.Events.{Open, events, joined}
+use Rattle.giop_stream.specs.Events.{Open, events, open_after, joined}
 use Rattle.giop_stream.specs.Stream.{is_over}
 
 -- An open message, and its octets unless it is over.
@@ -27,11 +27,22 @@ unfoldable pub slots_of : OctetsByNumber → List Open → List Slot
 slots_of known still_open = map (λ o. record { open_as = o; octets = known o.opener.number })
     still_open
 
--- what is kept of a message: that of its slot, or of the current message
-unfoldable pub kept : List Slot → ℕ → Option (List ℕ) → OctetsByNumber
-kept [] number own i = if number == i then own else None
-kept (slot ∷ slots) number own i = if slot.open_as.opener.number == i then slot.octets else kept
-    slots number own i
+-- the open messages, and what is kept of each message
+pub record Tracked : Type 0 where
+  pub still_open : List Open
+  pub known : OctetsByNumber
+
+-- those of a stream
+unfoldable pub tracked_after : Rules → List ℕ → Tracked
+tracked_after R p = record { still_open = open_after R.most p; known = octets_of R p }
+
+-- the slots of what is tracked
+abbrev pub slots_at : Tracked → List Slot
+slots_at c = slots_of c.known c.still_open
+
+-- no open message has this number
+abbrev pub IsNotOpen : ℕ → List Open → Type 0
+IsNotOpen n still_open = Each (λ o. o.opener.number ≡ n → ⊥) still_open
 
 -- ---- The finish.
 

@@ -11,23 +11,15 @@ use Rattle.giop_message.specs.Headers.{minor, kind, size, is_fragment, has_name}
 use Rattle.giop_stream.specs.declared.slots.Slots.{Slots}
 use Rattle.giop_stream.specs.declared.current.Current.{Current}
 use Rattle.giop_stream.specs.Framing.{Message, with_payload, cut}
-use Rattle.giop_stream.specs.Events.{MessageKey, Event, Open, Rising, id, message_key, place, opener_of, has_named, goes_past, events_at_request_id, events_at_end, events_of_octet, open_after}
-use Rattle.giop_stream.specs.Effects.{Tracked, Effect, IsNotOpen, effects, then_effect, tracked_after, with_octet}
+use Rattle.giop_stream.specs.Events.{MessageKey, Event, Open, Rising, id, message_key, place, opener_of, goes_past, events_at_request_id, events_at_end, events_of_octet, open_after}
+use Rattle.giop_stream.specs.Effects.{Effect, effects, then_effect, with_octet}
+use Rattle.giop_stream.specs.OpenSlots.{Tracked, IsNotOpen, tracked_after}
 use Rattle.giop_stream.specs.SlotsRepresent.{SlotsRepresent}
+use Rattle.giop_stream.specs.EngineState.{opener_key, owner_of_next, owner_of_next_in}
 use Rattle.giop_stream.specs.PayloadRuns.{run_effect}
 
--- the message that an open joined message begins with
-abbrev pub opener_key : Option Open → Option MessageKey
-opener_key None = None
-opener_key (Some o) = Some o.opener
-
--- The owner of the next octet, where these messages are open: after a Fragment's request id, the
--- message that it continues.
-unfoldable pub owner_of_next : List Open → Message → Option MessageKey
-owner_of_next still_open m = if has_named m then opener_key (opener_of still_open m) else Some
-    (message_key m)
-
--- the same once the request id is complete
+-- The owner of the next octet once the request id is complete: of a Fragment, the message that it
+-- continues.
 unfoldable pub owner_after_id : List Open → Message → Option MessageKey
 owner_after_id still_open m = if is_fragment m.header then opener_key (opener_of still_open m) else
     Some (message_key m)
@@ -141,10 +133,6 @@ pub record IsBeforeMessage (C : Table) (l : Answers) (s : Slots) (c : Tracked)
   pub unknown : c.known m.number ≡ Some []
 
 -- ---- The slots, and the whole stream so far.
-
-abbrev pub owner_of_next_in : List Open → Option Message → Option MessageKey
-owner_of_next_in still_open None = None
-owner_of_next_in still_open (Some m) = owner_of_next still_open m
 
 -- The slots represent what is tracked of the messages of this stream.
 abbrev pub SlotsRepresentStream : Table → Answers → ℕ → Slots → List ℕ → Type 0

@@ -5,8 +5,8 @@ use Rattle.giop_sig.specs.Table.{Table}
 use Rattle.giop_message.specs.Signatures.{Answers}
 use Rattle.giop_message.specs.ReaderOfTable.{message_reader}
 use Rattle.giop_stream.specs.Events.{MessageKey, Takes}
-use Rattle.giop_stream.specs.Effects.{Tracked, Effect, no_effect, then_effect, Part, no_part, then_part, part_of}
-use Rattle.giop_stream.specs.SlotsRepresent.{event, effect_to}
+use Rattle.giop_stream.specs.Effects.{Effect, no_effect, then_effect, Part, no_part, then_part, part_of, event, effect_to}
+use Rattle.giop_stream.specs.OpenSlots.{Tracked}
 
 -- The octets come after so many of the stream, and are contents of their owner.
 unfoldable pub run_effect : Table → Answers → ℕ → Tracked → Option MessageKey → List ℕ → Effect

@@ -8,9 +8,8 @@ use Rattle.giop_message.specs.HeaderEnds.{AreSilent}
 use Rattle.giop_stream.specs.Rules.{Rules, rules_by}
 use Rattle.giop_stream.specs.Framing.{Message, cut, messages}
 use Rattle.giop_stream.specs.Events.{open_after}
-use Rattle.giop_stream.specs.Effects.{tracked_after}
-use Rattle.giop_stream.specs.EngineState.{unless}
-use Rattle.giop_stream.specs.PayloadOwner.{owner_of_next}
+use Rattle.giop_stream.specs.OpenSlots.{tracked_after}
+use Rattle.giop_stream.specs.EngineState.{unless, owner_of_next}
 use Rattle.giop_stream.specs.HeaderEndsOfStream.{owner_told_after, header_ends_from}
 
 -- In these octets after the stream p no message's header of 12 octets becomes complete, and no

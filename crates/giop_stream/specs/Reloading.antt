@@ -14,10 +14,9 @@ use Rattle.giop_checkpoint.specs.Records.{Entry, entry_octets}
 use Rattle.giop_stream.specs.declared.slots.Slots.{Slots}
 use Rattle.giop_stream.specs.declared.slots.PayloadOwner.{PayloadOwner}
 use Rattle.giop_stream.specs.declared.slots.PayloadOwner.TheVariants.{Open}
+use Rattle.giop_stream.specs.Events.{MessageKey}
 use Rattle.giop_stream.specs.OpenSlots.{Slot as Held}
-use Rattle.giop_stream.specs.EngineState.{Own}
-use Rattle.giop_stream.specs.SlotsRepresent.{OpenEntry, open_entry, IsReady, IsSlot, AreSlots, index_of, current_of}
-use Rattle.giop_stream.specs.ViewOfState.{IsOwn}
+use Rattle.giop_stream.specs.SlotsRepresent.{OpenEntry, open_entry, RepresentsMessage, IsReady, IsSlot, AreSlots, index_of, current_of}
 use Rattle.giop_stream.specs.Checkpoint.{IsOpen, IsCurrent, AreEntries}
 
 -- ---- the fixed part
@@ -45,9 +44,9 @@ abbrev pub owner_by : Option ℕ → ℕ → PayloadOwner → PayloadOwner
 owner_by None many current = current
 owner_by (Some k) many current = if nat_lt k many then Open (Some k) else current
 
--- It is the current message with these octets, or none.
-abbrev pub IsCurrentOwner : Table → Answers → PayloadOwner → Option Own → Type 0
-IsCurrentOwner C l of own = (index_of of ≡ None) × IsOwn C l (current_of of) own
+-- It is the current message, which represents these octets of this message, or none.
+abbrev pub IsCurrentOwner : Table → Answers → PayloadOwner → MessageKey → Option (List ℕ) → Type 0
+IsCurrentOwner C l of w xs = (index_of of ≡ None) × RepresentsMessage C l (current_of of) w xs
 
 -- ---- a record
 
@@ -73,21 +72,20 @@ pub record IsOpenEntry (C : Table) (l : Answers) (at : ℕ) (first : FirstRecord
   pub ready : IsReady C at kept.value.message
 
 -- It is the entry of the current message with these octets.
-pub record IsCurrentEntry (C : Table) (l : Answers) (at : ℕ) (first : FirstRecord) (own : Own) :
-    Type 0 where
+pub record IsCurrentEntry (C : Table) (l : Answers) (at : ℕ) (first : FirstRecord) (w : MessageKey)
+    (xs : Option (List ℕ)) : Type 0 where
   pub message : Message
   pub entry : Entry
   pub entry_is : IsCurrent message entry
   pub read : IsEntry first entry
-  pub own_is : IsOwn C l (Some message) (Some own)
+  pub own_is : RepresentsMessage C l (Some message) w xs
   pub ready : IsReady C at (Some message)
 
 -- ---- the records that are left
 
 -- These octets are so many entries, of these open messages and this current one.
 pub record AreLeft (C : Table) (l : Answers) (at count : ℕ) (octets : List ℕ) (held : List Held)
-    (own : Option Own)
-    : Type 0 where
+    (w : MessageKey) (xs : Option (List ℕ)) : Type 0 where
   pub kept : List OpenEntry
   pub current : Option Message
   pub entries : List Entry
@@ -95,7 +93,7 @@ pub record AreLeft (C : Table) (l : Answers) (at count : ℕ) (octets : List ℕ
   pub count_is : count ≡ length entries
   pub octets_are : octets ≡ flat_map entry_octets entries
   pub slots_are : AreSlots C l kept held
-  pub own_is : IsOwn C l current own
+  pub own_is : RepresentsMessage C l current w xs
   pub each_ready : Each (λ slot. IsReady C at slot.value.message) kept
   pub own_ready : IsReady C at current
 
@@ -108,27 +106,25 @@ pub record HasAdded (C : Table) (l : Answers) (before after : Slots) (held : Lis
 
 -- The first of so many records was added, that of an open message; `rest` are the others.
 pub record HasAddedOpen (C : Table) (l : Answers) (at count : ℕ) (before after : Slots)
-    (rest : List ℕ) (held : List Held) (own : Option Own) : Type 0 where
+    (rest : List ℕ) (held : List Held) (w : MessageKey) (xs : Option (List ℕ)) : Type 0 where
   pub here : Held
   pub others : List Held
   pub held_are : held ≡ here ∷ others
   pub added : HasAdded C l before after (here ∷ [])
   pub same_owner : after.owner ≡ before.owner
-  pub left : AreLeft C l at (count - 1) rest others own
+  pub left : AreLeft C l at (count - 1) rest others w xs
 
 -- It was that of the current message, which is the last.
 pub record HasAddedOwn (C : Table) (l : Answers) (count : ℕ) (before after : Slots)
-    (held : List Held) (own : Option Own) : Type 0 where
-  pub here : Own
+    (held : List Held) (w : MessageKey) (xs : Option (List ℕ)) : Type 0 where
   pub no_held : held ≡ []
-  pub own_here : own ≡ Some here
   pub same : after.slots ≡ before.slots
-  pub is : IsCurrentOwner C l after.owner (Some here)
+  pub is : IsCurrentOwner C l after.owner w xs
   pub last : count - 1 ≡ 0
 
 -- The first record was one or the other.
-abbrev pub HasAddedFirst : Table → Answers → ℕ → ℕ → Slots → Slots → List ℕ → List Held → Option Own
-    → Type 0
-HasAddedFirst C l at count before after rest held own =
-    HasAddedOpen C l at count before after rest held own
-    ⊎ HasAddedOwn C l count before after held own
+abbrev pub HasAddedFirst : Table → Answers → ℕ → ℕ → Slots → Slots → List ℕ → List Held → MessageKey
+    → Option (List ℕ) → Type 0
+HasAddedFirst C l at count before after rest held w xs =
+    HasAddedOpen C l at count before after rest held w xs
+    ⊎ HasAddedOwn C l count before after held w xs

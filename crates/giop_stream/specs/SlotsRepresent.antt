@@ -4,7 +4,6 @@ use Rattle.std.specs.List.{AllByRecursion as Each}
 use Rattle.giop_sig.specs.Table.{Table}
 use Rattle.giop_message.specs.declared.message.Message.{Message as CodeMessage}
 use Rattle.giop_message.specs.Signatures.{Answers}
-use Rattle.giop_message.specs.ReaderOfTable.{message_reader}
 use Rattle.giop_message.specs.MessageState.{Follows, Fits, reach}
 use Rattle.giop_entry_table.specs.declared.entry_table.Entry.{Entry}
 use Rattle.giop_stream.specs.declared.slots.Slot.{Slot as Contents}
@@ -13,8 +12,7 @@ use Rattle.giop_stream.specs.declared.slots.PayloadOwner.{PayloadOwner}
 use Rattle.giop_stream.specs.declared.slots.PayloadOwner.TheVariants.{Current, Open}
 use Rattle.giop_stream.specs.Events.{MessageKey, Event, EventKind}
 use Rattle.giop_stream.specs.Events as events
-use Rattle.giop_stream.specs.OpenSlots.{Slot, slots_of}
-use Rattle.giop_stream.specs.Effects.{Tracked, Effect, IsNotOpen, one_effect, no_effect}
+use Rattle.giop_stream.specs.OpenSlots.{Slot, Tracked, slots_at, IsNotOpen}
 
 -- An open message, under its request id.
 abbrev pub OpenEntry : Type 0
@@ -86,21 +84,13 @@ PayloadBelongs C l None message c None = message ≡ None
 PayloadBelongs C l None message c (Some w) =
     IsNotOpen w.number c.still_open × RepresentsMessage C l message w (c.known w.number)
 
+-- the slots are those of the open messages, with what is kept of each, and the owner is this message
 pub record SlotsRepresent (C : Table) (l : Answers) (s : Slots) (c : Tracked)
     (owner_of_next : Option MessageKey) : Type 0 where
-  pub slots : AreSlots C l s.slots.entries (slots_of c.known c.still_open)
+  pub slots : AreSlots C l s.slots.entries (slots_at c)
   pub owner : PayloadBelongs C l (index_of s.owner) (current_of s.owner) c owner_of_next
 
 -- the slots hold no message
 pub record IsBare (s : Slots) : Type 0 where
   pub no_slots : s.slots.entries ≡ []
   pub no_owner : s.owner ≡ Current None
-
--- an event of a message at a place
-abbrev pub event : ℕ → MessageKey → EventKind → Event
-event at subject what = record { place = at; subject = subject; what = what }
-
--- its effect on what is tracked, and its lines; none where the octets belong to no message
-abbrev pub effect_to : Table → Answers → ℕ → Tracked → Option MessageKey → EventKind → Effect
-effect_to C l at c None what = no_effect c
-effect_to C l at c (Some w) what = one_effect (message_reader C l) c at w what

@@ -9,12 +9,14 @@ ghost use Rattle.giop_message.specs.Headers.{size, is_fragment, is_opener, is_ca
 ghost use Rattle.giop_stream.specs.Rules.{most_open};
 ghost use Rattle.giop_stream.specs.Framing.{Message, with_payload};
 ghost use Rattle.giop_stream.specs.Events.{MessageKey, Open, events_at_header, events_at_request_id, events_at_end, events_of_octet, message_key, opener_of};
-ghost use Rattle.giop_stream.specs.Effects.{Tracked, effects, with_octet};
+ghost use Rattle.giop_stream.specs.Effects.{effects, with_octet};
+ghost use Rattle.giop_stream.specs.OpenSlots.{Tracked};
 ghost use Rattle.giop_stream.specs.SlotsRepresent.{SlotsRepresent, AreReady, KeepsRoom};
 ghost use Rattle.giop_stream.specs.DoesEffect.{DoesEffect, one_if, never, all};
 ghost use Rattle.giop_stream.specs.HeaderEndsOfStream.{owner_header_ends};
 ghost use Rattle.giop_message.specs.HeaderEnds.{AgreesAtEnds, after_ends};
-ghost use Rattle.giop_stream.specs.PayloadOwner.{IsAtRequestId, IsBeforeMessage, IsBeforeOctets, IsAfterTake, IsAtOctet, opener_key, owner_after_id, owner_of_next, owner_after, id_events, end_events, octets_effect};
+ghost use Rattle.giop_stream.specs.PayloadOwner.{IsAtRequestId, IsBeforeMessage, IsBeforeOctets, IsAfterTake, IsAtOctet, owner_after_id, owner_after, id_events, end_events, octets_effect};
+ghost use Rattle.giop_stream.specs.EngineState.{opener_key, owner_of_next};
 ghost use Rattle.giop_stream.specs.Continuation.{IsContinuing};
 
 use crate::current::Current;

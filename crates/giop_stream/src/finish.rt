@@ -70,7 +70,7 @@ impl Framing {
     fn own_unfinished<O: Out>(&self, out: &mut O) -> Result<(), OutFault>
         ensures { (C : Table) (l : Answers) (s : State) → Shows C l (framing_view self.now) s →
             Writes result (O.log out.old) (O.log out.new)
-            (flat_map unfinished_line (one.left_own s.own)) }
+            (flat_map unfinished_line (one.left_current s.tracked s.owner)) }
     {
         let Some(message) = self.slots.current() else {
             return Ok(());

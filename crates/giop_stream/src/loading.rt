@@ -14,7 +14,8 @@ ghost use Rattle.giop_stream.specs.OpenSlots.{Slot as Held};
 ghost use Rattle.giop_stream.specs.SlotsRepresent.{AreReady, KeepsRoom, IsBare, IsReady, current_of};
 ghost use Rattle.giop_stream.specs.declared.slots.PayloadOwner.TheVariants.{Current};
 ghost use Rattle.giop_stream.specs.FramingView.{framing_view};
-ghost use Rattle.giop_stream.specs.EngineState.{state_of, Own};
+ghost use Rattle.giop_stream.specs.Events.{MessageKey};
+ghost use Rattle.giop_stream.specs.EngineState.{state_of};
 ghost use Rattle.giop_stream.specs.ViewOfState.{Shows};
 ghost use Rattle.giop_stream.specs.Checkpoint.{counts_of, fixed_of, Allows, IsRefused, OrNoMemory, Spells};
 ghost use Rattle.giop_stream.specs.Reloading.{stop_in, header_in, payload_count_in, owner_by, pushed, IsOpenEntry, IsCurrentOwner, IsCurrentEntry, HasAdded, HasAddedFirst, AreLeft};
@@ -184,12 +185,12 @@ fn add_all(
     requires lengths { AreRecords count records.now }
     requires ready { AreReady catalogue.now (octets + 1) slots.old }
     ensures ready { result ≡ true → AreReady catalogue.now (octets + 1) slots.new }
-    ensures again { (l : Answers) (held : List Held) (own : Option Own) →
-        AreLeft catalogue.now l (octets + 1) count records.now held own →
+    ensures again { (l : Answers) (held : List Held) (w : MessageKey) (xs : Option (List ℕ)) →
+        AreLeft catalogue.now l (octets + 1) count records.now held w xs →
         length slots.old.slots.entries + length held ≤ slots.old.slots.most →
         slots.old.owner ≡ Current None →
         (result ≡ true) × HasAdded catalogue.now l slots.old slots.new held
-        × IsCurrentOwner catalogue.now l slots.new.owner own }
+        × IsCurrentOwner catalogue.now l slots.new.owner w xs }
     ensures most { slots.new.slots.most ≡ slots.old.slots.most }
 {
     let mut rest = records;
@@ -215,12 +216,13 @@ fn add_first<'a>(
     requires ready { AreReady catalogue.now (octets + 1) slots.old }
     ensures ready { IfSome result (λ rest. AreReady catalogue.now (octets + 1) slots.new) }
     ensures rest { IfSome result (λ rest. rest.now ≡ drop (used records.now) records.now) }
-    ensures again { (l : Answers) (count : ℕ) (held : List Held) (own : Option Own) →
-        (count ≡ 0 → ⊥) → AreLeft catalogue.now l (octets + 1) count records.now held own →
+    ensures again { (l : Answers) (count : ℕ) (held : List Held) (w : MessageKey)
+        (xs : Option (List ℕ)) → (count ≡ 0 → ⊥) →
+        AreLeft catalogue.now l (octets + 1) count records.now held w xs →
         length slots.old.slots.entries + length held ≤ slots.old.slots.most →
         slots.old.owner ≡ Current None →
         IsSomeAnd result (λ rest. HasAddedFirst catalogue.now l (octets + 1) count
-        slots.old slots.new rest.now held own) }
+        slots.old slots.new rest.now held w xs) }
     ensures last { IsSome (current_of slots.old.owner) → result ≡ None }
     ensures most { slots.new.slots.most ≡ slots.old.slots.most }
 {
@@ -246,10 +248,10 @@ fn add(slots: &mut Slots, catalogue: &Catalogue, octets: u64, first: &FirstRecor
         length slots.old.slots.entries < slots.old.slots.most →
         (result ≡ true) × HasAdded catalogue.now l slots.old slots.new (held ∷ [])
         × (slots.new.owner ≡ slots.old.owner) }
-    ensures one_current { (l : Answers) (own : Own) →
-        IsCurrentEntry catalogue.now l (octets + 1) first.now own →
+    ensures one_current { (l : Answers) (w : MessageKey) (xs : Option (List ℕ)) →
+        IsCurrentEntry catalogue.now l (octets + 1) first.now w xs →
         (result ≡ true) × (slots.new.slots ≡ slots.old.slots)
-        × IsCurrentOwner catalogue.now l slots.new.owner (Some own) }
+        × IsCurrentOwner catalogue.now l slots.new.owner w xs }
     ensures most { slots.new.slots.most ≡ slots.old.slots.most }
 {
     match first.record.record_kind {
@@ -270,9 +272,9 @@ fn add_current(
     requires ready { AreReady catalogue.now (octets + 1) slots.old }
     ensures ready { result ≡ true → AreReady catalogue.now (octets + 1) slots.new }
     ensures same { slots.new.slots ≡ slots.old.slots }
-    ensures again { (l : Answers) (own : Own) →
-        IsCurrentEntry catalogue.now l (octets + 1) first.now own →
-        (result ≡ true) × IsCurrentOwner catalogue.now l slots.new.owner (Some own) }
+    ensures again { (l : Answers) (w : MessageKey) (xs : Option (List ℕ)) →
+        IsCurrentEntry catalogue.now l (octets + 1) first.now w xs →
+        (result ≡ true) × IsCurrentOwner catalogue.now l slots.new.owner w xs }
     ensures most { slots.new.slots.most ≡ slots.old.slots.most }
 {
     let message = message_of(catalogue, octets, first);

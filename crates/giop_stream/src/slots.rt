@@ -7,7 +7,7 @@ ghost use Rattle.giop_message.specs.Signatures.{Answers};
 ghost use Rattle.giop_message.specs.MessageState.{AreKnown};
 ghost use Rattle.giop_stream.specs.Events.{MessageKey, Faults, Closes};
 ghost use Rattle.giop_stream.specs.Rules.{most_open};
-ghost use Rattle.giop_stream.specs.Effects.{Tracked, IsNotOpen};
+ghost use Rattle.giop_stream.specs.OpenSlots.{Tracked, IsNotOpen};
 ghost use Rattle.giop_stream.specs.SlotsRepresent.{current_of};
 
 use crate::fault::FramingFault;
@@ -66,7 +66,8 @@ impl Slots {
     ghost use Rattle.giop_message.specs.Signatures.{signatures_of};
     ghost use Rattle.giop_message.specs.Messages.{message, message_lines};
     ghost use Rattle.giop_message.specs.ReaderOfTable.{first_request_id};
-    ghost use Rattle.giop_stream.specs.SlotsRepresent.{AreSlots, RepresentsMessage, SlotsRepresent, AreReady, KeepsRoom, IsBare, effect_to};
+    ghost use Rattle.giop_stream.specs.SlotsRepresent.{AreSlots, RepresentsMessage, SlotsRepresent, AreReady, KeepsRoom, IsBare};
+    ghost use Rattle.giop_stream.specs.Effects.{effect_to};
     ghost use Rattle.giop_stream.specs.DoesEffect.{DoesEffect, one_if, never};
     ghost use Rattle.giop_stream.specs.OpenSlots.{Slot as Held, left_open};
     ghost use Rattle.giop_stream.specs.PayloadRuns.{run_effect};

@@ -32,9 +32,9 @@ use Rattle.giop_checkpoint.specs.declared.fault.StreamFault.TheVariants.{Magic}
 use Rattle.giop_checkpoint.specs.declared.layout.Layout.TheVariants.{Second, Third}
 use Rattle.giop_stream.specs.declared.slots.Slots.{Slots}
 use Rattle.giop_stream.specs.declared.slots.PayloadOwner.TheVariants as owners
-use Rattle.giop_stream.specs.OpenSlots.{octets_of, slots_of, is_open}
+use Rattle.giop_stream.specs.OpenSlots.{octets_of, slots_of, tracked_after}
 use Rattle.giop_stream.specs.EngineView.{FramingView}
-use Rattle.giop_stream.specs.EngineState.{state_of, own_for, owner_for}
+use Rattle.giop_stream.specs.EngineState.{owner_of_next, state_of}
 use Rattle.giop_stream.specs.ViewOfState.{payload_count_in}
 use Rattle.giop_stream.specs.Checkpoint.{counts_of, fixed_of, checkpoint_octets}
 use Rattle.giop_stream_rows.specs.Worked.{digit, octets, stream, written, read_by, called, table_of, builtin, puts, bigs, late, asks, kept}
@@ -118,7 +118,7 @@ profile = record { text = refl; closing = refl }
 -- those that give the octets of a checkpoint
 unfoldable pub a_checkpoint : ℕ
 unfolding four eight magic counts_octets state_octets fixed_octets counts_of fixed_of
-    checkpoint_octets octets_of slots_of state_of own_for owner_for is_open payload_count_in
+    checkpoint_octets octets_of slots_of tracked_after owner_of_next state_of payload_count_in
     five_octets one_in_payload bad_magic
 a_checkpoint = 0
 
@@ -182,8 +182,7 @@ in_a_header = record {
     stopped = refl;
     header = refl;
     payload_count = refl;
-    slots = tt;
-    owner = (tt, refl);
+    slots = record { slots = tt; owner = refl };
   };
   ready = record { current_ready = tt; each_ready = tt };
 }
@@ -204,8 +203,7 @@ in_an_old_header = record {
     stopped = refl;
     header = refl;
     payload_count = refl;
-    slots = tt;
-    owner = (tt, refl);
+    slots = record { slots = tt; owner = refl };
   };
   ready = record { current_ready = tt; each_ready = tt };
 }
@@ -226,8 +224,7 @@ in_a_payload = record {
     stopped = refl;
     header = refl;
     payload_count = refl;
-    slots = tt;
-    owner = (tt, refl);
+    slots = record { slots = tt; owner = (tt, tt) };
   };
   ready = record { current_ready = tt; each_ready = tt };
 }
@@ -248,8 +245,7 @@ behind_a_fault = record {
     stopped = refl;
     header = refl;
     payload_count = refl;
-    slots = tt;
-    owner = (tt, refl);
+    slots = record { slots = tt; owner = refl };
   };
   ready = record { current_ready = tt; each_ready = tt };
 }

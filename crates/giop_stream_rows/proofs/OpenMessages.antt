@@ -427,11 +427,13 @@ two_open = record {
     stopped = refl;
     header = refl;
     payload_count = refl;
-    slots = (
-      record { number = refl; header = refl; id = refl; message = first_follows },
-      (record { number = refl; header = refl; id = refl; message = second_follows }, tt),
-    );
-    owner = (tt, refl);
+    slots = record {
+      slots = (
+        record { number = refl; header = refl; id = refl; message = first_follows },
+        (record { number = refl; header = refl; id = refl; message = second_follows }, tt),
+      );
+      owner = refl;
+    };
   };
   ready = record {
     current_ready = tt;

@@ -12,11 +12,12 @@ use Rattle.giop_message.proofs.MessageLaws.{header_noted_before, one_octet, is_c
 use Rattle.giop_stream.specs.Rules.{Rules, rules_by}
 use Rattle.giop_stream.specs.HeaderOctets.{fronts}
 use Rattle.giop_stream.specs.Framing.{Message, with_payload, limit, cut, messages}
-use Rattle.giop_stream.specs.Events.{EventKind, MessageKey, Event, Open, message_key, id, opener_of, has_named, goes_past, events_of_octet, events_of, opened, events_from, events, open_after, joined}
-use Rattle.giop_stream.specs.OpenSlots.{octets_of}
-use Rattle.giop_stream.specs.Effects.{tracked_after, with_octet}
+use Rattle.giop_stream.specs.Events.{EventKind, MessageKey, Event, Open, message_key, opener_of, goes_past, events_of_octet, events_of, opened, events_from, events, open_after, joined}
+use Rattle.giop_stream.specs.OpenSlots.{octets_of, tracked_after}
+use Rattle.giop_stream.specs.Effects.{with_octet}
 use Rattle.giop_stream.specs.Octet.{Octet, AfterStop, Ends, Held, Of, octet_of}
-use Rattle.giop_stream.specs.PayloadOwner.{opener_key, owner_of_next, owner_of_octet}
+use Rattle.giop_stream.specs.PayloadOwner.{owner_of_octet}
+use Rattle.giop_stream.specs.EngineState.{opener_key, owner_of_next}
 use Rattle.giop_stream.specs.Shares.{continued}
 use Rattle.giop_stream.specs.HeaderEndsOfStream.{run_header_ends, owner_header_ends, current_header_ends, header_ends_at, header_ends_from}
 use Rattle.giop_stream.specs.AnswersAgree.{AnswersAgree}
@@ -24,7 +25,6 @@ use Rattle.giop_stream.proofs.Lists.{each_append, each_weaker, all_by}
 use Rattle.giop_stream.proofs.Cuts.Cutting.{of_parts, parts_by, stopped_at}
 use Rattle.giop_stream.proofs.Cuts.Numbers.{header_of_number, own_header}
 use Rattle.giop_stream.proofs.Events.EventsOfOctet.{events_of_octet_each, opened_each}
-use Rattle.giop_stream.proofs.Events.EventsByEngine.{found_in}
 use Rattle.giop_stream.proofs.Events.Sharing.{more_of, octet_joined}
 use Rattle.giop_stream.proofs.Events.StepCases.{octets_are}
 use Rattle.giop_stream.proofs.StreamLines.LinesOfOctet.{joined_append}
@@ -32,10 +32,10 @@ use Rattle.giop_stream.proofs.SlotSteps.Parts.{in_turn, owner_next}
 use Rattle.giop_stream.proofs.CodeSteps.OneOctet.{Then, then_is, paid_events}
 use Rattle.giop_stream.proofs.CodeSteps.EngineAlive.{sound}
 use Rattle.giop_stream.proofs.CodeSteps.OutsideMessages.{within_limit}
-use Rattle.giop_stream.proofs.CodeSteps.StreamAgreement.{known_agree, each_parts, each_own}
+use Rattle.giop_stream.proofs.CodeSteps.StreamAgreement.{known_agree, each_parts, of_owner}
 use Rattle.giop_stream.proofs.CodeSteps.HeaderEndSteps.{at_free, at_none, at_stop, at_limit}
 
--- ---- What holds of each message holds of each event's, and of the owner of the next octet.
+-- ---- What holds of each message holds of each event's.
 
 module _ (P : MessageKey → Type 0) (most : ℕ) where
   of_message : (still_open : List Open) (m : Message) → Each (λ o. P o.opener) still_open →
@@ -63,34 +63,6 @@ module _ (P : MessageKey → Type 0) (most : ℕ) where
       let first = of_message still_open m openers own.0 in
       each_append (λ e. P e.subject) es _ first
       (of_messages (opened still_open es) ms (opened_each P still_open es openers first) own.1)
-
-  of_owner : (p : List ℕ) (m : Message) (w : MessageKey) → (cut p).current ≡ Some m →
-      owner_of_next (open_after most p) m ≡ Some w
-      → Each (λ e. P e.subject) (events most p) → P w
-  unfolding events messages open_after owner_of_next opener_of
-  of_owner p m w current owner h = go (has_named m) owner
-    where
-      own : P (message_key m)
-      own =
-          let both = each_parts (λ m. P (message_key m)) (cut p).whole
-          (option_to_list (cut p).current) (each_own P most [] (messages (cut p)) h) in
-          (subst (λ (o : Option Message). Each (λ m. P (message_key m)) (option_to_list o)) current
-          both.1).0
-
-      openers : Each (λ o. P o.opener) (open_after most p)
-      openers = opened_each P [] (events most p) tt h
-
-      other : (o : Option Open) → opener_of (open_after most p) m ≡ o → opener_key o ≡ Some w → P w
-      other None e k = absurd cc
-      other (Some o) e k =
-          let same : o.opener ≡ w = cc in
-          subst P same (found_in (λ o. P o.opener) (λ o. o.id == id m) (open_after most p) o openers
-          e)
-
-      go : (b : Bool) → (if b then opener_key (opener_of (open_after most p) m) else Some
-          (message_key m)) ≡ Some w → P w
-      go true k = other (opener_of (open_after most p) m) refl k
-      go false k = let same : message_key m ≡ w = cc in subst P same own
 
 -- the events of a number have one header
 one_header : (most : ℕ) (p : List ℕ) → Each
@@ -321,7 +293,7 @@ module _ (C : Table) (most : ℕ) where
 
     -- answers that agree behind the octet agree for it
     agree_for : (b c : Answers) → AnswersAgree most (p ++ x ∷ []) b c → b h.w.number ≡ c h.w.number
-    agree_for b c agree = go (of_owner (AgreeAt (p ++ x ∷ []) b c) most p h.m h.w h.current h.owner
+    agree_for b c agree = go (of_owner (AgreeAt (p ++ x ∷ []) b c) most p h.w (rw h.current h.owner)
         front)
       where
         front : Each (λ e. AgreeAt (p ++ x ∷ []) b c e.subject) (events most p)
@@ -349,7 +321,7 @@ module _ (C : Table) (most : ℕ) where
       where
         of_w : header_of_number (messages (cut p)) h.w.number ≡ Some h.w.header
         of_w = of_owner (λ w. header_of_number (messages (cut p)) w.number ≡ Some w.header) most p
-            h.m h.w h.current h.owner (one_header most p)
+            h.w (rw h.current h.owner) (one_header most p)
 
         go : (e : Event) → header_of_number (messages (cut p)) e.subject.number
             ≡ Some e.subject.header → (b : Bool) → (e.subject.number == h.w.number) ≡ b

@@ -8,8 +8,8 @@ use Rattle.giop_message.specs.MessageReader.{MessageReader, End, IsCausal, IsStr
 use Rattle.giop_stream.specs.Rules.{Rules}
 use Rattle.giop_stream.specs.Framing.{Message, Cut, cut, messages}
 use Rattle.giop_stream.specs.Events.{Takes, Event, Rising, message_key, place, events_of_octet, events, open_after}
-use Rattle.giop_stream.specs.OpenSlots.{octets_of}
-use Rattle.giop_stream.specs.Effects.{Tracked, Effect, octets_then, effects, one_effect, starts, with_octet, tracked_after}
+use Rattle.giop_stream.specs.OpenSlots.{octets_of, Tracked, tracked_after}
+use Rattle.giop_stream.specs.Effects.{Effect, octets_then, effects, one_effect, starts, with_octet}
 use Rattle.giop_stream.specs.Octet.{Octet, AfterStop, Ends, Held, Of, octet_of}
 use Rattle.giop_stream.proofs.Lists.{by_growth}
 use Rattle.giop_stream.proofs.Cuts.Cutting.{stopped_at, of_parts}

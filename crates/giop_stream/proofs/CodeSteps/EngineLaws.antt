@@ -12,13 +12,13 @@ use Rattle.giop_stream.specs.Framing.{Message, Cut, cut, read_of, fault_of}
 use Rattle.giop_stream.specs.Lines.{lines}
 use Rattle.giop_stream.specs.Text.{line_text, lines_text}
 use Rattle.giop_stream.specs.Stream.{start_count, fault_count, is_inside, is_truncated, text, tally, with_truncated, final, closing}
-use Rattle.giop_stream.specs.OpenSlots.{slots_of}
+use Rattle.giop_stream.specs.OpenSlots.{octets_of, tracked_after}
 use Rattle.giop_stream.specs.Octet.{header_of}
 use Rattle.giop_stream.specs.EngineState.{unless, state_of}
 use Rattle.giop_stream.specs.EngineStep.{fresh, step, run, run_state, is_cut_short, final_totals, finish}
 use Rattle.giop_stream.proofs.Cuts.Cutting.{of_parts}
 use Rattle.giop_stream.proofs.Events.Soundness.{CurrentFits}
-use Rattle.giop_stream.proofs.Cuts.Start.{cut_nothing, lines_nothing, open_nothing}
+use Rattle.giop_stream.proofs.Cuts.Start.{cut_nothing, lines_nothing, octets_nothing, open_nothing}
 use Rattle.giop_stream.proofs.Events.UnfinishedAtFinish.{left_is, read_by, truncated_by}
 use Rattle.giop_stream.proofs.CodeSteps.EngineAlive.{sound, alive}
 use Rattle.giop_stream.proofs.CodeSteps.EngineStep.{steps}
@@ -31,8 +31,10 @@ stepped R causal laws p x = steps R causal laws p x (sound R causal laws p) (ali
 -- ---- The states and the lines, octet by octet.
 
 pub start_is : (R : Rules) → state_of R [] ≡ fresh
-unfolding state_of fresh tally of_parts slots_of read_of start_count fault_count
-start_is R = rw (state_of, tally, cut_nothing, open_nothing R.most, lines_nothing R) refl
+unfolding state_of fresh tally of_parts tracked_after read_of start_count fault_count
+start_is R =
+    let known : octets_of R [] ≡ (λ i. Some []) = λ j i. octets_nothing R i j in
+    rw (state_of, tally, tracked_after, cut_nothing, open_nothing R.most, lines_nothing R, known) refl
 
 pub step_state : (R : Rules) → IsCausal R.reading → IsStreamable R.reading → (p : List ℕ) (x : ℕ) →
     state_of R (p ++ x ∷ []) ≡ (step R (state_of R p) x).state

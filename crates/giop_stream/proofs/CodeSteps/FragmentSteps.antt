@@ -25,14 +25,15 @@ use Rattle.giop_stream.specs.Events.{Takes, MessageKey, Open, changed, message_k
 use Rattle.giop_stream.specs.Lines.{Line, lines}
 use Rattle.giop_stream.specs.Text.{lines_text}
 use Rattle.giop_stream.specs.Stream.{fault_count}
-use Rattle.giop_stream.specs.Effects.{Tracked, Effect, effects, then_effect, starts, tracked_at, tracked_after, lines_of, with_octet, IsNotOpen, slots_at}
-use Rattle.giop_stream.specs.SlotsRepresent.{SlotsRepresent, event, effect_to}
+use Rattle.giop_stream.specs.Effects.{Effect, effects, then_effect, starts, tracked_at, lines_of, with_octet, event, effect_to}
+use Rattle.giop_stream.specs.OpenSlots.{Tracked, tracked_after, IsNotOpen, slots_at}
+use Rattle.giop_stream.specs.SlotsRepresent.{SlotsRepresent}
 use Rattle.giop_stream.specs.PayloadRuns.{run_effect}
-use Rattle.giop_stream.specs.PayloadOwner.{IsBeforeOctet, IsNewest, SaysId, end_events, owner_of_next, owner_of_next_in, owner_after}
+use Rattle.giop_stream.specs.PayloadOwner.{IsBeforeOctet, IsNewest, SaysId, end_events, owner_after}
 use Rattle.giop_stream.specs.Continuation.{IsContinuation, IsBeforeContinuation, continuation_effect}
 use Rattle.giop_stream.specs.HeaderEndsOfStream.{run_header_ends, owner_header_ends, header_ends_from}
 use Rattle.giop_stream.specs.EngineView.{FramingView}
-use Rattle.giop_stream.specs.EngineState.{State, state_of}
+use Rattle.giop_stream.specs.EngineState.{State, state_of, owner_of_next, owner_of_next_in}
 use Rattle.giop_stream.specs.EngineStep.{runs}
 use Rattle.giop_stream.specs.Octet.{header_of}
 use Rattle.giop_stream.specs.FramingSteps.{end_message as settled}

@@ -20,13 +20,13 @@ use Rattle.giop_stream.specs.Rules.{Rules, rules_by}
 use Rattle.giop_message.specs.Headers.{size}
 use Rattle.giop_stream.specs.EngineView.{FramingView}
 use Rattle.giop_stream.specs.Octet.{header_of}
-use Rattle.giop_stream.specs.EngineState.{State, state_of}
+use Rattle.giop_stream.specs.EngineState.{State, state_of, owner_of_next}
 use Rattle.giop_stream.specs.ViewOfState.{IsReached, Shows}
 use Rattle.giop_stream.specs.Framing.{Message, Cut, limit, cut, fault_of}
 use Rattle.giop_stream.specs.Events.{MessageKey, Takes, open_after}
-use Rattle.giop_stream.specs.Effects.{Tracked, octets_then, tracked_after, with_octet}
-use Rattle.giop_stream.specs.SlotsRepresent.{RepresentsMessage, SlotsRepresent, index_of, event, effect_to}
-use Rattle.giop_stream.specs.PayloadOwner.{owner_of_next}
+use Rattle.giop_stream.specs.Effects.{octets_then, with_octet, event, effect_to}
+use Rattle.giop_stream.specs.OpenSlots.{Tracked, tracked_after}
+use Rattle.giop_stream.specs.SlotsRepresent.{RepresentsMessage, SlotsRepresent, index_of}
 use Rattle.giop_stream.specs.HeaderEndsOfStream.{reply_told_after, run_header_ends, owner_header_ends, current_header_ends, header_ends_at, header_ends_from}
 use Rattle.giop_stream.proofs.Cuts.Cutting.{of_parts, next, parts_by, cut_grows, next_limit, next_front, next_stopped}
 use Rattle.giop_stream.proofs.Cuts.CutFrom.{header_case}

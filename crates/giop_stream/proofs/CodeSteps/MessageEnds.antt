@@ -14,9 +14,9 @@ use Rattle.giop_stream.specs.Events.{Open}
 use Rattle.giop_stream.specs.Lines.{Line, lines}
 use Rattle.giop_stream.specs.Text.{lines_text}
 use Rattle.giop_stream.specs.SlotsRepresent.{AreReady}
-use Rattle.giop_stream.specs.PayloadOwner.{owner_of_next_in, owner_after}
+use Rattle.giop_stream.specs.PayloadOwner.{owner_after}
 use Rattle.giop_stream.specs.EngineView.{FramingView}
-use Rattle.giop_stream.specs.EngineState.{State, state_of}
+use Rattle.giop_stream.specs.EngineState.{State, state_of, owner_of_next_in}
 use Rattle.giop_stream.specs.EngineStep.{Step}
 use Rattle.giop_stream.specs.FramingSteps.{end_message as settled}
 use Rattle.giop_stream.specs.ViewOfState.{Shows, Does}

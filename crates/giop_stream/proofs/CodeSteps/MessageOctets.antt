@@ -21,12 +21,13 @@ use Rattle.giop_stream.specs.Events.{events_of_octet, open_after}
 use Rattle.giop_stream.specs.Lines.{Line, lines}
 use Rattle.giop_stream.specs.Text.{lines_text}
 use Rattle.giop_stream.specs.Stream.{fault_count, tally}
-use Rattle.giop_stream.specs.Effects.{Tracked, Effect, effects, tracked_after}
+use Rattle.giop_stream.specs.Effects.{Effect, effects}
+use Rattle.giop_stream.specs.OpenSlots.{Tracked, tracked_after}
 use Rattle.giop_stream.specs.SlotsRepresent.{SlotsRepresent}
-use Rattle.giop_stream.specs.PayloadOwner.{IsBeforeMessage, SlotsRepresentStream, owner_of_next_in, owner_after}
+use Rattle.giop_stream.specs.PayloadOwner.{IsBeforeMessage, SlotsRepresentStream, owner_after}
 use Rattle.giop_stream.specs.EngineView.{FramingView}
 use Rattle.giop_stream.specs.Octet.{header_of, payload_count_of}
-use Rattle.giop_stream.specs.EngineState.{State, state_of}
+use Rattle.giop_stream.specs.EngineState.{State, state_of, owner_of_next_in}
 use Rattle.giop_stream.specs.EngineStep.{step, run_state, runs}
 use Rattle.giop_stream.specs.FramingSteps.{held_on, end_message as settled}
 use Rattle.giop_stream.specs.ViewOfState.{IsReached, Shows, Does}
@@ -43,7 +44,7 @@ use Rattle.giop_stream.proofs.CodeSteps.EngineStep.{tally_settled}
 use Rattle.giop_stream.proofs.CodeSteps.NextOctet.{read_all}
 use Rattle.giop_stream.proofs.CodeSteps.EngineAlive.{sound}
 use Rattle.giop_stream.proofs.CodeSteps.EngineLaws.{step_state, step_lines, run_holds, run_lines}
-use Rattle.giop_stream.proofs.CodeSteps.SlotsToState.{come_state, shows_by, knows_it}
+use Rattle.giop_stream.proofs.CodeSteps.StateShown.{come_state, shows_by}
 use Rattle.giop_stream.proofs.CodeSteps.OutsideMessages.{within_limit}
 use Rattle.giop_stream.proofs.CodeSteps.MessageEnds.{does_by, settled_on, settled_off, goes_on, goes_off, owner_settled, none_stops}
 
@@ -190,7 +191,8 @@ module _ (C : Table) (l : Answers) (most : ℕ) (s : State) (reached : IsReached
     fits_at = so.fits runs_on
 
     pub knows_at : SlotsRepresentStream C l most m.slots p
-    knows_at = knows_it C l most p m runs_on at_p
+    unfolding state_of
+    knows_at = at_p.slots
 
     -- while the header is incomplete there is no current message
     pub no_current : length m.header < 12 → (cut p).current ≡ None

@@ -1,7 +1,7 @@
 -- The state of a stream, part by part; from it follows what the next octet is, and what events that
 -- octet has.
 use Rattle.std.proofs.Common.{inl, inr, ◌⊎◌, ◌≡◌, ℕ, suc, ◌-◌, ◌<◌, ◌≤◌, Bool, true, false, List, [], ◌∷◌, ◌++◌, length, get_or, take, refl, sym, ap, subst, ◌∙◌, Option, Some, None, arith}
-use Rattle.std.specs.Prelude.{◌==◌, ◌||◌, IfSome, option_map}
+use Rattle.std.specs.Prelude.{◌==◌, ◌||◌, IfSome}
 use Rattle.std.proofs.lemmas.Bool.{lt-ltb, ne_eqb, le-leb}
 use Rattle.std.proofs.lemmas.List.{append-nil, length_push, get_or_push, take_all, take-append-le}
 use Rattle.giop_cdr.specs.Numbers.{num}
@@ -10,24 +10,19 @@ use Rattle.giop_checkpoint.specs.declared.fault.StreamFault.{StreamFault}
 use Rattle.giop_stream.specs.declared.status.Totals.{Totals}
 use Rattle.giop_stream.specs.Rules.{Rules}
 use Rattle.giop_stream.specs.Framing.{Message, Cut, cut, messages, read_of, fault_of}
-use Rattle.giop_stream.specs.Events.{Open, id, opener_of, has_named, goes_past, open_after, Now, now_of}
+use Rattle.giop_stream.specs.Events.{id, opener_of, has_named, open_after, now_of}
 use Rattle.giop_stream.specs.Lines.{stop_line, lines}
 use Rattle.giop_stream.specs.Stream.{start_count, fault_count, tally}
-use Rattle.giop_stream.specs.OpenSlots.{octets_of, is_open, slots_of}
-use Rattle.giop_stream.specs.Effects.{Tracked, with_octet, tracked_after}
+use Rattle.giop_stream.specs.OpenSlots.{octets_of, Tracked, tracked_after}
+use Rattle.giop_stream.specs.Effects.{with_octet}
 use Rattle.giop_stream.specs.Octet.{octet_in, octet_of, header_of, payload_count_of}
-use Rattle.giop_stream.specs.EngineState.{State, Own, unless, left_of, own_for, owner_for, own_in, owner_in, state_of}
-use Rattle.giop_stream.specs.EngineStep.{Step, octet_at, own_octets, still_open_of, id_by, id_of, other_of, ended, held_on}
+use Rattle.giop_stream.specs.EngineState.{State, owner_of_next, owner_of_next_in, unless, left_of, state_of}
+use Rattle.giop_stream.specs.EngineStep.{Step, octet_at, id_by, id_of, other_of, ended, held_on}
 use Rattle.giop_stream.proofs.Cuts.Cutting.{stopped_at, of_parts}
-use Rattle.giop_stream.proofs.Events.EventsOfOctet.{not_named}
-use Rattle.giop_stream.proofs.Events.EventsKeep.{Below}
-use Rattle.giop_stream.proofs.Events.KeptSlots.{opens_back}
 use Rattle.giop_stream.proofs.StreamLines.StartLines.{start_append}
 use Rattle.giop_stream.proofs.Events.AfterMoreEvents.{count_append}
 use Rattle.giop_stream.proofs.Events.Soundness.{CurrentFits, IsSound}
 use Rattle.giop_stream.proofs.Events.StepCases.{stop_starts}
-use Rattle.giop_stream.proofs.StreamLines.LineOrder.{not_past as past_not}
-use Rattle.giop_stream.proofs.Events.StepCases.{if_some}
 use Rattle.giop_stream.proofs.StreamLines.IdBeforeEnd.{IsAlive}
 use Rattle.giop_stream.proofs.Events.EventsByEngine.{found_again}
 use Rattle.giop_stream.proofs.CodeSteps.OneOctet.{Adds}
@@ -40,9 +35,8 @@ shape t c tracked = record {
   stop = fault_of c.stop;
   held = unless c.stop [] (header_of c.current c.held);
   left = unless c.stop 0 (left_of c.current);
-  slots = slots_of tracked.known tracked.still_open;
-  own = own_in tracked.known tracked.still_open c.current;
-  owner = owner_in tracked.known tracked.still_open c.current;
+  tracked = tracked;
+  owner = owner_of_next_in tracked.still_open c.current;
 }
 
 pub state_is : (R : Rules) (p : List ℕ) (t : Totals) (c : Cut) (tracked : Tracked) → tally R p ≡ t →
@@ -194,73 +188,32 @@ module _ (R : Rules) (p : List ℕ) (x : ℕ) where
 
 -- ---- An octet of a message: its events, from the state.
 
-unmapped : (w : Now) (o : Option (List ℕ)) →
-    option_map (λ (own : Own). own.octets)
-    (option_map (λ xs. record { message_key = w.subject; octets = xs }) o) ≡ o
-unmapped w None = refl
-unmapped w (Some xs) = refl
-
-pub below_open : (n : ℕ) (still_open : List Open) → Below n still_open →
-    is_open still_open n ≡ false
-unfolding is_open
-below_open n [] h = refl
-below_open n (o ∷ still_open) h = let less = h.0 in
-    rw (ne_eqb o.opener.number n (λ e. omega (arith, less, e))) (below_open n still_open h.1)
-
 -- what the state gives of the message m, at its octet
 pub record Shows (R : Rules) (p : List ℕ) (m : Message) : Type 0 where
-  pub own_is : goes_past m ≡ false → is_open (open_after R.most p) m.number ≡ false →
-      own_octets (state_of R p) (now_of m) ≡ octets_of R p m.number
   pub name_is : length m.payload ≡ 4 → has_name m.header ≡ true →
       id_of (state_of R p) (now_of m) ≡ id m
   pub past_is : 4 < length m.payload → is_fragment m.header ≡ true →
       other_of (state_of R p) (now_of m) ≡ opener_of (open_after R.most p) m
 
 module _ (R : Rules) (p : List ℕ) (x : ℕ) (sound : IsSound R p) (alive : IsAlive R p) where
-  shows_first : (m : Message) → m.payload ≡ [] → m.number ≡ suc (length (messages (cut p))) →
-      Shows R p m
-  shows_first m none number = record {
-    own_is = λ past free. rw none (sym (sound.unknown m.number (omega (arith, number))));
+  shows_first : (m : Message) → m.payload ≡ [] → Shows R p m
+  shows_first m none = record {
     name_is = λ four. absurd (let no : 0 ≡ 4 = rw none at four in omega (arith, no));
     past_is = λ past. absurd (let no : 4 < 0 = rw none at past in omega (arith, no));
   }
-
-  still_open_is : still_open_of (state_of R p) ≡ open_after R.most p
-  unfolding still_open_of state_of
-  still_open_is = opens_back (octets_of R p) (open_after R.most p)
-
-  own_held : (was : Message) → (cut p).current ≡ Some was → goes_past (with_octet was x) ≡ false
-      → is_open (open_after R.most p) was.number ≡ false
-      → own_octets (state_of R p) (now_of (with_octet was x)) ≡ octets_of R p was.number
-  unfolding state_of own_for has_named
-  own_held was cur past free =
-      rw (
-        ne_eqb (length (was.payload ++ x ∷ [])) 0
-            (λ e. omega (arith, length_push was.payload x, e)),
-        cur,
-        free,
-        not_named was x past,
-      )
-      (unmapped (now_of was) (octets_of R p was.number))
 
   name_held : (was : Message) → (cut p).stop ≡ None → (cut p).current ≡ Some was →
       length (was.payload ++ x ∷ []) ≡ 4
       → has_name was.header ≡ true → id_of (state_of R p) (now_of (with_octet was x))
       ≡ id (with_octet was x)
-  unfolding id_of id
+  unfolding id_of id state_of tracked_after
   name_held was st cur four name =
-      let m = with_octet was x in
       let long = length_push was.payload x in
-      let few : length was.payload < 4 = omega (arith, long, four) in
-      let low = if_some (λ m. length m.payload < 4 → Below m.number (open_after R.most p))
-      (cut p).current was cur (sound.early st) few in
-      let past : goes_past m ≡ false = past_not m (omega (arith, four)) in
-      let kept_is : own_octets (state_of R p) (now_of m) ≡ Some was.payload =
-      own_held was cur past (below_open was.number (open_after R.most p) low)
-      ∙ alive st was cur name few in
+      let kept_is : octets_of R p was.number ≡ Some was.payload =
+      alive st was cur name (omega (arith, long, four)) in
       let last : get_or (was.payload ++ x ∷ []) (length (was.payload ++ x ∷ []) - 1) 0 ≡ x =
       get_or_push was.payload x 0 _ (omega (arith, long)) in
-      ap (id_by (now_of m)) kept_is ∙ rw (
+      ap (id_by (now_of (with_octet was x))) kept_is ∙ rw (
         last,
         take_all 4 (was.payload ++ x ∷ []) (omega (arith, four)),
       ) refl
@@ -269,12 +222,11 @@ module _ (R : Rules) (p : List ℕ) (x : ℕ) (sound : IsSound R p) (alive : IsA
       → is_fragment was.header ≡ true → other_of (state_of R p) (now_of (with_octet was x))
       ≡ opener_of (open_after R.most p)
       (with_octet was x)
-  unfolding other_of state_of owner_for opener_of id
+  unfolding other_of state_of tracked_after owner_of_next has_named opener_of id
   past_held was cur long f =
       let more : 4 ≤ length was.payload = omega (arith, long, length_push was.payload x) in
       rw (
         ne_eqb (length (was.payload ++ x ∷ [])) 4 (λ e. omega (arith, long, e)),
-        still_open_is,
         cur,
         f,
         le-leb 4
@@ -286,20 +238,12 @@ module _ (R : Rules) (p : List ℕ) (x : ℕ) (sound : IsSound R p) (alive : IsA
 
   shows_next : (was : Message) → (cut p).stop ≡ None → (cut p).current ≡ Some was →
       Shows R p (with_octet was x)
-  shows_next was st cur = record {
-    own_is = own_held was cur;
-    name_is = name_held was st cur;
-    past_is = past_held was cur;
-  }
+  shows_next was st cur = record { name_is = name_held was st cur; past_is = past_held was cur }
 
-  pub shows : (m : Message) → (cut p).stop ≡ None → m.number ≡ suc (length (cut p).whole)
-      → (((cut p).current ≡ None) × (m.payload ≡ []))
-      ⊎ ((was : Message) × ((cut p).current ≡ Some was) × (m
-      ≡ with_octet was x)) → Shows R p m
-  unfolding messages
-  shows m st number (inl (cur, none)) = shows_first m none
-      (rw (cur, append-nil (cut p).whole) number)
-  shows m st number (inr (was, cur, is)) = subst (Shows R p) (sym is) (shows_next was st cur)
+  pub shows : (m : Message) → (cut p).stop ≡ None → (((cut p).current ≡ None) × (m.payload ≡ []))
+      ⊎ ((was : Message) × ((cut p).current ≡ Some was) × (m ≡ with_octet was x)) → Shows R p m
+  shows m st (inl (cur, none)) = shows_first m none
+  shows m st (inr (was, cur, is)) = subst (Shows R p) (sym is) (shows_next was st cur)
 
 pub fragment_named : (header : List ℕ) → is_fragment header ≡ true → has_name header ≡ true
 fragment_named header f = rw f (go (is_opener header))

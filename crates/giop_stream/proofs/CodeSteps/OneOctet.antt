@@ -16,9 +16,9 @@ use Rattle.giop_stream.specs.Framing.{Message, Cut, limit, cut, messages, fault_
 use Rattle.giop_stream.specs.Events.{EventKind, Event, Open, place, events_of_octet, events_from, events, open_after, joined, Now, now_of}
 use Rattle.giop_stream.specs.Lines.{Line, lines_of_messages, stop_line, lines}
 use Rattle.giop_stream.specs.Stream.{start_count}
-use Rattle.giop_stream.specs.OpenSlots.{OctetsByNumber, octets_of}
+use Rattle.giop_stream.specs.OpenSlots.{OctetsByNumber, octets_of, Tracked, tracked_after}
 use Rattle.giop_stream.proofs.StreamLines.EventsTogether.{all_lines, sorted_lines}
-use Rattle.giop_stream.specs.Effects.{Tracked, effects, IsBegun, with_octet, tracked_after}
+use Rattle.giop_stream.specs.Effects.{effects, IsBegun, with_octet}
 use Rattle.giop_stream.specs.Octet.{Octet, AfterStop, Ends, Held, Of, front_is, octet_in, octet_of, header_of, payload_count_of}
 use Rattle.giop_stream.proofs.Lists.{all_by, each_weaker}
 use Rattle.giop_stream.proofs.Cuts.Cutting.{next, stopped_at, of_parts, parts_by, cut_grows, settle_stop, settled_messages, next_limit, next_payload, next_front, next_stopped}

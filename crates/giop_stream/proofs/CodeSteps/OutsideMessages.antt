@@ -15,14 +15,14 @@ use Rattle.giop_stream.specs.Rules.{Rules, rules_by}
 use Rattle.giop_stream.specs.Framing.{limit}
 use Rattle.giop_stream.specs.Lines.{stop_line}
 use Rattle.giop_stream.specs.Text.{stop_text, lines_text}
-use Rattle.giop_stream.specs.SlotsRepresent.{IsBare, AreReady, index_of, current_of}
+use Rattle.giop_stream.specs.SlotsRepresent.{IsBare, AreReady}
+use Rattle.giop_stream.specs.OpenSlots.{slots_of}
 use Rattle.giop_stream.specs.EngineView.{FramingView}
 use Rattle.giop_stream.specs.Octet.{AfterStop, Ends, Held, front_is, octet_in}
 use Rattle.giop_stream.specs.EngineState.{State}
 use Rattle.giop_stream.specs.EngineStep.{fresh, octet_at, ended, held_on, step_by, step}
 use Rattle.giop_stream.specs.FramingSteps as steps
 use Rattle.giop_stream.specs.ViewOfState.{Shows, payload_count_in}
-use Rattle.giop_stream.proofs.SlotSteps.StateToSlots.{owner_stays}
 use Rattle.giop_stream.proofs.CodeSteps.OneOctet.{octet_limit, octet_front, front_short}
 
 -- ---- The limit.
@@ -67,15 +67,14 @@ pushed_is m x header e =
 pub nothing_shown : (C : Table) (l : Answers) (m : FramingView) →
     m.totals ≡ record { messages = 0; faults = 0; octets = 0 }
     → m.stopped ≡ None → m.header ≡ [] → m.payload_count ≡ 0 → IsBare m.slots → Shows C l m fresh
-unfolding fresh payload_count_in
+unfolding fresh payload_count_in slots_of
 nothing_shown C l m totals stopped header payload_count bare =
     record {
       totals = totals;
       stopped = stopped;
       header = header;
       payload_count = payload_count;
-      slots = rw bare.no_slots tt;
-      owner = rw bare.no_owner (tt, refl);
+      slots = record { slots = rw bare.no_slots tt; owner = rw bare.no_owner refl };
     }
 
 module _ (C : Table) (l : Answers) (most : ℕ) (m : FramingView) (s : State) (h : Shows C l m s)
@@ -135,8 +134,6 @@ module _ (C : Table) (l : Answers) (most : ℕ) (m : FramingView) (s : State) (h
           header = refl;
           payload_count = refl;
           slots = h.slots;
-          owner = owner_stays C l (index_of m.slots.owner) (current_of m.slots.owner) s
-              (ended s fault).state refl refl refl h.owner;
         })
 
     -- ---- An octet of a header.
@@ -192,8 +189,6 @@ module _ (C : Table) (l : Answers) (most : ℕ) (m : FramingView) (s : State) (h
             header = refl;
             payload_count = none_come ∙ sym (rw (lt-ltb (length front) 12 less) refl);
             slots = h.slots;
-            owner = owner_stays C l (index_of m.slots.owner) (current_of m.slots.owner) s
-                (held_on s front).state refl refl refl h.owner;
           }
 
       pub held_text : lines_text (held_on s front).lines ≡ []

@@ -19,12 +19,13 @@ use Rattle.giop_stream.specs.Events.{Takes, MessageKey, Open, events_of_octet, e
 use Rattle.giop_stream.specs.Lines.{Line, lines}
 use Rattle.giop_stream.specs.Text.{lines_text}
 use Rattle.giop_stream.specs.Stream.{fault_count}
-use Rattle.giop_stream.specs.Effects.{Tracked, Effect, effects, tracked_at, tracked_after, with_octet}
-use Rattle.giop_stream.specs.SlotsRepresent.{SlotsRepresent, effect_to}
+use Rattle.giop_stream.specs.Effects.{Effect, effects, tracked_at, with_octet, effect_to}
+use Rattle.giop_stream.specs.OpenSlots.{Tracked, tracked_after}
+use Rattle.giop_stream.specs.SlotsRepresent.{SlotsRepresent}
 use Rattle.giop_stream.specs.PayloadRuns.{run_effect}
-use Rattle.giop_stream.specs.PayloadOwner.{IsBeforeOctet, IsBeforeOctets, IsNewest, effect_before, octets_effect, owner_of_next, owner_of_next_in, owner_after}
+use Rattle.giop_stream.specs.PayloadOwner.{IsBeforeOctet, IsBeforeOctets, IsNewest, effect_before, octets_effect, owner_after}
 use Rattle.giop_stream.specs.EngineView.{FramingView}
-use Rattle.giop_stream.specs.EngineState.{State, state_of}
+use Rattle.giop_stream.specs.EngineState.{State, state_of, owner_of_next, owner_of_next_in}
 use Rattle.giop_stream.specs.EngineStep.{runs}
 use Rattle.giop_stream.specs.FramingSteps.{end_message as settled}
 use Rattle.giop_stream.specs.ViewOfState.{IsReached, Shows, Does}

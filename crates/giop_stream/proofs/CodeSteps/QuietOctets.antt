@@ -19,15 +19,14 @@ use Rattle.giop_stream.specs.Rules.{Rules, rules_by}
 use Rattle.giop_stream.specs.Framing.{Message, Cut, limit, cut, messages, fault_of}
 use Rattle.giop_stream.specs.Events.{MessageKey, Event, events_of_octet, joined, open_after}
 use Rattle.giop_stream.specs.Lines.{Line, is_last_of}
-use Rattle.giop_stream.specs.OpenSlots.{octets_of}
-use Rattle.giop_stream.specs.Effects.{Tracked, effects, kept_with, kept_after, tracked_after, with_octet}
+use Rattle.giop_stream.specs.OpenSlots.{octets_of, Tracked, tracked_after}
+use Rattle.giop_stream.specs.Effects.{effects, kept_with, kept_after, with_octet}
 use Rattle.giop_stream.specs.SlotsRepresent.{SlotsRepresent}
-use Rattle.giop_stream.specs.PayloadOwner.{owner_of_next, owner_of_next_in}
 use Rattle.giop_stream.specs.HeaderEndsOfStream.{reply_told_after, owner_told_after, run_header_ends, owner_header_ends, current_header_ends, header_ends_at, header_ends_from}
 use Rattle.giop_stream.specs.PieceLimit.{IsQuiet, room, up_to, limit_in, piece_limit}
 use Rattle.giop_stream.specs.Octet.{header_of}
 use Rattle.giop_stream.specs.EngineView.{FramingView}
-use Rattle.giop_stream.specs.EngineState.{State, unless, state_of}
+use Rattle.giop_stream.specs.EngineState.{State, unless, state_of, owner_of_next, owner_of_next_in}
 use Rattle.giop_stream.specs.ViewOfState.{IsReached, Shows}
 use Rattle.giop_stream.proofs.Cuts.Cutting.{of_parts, next, parts_by, cut_grows, next_limit, next_payload, next_front, next_stopped, settled_messages}
 use Rattle.giop_stream.proofs.Cuts.CutFrom.{end_message, header_case}

@@ -19,8 +19,9 @@ use Rattle.giop_stream.specs.Events.{MessageKey, Takes, Rising}
 use Rattle.giop_stream.specs.Lines.{Line}
 use Rattle.giop_stream.specs.Text.{lines_text}
 use Rattle.giop_stream.specs.Stream.{fault_count}
-use Rattle.giop_stream.specs.Effects.{Tracked, Part, part_of, tracked_at, lines_of, octets_then, no_effect, no_part}
-use Rattle.giop_stream.specs.SlotsRepresent.{RepresentsMessage, SlotsRepresent, index_of, event}
+use Rattle.giop_stream.specs.Effects.{Part, part_of, tracked_at, lines_of, octets_then, no_effect, no_part, event}
+use Rattle.giop_stream.specs.OpenSlots.{Tracked}
+use Rattle.giop_stream.specs.SlotsRepresent.{RepresentsMessage, SlotsRepresent, index_of}
 use Rattle.giop_stream.specs.DoesEffect.{DoesEffect, DoesPart, one_if}
 use Rattle.giop_stream.specs.PayloadRuns.{run_effect, run_part}
 use Rattle.giop_stream.specs.HeaderEndsOfStream.{run_header_ends, owner_header_ends}

@@ -1,6 +1,6 @@
 -- A stream has the same lines by answers that agree for each message whose header has ended.
 use Rattle.std.proofs.Common.{◌≡◌, ℕ, suc, Bool, true, false, List, [], ◌∷◌, ◌++◌, length, map, flat_map, ◌⊎◌, inl, inr, Option, Some, None, refl, sym, ap, subst, ◌∙◌, append_assoc}
-use Rattle.std.specs.Prelude.{◌==◌, ◌||◌, if◌then◌else◌, option_map, option_to_list}
+use Rattle.std.specs.Prelude.{◌==◌, if◌then◌else◌, option_to_list}
 use Rattle.std.specs.List.{filter, AllByRecursion as Each}
 use Rattle.giop_sig.specs.Table.{Table}
 use Rattle.giop_message.specs.MessageReader.{TimedLine}
@@ -12,18 +12,19 @@ use Rattle.giop_stream.specs.Rules.{Rules, rules_by}
 use Rattle.giop_message.specs.declared.message.Message.{Message as CodeMessage}
 use Rattle.giop_stream.specs.EngineView.{EngineView, FramingView}
 use Rattle.giop_stream.specs.EngineHolds.{HoldsBy}
-use Rattle.giop_stream.specs.SlotsRepresent.{OpenEntry, RepresentsMessage, AreSlots, index_of, current_of}
-use Rattle.giop_stream.specs.ViewOfState.{IsOwn, IsOwner, Shows}
-use Rattle.giop_stream.specs.Events.{Event, MessageKey, Open, EventKind, Begins, Takes, Opens, Continues, Cancelled, Faults, Closes, message_key, now_of, own, header_events, events_of_octet, events_of, events_from, events, opened, open_after, joined}
+use Rattle.giop_stream.specs.SlotsRepresent.{OpenEntry, RepresentsMessage, AreSlots, PayloadBelongs, index_of, current_of}
+use Rattle.giop_stream.specs.ViewOfState.{Shows}
+use Rattle.giop_stream.specs.Events.{Event, MessageKey, Open, EventKind, Begins, Takes, Opens, Continues, Cancelled, Faults, Closes, message_key, id, opener_of, has_named, own, header_events, events_of_octet, events_of, events_from, events, opened, open_after, joined}
 use Rattle.giop_stream.specs.HeaderOctets.{fronts}
 use Rattle.giop_stream.specs.Framing.{Message, with_payload, cut, messages}
 use Rattle.giop_stream.specs.Lines.{line, Said, lines_of_event, lines_of_events, lines_of_messages, lines}
 use Rattle.giop_stream.specs.Stream.{text, tally, is_over}
-use Rattle.giop_stream.specs.OpenSlots.{Slot, octets_of, is_open, slots_of}
-use Rattle.giop_stream.specs.EngineState.{State, Own, is_named, own_for, own_in, state_of}
+use Rattle.giop_stream.specs.OpenSlots.{Slot, octets_of, slots_of, slots_at, tracked_after}
+use Rattle.giop_stream.specs.EngineState.{State, opener_key, owner_of_next, owner_of_next_in, state_of}
 use Rattle.giop_stream.specs.AnswersAgree.{AnswersAgree}
 use Rattle.giop_stream.proofs.StreamLines.LinesOfOctet.{joined_append}
 use Rattle.giop_stream.proofs.Events.EventsOfOctet.{opened_each}
+use Rattle.giop_stream.proofs.Events.EventsByEngine.{found_in}
 
 module _ (C : Table) (a b : Answers) (all : List Event) where
   abbrev Same : Event → Type 0
@@ -92,7 +93,7 @@ module _ (C : Table) (a b : Answers) (most : ℕ) (p : List ℕ) (h : AnswersAgr
 
   -- and the same state
   pub state_agree : state_of (rules_by C a most) p ≡ state_of (rules_by C b most) p
-  unfolding state_of tally
+  unfolding state_of tally tracked_after
   state_agree = rw (lines_agree, known_agree) refl
 
 -- ---- the fields of an engine
@@ -102,10 +103,6 @@ module _ (C : Table) (a b : Answers) where
   abbrev IsSame : MessageKey → Option (List ℕ) → Type 0
   IsSame w None = Unit {0}
   IsSame w (Some xs) = (a w.number ≡ b w.number) ⊎ (header_noted w.header xs ≡ None)
-
-  abbrev OwnSame : Option Own → Type 0
-  OwnSame None = Unit {0}
-  OwnSame (Some o) = IsSame o.message_key (Some o.octets)
 
   kept_agree : (m : Option CodeMessage) (w : MessageKey) (o : Option (List ℕ)) → IsSame w o →
       RepresentsMessage C a m w o → RepresentsMessage C b m w o
@@ -130,28 +127,30 @@ module _ (C : Table) (a b : Answers) where
   slots_agree [] (slot ∷ slots) same k = absurd k
   slots_agree (x ∷ ks) [] same k = absurd k
 
-  own_agree : (m : Option CodeMessage) (o : Option Own) → OwnSame o → IsOwn C a m o → IsOwn C b m o
-  own_agree None None same k = tt
-  own_agree (Some m) (Some o) same k = follows_agree C a b o.message_key.number o.message_key.header
-      o.octets m same k
-  own_agree (Some m) None same k = absurd k
-  own_agree None (Some o) same k = absurd k
-
   pub shows_agree : (f : FramingView) (s : State) →
-      Each (λ slot. IsSame slot.open_as.opener slot.octets) s.slots → OwnSame s.own
+      Each (λ slot. IsSame slot.open_as.opener slot.octets) (slots_at s.tracked)
+      → ((w : MessageKey) → s.owner ≡ Some w → IsSame w (s.tracked.known w.number))
       → Shows C a f s → Shows C b f s
   shows_agree f s same own h = record {
     totals = h.totals;
     stopped = h.stopped;
     header = h.header;
     payload_count = h.payload_count;
-    slots = slots_agree f.slots.slots.entries s.slots same h.slots;
-    owner = owner_agree (index_of f.slots.owner) (current_of f.slots.owner) h.owner;
+    slots = record {
+      slots = slots_agree f.slots.slots.entries (slots_at s.tracked) same h.slots.slots;
+      owner = owner_agree (index_of f.slots.owner) (current_of f.slots.owner) s.owner own
+          h.slots.owner;
+    };
   }
     where
-      owner_agree : (i : Option ℕ) (m : Option CodeMessage) → IsOwner C a i m s → IsOwner C b i m s
-      owner_agree None m k = (own_agree m s.own own k.0, k.1)
-      owner_agree (Some i) m k = k
+      owner_agree : (i : Option ℕ) (m : Option CodeMessage) (who : Option MessageKey)
+          → ((w : MessageKey) → who ≡ Some w → IsSame w (s.tracked.known w.number))
+          → PayloadBelongs C a i m s.tracked who → PayloadBelongs C b i m s.tracked who
+      owner_agree None m None own k = k
+      owner_agree None m (Some w) own k =
+          (k.0, kept_agree m w (s.tracked.known w.number) (own w refl) k.1)
+      owner_agree (Some i) m None own k = k
+      owner_agree (Some i) m (Some w) own k = k
 
 -- ---- the messages that an engine keeps
 
@@ -186,6 +185,35 @@ module _ (P : MessageKey → Type 0) (most : ℕ) where
       let parts = each_parts (λ e. P e.subject) es (events_from most (opened still_open es) ms) h in
       (first_own still_open m parts.0, each_own (opened still_open es) ms parts.1)
 
+-- the owner of the next octet is the current message or an open one
+pub of_owner : (P : MessageKey → Type 0) (most : ℕ) (p : List ℕ) (w : MessageKey) →
+    owner_of_next_in (open_after most p) (cut p).current ≡ Some w
+    → Each (λ e. P e.subject) (events most p) → P w
+unfolding events messages open_after owner_of_next opener_of
+of_owner P most p w owner h =
+    let own = (each_parts (λ m. P (message_key m)) (cut p).whole (option_to_list (cut p).current)
+    (each_own P most [] (messages (cut p)) h)).1 in
+    go (cut p).current own owner
+  where
+    other : (m : Message) (o : Option Open) → opener_of (open_after most p) m ≡ o →
+        opener_key o ≡ Some w → P w
+    other m None e k = absurd cc
+    other m (Some o) e k =
+        let same : o.opener ≡ w = cc in
+        subst P same (found_in (λ o. P o.opener) (λ o. o.id == id m) (open_after most p) o
+        (opened_each P [] (events most p) tt h) e)
+
+    by : (m : Message) → P (message_key m) → (b : Bool)
+        → (if b then opener_key (opener_of (open_after most p) m) else Some (message_key m))
+        ≡ Some w → P w
+    by m own true k = other m (opener_of (open_after most p) m) refl k
+    by m own false k = let same : message_key m ≡ w = cc in subst P same own
+
+    go : (current : Option Message) → Each (λ m. P (message_key m)) (option_to_list current) →
+        owner_of_next_in (open_after most p) current ≡ Some w → P w
+    go None own k = absurd cc
+    go (Some m) own k = by m own.0 (has_named m) k
+
 module _ (C : Table) (a b : Answers) (most : ℕ) (p : List ℕ) (h : AnswersAgree most p a b) where
   abbrev R : Rules
   R = rules_by C a most
@@ -209,34 +237,14 @@ module _ (C : Table) (a b : Answers) (most : ℕ) (p : List ℕ) (h : AnswersAgr
   slots_same [] k = tt
   slots_same (o ∷ os) k = (same_for o.opener k.0, slots_same os k.1)
 
-  own_same : (current : Option Message) →
-      Each (λ m. AgreeFor (message_key m)) (option_to_list current)
-      → OwnSame C a b (own_in (octets_of R p) (open_after most p) current)
-  unfolding own_for
-  own_same None k = tt
-  own_same (Some m) k = go (is_open (open_after most p) m.number || is_named (now_of m))
-    where
-      kept : (o : Option (List ℕ)) → IsSame C a b (message_key m) o
-          → OwnSame C a b (option_map (λ xs. record { message_key = message_key m; octets = xs }) o)
-      kept None s = tt
-      kept (Some xs) s = s
-
-      go : (gone : Bool) → OwnSame C a b (if gone then None
-          else option_map (λ xs. record { message_key = message_key m; octets = xs })
-          (octets_of R p m.number))
-      go true = tt
-      go false = kept (octets_of R p m.number) (same_for (message_key m) k.0)
-
   fields_agree : (f : FramingView) → Shows C a f (state_of R p) →
       Shows C b f (state_of (rules_by C b most) p)
-  unfolding state_of open_after events messages
+  unfolding state_of open_after events tracked_after
   fields_agree f shows =
-      let own = each_parts (λ m. AgreeFor (message_key m)) (cut p).whole
-      (option_to_list (cut p).current) (each_own AgreeFor most [] (messages (cut p)) h) in
       subst (Shows C b f) (state_agree C a b most p h)
       (shows_agree C a b f (state_of R p) (slots_same (open_after most p)
       (opened_each AgreeFor [] (events most p) tt h))
-      (own_same (cut p).current own.1) shows)
+      (λ w owner. same_for w (of_owner AgreeFor most p w owner h)) shows)
 
 pub held_agree : (e : EngineView) (a b : Answers) (p : List ℕ) → AnswersAgree e.most p a b →
     HoldsBy e a p → HoldsBy e b p

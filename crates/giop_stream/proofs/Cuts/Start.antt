@@ -28,7 +28,7 @@ pub lines_nothing : (R : Rules) → lines R [] ≡ []
 unfolding of_parts stop_line
 lines_nothing R = lines_stopped R [] None (rw cut_nothing refl) ∙ rw (no_message_lines R) refl
 
-octets_nothing : (R : Rules) (i : ℕ) → octets_of R [] i ≡ Some []
+pub octets_nothing : (R : Rules) (i : ℕ) → octets_of R [] i ≡ Some []
 unfolding octets_of is_over joined
 octets_nothing R i = rw (octets_of, no_message_lines R, events_nothing R.most) refl
 

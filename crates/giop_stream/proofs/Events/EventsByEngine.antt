@@ -1,13 +1,11 @@
 -- The events of an octet from the fields of an engine: the same as those from the message.
 use Rattle.std.proofs.Common.{inl, inr, ◌≡◌, ℕ, ◌<◌, Bool, true, false, List, [], ◌∷◌, ◌++◌, refl, sym, ap, subst, ◌∙◌, Option, Some, None, arith}
-use Rattle.std.specs.Prelude.{◌==◌, if◌then◌else◌, ◌||◌, option_map}
-use Rattle.std.specs.List.{find, list_any, AllByRecursion as Each}
+use Rattle.std.specs.Prelude.{◌==◌, if◌then◌else◌, ◌||◌}
+use Rattle.std.specs.List.{find, AllByRecursion as Each}
 use Rattle.std.proofs.lemmas.Bool.{cases_lt, cases_eq, lt-ltb, le-ltb, ne_eqb, eq-eqb, eqb-true, and_right}
 use Rattle.giop_message.specs.Headers.{size, has_name, is_opener, is_fragment}
-use Rattle.giop_message.specs.MessageReader.{MessageReader}
-use Rattle.giop_stream.specs.Events.{Event, Open, Rising, changed, joined, Now, header_events, payload_events, request_id_events, message_end_events, events_with_id}
-use Rattle.giop_stream.specs.Lines.{is_last_of, up_to_last_line}
-use Rattle.giop_stream.specs.Effects.{Tracked, Effect, lines_at, tracked_at, effects, lines_for, kept_with, kept_after}
+use Rattle.giop_stream.specs.Events.{Open, Rising, Now, header_events, payload_events, request_id_events, message_end_events, events_with_id}
+use Rattle.giop_stream.specs.EngineState.{opener_key}
 use Rattle.giop_stream.specs.EngineStep.{numbered}
 use Rattle.giop_stream.proofs.StreamLines.LineOrder.{unnamed}
 
@@ -72,39 +70,6 @@ module _ (most : ℕ) (still_open : List Open) (now : Now) (i j : ℕ) (o q : Op
     | inr other ↦ elsewhere other (is_fragment now.subject.header) refl (λ f past. k past f)
   ]
 
--- ---- An effect depends only on what is known of its events' subjects.
-
-pub record AgreeOn (P : ℕ → Type 0) (a b : Effect) : Type 0 where
-  pub lines : a.lines ≡ b.lines
-  pub still_open : a.tracked.still_open ≡ b.tracked.still_open
-  pub known : (i : ℕ) → P i → a.tracked.known i ≡ b.tracked.known i
-
-pub effects_agree : (R : MessageReader) (P : ℕ → Type 0) (c d : Tracked) (es : List Event) →
-    c.still_open ≡ d.still_open
-    → ((i : ℕ) → P i → c.known i ≡ d.known i) → Each (λ e. P e.subject.number) es →
-    AgreeOn P (effects R c es) (effects R d es)
-unfolding effects
-effects_agree R P c d [] l h k = record { lines = refl; still_open = l; known = h }
-effects_agree R P c d (e ∷ es) l h k =
-    let now : lines_at R c.known e ≡ lines_at R d.known e = unfold lines_at in
-    ap (λ (o : Option (List ℕ)). up_to_last_line (λ i. false) (lines_for R e o))
-    (h e.subject.number k.0) in
-    let more = effects_agree R P (tracked_at R c e) (tracked_at R d e) es (still_open_then l)
-    (known_then now) k.1 in
-    record { lines = λ j. now j ++ more.lines j; still_open = more.still_open; known = more.known }
-  where
-    still_open_then : c.still_open ≡ d.still_open →
-        (tracked_at R c e).still_open ≡ (tracked_at R d e).still_open
-    still_open_then l = unfold tracked_at in
-        ap (λ (still_open : List Open). changed still_open e.subject e.what) l
-
-    known_then : lines_at R c.known e ≡ lines_at R d.known e → (i : ℕ) → P i →
-        (tracked_at R c e).known i ≡ (tracked_at R d e).known i
-    known_then now i p =
-        unfold tracked_at kept_after kept_with in
-        λ j. if list_any (is_last_of i) (now j) then None else option_map
-        (λ xs. xs ++ joined i (e ∷ [])) (h i p j)
-
 -- ---- An open message is found by its number, as the numbers rise.
 
 pub found_in : (Q : Open → Type 0) (test : Open → Bool) (still_open : List Open) (o : Open) →
@@ -118,27 +83,23 @@ found_in Q test (a ∷ still_open) o h e = go (test a) e (found_in Q test still_
     go false e ih = ih e
 
 pub found_again : (test : Open → Bool) (still_open : List Open) → Rising still_open →
-    numbered still_open (option_map (λ o. o.opener.number) (find test still_open))
-    ≡ find test still_open
+    numbered still_open (opener_key (find test still_open)) ≡ find test still_open
 found_again test [] h = refl
 found_again test (a ∷ still_open) h = go (test a) (found_again test still_open h.1)
   where
     later : (o : Option Open) → find test still_open ≡ o
-        → numbered still_open (option_map (λ o. o.opener.number) (find test still_open))
-        ≡ find test still_open
-        → numbered (a ∷ still_open) (option_map (λ o. o.opener.number) o) ≡ o
+        → numbered still_open (opener_key (find test still_open)) ≡ find test still_open
+        → numbered (a ∷ still_open) (opener_key o) ≡ o
     later None e ih = refl
     later (Some o) e ih =
         let less : a.opener.number < o.opener.number =
         found_in (λ o. a.opener.number < o.opener.number) test still_open o h.0 e in
         rw (ne_eqb a.opener.number o.opener.number (λ same. omega (arith, less, same)))
-        (ap (λ (q : Option Open). numbered still_open (option_map (λ o. o.opener.number) q)) (sym e)
-        ∙ (ih ∙ e))
+        (ap (λ (q : Option Open). numbered still_open (opener_key q)) (sym e) ∙ (ih ∙ e))
 
-    go : (b : Bool) → numbered still_open (option_map (λ o. o.opener.number) (find test still_open))
+    go : (b : Bool) → numbered still_open (opener_key (find test still_open))
         ≡ find test still_open
-        → numbered (a ∷ still_open) (option_map (λ o. o.opener.number)
-        (if b then Some a else find test still_open))
+        → numbered (a ∷ still_open) (opener_key (if b then Some a else find test still_open))
         ≡ (if b then Some a else find test still_open)
     go true ih = rw (eq-eqb a.opener.number a.opener.number refl) refl
     go false ih = later (find test still_open) refl ih

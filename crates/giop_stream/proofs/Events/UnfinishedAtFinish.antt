@@ -1,20 +1,23 @@
 -- Which messages are unfinished: the open ones and the current one, unless they are over.
 use Rattle.std.proofs.Common.{◌≡◌, ℕ, Bool, true, false, cond, not, List, [], ◌∷◌, ◌++◌, length, refl, sym, ap, ◌∙◌, Option, Some, None}
-use Rattle.std.specs.Prelude.{if◌then◌else◌, ◌||◌, ◌&&◌, nat_le, flat_map, option_map}
+use Rattle.std.specs.Prelude.{if◌then◌else◌, ◌||◌, ◌&&◌, ◌==◌, nat_le, flat_map}
+use Rattle.std.specs.List.{AllByRecursion as Each}
+use Rattle.std.proofs.lemmas.Bool.{eq-eqb, or_right}
 use Rattle.giop_checkpoint.specs.declared.fault.StreamFault.{StreamFault}
 use Rattle.giop_message.specs.Headers.{is_fragment}
 use Rattle.giop_stream.specs.Rules.{Rules}
 use Rattle.giop_stream.specs.Framing.{Message, Cut, cut, read_of}
 use Rattle.giop_message.specs.MessageReader.{IsCausal, IsEnding, IsStreamable}
 use Rattle.giop_stream.specs.Text.{truncated_line}
-use Rattle.giop_stream.specs.Stream.{is_inside}
-use Rattle.giop_stream.specs.Events.{Open, message_key, has_named, events, open_after, joined}
-use Rattle.giop_stream.specs.Stream.{is_over, unfinished}
-use Rattle.giop_stream.specs.OpenSlots.{OctetsByNumber, octets_of, is_open, slots_of, left_by, left_open}
-use Rattle.giop_stream.specs.EngineState.{own_for, own_in, state_of}
-use Rattle.giop_stream.specs.EngineStep.{left_own, left_over}
+use Rattle.giop_stream.specs.Stream.{is_inside, is_over, unfinished}
+use Rattle.giop_stream.specs.Events.{Open, message_key, id, opener_of, has_named, events, open_after, joined}
+use Rattle.giop_stream.specs.OpenSlots.{OctetsByNumber, octets_of, is_open, slots_of, Tracked, tracked_after, left_by, left_open}
+use Rattle.giop_stream.specs.EngineState.{opener_key, owner_of_next, owner_of_next_in, state_of}
+use Rattle.giop_stream.specs.EngineStep.{left_current, left_over}
+use Rattle.giop_stream.proofs.Lists.{each_weaker}
 use Rattle.giop_stream.proofs.StreamLines.LastLines.{octets_known}
 use Rattle.giop_stream.proofs.StreamLines.FirstMessages.{numbers_of, tail_of, alive}
+use Rattle.giop_stream.proofs.Events.EventsByEngine.{found_in}
 use Rattle.giop_stream.proofs.Events.UnfinishedAreOpen.{tail_now, alive_append, complete}
 
 -- The numbers that an engine has at the finish are those of the unfinished messages.
@@ -40,37 +43,55 @@ or_none : (b : Bool) → (b || false) ≡ b
 or_none true = refl
 or_none false = refl
 
-own_left : (over : ℕ → Bool) (xs : OctetsByNumber) (still_open : List Open)
-    (current : Option Message)
-    → ((i : ℕ) → over i ≡ true → xs i ≡ None) →
-    ((i : ℕ) → over i ≡ false → (ys : List ℕ) × (xs i ≡ Some ys))
-    → left_own (own_in xs still_open current) ≡ alive over (tail_now still_open current)
-unfolding own_for has_named alive tail_now tail_of
-own_left over xs still_open None h k = refl
-own_left over xs still_open (Some m) h k = go (is_fragment m.header) refl
+-- each of these messages is open
+all_open : (still_open : List Open) → Each (λ o. is_open still_open o.opener.number ≡ true)
+    still_open
+unfolding is_open
+all_open [] = tt
+all_open (o ∷ still_open) = (
+  rw (eq-eqb o.opener.number o.opener.number refl) refl,
+  each_weaker (λ a. is_open still_open a.opener.number ≡ true)
+      (λ a. is_open (o ∷ still_open) a.opener.number ≡ true)
+      (λ a h. or_right (o.opener.number == a.opener.number) _ h) still_open (all_open still_open),
+)
+
+-- the owner of the next octets that isn't open is the current message
+current_left : (over : ℕ → Bool) (c : Tracked) (current : Option Message)
+    → ((i : ℕ) → over i ≡ true → c.known i ≡ None) →
+    ((i : ℕ) → over i ≡ false → (ys : List ℕ) × (c.known i ≡ Some ys))
+    → left_current c (owner_of_next_in c.still_open current)
+    ≡ alive over (tail_now c.still_open current)
+unfolding left_current owner_of_next has_named opener_of alive tail_now tail_of
+current_left over c None h k = refl
+current_left over c (Some m) h k = go (is_fragment m.header) refl
   where
-    left : Bool → Option (List ℕ) → List ℕ
-    left gone o = left_own (if gone then None else option_map
-        (λ xs. record { message_key = message_key m; octets = xs }) o)
+    continued : (o : Option Open) → opener_of c.still_open m ≡ o →
+        left_current c (opener_key o) ≡ []
+    continued None e = refl
+    continued (Some o) e = rw (found_in (λ o. is_open c.still_open o.opener.number ≡ true)
+        (λ o. o.id == id m) c.still_open o (all_open c.still_open) e) refl
 
-    fragment : is_fragment m.header ≡ true → (gone : Bool) (o : Option (List ℕ)) → left gone o ≡ []
-    fragment f true o = refl
-    fragment f false None = refl
-    fragment f false (Some xs) = rw f refl
+    fragment : is_fragment m.header ≡ true → (b d : Bool) → is_open c.still_open m.number ≡ d →
+        left_current c (if b then opener_key (opener_of c.still_open m) else Some (message_key m))
+        ≡ []
+    fragment f true d e = continued (opener_of c.still_open m) refl
+    fragment f false true e = rw e refl
+    fragment f false false e = rw (e, f) refl
 
-    other : is_fragment m.header ≡ false → (open_now b : Bool) → over m.number ≡ b
-        → left open_now (xs m.number) ≡ alive over (if open_now then [] else m.number ∷ [])
-    other f true b e = refl
-    other f false true e = rw (h m.number e, e) refl
-    other f false false e = let known = k m.number e in rw (known.1, f, e) refl
+    itself : (open_now b : Bool) → over m.number ≡ b
+        → (if open_now then [] else left_by m.number (c.known m.number))
+        ≡ alive over (if open_now then [] else m.number ∷ [])
+    itself true b e = refl
+    itself false true e = rw (h m.number e, e) refl
+    itself false false e = let known = k m.number e in rw (known.1, e) refl
 
     go : (b : Bool) → is_fragment m.header ≡ b
-        → left (is_open still_open m.number ||
-        (is_fragment m.header && nat_le 4 (length m.payload))) (xs m.number) ≡ alive over
-        (if is_fragment m.header || is_open still_open m.number then [] else m.number ∷ [])
-    go true f = fragment f _ (xs m.number) ∙ rw f refl
-    go false f = rw (f, or_none (is_open still_open m.number))
-        (other f (is_open still_open m.number) (over m.number) refl)
+        → left_current c (if is_fragment m.header && nat_le 4 (length m.payload) then
+        opener_key (opener_of c.still_open m) else Some (message_key m)) ≡ alive over
+        (if is_fragment m.header || is_open c.still_open m.number then [] else m.number ∷ [])
+    go true f = fragment f _ (is_open c.still_open m.number) refl ∙ rw f refl
+    go false f = rw (f, f, or_none (is_open c.still_open m.number))
+        (itself (is_open c.still_open m.number) (over m.number) refl)
 
 octets_over : (R : Rules) (p : List ℕ) (i : ℕ) → is_over R p i ≡ true → octets_of R p i ≡ None
 unfolding octets_of
@@ -78,7 +99,7 @@ octets_over R p i h = rw h refl
 
 pub left_is : (R : Rules) → IsCausal R.reading → IsStreamable R.reading → IsEnding R.reading →
     (p : List ℕ) → unfinished R p ≡ left_over (state_of R p)
-unfolding unfinished left_over state_of alive
+unfolding unfinished left_over state_of tracked_after alive
 left_is R causal laws ending p =
     let still_open = open_after R.most p in
     let over = is_over R p in
@@ -88,7 +109,7 @@ left_is R causal laws ending p =
     ∙ (alive_append over (numbers_of still_open) (tail_now still_open (cut p).current)
     ∙ rw (
       slots_left over (octets_of R p) still_open (octets_over R p) known,
-      own_left over (octets_of R p) still_open (cut p).current (octets_over R p) known,
+      current_left over (tracked_after R p) (cut p).current (octets_over R p) known,
     ) refl)
 
 pub read_by : (p : List ℕ) (c : Cut) → cut p ≡ c → is_inside c.current c.held c.stop ≡ true →

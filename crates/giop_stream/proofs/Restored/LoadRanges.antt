@@ -19,7 +19,7 @@ use Rattle.giop_stream.specs.HeaderOctets.{first_wrong_octet}
 use Rattle.giop_stream.specs.Rules.{Rules, rules}
 use Rattle.giop_stream.specs.Framing.{Message, Cut, cut, limit, read_of, fault_of}
 use Rattle.giop_stream.specs.Events.{place, open_after}
-use Rattle.giop_stream.specs.OpenSlots.{slots_of, octets_of}
+use Rattle.giop_stream.specs.OpenSlots.{octets_of, tracked_after, slots_at}
 use Rattle.giop_stream.specs.Stream.{tally}
 use Rattle.giop_stream.specs.Octet.{Octet, AfterStop, Ends, Held, Of, header_of, octet_of}
 use Rattle.giop_stream.specs.EngineState.{unless, state_of}
@@ -196,12 +196,11 @@ module _ (octets p : List ℕ) (C : Table) (l : RequestTable) (most : ℕ)
   free none = free_stop (cut p).stop (sym s.shows.stopped ∙ none)
 
   pub few_slots : length s.memory.slots.slots.entries ≤ most
-  unfolding state_of
+  unfolding state_of tracked_after
   few_slots =
-      let K = octets_of R p in
       let many = are_as_many C (by_list l) s.memory.slots.slots.entries
-      (slots_of K (open_after most p)) s.shows.slots in
-      omega (arith, many, slots_many K (open_after most p), few_open most p)
+      (slots_at (tracked_after R p)) s.shows.slots.slots in
+      omega (arith, many, slots_many (octets_of R p) (open_after most p), few_open most p)
 
   header_is : IsWithin s.memory.totals.octets s.memory.header
   header_is = rw (totals_are, s.shows.header) (header_within R causal laws p s.stream)

@@ -17,9 +17,7 @@ use Rattle.giop_stream.specs.declared.slots.Slots.{Slots}
 use Rattle.giop_stream.specs.declared.slots.PayloadOwner.TheVariants as owners
 use Rattle.giop_stream.specs.Events.{MessageKey}
 use Rattle.giop_stream.specs.OpenSlots.{Slot as Held}
-use Rattle.giop_stream.specs.EngineState.{Own}
 use Rattle.giop_stream.specs.SlotsRepresent.{IsReady, RepresentsMessage, IsSlot, AreSlots}
-use Rattle.giop_stream.specs.ViewOfState.{IsOwn}
 use Rattle.giop_stream.specs.Checkpoint.{IsStored, IsHeld, AreEntries, standing_of}
 use Rattle.giop_stream.specs.Reloading.{IsEntry, pushed, IsOpenEntry, IsCurrentEntry, IsCurrentOwner, AreLeft, HasAdded, HasAddedFirst}
 use Rattle.giop_stream.proofs.SlotSteps.SlotLists.{are_as_many}
@@ -112,20 +110,15 @@ module _ (C : Table) (l : Answers) (first : FirstRecord) where
       absurd (open_not_over kid id (sym is.record_kind ∙ over))
 
 module _ (C : Table) (l : Answers) (octets : ℕ) (first : FirstRecord) where
-  pub current_again : (o : Own) (found : Option Message) → IsCurrentEntry C l (octets + 1) first o →
-      Restores C octets first found → (is_some found ≡ true) × IsOwn C l found (Some o)
-  current_again o found is again =
-      framing_view found (again is.message l o.message_key.number o.message_key.header o.octets
-      is.ready
+  pub current_again : (w : MessageKey) (xs : Option (List ℕ)) (found : Option Message) →
+      IsCurrentEntry C l (octets + 1) first w xs → Restores C octets first found →
+      (is_some found ≡ true) × RepresentsMessage C l found w xs
+  current_again w None found is again = absurd is.own_is
+  current_again w (Some xs) found is again =
+      is_again C l first w xs found (again is.message l w.number w.header xs is.ready
       (sym is.entry_is.number_is ∙ sym (number_in first is.entry is.read))
       (sym is.entry_is.header_is ∙ sym (header_in first is.entry is.read))
       (stored_in is.message is.entry first is.entry_is.message is.read) is.own_is)
-    where
-      framing_view : (r : Option Message) →
-          IsSomeAnd r (λ m. Follows C l o.message_key.number o.message_key.header m o.octets) →
-          (is_some r ≡ true) × IsOwn C l r (Some o)
-      framing_view None h = absurd h
-      framing_view (Some x) h = (refl, h)
 
   open_by : (e : Entry) (w : MessageKey) (found message : Option Message)
       (message_octets : Option (List ℕ)) (kid id : ℕ) →
@@ -196,16 +189,17 @@ open_again C l octets first held id found is opened again =
     (of_slot C l (octets + 1) first held is) opened is.ready again in
     (made.1.0, slot_again C l (octets + 1) first held id found is made.0 made.1.1)
 
-module _ (C : Table) (l : Answers) (at : ℕ) (first : FirstRecord) (o : Own) (id : ℕ) where
-  standing_now : IsCurrentEntry C l at first o → record_kinds.Current ≡ first.«record».record_kind
+module _ (C : Table) (l : Answers) (at : ℕ) (first : FirstRecord) (w : MessageKey)
+    (xs : Option (List ℕ)) (id : ℕ) where
+  standing_now : IsCurrentEntry C l at first w xs → record_kinds.Current ≡ first.«record».record_kind
   standing_now is = sym (standing_in first is.entry is.read ∙ is.entry_is.standing_is)
 
-  pub current_not_open : IsCurrentEntry C l at first o →
+  pub current_not_open : IsCurrentEntry C l at first w xs →
       first.«record».record_kind ≡ record_kinds.Open id → ⊥
   current_not_open is e = let never : record_kinds.Current ≡ record_kinds.Open id =
       standing_now is ∙ e in cc
 
-  pub current_not_over : IsCurrentEntry C l at first o →
+  pub current_not_over : IsCurrentEntry C l at first w xs →
       first.«record».record_kind ≡ record_kinds.Over id → ⊥
   current_not_over is e = let never : record_kinds.Current ≡ record_kinds.Over id =
       standing_now is ∙ e in cc
@@ -267,40 +261,39 @@ IsRead first e rest =
 
 -- it is the entry of an open message
 pub record FrontOpen (C : Table) (l : Answers) (at count : ℕ) (first : FirstRecord)
-    (held : List Held) (own : Option Own)
+    (held : List Held) (w : MessageKey) (xs : Option (List ℕ))
     : Type 0 where
   pub here : Held
   pub others : List Held
   pub held_are : held ≡ here ∷ others
   pub is : IsOpenEntry C l at first here
-  pub left : AreLeft C l at (count - 1) first.rest.now others own
+  pub left : AreLeft C l at (count - 1) first.rest.now others w xs
 
 -- or of the current one
 pub record FrontOwn (C : Table) (l : Answers) (at count : ℕ) (first : FirstRecord)
-    (held : List Held) (own : Option Own)
+    (held : List Held) (w : MessageKey) (xs : Option (List ℕ))
     : Type 0 where
-  pub here : Own
   pub no_held : held ≡ []
-  pub own_here : own ≡ Some here
-  pub is : IsCurrentEntry C l at first here
+  pub is : IsCurrentEntry C l at first w xs
   pub last : count - 1 ≡ 0
 
 -- what is left to read, by its parts
 record Parts (C : Table) (l : Answers) (at count : ℕ) (octets : List ℕ) (kept : List OpenEntry)
-    (held : List Held)
-    (current : Option Message) (own : Option Own) (entries : List Entry) : Type 0 where
+    (held : List Held) (current : Option Message) (w : MessageKey) (xs : Option (List ℕ))
+    (entries : List Entry) : Type 0 where
   entries_are : AreEntries kept current entries
   count_is : count ≡ length entries
   octets_are : octets ≡ flat_map entry_octets entries
   slots_are : AreSlots C l kept held
-  own_is : IsOwn C l current own
+  own_is : RepresentsMessage C l current w xs
   each_ready : Each (λ slot. IsReady C at slot.value.message) kept
   own_ready : IsReady C at current
 
-module _ (C : Table) (l : Answers) (at count : ℕ) (octets : List ℕ) where
-  parts_of : (held : List Held) (own : Option Own) (left : AreLeft C l at count octets held own) →
-      Parts C l at count octets left.kept held left.current own left.entries
-  parts_of held own left = record {
+module _ (C : Table) (l : Answers) (at count : ℕ) (octets : List ℕ) (w : MessageKey)
+    (xs : Option (List ℕ)) where
+  parts_of : (held : List Held) (left : AreLeft C l at count octets held w xs) →
+      Parts C l at count octets left.kept held left.current w xs left.entries
+  parts_of held left = record {
     entries_are = left.entries_are;
     count_is = left.count_is;
     octets_are = left.octets_are;
@@ -310,10 +303,10 @@ module _ (C : Table) (l : Answers) (at count : ℕ) (octets : List ℕ) where
     own_ready = left.own_ready;
   }
 
-  pub front_found : (held : List Held) (own : Option Own) → AreLeft C l at count octets held own →
+  pub front_found : (held : List Held) → AreLeft C l at count octets held w xs →
       (count ≡ 0 → ⊥) →
       ((e : Entry) (rest : List ℕ) → EntryHasRange e → octets ≡ entry_octets e ++ rest → ⊥) → ⊥
-  front_found held own left some read =
+  front_found held left some read =
       go left.entries left.count_is left.octets_are
       (entries_range left.kept left.current left.entries left.entries_are)
     where
@@ -324,29 +317,29 @@ module _ (C : Table) (l : Answers) (at count : ℕ) (octets : List ℕ) where
 
   none_by : (slots : Slots) → slots.owner ≡ owners.Current None → count ≡ 0 →
       (kept : List OpenEntry) (held : List Held)
-      (current : Option Message) (own : Option Own) (entries : List Entry) →
-      Parts C l at count octets kept held current own entries →
-      HasAdded C l slots slots held × IsCurrentOwner C l slots.owner own
-  none_by slots bare none [] [] None own [] is = (
+      (current : Option Message) (entries : List Entry) →
+      Parts C l at count octets kept held current w xs entries →
+      HasAdded C l slots slots held × IsCurrentOwner C l slots.owner w xs
+  none_by slots bare none [] [] None [] is = (
     added_none C l slots slots refl,
-    subst (λ of. IsCurrentOwner C l of own) (sym bare)
+    subst (λ of. IsCurrentOwner C l of w xs) (sym bare)
         (refl, is.own_is),
   )
-  none_by slots bare none [] [] None own (e ∷ es) is = absurd is.entries_are
-  none_by slots bare none [] [] (Some m) own [] is = absurd is.entries_are
-  none_by slots bare none [] [] (Some m) own (e ∷ es) is = absurd (omega (arith, none, is.count_is))
-  none_by slots bare none [] (h ∷ hs) current own es is = absurd is.slots_are
-  none_by slots bare none (k ∷ ks) [] current own es is = absurd is.slots_are
-  none_by slots bare none (k ∷ ks) (h ∷ hs) current own [] is = absurd is.entries_are
-  none_by slots bare none (k ∷ ks) (h ∷ hs) current own (e ∷ es) is =
+  none_by slots bare none [] [] None (e ∷ es) is = absurd is.entries_are
+  none_by slots bare none [] [] (Some m) [] is = absurd is.entries_are
+  none_by slots bare none [] [] (Some m) (e ∷ es) is = absurd (omega (arith, none, is.count_is))
+  none_by slots bare none [] (h ∷ hs) current es is = absurd is.slots_are
+  none_by slots bare none (k ∷ ks) [] current es is = absurd is.slots_are
+  none_by slots bare none (k ∷ ks) (h ∷ hs) current [] is = absurd is.entries_are
+  none_by slots bare none (k ∷ ks) (h ∷ hs) current (e ∷ es) is =
       absurd (omega (arith, none, is.count_is))
 
-  pub all_none : (slots : Slots) (held : List Held) (own : Option Own) →
-      AreLeft C l at count octets held own →
+  pub all_none : (slots : Slots) (held : List Held) →
+      AreLeft C l at count octets held w xs →
       count ≡ 0 → slots.owner ≡ owners.Current None → HasAdded C l slots slots held
-      × IsCurrentOwner C l slots.owner own
-  all_none slots held own left none bare =
-      none_by slots bare none left.kept held left.current own left.entries (parts_of held own left)
+      × IsCurrentOwner C l slots.owner w xs
+  all_none slots held left none bare =
+      none_by slots bare none left.kept held left.current left.entries (parts_of held left)
 
   module _ (first : FirstRecord) (some : count ≡ 0 → ⊥)
       (read : (e : Entry) (rest : List ℕ) → EntryHasRange e → octets ≡ entry_octets e ++ rest →
@@ -358,15 +351,13 @@ module _ (C : Table) (l : Answers) (at count : ℕ) (octets : List ℕ) where
         read e (flat_map entry_octets es) range spelled in
         record { own = is.0; message = is.1; frames = is.2 }
 
-    front_own : (m : Message) (o : Own) (e : Entry) (es : List Entry) →
-        Parts C l at count octets [] [] (Some m) (Some o) (e ∷ es) →
-        FrontOwn C l at count first [] (Some o)
-    front_own m o e es is =
+    front_own : (m : Message) (e : Entry)
+        (es : List Entry) → Parts C l at count octets [] [] (Some m) w xs (e ∷ es) →
+        FrontOwn C l at count first [] w xs
+    front_own m e es is =
         let none : length es ≡ 0 = ap length is.entries_are.1 in
         record {
-          here = o;
           no_held = refl;
-          own_here = refl;
           is = record {
             message = m;
             entry = e;
@@ -379,11 +370,11 @@ module _ (C : Table) (l : Answers) (at count : ℕ) (octets : List ℕ) where
         }
 
     front_open : (k : OpenEntry) (ks : List OpenEntry) (h : Held) (hs : List Held)
-        (current : Option Message) (own : Option Own)
-        (e : Entry) (es : List Entry) → Parts C l at count octets (k ∷ ks) (h ∷ hs) current own
+        (current : Option Message)
+        (e : Entry) (es : List Entry) → Parts C l at count octets (k ∷ ks) (h ∷ hs) current w xs
         (e ∷ es) →
-        FrontOpen C l at count first (h ∷ hs) own
-    front_open k ks h hs current own e es is = record {
+        FrontOpen C l at count first (h ∷ hs) w xs
+    front_open k ks h hs current e es is = record {
       here = h;
       others = hs;
       held_are = refl;
@@ -410,24 +401,23 @@ module _ (C : Table) (l : Answers) (at count : ℕ) (octets : List ℕ) where
     }
 
     front_by : (kept : List OpenEntry) (held : List Held) (current : Option Message)
-        (own : Option Own) (entries : List Entry) →
-        Parts C l at count octets kept held current own entries →
-        FrontOpen C l at count first held own ⊎ FrontOwn C l at count first held own
-    front_by [] [] None own [] is = absurd (some is.count_is)
-    front_by [] [] None own (e ∷ es) is = absurd is.entries_are
-    front_by [] [] (Some m) own [] is = absurd is.entries_are
-    front_by [] [] (Some m) None (e ∷ es) is = absurd is.own_is
-    front_by [] [] (Some m) (Some o) (e ∷ es) is = inr (front_own m o e es is)
-    front_by [] (h ∷ hs) current own es is = absurd is.slots_are
-    front_by (k ∷ ks) [] current own es is = absurd is.slots_are
-    front_by (k ∷ ks) (h ∷ hs) current own [] is = absurd is.entries_are
-    front_by (k ∷ ks) (h ∷ hs) current own (e ∷ es) is =
-        inl (front_open k ks h hs current own e es is)
+        (entries : List Entry) →
+        Parts C l at count octets kept held current w xs entries →
+        FrontOpen C l at count first held w xs ⊎ FrontOwn C l at count first held w xs
+    front_by [] [] None [] is = absurd (some is.count_is)
+    front_by [] [] None (e ∷ es) is = absurd is.entries_are
+    front_by [] [] (Some m) [] is = absurd is.entries_are
+    front_by [] [] (Some m) (e ∷ es) is = inr (front_own m e es is)
+    front_by [] (h ∷ hs) current es is = absurd is.slots_are
+    front_by (k ∷ ks) [] current es is = absurd is.slots_are
+    front_by (k ∷ ks) (h ∷ hs) current [] is = absurd is.entries_are
+    front_by (k ∷ ks) (h ∷ hs) current (e ∷ es) is =
+        inl (front_open k ks h hs current e es is)
 
-    pub front_is : (held : List Held) (own : Option Own) → AreLeft C l at count octets held own →
-        FrontOpen C l at count first held own ⊎ FrontOwn C l at count first held own
-    front_is held own left = front_by left.kept held left.current own left.entries
-        (parts_of held own left)
+    pub front_is : (held : List Held) → AreLeft C l at count octets held w xs →
+        FrontOpen C l at count first held w xs ⊎ FrontOwn C l at count first held w xs
+    front_is held left = front_by left.kept held left.current left.entries
+        (parts_of held left)
 
 -- ---- all records
 
@@ -435,27 +425,28 @@ false_not_true : false ≡ true → ⊥
 false_not_true e = cc
 
 -- all that was left was added
-abbrev pub IsAll : Table → Answers → Bool → Slots → Slots → List Held → Option Own → Type 0
-IsAll C l result before after held own =
-    (result ≡ true) × HasAdded C l before after held × IsCurrentOwner C l after.owner own
+abbrev pub IsAll : Table → Answers → Bool → Slots → Slots → List Held → MessageKey → Option (List ℕ) →
+    Type 0
+IsAll C l result before after held w xs =
+    (result ≡ true) × HasAdded C l before after held × IsCurrentOwner C l after.owner w xs
 
 room_here : (n most : ℕ) (held : List Held) (h : Held) (hs : List Held) → n + length held ≤ most →
     held ≡ h ∷ hs →
     n + suc (length hs) ≤ most
 room_here n most held h hs room e = omega (arith, room, ap length e)
 
-module _ (C : Table) (l : Answers) (at count : ℕ) (first : FirstRecord) (before mid : Slots)
-    (added : Bool)
+module _ (C : Table) (l : Answers) (at count : ℕ) (w : MessageKey) (xs : Option (List ℕ))
+    (first : FirstRecord) (before mid : Slots) (added : Bool)
     (slot : (held : Held) → IsOpenEntry C l at first held →
     length before.slots.entries < before.slots.most →
     (added ≡ true) × HasAdded C l before mid (held ∷ []) × (mid.owner ≡ before.owner))
-    (current : (own : Own) → IsCurrentEntry C l at first own →
-    (added ≡ true) × (mid.slots ≡ before.slots) × IsCurrentOwner C l mid.owner (Some own)) where
-  pub first_added : (held : List Held) (own : Option Own) →
-      FrontOpen C l at count first held own ⊎ FrontOwn C l at count first held own →
+    (current : IsCurrentEntry C l at first w xs →
+    (added ≡ true) × (mid.slots ≡ before.slots) × IsCurrentOwner C l mid.owner w xs) where
+  pub first_added : (held : List Held) →
+      FrontOpen C l at count first held w xs ⊎ FrontOwn C l at count first held w xs →
       length before.slots.entries + length held ≤ before.slots.most →
-      (added ≡ true) × HasAddedFirst C l at count before mid first.rest.now held own
-  first_added held own (inl f) room =
+      (added ≡ true) × HasAddedFirst C l at count before mid first.rest.now held w xs
+  first_added held (inl f) room =
       let few = room_here (length before.slots.entries) before.slots.most held f.here f.others room
       f.held_are in
       let one = slot f.here f.is (omega (arith, few)) in (
@@ -469,100 +460,99 @@ module _ (C : Table) (l : Answers) (at count : ℕ) (first : FirstRecord) (befor
           left = f.left;
         }),
       )
-  first_added held own (inr f) room =
-      let one = current f.here f.is in (
+  first_added held (inr f) room =
+      let one = current f.is in (
         one.0,
         inr (record {
-          here = f.here;
           no_held = f.no_held;
-          own_here = f.own_here;
           same = one.1;
           is = one.2;
           last = f.last;
         }),
       )
 
-module _ (C : Table) (l : Answers) (at count : ℕ) (before mid after : Slots) (rest : List ℕ)
+module _ (C : Table) (l : Answers) (at count : ℕ) (w : MessageKey) (xs : Option (List ℕ))
+    (before mid after : Slots) (rest : List ℕ)
     (result : Bool)
     (same_most : mid.slots.most ≡ before.slots.most)
     (none : count - 1 ≡ 0 → (result ≡ true) × (after ≡ mid))
-    (again : (hs : List Held) (o : Option Own) → AreLeft C l at (count - 1) rest hs o →
+    (again : (hs : List Held) → AreLeft C l at (count - 1) rest hs w xs →
     length mid.slots.entries + length hs ≤ mid.slots.most → mid.owner ≡ owners.Current None →
-    IsAll C l result mid after hs o) where
-  all_again : (held : List Held) (own : Option Own) →
-      HasAddedFirst C l at count before mid rest held own →
+    IsAll C l result mid after hs w xs) where
+  all_again : (held : List Held) →
+      HasAddedFirst C l at count before mid rest held w xs →
       length before.slots.entries + length held ≤ before.slots.most →
-      before.owner ≡ owners.Current None → IsAll C l result before after held own
-  all_again held own (inl f) room bare =
+      before.owner ≡ owners.Current None → IsAll C l result before after held w xs
+  all_again held (inl f) room bare =
       let few = room_here (length before.slots.entries) before.slots.most held f.here f.others room
       f.held_are in
       let space : length mid.slots.entries + length f.others ≤ mid.slots.most =
       omega (arith, few, same_most, added_long C l before mid f.here f.added) in
-      let more = again f.others own f.left space (f.same_owner ∙ bare) in
+      let more = again f.others f.left space (f.same_owner ∙ bare) in
       let all = added_more C l before mid after f.here f.others f.added more.1 in (
         more.0,
         subst (λ (hs : List Held). HasAdded C l before after hs) (sym f.held_are) all,
         more.2,
       )
-  all_again held own (inr f) room bare =
+  all_again held (inr f) room bare =
       let done = none f.last in
       let same : after.slots ≡ before.slots = ap (λ (s : Slots). s.slots) done.1 ∙ f.same in
       let empty = added_none C l before after (ap (λ s. s.entries) same) in (
         done.0,
         subst (λ (hs : List Held). HasAdded C l before after hs) (sym f.no_held) empty,
-        subst (λ (o : Option Own). IsCurrentOwner C l after.owner o) (sym f.own_here)
-            (subst (λ (s : Slots). IsCurrentOwner C l s.owner (Some f.here)) (sym done.1) f.is),
+        subst (λ (s : Slots). IsCurrentOwner C l s.owner w xs) (sym done.1) f.is,
       )
 
 -- Up to `mid` these records were added, and so many are left, in `rest`: whatever adds those has
 -- added all.
-abbrev pub Completes : Table → Answers → ℕ → ℕ → List ℕ → Slots → Slots → ℕ → List ℕ → Type 0
-Completes C l at count octets before mid left rest =
+abbrev pub Completes : Table → Answers → ℕ → ℕ → List ℕ → MessageKey → Option (List ℕ) → Slots → Slots → ℕ → List ℕ → Type 0
+Completes C l at count octets w xs before mid left rest =
     (result : Bool) (after : Slots) → (left ≡ 0 → (result ≡ true) × (after ≡ mid)) →
-    ((hs : List Held) (o : Option Own) → AreLeft C l at left rest hs o →
+    ((hs : List Held) → AreLeft C l at left rest hs w xs →
     length mid.slots.entries + length hs ≤ mid.slots.most → mid.owner ≡ owners.Current None →
-    IsAll C l result mid after hs o) →
-    (held : List Held) (own : Option Own) → AreLeft C l at count octets held own →
+    IsAll C l result mid after hs w xs) →
+    (held : List Held) → AreLeft C l at count octets held w xs →
     length before.slots.entries + length held ≤ before.slots.most →
     before.owner ≡ owners.Current None →
-    IsAll C l result before after held own
+    IsAll C l result before after held w xs
 
-module _ (C : Table) (l : Answers) (at count : ℕ) (octets : List ℕ) (before : Slots) where
-  pub none_yet : Completes C l at count octets before before count octets
-  none_yet result after none again held own left room bare = again held own left room bare
+module _ (C : Table) (l : Answers) (at count : ℕ) (octets : List ℕ) (w : MessageKey)
+    (xs : Option (List ℕ)) (before : Slots) where
+  pub none_yet : Completes C l at count octets w xs before before count octets
+  none_yet result after none again held left room bare = again held left room bare
 
   module _ (mid : Slots) (left : ℕ) (rest : List ℕ)
-      (before_here : Completes C l at count octets before mid left rest) where
+      (before_here : Completes C l at count octets w xs before mid left rest) where
     pub one_more : (next : Slots) (behind : List ℕ) → (left ≡ 0 → ⊥) →
         next.slots.most ≡ mid.slots.most →
-        ((hs : List Held) (o : Option Own) → AreLeft C l at left rest hs o →
+        ((hs : List Held) → AreLeft C l at left rest hs w xs →
         length mid.slots.entries + length hs ≤ mid.slots.most → mid.owner ≡ owners.Current None →
-        HasAddedFirst C l at left mid next behind hs o) →
-        Completes C l at count octets before next (left - 1) behind
+        HasAddedFirst C l at left mid next behind hs w xs) →
+        Completes C l at count octets w xs before next (left - 1) behind
     one_more next behind some same_most first result after none again =
         before_here result after (λ z. absurd (some z))
-        (λ hs o are room bare. all_again C l at left mid next after behind result same_most none
-        again hs o (first hs o are room bare) room bare)
+        (λ hs are room bare. all_again C l at left w xs mid next after behind result same_most none
+        again hs (first hs are room bare) room bare)
 
-    pub no_more : left ≡ 0 → (held : List Held) (own : Option Own) →
-        AreLeft C l at count octets held own →
+    pub no_more : left ≡ 0 → (held : List Held) →
+        AreLeft C l at count octets held w xs →
         length before.slots.entries + length held ≤ before.slots.most →
-        before.owner ≡ owners.Current None → IsAll C l true before mid held own
+        before.owner ≡ owners.Current None → IsAll C l true before mid held w xs
     no_more none =
         before_here true mid (λ z. (refl, refl))
-        (λ hs o are room bare. let made = all_none C l at left rest mid hs o are none bare in
+        (λ hs are room bare. let made = all_none C l at left rest w xs mid hs are none bare in
         (refl, made.0, made.1))
 
-    pub not_one : (left ≡ 0 → ⊥) → ((hs : List Held) (o : Option Own) →
-        AreLeft C l at left rest hs o →
+    pub not_one : (left ≡ 0 → ⊥) → ((hs : List Held) →
+        AreLeft C l at left rest hs w xs →
         length mid.slots.entries + length hs ≤ mid.slots.most → mid.owner ≡ owners.Current None →
         ⊥) →
-        (held : List Held) (own : Option Own) → AreLeft C l at count octets held own →
+        (held : List Held) → AreLeft C l at count octets held w xs →
         length before.slots.entries + length held ≤ before.slots.most →
         before.owner ≡ owners.Current None → ⊥
-    not_one some fails held own are room bare =
-        let all : IsAll C l false before mid held own = before_here false mid (λ z. absurd (some z))
-        (λ hs o here space none. absurd (fails hs o here space none)) held own are room bare in
+    not_one some fails held are room bare =
+        let all : IsAll C l false before mid held w xs = before_here false mid (λ z. absurd (some z))
+        (λ hs here space none. absurd (fails hs here space none)) held are room bare in
         false_not_true all.0
 
 -- the records that are left after the first of so many

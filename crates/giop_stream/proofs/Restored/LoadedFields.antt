@@ -16,56 +16,104 @@ use Rattle.giop_checkpoint.specs.Records.{entry_octets}
 use Rattle.giop_stream.specs.SlotsRepresent.{OpenEntry}
 use Rattle.giop_stream.specs.declared.slots.Slots.{Slots}
 use Rattle.giop_stream.specs.declared.slots.PayloadOwner.{PayloadOwner}
+use Rattle.giop_stream.specs.declared.slots.PayloadOwner.TheVariants as owners
 use Rattle.giop_stream.specs.Rules.{Rules, rules}
 use Rattle.giop_stream.specs.Framing.{cut, fault_of}
-use Rattle.giop_stream.specs.Events.{open_after}
-use Rattle.giop_stream.specs.OpenSlots.{Slot as Held, octets_of}
+use Rattle.giop_stream.specs.Events.{MessageKey, open_after}
+use Rattle.giop_stream.specs.OpenSlots.{Slot as Held, octets_of, Tracked, tracked_after, slots_at}
 use Rattle.giop_stream.specs.EngineState.{State, unless, state_of}
-use Rattle.giop_stream.specs.SlotsRepresent.{AreSlots, index_of, current_of}
-use Rattle.giop_stream.specs.ViewOfState.{IsOwner, Shows, payload_count_in}
+use Rattle.giop_stream.specs.SlotsRepresent.{RepresentsMessage, AreSlots, PayloadBelongs, index_of, current_of}
+use Rattle.giop_stream.specs.ViewOfState.{Shows, payload_count_in}
 use Rattle.giop_stream.specs.EngineView.{FramingView}
 use Rattle.giop_stream.specs.Checkpoint.{place_of, owner_of, fixed_of, Spells}
 use Rattle.giop_stream.specs.Reloading as fields
 use Rattle.giop_stream.specs.Reloading.{AreLeft, HasAdded, IsCurrentOwner}
 use Rattle.giop_stream.proofs.CodeSteps.EngineAlive.{few_open}
 use Rattle.giop_stream.proofs.SlotSteps.SlotLists.{slots_many, are_as_many}
-use Rattle.giop_stream.proofs.SlotSteps.StateToSlots.{own_shown}
+use Rattle.giop_stream.proofs.SlotSteps.EventsOnSlots.{no_key}
 use Rattle.giop_stream.proofs.Restored.LoadRanges.{AreTotals, may_be_again}
 use Rattle.giop_stream.proofs.Restored.SavedSizes.{entries_count}
 
+-- ---- a message that can stand in the place of the current one, since it has read the same octets
+
+pub record CanStand (C : Table) (l : Answers) (i : Option ℕ) (message : Option Message)
+    (c : Tracked) (owner : Option MessageKey) : Type 0 where
+  pub w : MessageKey
+  pub xs : Option (List ℕ)
+  pub is : RepresentsMessage C l message w xs
+  pub again : (m : Option Message) → i ≡ None → RepresentsMessage C l m w xs →
+      PayloadBelongs C l None m c owner
+
+module _ (C : Table) (l : Answers) (c : Tracked) where
+  over : (m : Option Message) → RepresentsMessage C l m no_key None → m ≡ None
+  over None k = refl
+  over (Some m) k = absurd k
+
+  stands : (i : Option ℕ) (message : Option Message) (owner : Option MessageKey)
+      → ((k : ℕ) → i ≡ Some k → message ≡ None) → PayloadBelongs C l i message c owner →
+      CanStand C l i message c owner
+  stands None message None alone h = record {
+    w = no_key;
+    xs = None;
+    is = rw h tt;
+    again = λ m e k. over m k;
+  }
+  stands None message (Some w) alone h = record {
+    w = w;
+    xs = c.known w.number;
+    is = h.1;
+    again = λ m e k. (h.0, k);
+  }
+  stands (Some k) message owner alone h = record {
+    w = no_key;
+    xs = None;
+    is = rw (alone k refl) tt;
+    again = λ m e k. absurd cc;
+  }
+
+-- where the owner is open there is no current message
+alone : (of : PayloadOwner) (k : ℕ) → index_of of ≡ Some k → current_of of ≡ None
+alone (owners.Current message) k e = absurd cc
+alone (owners.Open i) k e = refl
+
 -- ---- after the fixed part the records are left to read, and there is room for them
 
-pub spells_left : (octets p : List ℕ) (C : Table) (l : RequestTable) (most : ℕ)
-    (s : Spells octets C l most p) (fixed : Fixed) (records : List ℕ) →
-    fixed ≡ fixed_of C l s.memory → records ≡ flat_map entry_octets s.entries →
-    AreLeft C (by_list l) (fixed.octets + 1) fixed.records records
-    (state_of (rules C l most) p).slots
-    (state_of (rules C l most) p).own
-unfolding fixed_of
-spells_left octets p C l most s fixed records is are =
-    subst P (sym is) (record {
-      kept = s.memory.slots.slots.entries;
-      current = current_of s.memory.slots.owner;
-      entries = s.entries;
-      entries_are = s.entries_are;
-      count_is = sym (entries_count s.memory.slots.slots.entries (current_of s.memory.slots.owner)
-          s.entries s.entries_are);
-      octets_are = are;
-      slots_are = s.shows.slots;
-      own_is = own_shown C (by_list l) s.memory.slots.owner (state_of (rules C l most) p)
-          s.shows.owner;
-      each_ready = s.ready.each_ready;
-      own_ready = s.ready.current_ready;
-    })
-  where
-    P : Fixed → Type 0
-    P f =
-        AreLeft C (by_list l) (f.octets + 1) f.records records (state_of (rules C l most) p).slots
-        (state_of (rules C l most) p).own
+module _ (octets p : List ℕ) (C : Table) (l : RequestTable) (most : ℕ)
+    (s : Spells octets C l most p) where
+  pub stand : CanStand C (by_list l) (index_of s.memory.slots.owner)
+      (current_of s.memory.slots.owner) (state_of (rules C l most) p).tracked
+      (state_of (rules C l most) p).owner
+  stand = stands C (by_list l) _ (index_of s.memory.slots.owner) (current_of s.memory.slots.owner)
+      (state_of (rules C l most) p).owner (alone s.memory.slots.owner) s.shows.slots.owner
+
+  pub spells_left : (fixed : Fixed) (records : List ℕ) → fixed ≡ fixed_of C l s.memory →
+      records ≡ flat_map entry_octets s.entries →
+      AreLeft C (by_list l) (fixed.octets + 1) fixed.records records
+      (slots_at (state_of (rules C l most) p).tracked) stand.w stand.xs
+  unfolding fixed_of
+  spells_left fixed records is are =
+      subst P (sym is) (record {
+        kept = s.memory.slots.slots.entries;
+        current = current_of s.memory.slots.owner;
+        entries = s.entries;
+        entries_are = s.entries_are;
+        count_is = sym (entries_count s.memory.slots.slots.entries
+            (current_of s.memory.slots.owner) s.entries s.entries_are);
+        octets_are = are;
+        slots_are = s.shows.slots.slots;
+        own_is = stand.is;
+        each_ready = s.ready.each_ready;
+        own_ready = s.ready.current_ready;
+      })
+    where
+      P : Fixed → Type 0
+      P f =
+          AreLeft C (by_list l) (f.octets + 1) f.records records
+          (slots_at (state_of (rules C l most) p).tracked) stand.w stand.xs
 
 pub room_for : (R : Rules) (p : List ℕ) (bare : Slots) → bare.slots.entries ≡ [] →
-    length bare.slots.entries + length (state_of R p).slots ≤ R.most
-unfolding state_of
+    length bare.slots.entries + length (slots_at (state_of R p).tracked) ≤ R.most
+unfolding state_of tracked_after
 room_for R p bare none = omega (
   arith,
   ap length none,
@@ -149,17 +197,25 @@ come_again None header left payload_count behind e =
 
 -- ---- the owner of the payload
 
--- Where the current message was loaded, the owner that is loaded shows this state too.
+-- Where such a message was loaded, the owner that is loaded is this one too.
 owner_again : (C : Table) (l : Answers) (i : Option ℕ) (own : Option Message) (made : PayloadOwner)
-    (many : ℕ) (s : State) → many ≡ length s.slots →
-    IsOwner C l i own s → IsCurrentOwner C l made s.own →
+    (many : ℕ) (c : Tracked) (owner : Option MessageKey) (s : CanStand C l i own c owner) →
+    many ≡ length (slots_at c) →
+    PayloadBelongs C l i own c owner → IsCurrentOwner C l made s.w s.xs →
     (let of = fields.owner_by (owner_of i own many) many made in
-    IsOwner C l (index_of of) (current_of of) s)
-owner_again C l None None made many s long is current = rw current.0 (current.1, is.1)
-owner_again C l None (Some m) made many s long is current =
-    rw (le-ltb many many (omega arith), current.0) (current.1, is.1)
-owner_again C l (Some k) own made many s long is current =
-    let low : k < many = omega (arith, long, slice_get_within s.slots k is.1.0 is.1.1) in
+    PayloadBelongs C l (index_of of) (current_of of) c owner)
+owner_again C l None None made many c owner s long is current =
+    rw current.0 (s.again (current_of made) refl current.1)
+owner_again C l None (Some m) made many c owner s long is current =
+    rw (le-ltb many many (omega arith), current.0) (s.again (current_of made) refl current.1)
+owner_again C l (Some k) own made many c None s long is current = absurd is
+owner_again C l (Some k) own made many c (Some w) s long is current =
+    let low : k < many = omega (
+      arith,
+      long,
+      slots_many c.known c.still_open,
+      slice_get_within c.still_open k is.0 is.1,
+    ) in
     rw (lt-ltb k many low, lt-ltb k many low) is
 
 -- ---- the fields
@@ -210,27 +266,28 @@ module _ (octets p : List ℕ) (C : Table) (l : RequestTable) (most : ℕ)
       ∙ ap (λ (xs : List ℕ). payload_count_of (nat_lt (length xs) 12) xs
       (state_of (rules C l most) p).left) (sym s.shows.header)
 
-  owner_is : (many : ℕ) (made : PayloadOwner) → many ≡ length state.slots →
-      IsCurrentOwner C (by_list l) made state.own →
-      (let of = fields.owner_by (owner_of (index_of s.memory.slots.owner)
+  owner_is : (many : ℕ) (made : PayloadOwner) → many ≡ length (slots_at state.tracked) →
+      IsCurrentOwner C (by_list l) made (stand octets p C l most s).w (stand octets p C l most s).xs
+      → (let of = fields.owner_by (owner_of (index_of s.memory.slots.owner)
       (current_of s.memory.slots.owner) (length s.memory.slots.slots.entries)) many made in
-      IsOwner C (by_list l) (index_of of) (current_of of) state)
+      PayloadBelongs C (by_list l) (index_of of) (current_of of) state.tracked state.owner)
   unfolding state
   owner_is many made long own =
       let kept = are_as_many C (by_list l) s.memory.slots.slots.entries
-      (state_of (rules C l most) p).slots s.shows.slots in
+      (slots_at (state_of (rules C l most) p).tracked) s.shows.slots.slots in
       let same : many ≡ length s.memory.slots.slots.entries = long ∙ sym kept in
       rw same (owner_again C (by_list l) (index_of s.memory.slots.owner)
-      (current_of s.memory.slots.owner) made (length s.memory.slots.slots.entries) state kept
-      s.shows.owner own)
+      (current_of s.memory.slots.owner) made (length s.memory.slots.slots.entries) state.tracked
+      state.owner (stand octets p C l most s) kept s.shows.slots.owner own)
 
   module _ (m : FramingView) (bare slots : Slots) (none : bare.slots.entries ≡ []) where
     shows_fixed : IsReadAs m (fixed_of C l s.memory) slots →
-        HasAdded C (by_list l) bare slots state.slots →
-        IsCurrentOwner C (by_list l) slots.owner state.own → Shows C (by_list l) m state
+        HasAdded C (by_list l) bare slots (slots_at state.tracked) →
+        IsCurrentOwner C (by_list l) slots.owner (stand octets p C l most s).w
+        (stand octets p C l most s).xs → Shows C (by_list l) m state
     unfolding state fixed_of
     shows_fixed is added own =
-        let all = added_all C (by_list l) bare slots state.slots none added in
+        let all = added_all C (by_list l) bare slots (slots_at state.tracked) none added in
         record {
           totals = is.totals ∙ s.shows.totals;
           stopped = is.stopped ∙ stop_again s.memory.stopped s.memory.header s.memory.payload_count
@@ -241,17 +298,20 @@ module _ (octets p : List ℕ) (C : Table) (l : RequestTable) (most : ℕ)
               ∙ come_again s.memory.stopped s.memory.header state.left s.memory.payload_count behind
               come_is
               ∙ s.shows.payload_count;
-          slots = subst (λ (xs : List OpenEntry). AreSlots C (by_list l) xs state.slots)
-              (sym (ap (λ s. s.entries) is.slots)) all;
-          owner = subst (λ of. IsOwner C (by_list l) (index_of of) (current_of of) state)
-              (sym is.owner)
-              (owner_is (length slots.slots.entries) slots.owner
-              (are_as_many C (by_list l) slots.slots.entries state.slots all) own);
+          slots = record {
+            slots = subst (λ (xs : List OpenEntry). AreSlots C (by_list l) xs
+                (slots_at state.tracked)) (sym (ap (λ s. s.entries) is.slots)) all;
+            owner = subst (λ of. PayloadBelongs C (by_list l) (index_of of) (current_of of)
+                state.tracked state.owner) (sym is.owner)
+                (owner_is (length slots.slots.entries) slots.owner
+                (are_as_many C (by_list l) slots.slots.entries (slots_at state.tracked) all) own);
+          };
         }
 
     pub shows_again : (fixed : Fixed) → fixed ≡ fixed_of C l s.memory → IsReadAs m fixed slots →
-        HasAdded C (by_list l) bare slots (state_of (rules C l most) p).slots →
-        IsCurrentOwner C (by_list l) slots.owner (state_of (rules C l most) p).own →
+        HasAdded C (by_list l) bare slots (slots_at (state_of (rules C l most) p).tracked) →
+        IsCurrentOwner C (by_list l) slots.owner (stand octets p C l most s).w
+        (stand octets p C l most s).xs →
         Shows C (by_list l) m (state_of (rules C l most) p)
     unfolding state
     shows_again fixed e is added own = shows_fixed (subst (λ (f : Fixed). IsReadAs m f slots) e is)

@@ -12,9 +12,11 @@ use Rattle.giop_stream.specs.declared.slots.Slots.{Slots}
 use Rattle.giop_stream.specs.declared.current.Current.{Current}
 use Rattle.giop_stream.specs.Framing.{Message}
 use Rattle.giop_stream.specs.Events.{MessageKey, Open, id, message_key, opener_of, has_named, goes_past, events_at_request_id, events_at_end}
-use Rattle.giop_stream.specs.Effects.{Tracked, IsNotOpen, effects, no_effect}
+use Rattle.giop_stream.specs.Effects.{effects, no_effect}
+use Rattle.giop_stream.specs.OpenSlots.{Tracked, IsNotOpen}
 use Rattle.giop_stream.specs.SlotsRepresent.{RepresentsMessage, SlotsRepresent, current_of}
-use Rattle.giop_stream.specs.PayloadOwner.{IsAtRequestId, IsAfterTake, IsAtOctet, IsNewest, opener_key, owner_of_next, owner_after_id, owner_of_octet, owner_after, id_events, end_events}
+use Rattle.giop_stream.specs.PayloadOwner.{IsAtRequestId, IsAfterTake, IsAtOctet, IsNewest, owner_after_id, owner_of_octet, owner_after, id_events, end_events}
+use Rattle.giop_stream.specs.EngineState.{opener_key, owner_of_next}
 use Rattle.giop_stream.proofs.SlotSteps.RequestIds.{id_is_id}
 use Rattle.giop_stream.proofs.Lists.{each_weaker}
 use Rattle.giop_stream.proofs.SlotSteps.EventsOnSlots.{current_kept}

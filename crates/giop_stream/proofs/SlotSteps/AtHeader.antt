@@ -17,9 +17,11 @@ use Rattle.giop_stream.specs.Kinds.{refused}
 use Rattle.giop_stream.specs.Events.{MessageKey, Open, Event, Faults, message_key, now_of, events_at_header, events_of_octet, opened}
 use Rattle.giop_stream.specs.Lines.{Line}
 use Rattle.giop_stream.specs.Stream.{fault_count}
-use Rattle.giop_stream.specs.Effects.{Tracked, Effect, effects, one_effect, no_effect, then_effect, line_effect, starts, IsNotOpen}
+use Rattle.giop_stream.specs.Effects.{Effect, effects, one_effect, no_effect, then_effect, line_effect, starts}
+use Rattle.giop_stream.specs.OpenSlots.{Tracked, IsNotOpen}
 use Rattle.giop_stream.specs.SlotsRepresent.{SlotsRepresent, AreReady, current_of}
-use Rattle.giop_stream.specs.PayloadOwner.{IsBeforeMessage, IsAtOctet, owner_of_next, owner_after, end_events}
+use Rattle.giop_stream.specs.PayloadOwner.{IsBeforeMessage, IsAtOctet, owner_after, end_events}
+use Rattle.giop_stream.specs.EngineState.{owner_of_next}
 use Rattle.giop_stream.proofs.Events.EventsOfOctet.{quiet_header}
 use Rattle.giop_stream.proofs.SlotSteps.SlotLists.{later_ready, all_later}
 use Rattle.giop_stream.proofs.SlotSteps.AfterOctet.{newest_apart}

@@ -12,13 +12,14 @@ use Rattle.giop_stream.specs.declared.current.Current.{Current}
 use Rattle.giop_stream.specs.Rules.{rules_by}
 use Rattle.giop_stream.specs.Framing.{Message}
 use Rattle.giop_stream.specs.Events.{MessageKey, Open, Opens, Faults, Cancelled, message_key, opener_of, events_at_request_id}
-use Rattle.giop_stream.specs.OpenSlots.{slots_of}
-use Rattle.giop_stream.specs.Effects.{Tracked, effects, one_effect, no_effect, lines_of, lines_for}
+use Rattle.giop_stream.specs.OpenSlots.{slots_of, Tracked}
+use Rattle.giop_stream.specs.Effects.{effects, one_effect, no_effect, lines_of, lines_for, event}
 use Rattle.giop_stream.specs.Lines.{lines_of_event, up_to_last_line}
 use Rattle.giop_stream.specs.Kinds.{may_be_cancelled}
 use Rattle.giop_stream.specs.declared.slots.Slot.{Slot as Contents}
-use Rattle.giop_stream.specs.SlotsRepresent.{SlotsRepresent, event}
-use Rattle.giop_stream.specs.PayloadOwner.{IsAtRequestId, opener_key, owner_after_id}
+use Rattle.giop_stream.specs.SlotsRepresent.{SlotsRepresent}
+use Rattle.giop_stream.specs.PayloadOwner.{IsAtRequestId, owner_after_id}
+use Rattle.giop_stream.specs.EngineState.{opener_key}
 use Rattle.giop_stream.proofs.SlotSteps.EventsOnSlots.{open_slot}
 use Rattle.giop_stream.proofs.SlotSteps.SlotLists.{are_as_many, entry_there, slots_many}
 use Rattle.giop_stream.proofs.SlotSteps.FindingOpen.{none_open, one_open}

@@ -10,7 +10,8 @@ use Rattle.giop_message.specs.MessageReader.{MessageReader}
 use Rattle.giop_stream.specs.Kinds.{may_be_cancelled, refused}
 use Rattle.giop_stream.specs.Events.{EventKind, Begins, Takes, Opens, Continues, Cancelled, Faults, MessageKey, Event, Open, message_key, place, id, own, event_of_open, opener_of, goes_past, events_at_header, events_at_octet, same_order, events_at_request_id, now_of, header_events, payload_events, request_id_events}
 use Rattle.giop_stream.specs.Lines.{Line, line, lines_of_event, up_to_last_line}
-use Rattle.giop_stream.specs.Effects.{Tracked, lines_at, tracked_at, lines_of, effects, one_effect, no_effect, starts, goes_on, lines_for}
+use Rattle.giop_stream.specs.Effects.{lines_at, tracked_at, lines_of, effects, one_effect, no_effect, starts, goes_on, lines_for}
+use Rattle.giop_stream.specs.OpenSlots.{Tracked}
 use Rattle.giop_stream.proofs.SlotSteps.EventsInSlots.{tracked_stays, tracked_begins}
 
 -- ---- The effects of few events.

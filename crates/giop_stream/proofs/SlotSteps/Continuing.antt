@@ -27,9 +27,11 @@ use Rattle.giop_stream.specs.Text.{line_text, start_line}
 use Rattle.giop_stream.specs.Events.{MessageKey, Takes, Faults, Open, message_key, id, opener_of, events_at_request_id, events_of_octet, same_order}
 use Rattle.giop_stream.specs.Lines.{Line, Said}
 use Rattle.giop_stream.specs.Stream.{fault_count}
-use Rattle.giop_stream.specs.Effects.{Tracked, Effect, effects, then_effect, one_effect, no_effect, line_effect, goes_on, starts, lines_of, with_octet, IsNotOpen, slots_at}
-use Rattle.giop_stream.specs.SlotsRepresent.{AreSlots, PayloadBelongs, SlotsRepresent, current_of, index_of, event, effect_to}
-use Rattle.giop_stream.specs.PayloadOwner.{IsAtRequestId, IsAtOctet, SaysId, opener_key, owner_of_next, owner_after, id_events}
+use Rattle.giop_stream.specs.Effects.{Effect, effects, then_effect, one_effect, no_effect, line_effect, goes_on, starts, lines_of, with_octet, event, effect_to}
+use Rattle.giop_stream.specs.OpenSlots.{Tracked, IsNotOpen, slots_at}
+use Rattle.giop_stream.specs.SlotsRepresent.{AreSlots, PayloadBelongs, SlotsRepresent, current_of, index_of}
+use Rattle.giop_stream.specs.PayloadOwner.{IsAtRequestId, IsAtOctet, SaysId, owner_after, id_events}
+use Rattle.giop_stream.specs.EngineState.{opener_key, owner_of_next}
 use Rattle.giop_stream.specs.DoesEffect.{DoesEffect}
 use Rattle.giop_stream.specs.Continuation.{IsContinuing, IsBeforeContinuation}
 use Rattle.giop_stream.proofs.Lists.{each_weaker}

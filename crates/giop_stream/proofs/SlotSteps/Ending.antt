@@ -12,9 +12,10 @@ use Rattle.giop_stream.specs.declared.current.Current.{Current}
 use Rattle.giop_stream.specs.Framing.{Message}
 use Rattle.giop_stream.specs.Kinds.{is_short, is_followed}
 use Rattle.giop_stream.specs.Events.{Open, Event, Closes, Faults, message_key, opener_of, has_named, own, event_of_open, events_at_end, now_of, message_end_events}
-use Rattle.giop_stream.specs.Effects.{Tracked, effects, one_effect, no_effect}
-use Rattle.giop_stream.specs.SlotsRepresent.{effect_to}
-use Rattle.giop_stream.specs.PayloadOwner.{IsAtOctet, opener_key, owner_of_next}
+use Rattle.giop_stream.specs.Effects.{effects, one_effect, no_effect, effect_to}
+use Rattle.giop_stream.specs.OpenSlots.{Tracked}
+use Rattle.giop_stream.specs.PayloadOwner.{IsAtOctet}
+use Rattle.giop_stream.specs.EngineState.{opener_key, owner_of_next}
 use Rattle.giop_stream.proofs.SlotSteps.Cases.{effects_none, effects_own, effects_about, effects_nobody}
 
 -- ---- The owner of the octets.

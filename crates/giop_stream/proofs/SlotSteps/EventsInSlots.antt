@@ -6,8 +6,8 @@ use Rattle.std.proofs.lemmas.Bool.{cases_eq, ne_eqb}
 use Rattle.giop_message.specs.MessageReader.{MessageReader}
 use Rattle.giop_stream.specs.Events.{EventKind, Begins, Opens, Continues, Cancelled, Closes, MessageKey, Event, Open, octet, changed, Rising}
 use Rattle.giop_stream.specs.Lines.{line, lines_of_event, is_last_of, up_to_last_line}
-use Rattle.giop_stream.specs.OpenSlots.{slots_of}
-use Rattle.giop_stream.specs.Effects.{Tracked, tracked_at, lines_of, octets_then, stays, goes, IsNotOpen, slots_at, lines_for}
+use Rattle.giop_stream.specs.OpenSlots.{slots_of, Tracked, IsNotOpen, slots_at}
+use Rattle.giop_stream.specs.Effects.{tracked_at, lines_of, octets_then, stays, goes, lines_for}
 use Rattle.giop_stream.proofs.Lists.{each_weaker, filter_keeps}
 use Rattle.giop_stream.proofs.SlotSteps.OneSlotChanges.{own_then, others_then, slot_at, no_slot, slot_gone, slot_comes}
 

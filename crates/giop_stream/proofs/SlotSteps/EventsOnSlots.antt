@@ -18,9 +18,9 @@ use Rattle.giop_message.specs.MessageState.{Follows}
 use Rattle.giop_print.specs.Output.{OutLog}
 use Rattle.giop_stream.specs.Events.{MessageKey, Open, EventKind, Takes, Opens, Faults, Cancelled, Closes, octet, changed, Rising}
 use Rattle.giop_stream.specs.Lines.{lines_of_event, up_to_last_line}
-use Rattle.giop_stream.specs.OpenSlots.{Slot, slots_of}
-use Rattle.giop_stream.specs.Effects.{Tracked, Effect, Part, part_of, tracked_at, lines_of, octets_then, one_effect, IsNotOpen, lines_for}
-use Rattle.giop_stream.specs.SlotsRepresent.{RepresentsMessage, IsSlot, AreSlots, PayloadBelongs, SlotsRepresent, index_of, current_of, event, effect_to}
+use Rattle.giop_stream.specs.OpenSlots.{Slot, slots_of, Tracked, IsNotOpen}
+use Rattle.giop_stream.specs.Effects.{Effect, Part, part_of, tracked_at, lines_of, octets_then, one_effect, lines_for, event, effect_to}
+use Rattle.giop_stream.specs.SlotsRepresent.{RepresentsMessage, IsSlot, AreSlots, PayloadBelongs, SlotsRepresent, index_of, current_of}
 use Rattle.giop_stream.specs.DoesEffect.{DoesEffect, DoesPart, WritesLines}
 use Rattle.giop_stream.proofs.Lists.{each_weaker, each_filter, filter_keeps}
 use Rattle.giop_stream.proofs.SlotSteps.Performing.{performs_on}

@@ -4,8 +4,7 @@ use Rattle.std.specs.Prelude.{◌==◌, slice_get}
 use Rattle.std.specs.List.{find, position_from}
 use Rattle.giop_stream.specs.SlotsRepresent.{OpenEntry}
 use Rattle.giop_stream.specs.Events.{Open}
-use Rattle.giop_stream.specs.OpenSlots.{OctetsByNumber, slots_of}
-use Rattle.giop_stream.specs.Effects.{Tracked}
+use Rattle.giop_stream.specs.OpenSlots.{OctetsByNumber, slots_of, Tracked}
 use Rattle.giop_stream.specs.SlotsRepresent.{AreSlots}
 use Rattle.giop_sig.specs.Table.{Table}
 use Rattle.giop_message.specs.Signatures.{Answers}

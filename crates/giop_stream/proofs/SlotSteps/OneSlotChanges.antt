@@ -7,12 +7,11 @@ use Rattle.std.proofs.lemmas.List.{append-nil, map-append}
 use Rattle.giop_message.specs.MessageReader.{MessageReader}
 use Rattle.giop_stream.specs.Events.{Event, Open, octet, joined}
 use Rattle.giop_stream.specs.Lines.{Line, is_last_of, up_to_last_line}
-use Rattle.giop_stream.specs.OpenSlots.{Slot, OctetsByNumber, slots_of}
-use Rattle.giop_stream.specs.Effects.{Tracked, lines_at, tracked_at, lines_of, octets_then, lines_for, kept_with, kept_after}
-use Rattle.giop_stream.proofs.Lists.{each_weaker, filter_keeps}
+use Rattle.giop_stream.specs.OpenSlots.{Slot, OctetsByNumber, slots_of, Tracked}
+use Rattle.giop_stream.specs.Effects.{lines_at, tracked_at, lines_of, octets_then, lines_for, kept_with, kept_after}
+use Rattle.giop_stream.proofs.Lists.{each_weaker, filter_keeps, map_agree}
 use Rattle.giop_stream.proofs.StreamLines.LinesOfOctet.{event_lines_number, standing_each}
 use Rattle.giop_stream.specs.Events.{Rising}
-use Rattle.giop_stream.proofs.Events.KeptSlots.{slots_agree}
 
 -- ---- What is kept.
 
@@ -59,6 +58,14 @@ pub at_index : {A : Type 0} (P : A → Type 0) (xs : List A) (k : ℕ) (x : A) �
 at_index P [] k x e h = absurd cc
 at_index {A} P (a ∷ xs) zero x e h = let same : a ≡ x = cc in subst P same h.0
 at_index P (a ∷ xs) (suc k) x e h = at_index P xs k x e h.1
+
+slots_agree : (f g : OctetsByNumber) (still_open : List Open) →
+    Each (λ o. f o.opener.number ≡ g o.opener.number) still_open →
+    slots_of f still_open ≡ slots_of g still_open
+unfolding slots_of
+slots_agree f g still_open h =
+    map_agree _ _ still_open (each_weaker (λ o. f o.opener.number ≡ g o.opener.number) _
+    (λ o j. ap (λ (x : Option (List ℕ)). record { open_as = o; octets = x }) j) still_open h)
 
 apart : (o : Open) (still_open : List Open) →
     Each (λ a. o.opener.number < a.opener.number) still_open →

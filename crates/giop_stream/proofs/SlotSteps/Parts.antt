@@ -15,10 +15,12 @@ use Rattle.giop_stream.specs.declared.current.Current.{Current}
 use Rattle.giop_stream.specs.Rules.{Rules, rules_by}
 use Rattle.giop_stream.specs.Framing.{Message, with_payload}
 use Rattle.giop_stream.specs.Events.{Takes, MessageKey, Open, Event, message_key, place, opener_of, has_named, goes_past, id, events_at_octet, events_at_request_id, events_of_octet, opened, Rising, now_of, request_id_events, message_end_events}
-use Rattle.giop_stream.specs.Effects.{Tracked, Effect, effects, tracked_at, then_effect, with_octet}
-use Rattle.giop_stream.specs.SlotsRepresent.{SlotsRepresent, event, effect_to}
+use Rattle.giop_stream.specs.Effects.{Effect, effects, tracked_at, then_effect, with_octet, event, effect_to}
+use Rattle.giop_stream.specs.OpenSlots.{Tracked}
+use Rattle.giop_stream.specs.SlotsRepresent.{SlotsRepresent}
 use Rattle.giop_stream.specs.PayloadRuns.{run_effect}
-use Rattle.giop_stream.specs.PayloadOwner.{IsBeforeOctet, IsBeforeOctets, effect_before, IsAfterTake, IsAtOctet, IsNewest, opener_key, owner_of_next, owner_of_octet, owner_after, id_events, end_events}
+use Rattle.giop_stream.specs.PayloadOwner.{IsBeforeOctet, IsBeforeOctets, effect_before, IsAfterTake, IsAtOctet, IsNewest, owner_of_octet, owner_after, id_events, end_events}
+use Rattle.giop_stream.specs.EngineState.{opener_key, owner_of_next}
 use Rattle.giop_stream.proofs.Events.EventsOfOctet.{quiet_octet, quiet_continues}
 use Rattle.giop_stream.proofs.Events.EventsKeep.{rising_push, rising_filter, opened_by, kept_id}
 use Rattle.giop_stream.proofs.SlotSteps.OneSlotChanges.{own_then}

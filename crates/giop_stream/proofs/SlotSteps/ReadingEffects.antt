@@ -20,8 +20,8 @@ use Rattle.giop_stream.specs.Events.{MessageKey, Event, Takes, Faults, Cancelled
 use Rattle.giop_stream.specs.Lines.{Line, Said, CancelledBy, Faulted, line, lines_of_event, is_last_of, up_to_last_line}
 use Rattle.giop_stream.specs.Text.{framing_fault_word, line_text, lines_text}
 use Rattle.giop_stream.specs.Stream.{fault_count}
-use Rattle.giop_stream.specs.Effects.{lines_of, octets_then, part_of, no_part, lines_for}
-use Rattle.giop_stream.specs.SlotsRepresent.{RepresentsMessage, event}
+use Rattle.giop_stream.specs.Effects.{lines_of, octets_then, part_of, no_part, lines_for, event}
+use Rattle.giop_stream.specs.SlotsRepresent.{RepresentsMessage}
 use Rattle.giop_stream.specs.DoesEffect.{WritesLines, one_if}
 
 -- ---- Lines that a reader gives.

@@ -10,8 +10,7 @@ use Rattle.giop_stream.specs.declared.slots.Slots.{Slots}
 use Rattle.giop_sig.specs.Table.{Table}
 use Rattle.giop_message.specs.Signatures.{Answers}
 use Rattle.giop_stream.specs.Events.{Open}
-use Rattle.giop_stream.specs.OpenSlots.{Slot, OctetsByNumber, slots_of}
-use Rattle.giop_stream.specs.Effects.{Tracked}
+use Rattle.giop_stream.specs.OpenSlots.{Slot, OctetsByNumber, slots_of, Tracked}
 use Rattle.giop_stream.specs.SlotsRepresent.{OpenEntry, with_message, IsReady, KeepsRoom, IsSlot, AreSlots}
 
 pub slots_get : (c : Tracked) (k : ℕ) (o : Open) → slice_get c.still_open k ≡ Some o

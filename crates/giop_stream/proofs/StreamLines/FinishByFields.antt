@@ -1,6 +1,7 @@
 -- What is written at the finish, from the fields of the code.
-use Rattle.std.proofs.Common.{◌≡◌, ℕ, ◌+◌, true, false, List, [], ◌∷◌, ◌++◌, get_or, flat_map, refl, sym, ap, ◌∙◌, Option, Some, None, arith, append-nil}
-use Rattle.std.specs.Prelude.{is_some, option_map, slice_get, if◌then◌else◌}
+use Rattle.std.proofs.Common.{◌≡◌, ℕ, zero, suc, ◌+◌, Bool, true, false, List, [], ◌∷◌, ◌++◌, get_or, flat_map, refl, ◌∙◌, Option, Some, None, arith, append-nil}
+use Rattle.std.specs.Prelude.{◌==◌, is_some, option_map, slice_get, if◌then◌else◌}
+use Rattle.std.proofs.lemmas.Bool.{eq-eqb, ne_eqb, or_right}
 use Rattle.std.proofs.lemmas.List.Concat.{flat_map-append}
 use Rattle.giop_print.specs.Lines.{unfinished_line, total_line}
 use Rattle.giop_sig.specs.Table.{Table}
@@ -8,19 +9,20 @@ use Rattle.giop_message.specs.Signatures.{Answers}
 use Rattle.giop_message.specs.declared.message.Message.{Message as CodeMessage}
 use Rattle.giop_message.specs.Headers.{is_fragment}
 use Rattle.giop_stream.specs.declared.status.Totals.{Totals}
-use Rattle.giop_stream.specs.SlotsRepresent.{OpenEntry}
 use Rattle.giop_stream.specs.declared.slots.Slot.{Slot as Contents}
+use Rattle.giop_stream.specs.declared.slots.PayloadOwner.{PayloadOwner}
+use Rattle.giop_stream.specs.declared.slots.PayloadOwner.TheVariants as owners
 use Rattle.giop_stream.proofs.SlotSteps.SlotLists.{value_at}
-use Rattle.giop_stream.specs.Events.{MessageKey}
+use Rattle.giop_stream.specs.Events.{MessageKey, Open}
 use Rattle.giop_stream.specs.Text.{truncated_line}
 use Rattle.giop_stream.specs.Stream.{with_truncated}
-use Rattle.giop_stream.specs.OpenSlots.{Slot, left_by, left_open}
-use Rattle.giop_stream.specs.SlotsRepresent.{RepresentsMessage, IsSlot, AreSlots}
+use Rattle.giop_stream.specs.OpenSlots.{Slot, is_open, Tracked, slots_at, IsNotOpen, left_by, left_open}
+use Rattle.giop_stream.specs.SlotsRepresent.{OpenEntry, RepresentsMessage, IsSlot, AreSlots, PayloadBelongs, index_of, current_of}
 use Rattle.giop_stream.specs.EngineView.{FramingView}
-use Rattle.giop_stream.specs.EngineState.{State, Own}
-use Rattle.giop_stream.specs.EngineStep.{left_own, left_over, is_cut_short, final_totals, finish}
+use Rattle.giop_stream.specs.EngineState.{State}
+use Rattle.giop_stream.specs.EngineStep.{left_current, left_over, is_cut_short, final_totals, finish}
 use Rattle.giop_stream.specs.FramingSteps as steps
-use Rattle.giop_stream.specs.ViewOfState.{IsOwn, Shows}
+use Rattle.giop_stream.specs.ViewOfState.{Shows}
 
 -- ---- The slots.
 
@@ -39,6 +41,28 @@ pub slot_silent : (ks : List OpenEntry) (i : ℕ) (v : Contents) (d : OpenEntry)
     → is_some v.message ≡ false → slot_text (get_or ks i d) ≡ []
 unfolding slot_text
 slot_silent ks i v d is e = rw (value_at ks i v d is, e) refl
+
+-- ---- The messages that are open.
+
+not_open : (still_open : List Open) (n : ℕ) → IsNotOpen n still_open →
+    is_open still_open n ≡ false
+unfolding is_open
+not_open [] n h = refl
+not_open (o ∷ still_open) n h = rw (ne_eqb o.opener.number n h.0) (not_open still_open n h.1)
+
+open_at : (still_open : List Open) (k : ℕ) (o : Open) → slice_get still_open k ≡ Some o →
+    is_open still_open o.opener.number ≡ true
+unfolding is_open
+open_at [] k o e = absurd cc
+open_at (a ∷ still_open) zero o e = let same : a ≡ o = cc in
+    rw (same, eq-eqb o.opener.number o.opener.number refl) refl
+open_at (a ∷ still_open) (suc k) o e = or_right (a.opener.number == o.opener.number) _
+    (open_at still_open k o e)
+
+-- the line of the current message at the finish; none of a Fragment
+unfoldable pub current_text : Option CodeMessage → List ℕ
+current_text None = []
+current_text (Some m) = if is_fragment m.header then [] else unfinished_line m.number
 
 module _ (C : Table) (l : Answers) where
   line_kept : (n : ℕ) (own : Option CodeMessage) (w : MessageKey) (o : Option (List ℕ)) →
@@ -67,36 +91,39 @@ module _ (C : Table) (l : Answers) where
 
   -- ---- The line of the current message.
 
-  pub nothing_left : (own : Option CodeMessage) (o : Option Own) → own ≡ None → IsOwn C l own o →
-      flat_map unfinished_line (left_own o) ≡ []
-  nothing_left None None e k = refl
-  nothing_left None (Some o) e k = absurd k
-  nothing_left (Some m) o e k = absurd cc
+  kept_left : (message : Option CodeMessage) (w : MessageKey) (o : Option (List ℕ)) →
+      RepresentsMessage C l message w o
+      → flat_map unfinished_line (if is_fragment w.header then [] else left_by w.number o)
+      ≡ current_text message
+  unfolding current_text
+  kept_left None w None k = go (is_fragment w.header)
+    where
+      go : (b : Bool) → flat_map unfinished_line (if b then [] else []) ≡ []
+      go true = refl
+      go false = refl
+  kept_left None w (Some xs) k = absurd k
+  kept_left (Some m) w None k = absurd k
+  kept_left (Some m) w (Some xs) k =
+      rw (← k.same_header, ← k.same_number) (go (is_fragment m.header))
+    where
+      go : (b : Bool) → flat_map unfinished_line (if b then [] else m.number ∷ [])
+          ≡ (if b then [] else unfinished_line m.number)
+      go true = refl
+      go false = append-nil (unfinished_line m.number)
 
-  pub fragment_left : (own : Option CodeMessage) (o : Option Own) (m : CodeMessage) → own ≡ Some m
-      → is_fragment m.header ≡ true → IsOwn C l own o → flat_map unfinished_line (left_own o) ≡ []
-  fragment_left None o m e f k = absurd cc
-  fragment_left (Some a) None m e f k = absurd k
-  fragment_left (Some a) (Some o) m e f k =
-      let same : a ≡ m = cc in
-      let fragment : is_fragment o.message_key.header ≡ true =
-      ap is_fragment (sym k.same_header) ∙
-      (ap (λ (n : CodeMessage). is_fragment n.header) same ∙ f) in
-      rw fragment refl
-
-  pub message_left : (own : Option CodeMessage) (o : Option Own) (m : CodeMessage) → own ≡ Some m
-      → is_fragment m.header ≡ false → IsOwn C l own o →
-      flat_map unfinished_line (left_own o) ≡ unfinished_line m.number
-  message_left None o m e f k = absurd cc
-  message_left (Some a) None m e f k = absurd k
-  message_left (Some a) (Some o) m e f k =
-      let same : a ≡ m = cc in
-      let whole : is_fragment o.message_key.header ≡ false =
-      ap is_fragment (sym k.same_header) ∙
-      (ap (λ (n : CodeMessage). is_fragment n.header) same ∙ f) in
-      let number : o.message_key.number ≡ m.number =
-      sym k.same_number ∙ ap (λ (n : CodeMessage). n.number) same in
-      rw (whole, number) (append-nil (unfinished_line m.number))
+  pub current_left : (of : PayloadOwner) (c : Tracked) (who : Option MessageKey) →
+      PayloadBelongs C l (index_of of) (current_of of) c who
+      → flat_map unfinished_line (left_current c who) ≡ current_text (current_of of)
+  unfolding left_current current_text
+  current_left (owners.Current message) c None h = rw h refl
+  current_left (owners.Current message) c (Some w) h =
+      rw (not_open c.still_open w.number h.0) (kept_left message w (c.known w.number) h.1)
+  current_left (owners.Open None) c None h = refl
+  current_left (owners.Open None) c (Some w) h =
+      rw (not_open c.still_open w.number h.0) (kept_left None w (c.known w.number) h.1)
+  current_left (owners.Open (Some k)) c None h = absurd h
+  current_left (owners.Open (Some k)) c (Some w) h =
+      rw (← h.2, open_at c.still_open k h.0 h.1) refl
 
 -- ---- The totals, and the text.
 
@@ -118,9 +145,11 @@ module _ (C : Table) (l : Answers) (m : FramingView) (s : State) (h : Shows C l 
   truncation_is = rw (cut_short_is, h.totals) refl
 
 pub left_text : (s : State) → flat_map unfinished_line (left_over s) ≡ flat_map unfinished_line
-    (flat_map left_open s.slots) ++ flat_map unfinished_line (left_own s.own)
+    (flat_map left_open (slots_at s.tracked))
+    ++ flat_map unfinished_line (left_current s.tracked s.owner)
 unfolding left_over
-left_text s = flat_map-append unfinished_line (flat_map left_open s.slots) (left_own s.own)
+left_text s = flat_map-append unfinished_line (flat_map left_open (slots_at s.tracked))
+    (left_current s.tracked s.owner)
 
 pub finish_text : (s : State) → finish s
     ≡ (if is_cut_short s then truncated_line s.totals.octets else [])

@@ -9,7 +9,7 @@ use Rattle.giop_stream.specs.Rules.{Rules}
 use Rattle.giop_stream.specs.Framing.{Cut}
 use Rattle.giop_message.specs.MessageReader.{IsCausal, IsStreamable}
 use Rattle.giop_stream.specs.Lines.{Class, rank, Line, has_class, lines}
-use Rattle.giop_stream.specs.Effects.{Tracked}
+use Rattle.giop_stream.specs.OpenSlots.{Tracked}
 use Rattle.giop_stream.specs.Octet.{Octet, Ends, Of}
 use Rattle.giop_stream.proofs.Lists.{by_growth, filter_drops, each_append, each_weaker}
 use Rattle.giop_stream.proofs.StreamLines.Ordering.{rank_of, Rises}

@@ -9,9 +9,9 @@ use Rattle.std.proofs.lemmas.List.Elements.{filter-append}
 use Rattle.giop_message.specs.MessageReader.{MessageReader}
 use Rattle.giop_stream.specs.Events.{Event, opened, joined}
 use Rattle.giop_stream.specs.Lines.{Class, Start, rank, class_of, Line, has_class, classes, by_class, is_last_of, up_to_last_line}
-use Rattle.giop_stream.specs.OpenSlots.{OctetsByNumber}
+use Rattle.giop_stream.specs.OpenSlots.{OctetsByNumber, Tracked}
 use Rattle.giop_stream.proofs.StreamLines.EventsTogether.{all_lines, sorted_lines}
-use Rattle.giop_stream.specs.Effects.{Tracked, lines_at, tracked_at, effects, lines_for, kept_with, kept_after}
+use Rattle.giop_stream.specs.Effects.{lines_at, tracked_at, effects, lines_for, kept_with, kept_after}
 use Rattle.giop_stream.proofs.Lists.{filter_drops, filter_keeps, each_weaker, each_filter, any_append}
 use Rattle.giop_stream.proofs.StreamLines.LinesOfOctet.{joined_append, standing_append, standing_drops, standing_each, event_lines_number}
 

@@ -8,8 +8,8 @@ returns-in-Current-clause-one_open c l held is room =
     c.in-Current.is)
 
 pub returns-in-Current-clause-one_current : goal.returns-in-Current-clause-one_current
-returns-in-Current-clause-one_current c l own is =
-    let made = c.add_current.ensures.again l own is in
+returns-in-Current-clause-one_current c l w xs is =
+    let made = c.add_current.ensures.again l w xs is in
     (made.0, c.add_current.ensures.same, made.1)
 
 pub returns-in-Open-clause-one_open : goal.returns-in-Open-clause-one_open
@@ -18,8 +18,8 @@ returns-in-Open-clause-one_open c l held is room =
     (made.0, made.1, c.add_open.ensures.owner)
 
 pub returns-in-Open-clause-one_current : goal.returns-in-Open-clause-one_current
-returns-in-Open-clause-one_current c l own is =
-    absurd (current_not_open c.args.catalogue.now l (c.args.octets + 1) c.args.first.now own _ is
+returns-in-Open-clause-one_current c l w xs is =
+    absurd (current_not_open c.args.catalogue.now l (c.args.octets + 1) c.args.first.now w xs _ is
     c.in-Open.is)
 
 pub returns-in-Over-clause-ready : goal.returns-in-Over-clause-ready
@@ -32,6 +32,6 @@ returns-in-Over-clause-one_open c l held is room =
     (made.0, made.1, c.add_over.ensures.owner)
 
 pub returns-in-Over-clause-one_current : goal.returns-in-Over-clause-one_current
-returns-in-Over-clause-one_current c l own is =
-    absurd (current_not_over c.args.catalogue.now l (c.args.octets + 1) c.args.first.now own _ is
+returns-in-Over-clause-one_current c l w xs is =
+    absurd (current_not_over c.args.catalogue.now l (c.args.octets + 1) c.args.first.now w xs _ is
     c.in-Over.is)

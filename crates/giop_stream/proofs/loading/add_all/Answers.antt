@@ -10,10 +10,10 @@ loop-init c =
       ready = c.requires.ready;
       lengths = subst (λ k. AreRecords k c.args.records.now) whole c.requires.lengths;
       most = refl;
-      completes = λ a. subst (λ k. Completes c.args.catalogue.now a (c.args.octets + 1) c.args.count
-          c.args.records.now
+      completes = λ a w xs. subst (λ k. Completes c.args.catalogue.now a (c.args.octets + 1) c.args.count
+          c.args.records.now w xs
           c.args.slots.now c.args.slots.now k c.args.records.now) whole
-          (none_yet c.args.catalogue.now a (c.args.octets + 1) c.args.count c.args.records.now
+          (none_yet c.args.catalogue.now a (c.args.octets + 1) c.args.count c.args.records.now w xs
           c.args.slots.now);
     }
 
@@ -36,26 +36,26 @@ loop-preserved c =
       lengths = subst (λ k. AreRecords k c.in-Some.behind.now) fewer
           (subst (λ xs. AreRecords (left - 1) xs) (sym c.in-Some.ensures.rest) behind);
       most = c.add_first.ensures.most ∙ c.loop.invariant.most;
-      completes = λ a. subst (λ k. Completes c.args.catalogue.now a (c.args.octets + 1) c.args.count
-          c.args.records.now
+      completes = λ a w xs. subst (λ k. Completes c.args.catalogue.now a (c.args.octets + 1) c.args.count
+          c.args.records.now w xs
           c.args.slots.now c.add_first.new.slots k c.in-Some.behind.now) fewer
-          (one_more c.args.catalogue.now a (c.args.octets + 1) c.args.count c.args.records.now
+          (one_more c.args.catalogue.now a (c.args.octets + 1) c.args.count c.args.records.now w xs
           c.args.slots.now
-          c.loop.slots left c.loop.rest.now (c.loop.invariant.completes a) c.add_first.new.slots
+          c.loop.slots left c.loop.rest.now (c.loop.invariant.completes a w xs) c.add_first.new.slots
           c.in-Some.behind.now some
           c.add_first.ensures.most
-          (λ hs o are room bare. c.in-Some.ensures.again a left hs o some are room bare));
+          (λ hs are room bare. c.in-Some.ensures.again a left hs w xs some are room bare));
     }
 
 pub returns-in_default-clause-again : goal.returns-in_default-clause-again
-returns-in_default-clause-again c a held own are room bare =
+returns-in_default-clause-again c a held w xs are room bare =
     let left = c.args.count - c.loop.counter in
     let some : left ≡ 0 → ⊥ = λ none. omega (arith, none, c.loop-test.true) in
-    absurd (not_one c.args.catalogue.now a (c.args.octets + 1) c.args.count c.args.records.now
+    absurd (not_one c.args.catalogue.now a (c.args.octets + 1) c.args.count c.args.records.now w xs
     c.args.slots.now
-    c.loop.slots left c.loop.rest.now (c.loop.invariant.completes a) some
-    (λ hs o here space none. c.in_default.ensures.again a left hs o some here space none) held own
-    are room bare)
+    c.loop.slots left c.loop.rest.now (c.loop.invariant.completes a w xs) some
+    (λ hs here space none. c.in_default.ensures.again a left hs w xs some here space none) held are
+    room bare)
 
 pub returns-in_default-clause-most : goal.returns-in_default-clause-most
 returns-in_default-clause-most c = c.add_first.ensures.most ∙ c.loop.invariant.most
@@ -67,9 +67,9 @@ pub returns-clause-most : goal.returns-clause-most
 returns-clause-most c = c.loop.invariant.most
 
 pub returns-clause-again : goal.returns-clause-again
-returns-clause-again c a held own are room bare =
-    no_more c.args.catalogue.now a (c.args.octets + 1) c.args.count c.args.records.now
+returns-clause-again c a held w xs are room bare =
+    no_more c.args.catalogue.now a (c.args.octets + 1) c.args.count c.args.records.now w xs
     c.args.slots.now c.loop.slots
-    (c.args.count - c.loop.counter) c.loop.rest.now (c.loop.invariant.completes a)
+    (c.args.count - c.loop.counter) c.loop.rest.now (c.loop.invariant.completes a w xs)
     (omega (arith, c.loop-test.false))
-    held own are room bare
+    held are room bare

@@ -1,6 +1,7 @@
-use Rattle.std.proofs.Common.{◌≡◌, ◌+◌, ◌-◌}
+use Rattle.std.proofs.Common.{◌≡◌, ℕ, List, Option, ◌+◌, ◌-◌}
 use Rattle.giop_message.specs.Signatures.{Answers}
 use Rattle.giop_checkpoint.specs.Records.{AreRecords}
+use Rattle.giop_stream.specs.Events.{MessageKey}
 use Rattle.giop_stream.specs.SlotsRepresent.{AreReady}
 use Rattle.giop_stream.proofs.Restored.Loaded.{Completes}
 use Rattle.giop_stream.proofs.loading.add_all.Given as goal
@@ -10,7 +11,8 @@ invariant-loop l = record {
   ready : AreReady l.catalogue (l.octets + 1) l.slots;
   lengths : AreRecords (l.count - l.counter) l.rest;
   most : l.slots.slots.most ≡ l.initial.slots.slots.most;
-  completes : (a : Answers) → Completes l.catalogue a (l.octets + 1) l.count l.records
+  completes : (a : Answers) (w : MessageKey) (xs : Option (List ℕ)) →
+      Completes l.catalogue a (l.octets + 1) l.count l.records w xs
       l.initial.slots l.slots
       (l.count - l.counter) l.rest;
 }

@@ -3,8 +3,8 @@ use Rattle.giop_stream.proofs.Restored.Loaded.{current_again}
 use Rattle.giop_stream.proofs.loading.add_current.Goals as goal
 
 pub returns-clause-again : goal.returns-clause-again
-returns-clause-again c l own is =
-    let made = current_again c.args.catalogue.now l c.args.octets c.args.first.now own
+returns-clause-again c l w xs is =
+    let made = current_again c.args.catalogue.now l c.args.octets c.args.first.now w xs
     c.message_of-message.result is
     c.message_of-message.ensures.again in
     (c.is_some-in_range.ensures ∙ made.0, (refl, made.1))

@@ -5,32 +5,32 @@ use Rattle.giop_stream.proofs.Restored.Loaded.{front_is, front_found, first_adde
 use Rattle.giop_stream.proofs.loading.add_first.Goals as goal
 
 pub returns-in_default-clause-again : goal.returns-in_default-clause-again
-returns-in_default-clause-again c l count held own some left room bare =
-    absurd (front_found c.args.catalogue.now l (c.args.octets + 1) count c.args.records.now held own
+returns-in_default-clause-again c l count held w xs some left room bare =
+    absurd (front_found c.args.catalogue.now l (c.args.octets + 1) count c.args.records.now w xs held
     left some
     c.in_default.ensures.again)
 
 pub returns-then-not-add-clause-again : goal.returns-then-not-add-clause-again
-returns-then-not-add-clause-again c l count held own some left room bare =
+returns-then-not-add-clause-again c l count held w xs some left room bare =
     let C = c.args.catalogue.now in
     let at = c.args.octets + 1 in
-    let front = front_is C l at count c.args.records.now c.in-Some.first some
-    c.in-Some.ensures.again held own left in
-    let added = first_added C l at count c.in-Some.first c.args.slots.now c.add.new.slots
+    let front = front_is C l at count c.args.records.now w xs c.in-Some.first some
+    c.in-Some.ensures.again held left in
+    let added = first_added C l at count w xs c.in-Some.first c.args.slots.now c.add.new.slots
     c.add.result
-    (c.add.ensures.one_open l) (c.add.ensures.one_current l) held own front room in
+    (c.add.ensures.one_open l) (c.add.ensures.one_current l w xs) held front room in
     absurd (cc (added.0, c.if-not-add.true))
 
 pub returns-clause-again : goal.returns-clause-again
-returns-clause-again c l count held own some left room bare =
+returns-clause-again c l count held w xs some left room bare =
     let C = c.args.catalogue.now in
     let at = c.args.octets + 1 in
-    let front = front_is C l at count c.args.records.now c.in-Some.first some
-    c.in-Some.ensures.again held own left in
-    (first_added C l at count c.in-Some.first c.args.slots.now c.add.new.slots c.add.result
-    (c.add.ensures.one_open l) (c.add.ensures.one_current l) held own front room).1
+    let front = front_is C l at count c.args.records.now w xs c.in-Some.first some
+    c.in-Some.ensures.again held left in
+    (first_added C l at count w xs c.in-Some.first c.args.slots.now c.add.new.slots c.add.result
+    (c.add.ensures.one_open l) (c.add.ensures.one_current l w xs) held front room).1
 
 pub returns-then-is_some-clause-again : goal.returns-then-is_some-clause-again
-returns-then-is_some-clause-again c l count held own some left room bare =
+returns-then-is_some-clause-again c l count held w xs some left room bare =
     absurd (false≢true (sym (ap (λ of. is_some (current_of of)) bare)
     ∙ sym c.current.ensures.variant ∙ sym c.is_some.ensures ∙ c.if-is_some.true))

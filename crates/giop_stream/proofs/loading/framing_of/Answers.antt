@@ -1,20 +1,22 @@
 use Rattle.std.proofs.Common.{length, refl, ap, ◌∙◌, arith}
 use Rattle.giop_message.specs.Signatures.{by_list}
 use Rattle.giop_stream.specs.Rules.{rules}
+use Rattle.giop_stream.specs.OpenSlots.{slots_at}
 use Rattle.giop_stream.specs.EngineState.{state_of}
-use Rattle.giop_stream.proofs.Restored.LoadedFields.{spells_left, room_for, limit_is, totals_again, shows_again}
+use Rattle.giop_stream.proofs.Restored.LoadedFields.{stand, spells_left, room_for, limit_is, totals_again, shows_again}
 use Rattle.giop_stream.proofs.loading.framing_of.Goals as goal
 
 pub returns-then-not-add_all-clause-again : goal.returns-then-not-add_all-clause-again
 returns-then-not-add_all-clause-again c l n octets p s fixed_is records_are =
     let R = rules c.args.catalogue.now l n in
     let bare = c.requires.bare in
+    let here = stand octets p c.args.catalogue.now l n s in
     let limit = c.requires.most ∙ limit_is octets p c.args.catalogue.now l n s c.args.fixed fixed_is
     in
     let left = spells_left octets p c.args.catalogue.now l n s c.args.fixed c.args.records.now
     fixed_is records_are in
     let room = room_for R p c.args.slots bare.no_slots in
-    let made = c.add_all.ensures.again (by_list l) (state_of R p).slots (state_of R p).own left
+    let made = c.add_all.ensures.again (by_list l) (slots_at (state_of R p).tracked) here.w here.xs left
     (omega (arith, room, limit)) bare.no_owner in
     cc (made.0, c.if-not-add_all.true)
 
@@ -30,12 +32,13 @@ pub returns-clause-again : goal.returns-clause-again
 returns-clause-again c l n octets p s fixed_is records_are =
     let R = rules c.args.catalogue.now l n in
     let bare = c.requires.bare in
+    let here = stand octets p c.args.catalogue.now l n s in
     let limit = c.requires.most ∙ limit_is octets p c.args.catalogue.now l n s c.args.fixed fixed_is
     in
     let left = spells_left octets p c.args.catalogue.now l n s c.args.fixed c.args.records.now
     fixed_is records_are in
     let room = room_for R p c.args.slots bare.no_slots in
-    let made = c.add_all.ensures.again (by_list l) (state_of R p).slots (state_of R p).own left
+    let made = c.add_all.ensures.again (by_list l) (slots_at (state_of R p).tracked) here.w here.xs left
     (omega (arith, room, limit)) bare.no_owner in
     shows_again octets p c.args.catalogue.now l n s _ c.args.slots c.add_all.new.slots bare.no_slots
     c.args.fixed fixed_is

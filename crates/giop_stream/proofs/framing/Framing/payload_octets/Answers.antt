@@ -1,7 +1,7 @@
 use Rattle.std.proofs.Common.{◌≡◌, ℕ, ◌+◌, length, arith, refl, sym, ap, ◌∙◌}
 use Rattle.giop_message.specs.Headers.{size}
 use Rattle.giop_stream.specs.Rules.{rules_by}
-use Rattle.giop_stream.specs.Effects.{tracked_after}
+use Rattle.giop_stream.specs.OpenSlots.{tracked_after}
 use Rattle.giop_stream.specs.FramingView.{framing_view}
 use Rattle.giop_print.proofs.Writing.{writes_failed}
 use Rattle.giop_stream.proofs.CodeSteps.MessageOctets.{has_current}

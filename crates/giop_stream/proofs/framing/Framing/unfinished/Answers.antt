@@ -1,13 +1,14 @@
 use Rattle.giop_print.proofs.Writing.{writes_then, writes_err}
+use Rattle.giop_stream.specs.OpenSlots.{slots_at}
 use Rattle.giop_stream.proofs.StreamLines.FinishByFields.{left_text}
 use Rattle.giop_stream.proofs.framing.Framing.unfinished.Goals as goal
 
 pub returns-in_err-unfinished : goal.returns-in_err-unfinished
 returns-in_err-unfinished g c = λ C l s h.
     rw (left_text s) (writes_err _ _ _ _ _ c.from_residual.ensures.0
-    (c.in_err-unfinished.ensures C l s.slots h.slots))
+    (c.in_err-unfinished.ensures C l (slots_at s.tracked) h.slots.slots))
 
 pub returns : goal.returns
 returns g c = λ C l s h. rw (left_text s)
-    (writes_then _ _ _ _ _ _ (c.in_ok-unfinished.ensures C l s.slots h.slots)
+    (writes_then _ _ _ _ _ _ (c.in_ok-unfinished.ensures C l (slots_at s.tracked) h.slots.slots)
     (c.own_unfinished.ensures C l s h))
