@@ -21,7 +21,7 @@ pub record Step : Type 0 where
   pub state : State
   pub lines : List Line
 
--- before the first octet
+-- before the first octet: no message is open, and of each no octet has come
 unfoldable pub fresh : State
 fresh = record {
   totals = record { messages = 0; faults = 0; octets = 0 };
@@ -37,7 +37,7 @@ octet_at s x = octet_in s.stop s.held s.totals.messages s.totals.octets (size s.
 
 -- ---- An octet of a message.
 
--- its request id, where the octet is the last of that; these octets of it are kept
+-- its request id, where the octet is the last of that, and these octets of it came before
 abbrev pub id_by : Now → Option (List ℕ) → ℕ
 id_by now None = 0
 id_by now (Some xs) = num (order now.subject.header) (xs ++ now.octet ∷ [])

@@ -84,11 +84,9 @@ pub record IsCurrentEntry (C : Table) (l : Answers) (at : ℕ) (first : FirstRec
 -- ---- the records that are left
 
 -- These octets are so many entries, of these open messages and this current one.
-pub record AreLeft (C : Table) (l : Answers) (at count : ℕ) (octets : List ℕ) (held : List Held)
-    (w : MessageKey) (xs : Option (List ℕ)) : Type 0 where
-  pub kept : List OpenEntry
-  pub current : Option Message
-  pub entries : List Entry
+pub record AreEntriesOf (C : Table) (l : Answers) (at count : ℕ) (octets : List ℕ)
+    (kept : List OpenEntry) (held : List Held) (current : Option Message) (w : MessageKey)
+    (xs : Option (List ℕ)) (entries : List Entry) : Type 0 where
   pub entries_are : AreEntries kept current entries
   pub count_is : count ≡ length entries
   pub octets_are : octets ≡ flat_map entry_octets entries
@@ -96,6 +94,14 @@ pub record AreLeft (C : Table) (l : Answers) (at count : ℕ) (octets : List ℕ
   pub own_is : RepresentsMessage C l current w xs
   pub each_ready : Each (λ slot. IsReady C at slot.value.message) kept
   pub own_ready : IsReady C at current
+
+-- They are entries of open messages that represent these, and of a current one.
+pub record AreLeft (C : Table) (l : Answers) (at count : ℕ) (octets : List ℕ) (held : List Held)
+    (w : MessageKey) (xs : Option (List ℕ)) : Type 0 where
+  pub kept : List OpenEntry
+  pub current : Option Message
+  pub entries : List Entry
+  pub are : AreEntriesOf C l at count octets kept held current w xs entries
 
 -- These open messages were added.
 pub record HasAdded (C : Table) (l : Answers) (before after : Slots) (held : List Held) : Type 0

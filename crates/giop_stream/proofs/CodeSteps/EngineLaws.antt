@@ -34,7 +34,8 @@ pub start_is : (R : Rules) → state_of R [] ≡ fresh
 unfolding state_of fresh tally of_parts tracked_after read_of start_count fault_count
 start_is R =
     let known : octets_of R [] ≡ (λ i. Some []) = λ j i. octets_nothing R i j in
-    rw (state_of, tally, tracked_after, cut_nothing, open_nothing R.most, lines_nothing R, known) refl
+    rw (state_of, tally, tracked_after, cut_nothing, open_nothing R.most, lines_nothing R, known)
+    refl
 
 pub step_state : (R : Rules) → IsCausal R.reading → IsStreamable R.reading → (p : List ℕ) (x : ℕ) →
     state_of R (p ++ x ∷ []) ≡ (step R (state_of R p) x).state

@@ -2,7 +2,7 @@
 -- octet adds, and the state of the longer stream.
 use Rattle.std.proofs.Common.{inr, ◌≡◌, ℕ, suc, ◌+◌, ◌-◌, ◌<◌, ◌≤◌, Bool, true, false, List, [], ◌∷◌, ◌++◌, length, refl, sym, ap, subst, ◌∙◌, None, Some, inl, arith}
 use Rattle.std.specs.Prelude.{nat_lt, nat_le, if◌then◌else◌}
-use Rattle.std.proofs.lemmas.Bool.{cases_eq, eq-eqb, leb-true, ltb-true, ltb-false, and_parts}
+use Rattle.std.proofs.lemmas.Bool.{cases_lt, cases_eq, lt-ltb, le-ltb, eq-eqb, leb-true, and_parts}
 use Rattle.std.proofs.lemmas.List.{length_push}
 use Rattle.giop_message.specs.Headers.{size, has_name, is_fragment}
 use Rattle.giop_message.specs.MessageReader.{IsCausal, IsStreamable}
@@ -89,48 +89,12 @@ module _ (R : Rules) (p : List ℕ) (m : Message) (shows : Shows R p m) where
       }
       → shape t (end_message whole m) effect.tracked ≡ (stepped s now effect).state
   unfolding end_message shape stepped now
-  stepped_is whole t et = go (nat_lt (length m.payload) (size m.header)) refl
-    where
-      go : (c : Bool) → nat_lt (length m.payload) (size m.header) ≡ c
-          → shape t (if c then record {
-            whole = whole;
-            current = Some m;
-            held = [];
-            stop = None;
-          } else record { whole = whole ++ m ∷ []; current = None; held = []; stop = None })
-          effect.tracked ≡ record {
-            totals = record {
-              messages = m.number;
-              faults = s.totals.faults + fault_count effect.lines;
-              octets = place m;
-            };
-            stop = None;
-            held = if c then m.header else [];
-            left = size m.header - length m.payload;
-            tracked = effect.tracked;
-            owner = if c then owner_for now (other_of s now) else None;
-          }
-      go true e =
-          let owner = owner_same (ltb-true (length m.payload) (size m.header) e) in
-          λ j. record {
-            totals = et j;
-            stop = None;
-            held = m.header;
-            left = size m.header - length m.payload;
-            tracked = effect.tracked;
-            owner = owner j;
-          }
-      go false e =
-          let none : 0 ≡ size m.header - length m.payload =
-          omega (arith, ltb-false (length m.payload) (size m.header) e) in
-          λ j. record {
-            totals = et j;
-            stop = None;
-            held = [];
-            left = none j;
-            tracked = effect.tracked;
-            owner = None;
-          }
+  stepped_is whole t et = elim (cases_lt (length m.payload) (size m.header)) [
+    | inl less ↦ rw (lt-ltb (length m.payload) (size m.header) less, et, owner_same less) refl
+    | inr more ↦
+        let none : size m.header - length m.payload ≡ 0 = omega (arith, more) in
+        rw (le-ltb (length m.payload) (size m.header) more, et, none) refl
+  ]
 
 -- ---- The step.
 

@@ -19,7 +19,7 @@ use Rattle.giop_stream.specs.Events.{MessageKey}
 use Rattle.giop_stream.specs.OpenSlots.{Slot as Held}
 use Rattle.giop_stream.specs.SlotsRepresent.{IsReady, RepresentsMessage, IsSlot, AreSlots}
 use Rattle.giop_stream.specs.Checkpoint.{IsStored, IsHeld, AreEntries, standing_of}
-use Rattle.giop_stream.specs.Reloading.{IsEntry, pushed, IsOpenEntry, IsCurrentEntry, IsCurrentOwner, AreLeft, HasAdded, HasAddedFirst}
+use Rattle.giop_stream.specs.Reloading.{IsEntry, pushed, IsOpenEntry, IsCurrentEntry, IsCurrentOwner, AreEntriesOf, AreLeft, HasAdded, HasAddedFirst}
 use Rattle.giop_stream.proofs.SlotSteps.SlotLists.{are_as_many}
 use Rattle.giop_stream.proofs.Restored.SavedSizes.{entries_range}
 
@@ -191,7 +191,8 @@ open_again C l octets first held id found is opened again =
 
 module _ (C : Table) (l : Answers) (at : ℕ) (first : FirstRecord) (w : MessageKey)
     (xs : Option (List ℕ)) (id : ℕ) where
-  standing_now : IsCurrentEntry C l at first w xs → record_kinds.Current ≡ first.«record».record_kind
+  standing_now : IsCurrentEntry C l at first w xs →
+      record_kinds.Current ≡ first.«record».record_kind
   standing_now is = sym (standing_in first is.entry is.read ∙ is.entry_is.standing_is)
 
   pub current_not_open : IsCurrentEntry C l at first w xs →
@@ -277,38 +278,14 @@ pub record FrontOwn (C : Table) (l : Answers) (at count : ℕ) (first : FirstRec
   pub is : IsCurrentEntry C l at first w xs
   pub last : count - 1 ≡ 0
 
--- what is left to read, by its parts
-record Parts (C : Table) (l : Answers) (at count : ℕ) (octets : List ℕ) (kept : List OpenEntry)
-    (held : List Held) (current : Option Message) (w : MessageKey) (xs : Option (List ℕ))
-    (entries : List Entry) : Type 0 where
-  entries_are : AreEntries kept current entries
-  count_is : count ≡ length entries
-  octets_are : octets ≡ flat_map entry_octets entries
-  slots_are : AreSlots C l kept held
-  own_is : RepresentsMessage C l current w xs
-  each_ready : Each (λ slot. IsReady C at slot.value.message) kept
-  own_ready : IsReady C at current
-
 module _ (C : Table) (l : Answers) (at count : ℕ) (octets : List ℕ) (w : MessageKey)
     (xs : Option (List ℕ)) where
-  parts_of : (held : List Held) (left : AreLeft C l at count octets held w xs) →
-      Parts C l at count octets left.kept held left.current w xs left.entries
-  parts_of held left = record {
-    entries_are = left.entries_are;
-    count_is = left.count_is;
-    octets_are = left.octets_are;
-    slots_are = left.slots_are;
-    own_is = left.own_is;
-    each_ready = left.each_ready;
-    own_ready = left.own_ready;
-  }
-
   pub front_found : (held : List Held) → AreLeft C l at count octets held w xs →
       (count ≡ 0 → ⊥) →
       ((e : Entry) (rest : List ℕ) → EntryHasRange e → octets ≡ entry_octets e ++ rest → ⊥) → ⊥
   front_found held left some read =
-      go left.entries left.count_is left.octets_are
-      (entries_range left.kept left.current left.entries left.entries_are)
+      go left.entries left.are.count_is left.are.octets_are
+      (entries_range left.kept left.current left.entries left.are.entries_are)
     where
       go : (es : List Entry) → count ≡ length es → octets ≡ flat_map entry_octets es →
           Each EntryHasRange es → ⊥
@@ -318,7 +295,7 @@ module _ (C : Table) (l : Answers) (at count : ℕ) (octets : List ℕ) (w : Mes
   none_by : (slots : Slots) → slots.owner ≡ owners.Current None → count ≡ 0 →
       (kept : List OpenEntry) (held : List Held)
       (current : Option Message) (entries : List Entry) →
-      Parts C l at count octets kept held current w xs entries →
+      AreEntriesOf C l at count octets kept held current w xs entries →
       HasAdded C l slots slots held × IsCurrentOwner C l slots.owner w xs
   none_by slots bare none [] [] None [] is = (
     added_none C l slots slots refl,
@@ -339,7 +316,7 @@ module _ (C : Table) (l : Answers) (at count : ℕ) (octets : List ℕ) (w : Mes
       count ≡ 0 → slots.owner ≡ owners.Current None → HasAdded C l slots slots held
       × IsCurrentOwner C l slots.owner w xs
   all_none slots held left none bare =
-      none_by slots bare none left.kept held left.current left.entries (parts_of held left)
+      none_by slots bare none left.kept held left.current left.entries left.are
 
   module _ (first : FirstRecord) (some : count ≡ 0 → ⊥)
       (read : (e : Entry) (rest : List ℕ) → EntryHasRange e → octets ≡ entry_octets e ++ rest →
@@ -352,7 +329,7 @@ module _ (C : Table) (l : Answers) (at count : ℕ) (octets : List ℕ) (w : Mes
         record { own = is.0; message = is.1; frames = is.2 }
 
     front_own : (m : Message) (e : Entry)
-        (es : List Entry) → Parts C l at count octets [] [] (Some m) w xs (e ∷ es) →
+        (es : List Entry) → AreEntriesOf C l at count octets [] [] (Some m) w xs (e ∷ es) →
         FrontOwn C l at count first [] w xs
     front_own m e es is =
         let none : length es ≡ 0 = ap length is.entries_are.1 in
@@ -370,9 +347,8 @@ module _ (C : Table) (l : Answers) (at count : ℕ) (octets : List ℕ) (w : Mes
         }
 
     front_open : (k : OpenEntry) (ks : List OpenEntry) (h : Held) (hs : List Held)
-        (current : Option Message)
-        (e : Entry) (es : List Entry) → Parts C l at count octets (k ∷ ks) (h ∷ hs) current w xs
-        (e ∷ es) →
+        (current : Option Message) (e : Entry) (es : List Entry) →
+        AreEntriesOf C l at count octets (k ∷ ks) (h ∷ hs) current w xs (e ∷ es) →
         FrontOpen C l at count first (h ∷ hs) w xs
     front_open k ks h hs current e es is = record {
       here = h;
@@ -390,19 +366,21 @@ module _ (C : Table) (l : Answers) (at count : ℕ) (octets : List ℕ) (w : Mes
         kept = ks;
         current = current;
         entries = es;
-        entries_are = is.entries_are.1;
-        count_is = omega (arith, is.count_is);
-        octets_are = (read e (flat_map entry_octets es) is.entries_are.0.range is.octets_are).3;
-        slots_are = is.slots_are.1;
-        own_is = is.own_is;
-        each_ready = is.each_ready.1;
-        own_ready = is.own_ready;
+        are = record {
+          entries_are = is.entries_are.1;
+          count_is = omega (arith, is.count_is);
+          octets_are = (read e (flat_map entry_octets es) is.entries_are.0.range is.octets_are).3;
+          slots_are = is.slots_are.1;
+          own_is = is.own_is;
+          each_ready = is.each_ready.1;
+          own_ready = is.own_ready;
+        };
       };
     }
 
     front_by : (kept : List OpenEntry) (held : List Held) (current : Option Message)
         (entries : List Entry) →
-        Parts C l at count octets kept held current w xs entries →
+        AreEntriesOf C l at count octets kept held current w xs entries →
         FrontOpen C l at count first held w xs ⊎ FrontOwn C l at count first held w xs
     front_by [] [] None [] is = absurd (some is.count_is)
     front_by [] [] None (e ∷ es) is = absurd is.entries_are
@@ -416,8 +394,7 @@ module _ (C : Table) (l : Answers) (at count : ℕ) (octets : List ℕ) (w : Mes
 
     pub front_is : (held : List Held) → AreLeft C l at count octets held w xs →
         FrontOpen C l at count first held w xs ⊎ FrontOwn C l at count first held w xs
-    front_is held left = front_by left.kept held left.current left.entries
-        (parts_of held left)
+    front_is held left = front_by left.kept held left.current left.entries left.are
 
 -- ---- all records
 
@@ -425,8 +402,8 @@ false_not_true : false ≡ true → ⊥
 false_not_true e = cc
 
 -- all that was left was added
-abbrev pub IsAll : Table → Answers → Bool → Slots → Slots → List Held → MessageKey → Option (List ℕ) →
-    Type 0
+abbrev pub IsAll : Table → Answers → Bool → Slots → Slots → List Held → MessageKey →
+    Option (List ℕ) → Type 0
 IsAll C l result before after held w xs =
     (result ≡ true) × HasAdded C l before after held × IsCurrentOwner C l after.owner w xs
 
@@ -505,7 +482,8 @@ module _ (C : Table) (l : Answers) (at count : ℕ) (w : MessageKey) (xs : Optio
 
 -- Up to `mid` these records were added, and so many are left, in `rest`: whatever adds those has
 -- added all.
-abbrev pub Completes : Table → Answers → ℕ → ℕ → List ℕ → MessageKey → Option (List ℕ) → Slots → Slots → ℕ → List ℕ → Type 0
+abbrev pub Completes : Table → Answers → ℕ → ℕ → List ℕ → MessageKey → Option (List ℕ) → Slots →
+    Slots → ℕ → List ℕ → Type 0
 Completes C l at count octets w xs before mid left rest =
     (result : Bool) (after : Slots) → (left ≡ 0 → (result ≡ true) × (after ≡ mid)) →
     ((hs : List Held) → AreLeft C l at left rest hs w xs →
@@ -551,7 +529,8 @@ module _ (C : Table) (l : Answers) (at count : ℕ) (octets : List ℕ) (w : Mes
         length before.slots.entries + length held ≤ before.slots.most →
         before.owner ≡ owners.Current None → ⊥
     not_one some fails held are room bare =
-        let all : IsAll C l false before mid held w xs = before_here false mid (λ z. absurd (some z))
+        let all : IsAll C l false before mid held w xs =
+        before_here false mid (λ z. absurd (some z))
         (λ hs here space none. absurd (fails hs here space none)) held are room bare in
         false_not_true all.0
 

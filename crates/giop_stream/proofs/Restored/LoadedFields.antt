@@ -96,14 +96,16 @@ module _ (octets p : List ℕ) (C : Table) (l : RequestTable) (most : ℕ)
         kept = s.memory.slots.slots.entries;
         current = current_of s.memory.slots.owner;
         entries = s.entries;
-        entries_are = s.entries_are;
-        count_is = sym (entries_count s.memory.slots.slots.entries
-            (current_of s.memory.slots.owner) s.entries s.entries_are);
-        octets_are = are;
-        slots_are = s.shows.slots.slots;
-        own_is = stand.is;
-        each_ready = s.ready.each_ready;
-        own_ready = s.ready.current_ready;
+        are = record {
+          entries_are = s.entries_are;
+          count_is = sym (entries_count s.memory.slots.slots.entries
+              (current_of s.memory.slots.owner) s.entries s.entries_are);
+          octets_are = are;
+          slots_are = s.shows.slots.slots;
+          own_is = stand.is;
+          each_ready = s.ready.each_ready;
+          own_ready = s.ready.current_ready;
+        };
       })
     where
       P : Fixed → Type 0

@@ -10,8 +10,8 @@ loop-init c =
       ready = c.requires.ready;
       lengths = subst (λ k. AreRecords k c.args.records.now) whole c.requires.lengths;
       most = refl;
-      completes = λ a w xs. subst (λ k. Completes c.args.catalogue.now a (c.args.octets + 1) c.args.count
-          c.args.records.now w xs
+      completes = λ a w xs. subst (λ k. Completes c.args.catalogue.now a (c.args.octets + 1)
+          c.args.count c.args.records.now w xs
           c.args.slots.now c.args.slots.now k c.args.records.now) whole
           (none_yet c.args.catalogue.now a (c.args.octets + 1) c.args.count c.args.records.now w xs
           c.args.slots.now);
@@ -36,14 +36,13 @@ loop-preserved c =
       lengths = subst (λ k. AreRecords k c.in-Some.behind.now) fewer
           (subst (λ xs. AreRecords (left - 1) xs) (sym c.in-Some.ensures.rest) behind);
       most = c.add_first.ensures.most ∙ c.loop.invariant.most;
-      completes = λ a w xs. subst (λ k. Completes c.args.catalogue.now a (c.args.octets + 1) c.args.count
-          c.args.records.now w xs
+      completes = λ a w xs. subst (λ k. Completes c.args.catalogue.now a (c.args.octets + 1)
+          c.args.count c.args.records.now w xs
           c.args.slots.now c.add_first.new.slots k c.in-Some.behind.now) fewer
           (one_more c.args.catalogue.now a (c.args.octets + 1) c.args.count c.args.records.now w xs
           c.args.slots.now
-          c.loop.slots left c.loop.rest.now (c.loop.invariant.completes a w xs) c.add_first.new.slots
-          c.in-Some.behind.now some
-          c.add_first.ensures.most
+          c.loop.slots left c.loop.rest.now (c.loop.invariant.completes a w xs)
+          c.add_first.new.slots c.in-Some.behind.now some c.add_first.ensures.most
           (λ hs are room bare. c.in-Some.ensures.again a left hs w xs some are room bare));
     }
 

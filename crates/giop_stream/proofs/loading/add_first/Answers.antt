@@ -6,9 +6,8 @@ use Rattle.giop_stream.proofs.loading.add_first.Goals as goal
 
 pub returns-in_default-clause-again : goal.returns-in_default-clause-again
 returns-in_default-clause-again c l count held w xs some left room bare =
-    absurd (front_found c.args.catalogue.now l (c.args.octets + 1) count c.args.records.now w xs held
-    left some
-    c.in_default.ensures.again)
+    absurd (front_found c.args.catalogue.now l (c.args.octets + 1) count c.args.records.now w xs
+    held left some c.in_default.ensures.again)
 
 pub returns-then-not-add-clause-again : goal.returns-then-not-add-clause-again
 returns-then-not-add-clause-again c l count held w xs some left room bare =

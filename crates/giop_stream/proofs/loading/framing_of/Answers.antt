@@ -16,8 +16,8 @@ returns-then-not-add_all-clause-again c l n octets p s fixed_is records_are =
     let left = spells_left octets p c.args.catalogue.now l n s c.args.fixed c.args.records.now
     fixed_is records_are in
     let room = room_for R p c.args.slots bare.no_slots in
-    let made = c.add_all.ensures.again (by_list l) (slots_at (state_of R p).tracked) here.w here.xs left
-    (omega (arith, room, limit)) bare.no_owner in
+    let made = c.add_all.ensures.again (by_list l) (slots_at (state_of R p).tracked) here.w here.xs
+    left (omega (arith, room, limit)) bare.no_owner in
     cc (made.0, c.if-not-add_all.true)
 
 pub returns-then-not-may_be-clause-again : goal.returns-then-not-may_be-clause-again
@@ -38,8 +38,8 @@ returns-clause-again c l n octets p s fixed_is records_are =
     let left = spells_left octets p c.args.catalogue.now l n s c.args.fixed c.args.records.now
     fixed_is records_are in
     let room = room_for R p c.args.slots bare.no_slots in
-    let made = c.add_all.ensures.again (by_list l) (slots_at (state_of R p).tracked) here.w here.xs left
-    (omega (arith, room, limit)) bare.no_owner in
+    let made = c.add_all.ensures.again (by_list l) (slots_at (state_of R p).tracked) here.w here.xs
+    left (omega (arith, room, limit)) bare.no_owner in
     shows_again octets p c.args.catalogue.now l n s _ c.args.slots c.add_all.new.slots bare.no_slots
     c.args.fixed fixed_is
     (record {
