@@ -5,7 +5,6 @@ pub mod NextOctet
 pub mod EngineStep
 pub mod EngineLaws
 pub mod EngineAlive
-pub mod StateShown
 pub mod MessageEnds
 pub mod MessageOctets
 pub mod PayloadRunSteps

@@ -6,16 +6,15 @@ use Rattle.giop_sig.specs.Table.{Table}
 use Rattle.giop_sig.specs.HeaderTypes.{BeginsWithId, header_type}
 use Rattle.giop_message.specs.Signatures.{Answers}
 use Rattle.giop_message.specs.ReaderOfTable.{message_reader}
-use Rattle.giop_stream.specs.Rules.{rules_by}
 use Rattle.giop_message.specs.Headers.{minor, kind, size, is_fragment, has_name}
 use Rattle.giop_stream.specs.declared.slots.Slots.{Slots}
 use Rattle.giop_stream.specs.declared.current.Current.{Current}
-use Rattle.giop_stream.specs.Framing.{Message, with_payload, cut}
-use Rattle.giop_stream.specs.Events.{MessageKey, Event, Open, Rising, id, message_key, place, opener_of, goes_past, events_at_request_id, events_at_end, events_of_octet, open_after}
+use Rattle.giop_stream.specs.Framing.{Message, with_payload}
+use Rattle.giop_stream.specs.Events.{MessageKey, Event, Open, Rising, id, message_key, place, opener_of, goes_past, events_at_request_id, events_at_end, events_of_octet}
 use Rattle.giop_stream.specs.Effects.{Effect, effects, then_effect, with_octet}
-use Rattle.giop_stream.specs.OpenSlots.{Tracked, IsNotOpen, tracked_after}
+use Rattle.giop_stream.specs.OpenSlots.{Tracked, IsNotOpen}
 use Rattle.giop_stream.specs.SlotsRepresent.{SlotsRepresent}
-use Rattle.giop_stream.specs.EngineState.{opener_key, owner_of_next, owner_of_next_in}
+use Rattle.giop_stream.specs.EngineState.{opener_key, owner_of_next}
 use Rattle.giop_stream.specs.PayloadRuns.{run_effect}
 
 -- The owner of the next octet once the request id is complete: of a Fragment, the message that it
@@ -131,11 +130,3 @@ pub record IsBeforeMessage (C : Table) (l : Answers) (s : Slots) (c : Tracked)
   pub payload_count : now.payload_count ≡ 0
   pub newest : IsNewest m.number c.still_open
   pub unknown : c.known m.number ≡ Some []
-
--- ---- The slots, and the whole stream so far.
-
--- The slots represent what is tracked of the messages of this stream.
-abbrev pub SlotsRepresentStream : Table → Answers → ℕ → Slots → List ℕ → Type 0
-SlotsRepresentStream C l most s p =
-    SlotsRepresent C l s (tracked_after (rules_by C l most) p)
-    (owner_of_next_in (open_after most p) (cut p).current)

@@ -1,7 +1,7 @@
 -- How to show that a call does a step; and the fields after a message's last octet.
-use Rattle.std.proofs.Common.{inl, inr, ◌≡◌, ℕ, ◌+◌, ◌<◌, ◌≤◌, Bool, true, false, List, [], ◌∷◌, ◌++◌, length, refl, sym, subst, ◌∙◌, Option, Some, None, Result, Ok, Err, IsErr, arith}
+use Rattle.std.proofs.Common.{◌≡◌, ℕ, ◌+◌, ◌<◌, ◌≤◌, Bool, true, false, List, [], ◌∷◌, ◌++◌, length, refl, sym, subst, ◌∙◌, Option, Some, None, Result, Ok, Err, IsErr}
 use Rattle.std.specs.Prelude.{◌==◌, if◌then◌else◌, OnOk}
-use Rattle.std.proofs.lemmas.Bool.{cases_lt, lt-ltb, le-ltb, eq-eqb, ne_eqb, false≢true}
+use Rattle.std.proofs.lemmas.Bool.{lt-ltb, le-ltb, eq-eqb, ne_eqb, false≢true}
 use Rattle.std.proofs.lemmas.List.{append_cancel_left}
 use Rattle.giop_print.specs.Output.{OutLog, Writes}
 use Rattle.giop_sig.specs.Table.{Table}
@@ -10,13 +10,11 @@ use Rattle.giop_message.specs.Signatures.{Answers}
 use Rattle.giop_checkpoint.specs.declared.fault.StreamFault.{StreamFault}
 use Rattle.giop_stream.specs.Rules.{rules_by}
 use Rattle.giop_stream.specs.Framing.{Message, fault_of}
-use Rattle.giop_stream.specs.Events.{Open}
 use Rattle.giop_stream.specs.Lines.{Line, lines}
 use Rattle.giop_stream.specs.Text.{lines_text}
 use Rattle.giop_stream.specs.SlotsRepresent.{AreReady}
-use Rattle.giop_stream.specs.PayloadOwner.{owner_after}
 use Rattle.giop_stream.specs.EngineView.{FramingView}
-use Rattle.giop_stream.specs.EngineState.{State, state_of, owner_of_next_in}
+use Rattle.giop_stream.specs.EngineState.{State, state_of}
 use Rattle.giop_stream.specs.EngineStep.{Step}
 use Rattle.giop_stream.specs.FramingSteps.{end_message as settled}
 use Rattle.giop_stream.specs.ViewOfState.{Shows, Does}
@@ -65,21 +63,6 @@ pub goes_off : (whole : List Message) (m : Message) → size m.header ≤ length
     end_message whole m ≡ of_parts (whole ++ m ∷ []) None [] None
 unfolding end_message of_parts
 goes_off whole m more = rw (le-ltb (length m.payload) (size m.header) more) refl
-
-pub owner_settled : (still_open : List Open) (whole : List Message) (m : Message) →
-    length m.payload ≤ size m.header
-    → owner_of_next_in still_open (end_message whole m).current ≡ owner_after still_open m
-unfolding end_message owner_after
-owner_settled still_open whole m fits = elim (cases_lt (length m.payload) (size m.header)) [
-  | inl less ↦ rw (
-    lt-ltb (length m.payload) (size m.header) less,
-    ne_eqb (length m.payload) (size m.header) (λ e. omega (arith, less, e)),
-  ) refl
-  | inr more ↦ rw (
-    le-ltb (length m.payload) (size m.header) more,
-    eq-eqb (length m.payload) (size m.header) (omega (arith, more, fits)),
-  ) refl
-]
 
 -- the slots stay ready after a message's last octet
 pub ready_settled : (C : Table) (m m' : FramingView) (n place : ℕ) → m' ≡ settled m n →

@@ -1,7 +1,7 @@
 -- An octet of a message: where the fields show the state of a stream, the code does the step.
 use Rattle.std.proofs.Common.{inl, inr, ◌≡◌, ℕ, suc, ◌+◌, ◌^◌, ◌<◌, ◌≤◌, List, [], ◌∷◌, ◌++◌, length, refl, sym, ap, subst, ◌∙◌, append-nil, Option, Some, None, Result, arith}
-use Rattle.std.specs.Prelude.{OnOk}
-use Rattle.std.proofs.lemmas.Bool.{cases_lt}
+use Rattle.std.specs.Prelude.{OnOk, IfSome, ◌-◌, nat_lt, if◌then◌else◌}
+use Rattle.std.proofs.lemmas.Bool.{cases_lt, lt-ltb, le-ltb, eq-eqb, ne_eqb}
 use Rattle.std.proofs.lemmas.List.{length_push}
 use Rattle.std.proofs.lemmas.List.Elements.{All-append}
 use Rattle.giop_cdr.specs.Numbers.{AreOctets}
@@ -22,15 +22,15 @@ use Rattle.giop_stream.specs.Lines.{Line, lines}
 use Rattle.giop_stream.specs.Text.{lines_text}
 use Rattle.giop_stream.specs.Stream.{fault_count, tally}
 use Rattle.giop_stream.specs.Effects.{Effect, effects}
-use Rattle.giop_stream.specs.OpenSlots.{Tracked, tracked_after}
+use Rattle.giop_stream.specs.OpenSlots.{tracked_after}
 use Rattle.giop_stream.specs.SlotsRepresent.{SlotsRepresent}
-use Rattle.giop_stream.specs.PayloadOwner.{IsBeforeMessage, SlotsRepresentStream, owner_after}
+use Rattle.giop_stream.specs.PayloadOwner.{IsBeforeMessage, owner_after}
 use Rattle.giop_stream.specs.EngineView.{FramingView}
 use Rattle.giop_stream.specs.Octet.{header_of, payload_count_of}
-use Rattle.giop_stream.specs.EngineState.{State, state_of, owner_of_next_in}
+use Rattle.giop_stream.specs.EngineState.{State, left_of, state_of, owner_of_next_in}
 use Rattle.giop_stream.specs.EngineStep.{step, run_state, runs}
 use Rattle.giop_stream.specs.FramingSteps.{held_on, end_message as settled}
-use Rattle.giop_stream.specs.ViewOfState.{IsReached, Shows, Does}
+use Rattle.giop_stream.specs.ViewOfState.{IsReached, Shows, payload_count_in, Does}
 use Rattle.giop_stream.proofs.Lists.{each_weaker}
 use Rattle.giop_stream.proofs.Cuts.Cutting.{of_parts}
 use Rattle.giop_stream.proofs.Cuts.CutFrom.{end_message}
@@ -41,12 +41,11 @@ use Rattle.giop_stream.proofs.SlotSteps.Parts.{in_turn}
 use Rattle.giop_stream.proofs.Cuts.OfOctets.{header_octets, size_fits}
 use Rattle.giop_stream.proofs.CodeSteps.OneOctet.{Adds, beginner, begins_is}
 use Rattle.giop_stream.proofs.CodeSteps.EngineStep.{tally_settled}
-use Rattle.giop_stream.proofs.CodeSteps.NextOctet.{read_all}
+use Rattle.giop_stream.proofs.CodeSteps.NextOctet.{shape, state_is, read_all}
 use Rattle.giop_stream.proofs.CodeSteps.EngineAlive.{sound}
 use Rattle.giop_stream.proofs.CodeSteps.EngineLaws.{step_state, step_lines, run_holds, run_lines}
-use Rattle.giop_stream.proofs.CodeSteps.StateShown.{come_state, shows_by}
 use Rattle.giop_stream.proofs.CodeSteps.OutsideMessages.{within_limit}
-use Rattle.giop_stream.proofs.CodeSteps.MessageEnds.{does_by, settled_on, settled_off, goes_on, goes_off, owner_settled, none_stops}
+use Rattle.giop_stream.proofs.CodeSteps.MessageEnds.{does_by, settled_on, settled_off, goes_on, goes_off, none_stops}
 
 -- ---- States that a stream reaches.
 
@@ -72,6 +71,16 @@ reached_at C l n most s same r = record {
   held = r.held ∙ ap (λ (k : ℕ). state_of (rules_by C l k) r.stream) same;
 }
 
+-- ---- How many payload octets were read, from how many are to come.
+
+come_by : (n : ℕ) (c : Cut) (current : Option Message) (held : List ℕ) →
+    IfSome current (CurrentFits n c) → length held < 12
+    → (if nat_lt (length (header_of current held)) 12 then 0 else size (header_of current held)
+    - left_of current) ≡ payload_count_of current
+come_by n c None held h short = rw (lt-ltb (length held) 12 short) refl
+come_by n c (Some m) held h short = rw (le-ltb (length m.header) 12 (omega (arith, h.twelve)))
+    (omega (arith, h.lacks))
+
 -- ---- What the fields show after an octet of this message.
 
 module _ (C : Table) (l : Answers) (most : ℕ) (p : List ℕ) where
@@ -86,20 +95,6 @@ module _ (C : Table) (l : Answers) (most : ℕ) (p : List ℕ) where
       (number : n.number ≡ suc (length (cut p).whole))
       (adds : Adds rules p (p ++ x ∷ []) (end_message (cut p).whole n) (effect_of n).lines
       (effect_of n).tracked) where
-    knows_then : (slots : Slots) → SlotsRepresent C l slots (effect_of n).tracked
-        (owner_after (effect_of n).tracked.still_open n) →
-        SlotsRepresentStream C l most slots (p ++ x ∷ [])
-    unfolding tracked_after
-    knows_then slots keeps =
-        let p' = p ++ x ∷ [] in
-        let who : owner_after (tracked_after rules p').still_open n
-        ≡ owner_of_next_in (open_after most p') (cut p').current =
-        sym (ap (λ (d : Cut). owner_of_next_in (open_after most p') d.current) adds.cut_is
-        ∙ owner_settled (open_after most p') (cut p).whole n fits) in
-        subst (SlotsRepresent C l slots (tracked_after rules p')) who
-        (subst (λ (d : Tracked). SlotsRepresent C l slots d (owner_after d.still_open n))
-        (sym adds.tracked_after) keeps)
-
     pub settled_shows : (b f : FramingView) (k : ℕ) → f ≡ settled b k → b.totals.messages ≡ n.number
         → b.totals.faults ≡ fault_count (lines rules p) + fault_count (effect_of n).lines →
         b.totals.octets ≡ suc (length p)
@@ -108,25 +103,48 @@ module _ (C : Table) (l : Answers) (most : ℕ) (p : List ℕ) where
         → SlotsRepresent C l b.slots (effect_of n).tracked
         (owner_after (effect_of n).tracked.still_open n) →
         Shows C l f (state_of rules (p ++ x ∷ []))
-    unfolding of_parts tracked_after
+    unfolding shape of_parts tracked_after owner_after payload_count_in
     settled_shows b f k e messages faults octets stopped header payload_count sized keeps =
         let p' = p ++ x ∷ [] in
-        let totals : b.totals ≡ tally rules p' =
-        (λ j. record { messages = messages j; faults = faults j; octets = octets j })
-        ∙ sym (tally_settled rules p x n number adds) in
-        rw e (elim (cases_lt (length n.payload) (size n.header)) [
+        let whole = (cut p).whole in
+        let totals : b.totals ≡ record {
+          messages = n.number;
+          faults = fault_count (lines rules p) + fault_count (effect_of n).lines;
+          octets = suc (length p);
+        } = λ j. record { messages = messages j; faults = faults j; octets = octets j } in
+        subst (Shows C l f) (sym (state_is rules p' _ (end_message whole n) (effect_of n).tracked
+        (tally_settled rules p x n number adds) adds.cut_is adds.tracked_after))
+        (rw e (elim (cases_lt (length n.payload) (size n.header)) [
           | inl less ↦
-              rw (settled_on b k (λ same. omega (arith, same, payload_count, sized, less)))
-              (shows_by C l most p' b (of_parts (cut p).whole (Some n) [] None)
-              (adds.cut_is ∙ goes_on (cut p).whole n less) refl totals stopped header payload_count
-              (knows_then b.slots keeps))
+              let now = adds.cut_is ∙ goes_on whole n less in
+              let fit = if_some (CurrentFits (length p') (cut p')) (cut p').current n
+              (ap (λ (c : Cut). c.current) now)
+              (adds.sound.fits (ap (λ (c : Cut). c.stop) now)).current in
+              rw (
+                settled_on b k (λ same. omega (arith, same, payload_count, sized, less)),
+                goes_on whole n less,
+              ) (record {
+                totals = totals;
+                stopped = stopped;
+                header = header;
+                payload_count = payload_count
+                    ∙ sym (come_by (length p') (cut p') (Some n) [] fit (omega arith));
+                slots = rw (ne_eqb (length n.payload) (size n.header)
+                    (λ same. omega (arith, less, same))) at keeps;
+              })
           | inr more ↦
-              rw (settled_off b k (omega (arith, payload_count, sized, more, fits)))
-              (shows_by C l most p' (record b { header = []; payload_count = 0 })
-              (of_parts ((cut p).whole ++ n ∷ []) None [] None)
-              (adds.cut_is ∙ goes_off (cut p).whole n more) refl totals stopped refl refl
-              (knows_then b.slots keeps))
-        ])
+              rw (
+                settled_off b k (omega (arith, payload_count, sized, more, fits)),
+                goes_off whole n more,
+              ) (record {
+                totals = totals;
+                stopped = stopped;
+                header = refl;
+                payload_count = refl;
+                slots = rw (eq-eqb (length n.payload) (size n.header) (omega (arith, more, fits)))
+                    at keeps;
+              })
+        ]))
 
 module _ (C : Table) (l : Answers) (most : ℕ) (s : State) (reached : IsReached C l most s)
     (m : FramingView) (h : Shows C l m s) where
@@ -180,17 +198,20 @@ module _ (C : Table) (l : Answers) (most : ℕ) (s : State) (reached : IsReached
     unfolding state_of
     header_at = at_p.header ∙ rw runs_on refl
 
+    fits_at : Fits (length p) (cut p)
+    fits_at = so.fits runs_on
+
     come_at : m.payload_count ≡ payload_count_of (cut p).current
-    come_at = at_p.payload_count ∙ (come_state R p so ∙ rw runs_on refl)
+    unfolding payload_count_in state_of
+    come_at = at_p.payload_count ∙ rw runs_on (come_by (length p) (cut p) (cut p).current
+        (cut p).held fits_at.current fits_at.short)
 
     pub all_read : m.totals.octets ≡ length p
     unfolding state_of tally
     all_read = ap (λ (t : Totals). t.octets) at_p.totals ∙ read_all p runs_on
 
-    fits_at : Fits (length p) (cut p)
-    fits_at = so.fits runs_on
-
-    pub knows_at : SlotsRepresentStream C l most m.slots p
+    pub knows_at : SlotsRepresent C l m.slots (tracked_after R p)
+        (owner_of_next_in (open_after most p) (cut p).current)
     unfolding state_of
     knows_at = at_p.slots
 

@@ -18,7 +18,7 @@ use Rattle.giop_stream.specs.declared.slots.PayloadOwner.TheVariants as owners
 use Rattle.giop_stream.specs.Events.{MessageKey}
 use Rattle.giop_stream.specs.OpenSlots.{Slot as Held}
 use Rattle.giop_stream.specs.SlotsRepresent.{IsReady, RepresentsMessage, IsSlot, AreSlots}
-use Rattle.giop_stream.specs.Checkpoint.{IsStored, IsHeld, AreEntries, standing_of}
+use Rattle.giop_stream.specs.Checkpoint.{IsStored, IsHeld, standing_of}
 use Rattle.giop_stream.specs.Reloading.{IsEntry, pushed, IsOpenEntry, IsCurrentEntry, IsCurrentOwner, AreEntriesOf, AreLeft, HasAdded, HasAddedFirst}
 use Rattle.giop_stream.proofs.SlotSteps.SlotLists.{are_as_many}
 use Rattle.giop_stream.proofs.Restored.SavedSizes.{entries_range}
