@@ -1,6 +1,6 @@
 -- What an engine holds of a stream: one record, each field of which is determined by the whole
--- stream (state). Of the messages that it tracks a checkpoint stores those that are open and the one
--- that the next octets belong to.
+-- stream (state). Of the messages that are tracked a checkpoint stores the open ones, and the owner
+-- of the next octets.
 use Rattle.std.specs.Prelude.{ℕ, ◌-◌, List, [], length, Option, Some, None, if◌then◌else◌}
 use Rattle.giop_stream.specs.Rules.{Rules}
 use Rattle.giop_message.specs.Headers.{size}
@@ -18,7 +18,7 @@ pub record State : Type 0 where
   pub held : List ℕ  -- the header octets read so far, all 12 within a payload; none after a stream fault
   pub left : ℕ  -- how many payload octets are still to come; 0 after a stream fault
   pub tracked : Tracked  -- the open messages, and what is kept of each message that isn't over
-  pub owner : Option MessageKey  -- the message, open or current, that the payload's next octets belong to
+  pub owner : Option MessageKey  -- the message, open or current, whose the next octets are
 
 -- ---- The owner of the next octets.
 

@@ -84,7 +84,7 @@ PayloadBelongs C l None message c None = message ≡ None
 PayloadBelongs C l None message c (Some w) =
     IsNotOpen w.number c.still_open × RepresentsMessage C l message w (c.known w.number)
 
--- the slots are those of the open messages, with what is kept of each, and the owner is this message
+-- the slots are those of the open messages, with what is kept of each; the owner is this message
 pub record SlotsRepresent (C : Table) (l : Answers) (s : Slots) (c : Tracked)
     (owner_of_next : Option MessageKey) : Type 0 where
   pub slots : AreSlots C l s.slots.entries (slots_at c)
