@@ -82,9 +82,9 @@ impl<'a> Conversation<'a> {
     fn face(&mut self, parity: Parity)
         ensures even { self.new.even ≡ self.old.even }
         ensures odd { self.new.odd ≡ self.old.odd }
-        ensures parity { self.new.parity ≡ parity }
+        ensures value { self.new.parity ≡ parity }
         // The calls of a connection stay, those of the flow as the exchange's own.
-        ensures calls { (c : Connection) → HasCalls self.old.parity self.old.exchange c →
+        ensures kept { (c : Connection) → HasCalls self.old.parity self.old.exchange c →
             HasCalls parity self.new.exchange c }
     {
         if self.parity != parity {

@@ -133,7 +133,7 @@ impl<'a, O: Out + Drop> Conversations<'a, O> {
     pub fn opens(&mut self, flow: u32, endpoints: Flow)
         ensures follows { (events : List Event) → Follows self.old events →
             Follows self.new (events ++ Opens flow endpoints ∷ []) }
-        ensures out { self.new.out ≡ self.old.out }
+        ensures kept { self.new.out ≡ self.old.out }
         ensures told { (S : Setup) (written : List ℕ) (events : List Event) →
             Told S written events self.old →
             Told S written (events ++ Opens flow endpoints ∷ []) self.new }

@@ -20,7 +20,7 @@ pub fn lines_stand_below()
     ensures again { (t : Tagging) (w tag : List ℕ) → IsReady t w →
         IsReady (record t { tag = tag; due = length tag; since = 0 }) w }
     // Where lines are written, they stand below, each with the tag in front;
-    ensures wrote { (t after : Tagging) (w lines : List ℕ) → IsReady t w →
+    ensures writes { (t after : Tagging) (w lines : List ℕ) → IsReady t w →
         Wrote (tagging_log t) (tagging_log after) lines → is_due lines ≡ true →
         IsReady after (w ++ with_tags t.tag lines) × (after.tag ≡ t.tag) }
     // and where a put fails, a front of them does, and maybe the beginning of a tag.
@@ -32,7 +32,7 @@ pub fn lines_stand_below()
 /// Lines with tags are the lines again where the tags are taken away, and those of whole lines stand one behind the other.
 pub fn lines_with_tags()
     ensures taken { (tag text : List ℕ) → without_tags (length tag) (with_tags tag text) ≡ text }
-    ensures joined { (tag first more : List ℕ) → is_due first ≡ true →
+    ensures more { (tag first more : List ℕ) → is_due first ≡ true →
         with_tags tag (first ++ more) ≡ with_tags tag first ++ with_tags tag more }
 {}
 

@@ -60,7 +60,7 @@ impl Tag {
     #[inline]
     pub(crate) fn block(&self) -> &[u8]
         ensures size { length result.now ≡ 16 }
-        ensures tag { length self.now ≤ 16 → drop (16 - length self.now) result.now ≡ self.now }
+        ensures value { length self.now ≤ 16 → drop (16 - length self.now) result.now ≡ self.now }
     {
         &self.octets[ROOM - BLOCK..]
     }

@@ -174,7 +174,7 @@ fn is_short_due(due: usize, tag: &Tag) -> bool
 /// can be counted on. The line is one line, with its end.
 #[inline]
 fn fits_before(is_short_due: bool, since: u64, line: &Line) -> bool
-    ensures due { IsTrue result → is_short_due ≡ true }
+    ensures short { IsTrue result → is_short_due ≡ true }
     ensures room { IsTrue result → 16 ≤ line_room line.now }
     ensures line { IsTrue result → IsLine (line_text line.now) }
     ensures counts { IsTrue result → since < 2 ^ 63 }
@@ -338,7 +338,7 @@ fn put_line<O: Out>(
     octets: &[u8],
 ) -> Result<usize, OutFault>
     requires some { 0 < length octets.now }
-    requires none_due { due.old ≡ 0 }
+    requires none { due.old ≡ 0 }
     ensures { MatchResult result
         (λ n. PutLine (O.log out.old).written (O.log out.new).written tag.now octets.now
         since.old since.new due.old due.new n)

@@ -74,7 +74,7 @@ pub(crate) fn years_of(days: u64) -> Option<(u16, u16)>
 fn even_day(year: u16, days: u16) -> u16
     requires { days < calendar.days_in_year year }
     ensures early { days < calendar.days_in_year year - 306 → result ≡ days }
-    ensures late { calendar.days_in_year year - 306 ≤ days →
+    ensures past { calendar.days_in_year year - 306 ≤ days →
         result ≡ days + 61 - (calendar.days_in_year year - 306) }
     ensures most { result ≤ 366 }
 {
@@ -90,9 +90,9 @@ fn even_day(year: u16, days: u16) -> u16
 /// has 30 days, (367 m + 5) / 12 days stand before the month m, from 0.
 fn months_of(year: u16, days: u16) -> (u8, u8)
     requires within { days < calendar.days_in_year year }
-    ensures months { result.0 ≡ months_of year days }
+    ensures value { result.0 ≡ months_of year days }
     ensures few { result.0 < 12 }
-    ensures days { result.1 ≡ days - calendar.days_of_months year result.0 }
+    ensures rest { result.1 ≡ days - calendar.days_of_months year result.0 }
     ensures short { result.1 < 31 }
 {
     let even = even_day(year, days);
@@ -186,7 +186,7 @@ pub(crate) fn put_second(line: &mut Line, passed: u16, days: u16, seconds: u32)
 /// are divided so, which a processor does much quicker.
 #[inline]
 pub(crate) fn seconds_of(nanoseconds: u128) -> (u128, u32)
-    ensures seconds { result.0 ≡ nanoseconds / second }
+    ensures value { result.0 ≡ nanoseconds / second }
     ensures rest { result.1 ≡ nanoseconds % second }
 {
     match u64::try_from(nanoseconds) {

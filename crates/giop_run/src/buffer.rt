@@ -85,7 +85,7 @@ fn copy(octets: &[u8], room: &mut [u8])
 #[inline(always)]
 fn copy_ends<const N: usize>(octets: &[u8], room: &mut [u8])
     requires fits { length octets.now ≤ length room.old }
-    requires covers { (N ≤ length octets.now) × (length octets.now ≤ N + N) }
+    requires within { (N ≤ length octets.now) × (length octets.now ≤ N + N) }
     ensures size { length room.new ≡ length room.old }
     ensures head { take (length octets.now) room.new ≡ octets.now }
 {

@@ -43,9 +43,9 @@ pub fn failed(rt: &HostRuntime, program: &str, fault: &ProgramFault) -> u8
 /// status.
 pub fn refused(rt: &HostRuntime, program: &str, error: &Error) -> u8
     ensures memory { kind_of error.now ≡ ErrorKind.OutOfMemory → result ≡ 5 }
-    ensures shown { (kind_of error.now ≡ ErrorKind.DisplayHelp)
+    ensures ok { (kind_of error.now ≡ ErrorKind.DisplayHelp)
         ⊎ (kind_of error.now ≡ ErrorKind.DisplayVersion) → (result ≡ 0) ⊎ (result ≡ 4) }
-    ensures mistake { kind_of error.now ≢ ErrorKind.OutOfMemory
+    ensures err { kind_of error.now ≢ ErrorKind.OutOfMemory
         → kind_of error.now ≢ ErrorKind.DisplayHelp → kind_of error.now ≢ ErrorKind.DisplayVersion
         → (result ≡ 2) ⊎ (result ≡ 4) }
 {

@@ -51,7 +51,7 @@ impl<W: Write + Drop> Lines<W> {
         ensures written { Keeps (lines_log W.contents self.old).written
             (lines_log W.contents self.new).written }
         ensures puts { self.new.puts ≡ self.old.puts }
-        ensures failures { self.new.failures ≡ self.old.failures }
+        ensures fails { self.new.failures ≡ self.old.failures }
         ensures none { OnOk result (lines_kept self.new ≡ []) }
     {
         let octets = self.buffer.octets();

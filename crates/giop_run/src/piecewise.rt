@@ -45,7 +45,7 @@ impl<'a> Source for Piecewise<'a> {
             (λ given. Gave (piecewise_log self.old) (piecewise_log self.new) into.new given)
             (λ _. ReadFailed (piecewise_log self.old) (piecewise_log self.new)) }
         // It never fails, and gives as many octets as the rest, the step and the length of `into` allow.
-        ensures given { result ≡ Ok (min
+        ensures value { result ≡ Ok (min
             (min (length (piecewise_left self.old)) (piecewise_step self.old))
             (length into.old)) }
         ensures kept { piecewise_step self.new ≡ piecewise_step self.old }

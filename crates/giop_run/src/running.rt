@@ -137,7 +137,7 @@ fn read_and_feed<S: Source, O: Out>(
     engine: &mut Engine,
     buffer: &mut [u8; ROOM],
 ) -> Result<bool, RunFault>
-    ensures turned { (p : List ℕ) → Holds engine.old p → (s : List ℕ)
+    ensures fed { (p : List ℕ) → Holds engine.old p → (s : List ℕ)
         × HasReadAndFed (rules_of engine.old) result p s engine.new (S.log source.old)
         (S.log source.new) (O.log out.old) (O.log out.new) }
     ensures leaves { engine.old.failed ≡ false → OnOk result (engine.new.failed ≡ false) }
@@ -159,7 +159,7 @@ fn read_and_feed<S: Source, O: Out>(
 
 /// Reads once, with a contract that the buffer has octets, which follows from its type.
 fn read<S: Source>(source: &mut S, buffer: &mut [u8]) -> Result<usize, SourceFault>
-    ensures gave { MatchResult result
+    ensures read { MatchResult result
         (λ given. Gave (S.log source.old) (S.log source.new) buffer.new given)
         (λ _. ReadFailed (S.log source.old) (S.log source.new)) }
     ensures octets { AreOctets buffer.new }

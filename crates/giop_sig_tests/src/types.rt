@@ -69,8 +69,8 @@ fn add_kind(catalogue: &Catalogue, t: TypeId, row: &mut Sheet) -> Result<(), Out
 
 fn add_parts(catalogue: &Catalogue, t: TypeId, count: u32, row: &mut Sheet) -> Result<(), OutFault>
     requires known { t.0 < length catalogue.now.types }
-    requires names { (i : ℕ) → i < count → HasMember (shape_in (tree catalogue.now t.0)) i }
-    requires parts { (i : ℕ) → i < count → HasPlace (shape_in (tree catalogue.now t.0)) i }
+    requires named { (i : ℕ) → i < count → HasMember (shape_in (tree catalogue.now t.0)) i }
+    requires place { (i : ℕ) → i < count → HasPlace (shape_in (tree catalogue.now t.0)) i }
 {
     for place in 0..count {
         if place > 0 {

@@ -7,8 +7,8 @@ returns-clause-start c = ready_new
 pub returns-clause-again : goal.returns-clause-again
 returns-clause-again c = ready_with
 
-pub returns-clause-wrote : goal.returns-clause-wrote
-returns-clause-wrote c = ready_wrote
+pub returns-clause-writes : goal.returns-clause-writes
+returns-clause-writes c = ready_wrote
 
 pub returns-clause-front : goal.returns-clause-front
 returns-clause-front c = ready_front

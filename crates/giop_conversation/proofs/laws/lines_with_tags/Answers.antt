@@ -4,5 +4,5 @@ use Rattle.giop_conversation.proofs.laws.lines_with_tags.Goals as goal
 pub returns-clause-taken : goal.returns-clause-taken
 returns-clause-taken c = taken
 
-pub returns-clause-joined : goal.returns-clause-joined
-returns-clause-joined c = joined
+pub returns-clause-more : goal.returns-clause-more
+returns-clause-more c = joined

@@ -2,20 +2,20 @@ use Rattle.std.proofs.Common.{◌+◌, ◌-◌, ◌*◌, ◌/◌, refl}
 use Rattle.giop_conversation.proofs.TimeLemmas.{month_is, month_found}
 use Rattle.giop_conversation.proofs.times.months_of.Goals as goal
 
-pub returns-clause-months : goal.returns-clause-months
-returns-clause-months c =
+pub returns-clause-value : goal.returns-clause-value
+returns-clause-value c =
     let even = c.even_day-even.result in
     let passed = (12 * even + 6) / 367 in
     let found = month_is c.args.year c.args.days even passed c.requires.within
-    c.even_day-even.ensures.early c.even_day-even.ensures.late refl in
+    c.even_day-even.ensures.early c.even_day-even.ensures.past refl in
     (month_found c.args.year c.args.days passed (even - (367 * passed + 5) / 12) found.few
     found.before (λ _. found.short)).0
 
-pub returns-clause-days : goal.returns-clause-days
-returns-clause-days c =
+pub returns-clause-rest : goal.returns-clause-rest
+returns-clause-rest c =
     let even = c.even_day-even.result in
     let passed = (12 * even + 6) / 367 in
     let found = month_is c.args.year c.args.days even passed c.requires.within
-    c.even_day-even.ensures.early c.even_day-even.ensures.late refl in
+    c.even_day-even.ensures.early c.even_day-even.ensures.past refl in
     (month_found c.args.year c.args.days passed (even - (367 * passed + 5) / 12) found.few
     found.before (λ _. found.short)).1

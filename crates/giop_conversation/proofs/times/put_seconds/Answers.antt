@@ -6,7 +6,7 @@ pub put_octets-requires : goal.put_octets-requires
 put_octets-requires c =
     let short = seconds_short c.args.nanoseconds c.ranges.nanoseconds.fits in
     let digits : length c.as_bytes.result.now ≤ 30 =
-    rw (c.as_bytes.ensures.value, c.format.ensures.text, c.seconds_of-seconds.ensures.seconds)
+    rw (c.as_bytes.ensures.value, c.format.ensures.text, c.seconds_of-seconds.ensures.value)
     short in
     omega (arith, digits, c.put.ensures.room, c.put_nine.ensures.room, c.requires)
 
@@ -14,7 +14,7 @@ pub returns-in-Err-clause-room : goal.returns-in-Err-clause-room
 returns-in-Err-clause-room c =
     let short = seconds_short c.args.nanoseconds c.ranges.nanoseconds.fits in
     let digits : length c.as_bytes.result.now ≤ 30 =
-    rw (c.as_bytes.ensures.value, c.format.ensures.text, c.seconds_of-seconds.ensures.seconds)
+    rw (c.as_bytes.ensures.value, c.format.ensures.text, c.seconds_of-seconds.ensures.value)
     short in
     omega (
       arith,

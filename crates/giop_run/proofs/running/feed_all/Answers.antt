@@ -50,7 +50,7 @@ returns-in_err-read_and_feed-clause-fed g c =
     let s = c.loop-turn.invariant.going p h in
     let f = going_flushed _ p s.0 _ c.loop-turn._turn _ _ _ _ _ _ s.1 c.in_ok-flush.ensures.flushed
     in
-    let t = c.in_err-read_and_feed.ensures.turned (p ++ s.0) f.took.holds in
+    let t = c.in_err-read_and_feed.ensures.fed (p ++ s.0) f.took.holds in
     let r = err_from_is_err_and c.from_residual-in_err-read_and_feed.result
     c.from_residual-in_err-read_and_feed.ensures.1 in (
       s.0 ++ t.0,
@@ -65,7 +65,7 @@ returns-then-not-branch-2-clause-fed g c =
     let s = c.loop-turn.invariant.going p h in
     let f = going_flushed _ p s.0 _ c.loop-turn._turn _ _ _ _ _ _ s.1 c.in_ok-flush.ensures.flushed
     in
-    let t = c.in_ok-read_and_feed.ensures.turned (p ++ s.0) f.took.holds in (
+    let t = c.in_ok-read_and_feed.ensures.fed (p ++ s.0) f.took.holds in (
       s.0 ++ t.0,
       turn_over _ (adds_up c.args.engine.now) p s.0 t.0 _ _ c.loop-turn._turn _ _ _ _ _ _
           f (rw c.if-not-branch-2.true at t.1) (omega (arith, c.loop-turn-test.true)),
@@ -94,7 +94,7 @@ loop-turn-preserved g c =
           let s = c.loop-turn.invariant.going p h in
           let f = going_flushed _ p s.0 _ c.loop-turn._turn _ _ _ _ _ _ s.1
           c.in_ok-flush.ensures.flushed in
-          let t = c.in_ok-read_and_feed.ensures.turned (p ++ s.0) f.took.holds in (
+          let t = c.in_ok-read_and_feed.ensures.fed (p ++ s.0) f.took.holds in (
             s.0 ++ t.0,
             going_more _ (adds_up c.args.engine.now) p s.0 t.0 _ _ c.loop-turn._turn _ _
                 _ _ _ _ f (rw c.if-not-branch-2.false at t.1),

@@ -13,8 +13,8 @@ returns-in-Even-clause-text g c = λ S k w holds ready.
     let t = c.face.new.self.exchange in
     let h : HoldsSide S d k.even = rw c.face.ensures.even holds.even in
     let opposite : HoldsSide S c.face.new.self.odd k.odd = rw c.face.ensures.odd holds.odd in
-    let calls : HasCalls Even t k = rw c.in-Even.is at (c.face.ensures.calls k holds.calls) in
-    let here : c.face.new.self.parity ≡ Even = c.face.ensures.parity ∙ c.in-Even.is in
+    let calls : HasCalls Even t k = rw c.in-Even.is at (c.face.ensures.kept k holds.calls) in
+    let here : c.face.new.self.parity ≡ Even = c.face.ensures.value ∙ c.in-Even.is in
     let go = c.answers_go_on.ensures S.table k.even.answers S.messages k.even.octets octets
     (calls_in S Even time k) in
     let a = go.0 in
@@ -33,8 +33,8 @@ returns-in-Odd-clause-text g c = λ S k w holds ready.
     let t = c.face.new.self.exchange in
     let h : HoldsSide S d k.odd = rw c.face.ensures.odd holds.odd in
     let opposite : HoldsSide S c.face.new.self.even k.even = rw c.face.ensures.even holds.even in
-    let calls : HasCalls Odd t k = rw c.in-Odd.is at (c.face.ensures.calls k holds.calls) in
-    let here : c.face.new.self.parity ≡ Odd = c.face.ensures.parity ∙ c.in-Odd.is in
+    let calls : HasCalls Odd t k = rw c.in-Odd.is at (c.face.ensures.kept k holds.calls) in
+    let here : c.face.new.self.parity ≡ Odd = c.face.ensures.value ∙ c.in-Odd.is in
     let go = c.answers_go_on.ensures S.table k.odd.answers S.messages k.odd.octets octets
     (calls_in S Odd time k) in
     let a = go.0 in

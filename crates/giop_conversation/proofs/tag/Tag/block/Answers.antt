@@ -2,7 +2,7 @@ use Rattle.std.proofs.Common.{rules}
 use Rattle.giop_conversation.proofs.Blocks.{block_is}
 use Rattle.giop_conversation.proofs.tag.Tag.block.Goals as goal
 
-pub returns-clause-tag : goal.returns-clause-tag
-returns-clause-tag c =
+pub returns-clause-value : goal.returns-clause-value
+returns-clause-value c =
     rw (← c.self.view_is)
     (block_is c.self.inside.octets c.self.inside.at (search rules) (search rules))

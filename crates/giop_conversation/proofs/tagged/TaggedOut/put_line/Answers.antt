@@ -7,7 +7,7 @@ use Rattle.giop_conversation.proofs.tagged.TaggedOut.put_line.Goals as goal
 pub put_end-requires : goal.put_end-requires
 put_end-requires g c =
     let fits = c.if-not-fits_before.ensures in
-    let due = c.self.invariant.1 (fits.due refl) in
+    let due = c.self.invariant.1 (fits.short refl) in
     record {
       size = c.block.ensures.size;
       within = rw c.len.ensures due.short;
@@ -19,10 +19,10 @@ returns-then-taken-text g c =
     let tag = c.self.inside.tag in
     let line = line_text c.args.line.now in
     let fits = c.if-not-fits_before.ensures in
-    let due = c.self.invariant.1 (fits.due refl) in
+    let due = c.self.invariant.1 (fits.short refl) in
     let text : c.text-text.result.now ≡ tag ++ line =
     c.text-text.ensures ∙ (c.put_end.ensures.text
-    ∙ ap (λ t. t ++ line) (rw c.len.ensures (c.block.ensures.tag due.short))) in
+    ∙ ap (λ t. t ++ line) (rw c.len.ensures (c.block.ensures.value due.short))) in
     let all = take_all (length c.text-text.result.now) c.text-text.result.now (omega arith) in
     let appends = rw text at (rw all at (rw c.if-taken-text.true at
     c.put_most-taken.ensures.written)) in
@@ -38,10 +38,10 @@ returns g c =
     let line = line_text c.args.line.now in
     let taken = c.put_most-taken.result in
     let fits = c.if-not-fits_before.ensures in
-    let due = c.self.invariant.1 (fits.due refl) in
+    let due = c.self.invariant.1 (fits.short refl) in
     let text : c.text-text.result.now ≡ tag ++ line =
     c.text-text.ensures ∙ (c.put_end.ensures.text
-    ∙ ap (λ t. t ++ line) (rw c.len.ensures (c.block.ensures.tag due.short))) in
+    ∙ ap (λ t. t ++ line) (rw c.len.ensures (c.block.ensures.value due.short))) in
     let whole : c.self.inside.due ≡ length tag = due.whole in
     let size : length c.text-text.result.now ≡ length (tag ++ line) = ap length text in
     let few : taken < length (tag ++ line) =
