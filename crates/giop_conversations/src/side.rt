@@ -24,7 +24,7 @@ impl Side<'_> {
     /// Becomes the correspondent of the other direction.
     pub fn turn(&mut self)
         ensures own { self.new.own ≡ self.old.theirs }
-        ensures theirs { self.new.theirs ≡ self.old.own }
+        ensures other { self.new.theirs ≡ self.old.own }
     {
         swap(&mut self.own, &mut self.theirs);
     }

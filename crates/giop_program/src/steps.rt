@@ -177,7 +177,7 @@ fn dumped<'a, 'c, R: Read + Drop, O: Flush>(
     ensures dumped { IfSome (run_of result) (λ ran. (p : List ℕ) → Holds engine.entry p
         → Dumped (setup_of engine.entry ending) ran p
         (R.remaining reader) (O.log out.old) (O.log out.new)) }
-    ensures reached { run_of result ≢ None }
+    ensures some { run_of result ≢ None }
     ensures sound { run_of result ≢ Some (Err RunFault.Failed) }
     ensures kept { IfOk result (λ report. HasKept ending report.kept) }
     ensures flushed { OnOk result (O.kept out.new ≡ []) }

@@ -10,23 +10,23 @@ ghost use Rattle.giop_stream_rows.specs.Checkpoints.{InAHeader, InAnOldHeader, I
 /// for its contract.
 pub fn worked_streams()
     // A message without a header type ends at its own header.
-    ensures close_connection { CloseConnection }
+    ensures closes { CloseConnection }
     // A little-endian 1.2 Request, whose body is aligned to 8.
-    ensures little_request { LittleRequest }
+    ensures request { LittleRequest }
     // Two Requests whose fragments are interleaved.
     ensures interleaved { Interleaved }
     // Two messages of one request id.
-    ensures open_twice { OpenTwice }
+    ensures id { OpenTwice }
     // Two messages where one may be open.
     ensures one_open { OneOpen }
     // A CancelRequest, and a Fragment of the message that it cancelled.
     ensures cancelled { Cancelled }
     // A Reply with the results of its request's operation, and one with an exception.
-    ensures replied { Replied }
+    ensures reply { Replied }
     ensures raised { Raised }
     // Encapsulations: the code sets of a service context, the same with too few octets, and an internet profile.
     ensures code_sets { CodeSets }
-    ensures code_sets_cut_short { CodeSetsCutShort }
+    ensures short { CodeSetsCutShort }
     ensures profile { Profile }
     // The request table of the Replies gives the operations that the request list gives.
     ensures request_table { AreOfTheirList }
@@ -35,7 +35,7 @@ pub fn worked_streams()
 /// The tables by which the streams are read are those of signature files. It has no body, and is called for its contract.
 pub fn worked_tables()
     // Each text spells a valid file, whose table this is; `one_table` of `giop_sig` says that it has no other.
-    ensures builtin { IsTableOf (codes "signatures 1;") builtin }
+    ensures empty { IsTableOf (codes "signatures 1;") builtin }
     ensures puts { IsTableOf put_text puts }
     ensures bigs { IsTableOf bigs_text bigs }
     ensures asks { IsTableOf asks_text asks }
@@ -44,10 +44,10 @@ pub fn worked_tables()
 /// The checkpoints of worked streams, octet for octet. It has no body, and is called for its contract.
 pub fn worked_checkpoints()
     // In a header, in either layout, in the payload of a faulted message, and after a stream fault.
-    ensures in_a_header { InAHeader }
+    ensures header { InAHeader }
     ensures in_an_old_header { InAnOldHeader }
-    ensures in_a_payload { InAPayload }
-    ensures behind_a_fault { BehindAFault }
+    ensures body { InAPayload }
+    ensures behind { BehindAFault }
     // With two open messages, one of them within a number.
-    ensures between_messages { BetweenMessages }
+    ensures messages { BetweenMessages }
 {}

@@ -4,9 +4,9 @@ use Rattle.giop_stream_rows.proofs.worked_checkpoints.Goals as goal
 
 pub returns : goal.returns
 returns c = record {
-  in_a_header = in_a_header;
+  header = in_a_header;
   in_an_old_header = in_an_old_header;
-  in_a_payload = in_a_payload;
-  behind_a_fault = behind_a_fault;
-  between_messages = two_open;
+  body = in_a_payload;
+  behind = behind_a_fault;
+  messages = two_open;
 }

@@ -3,7 +3,7 @@ use Rattle.giop_stream_rows.proofs.worked_tables.Goals as goal
 
 pub returns : goal.returns
 returns c = record {
-  builtin = none_declared;
+  empty = none_declared;
   puts = put_declared;
   bigs = bigs_declared;
   asks = asks_declared;
