@@ -344,7 +344,7 @@ pub fn simple_header(block: Block, interfaces: &[Interface], octets: &[u8]) -> O
 /// Behind the second length of a block, where this comes if it is the first again.
 #[tactic(auto, unfolding(crate::specs::Blocks::block_end))]
 pub fn block_end(block: Block, octets: &[u8], outcome: Outcome) -> Outcome
-    requires length { 4 ≤ length octets.now }
+    requires long { 4 ≤ length octets.now }
     requires fits { Fits 0 outcome }
     ensures value { result ≡ block_end block octets.now outcome }
     ensures fits { Fits 0 result }

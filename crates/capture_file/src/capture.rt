@@ -201,7 +201,7 @@ impl Capture {
     /// Holds a piece of the part that has begun, which doesn't complete it.
     fn hold(&mut self, piece: &[u8])
         requires running { self.old.fault ≡ None }
-        requires less { self.old.taken + length piece.now < size self.old.part }
+        requires within { self.old.taken + length piece.now < size self.old.part }
         requires few { size self.old.part < 2 ^ 64 }
         requires room { self.old.octets + length piece.now < 2 ^ 64 }
         ensures kept { HoldsPiece self.old self.new piece.now }
@@ -262,7 +262,7 @@ impl Capture {
     /// The part is complete, by the octets at its end. It began at this offset of the octets that are given, or is held.
     fn complete(&mut self, end: &[u8], start: usize, held: bool) -> Progress
         requires running { self.old.fault ≡ None }
-        requires end { length end.now ≡ back self.old.part }
+        requires back { length end.now ≡ back self.old.part }
         requires some { self.old.packets < self.old.octets }
         requires room { start + front self.old.part < 2 ^ 64 }
         ensures { Completes (next self.old.part self.old.interfaces.items end.now)
@@ -313,7 +313,7 @@ impl Capture {
             (256 - length (interfaces_behind self.old.part self.old.interfaces.items)) part }
         ensures begins { PartBegins self.old self.new part }
         ensures packets { self.new.packets ≡ self.old.packets }
-        ensures packet_range { self.new.packet_range ≡ self.old.packet_range }
+        ensures kept { self.new.packet_range ≡ self.old.packet_range }
     {
         match self.part {
             Part::ByteOrderMagic(_) => self.interfaces.clear(),

@@ -12,7 +12,7 @@ use crate::{blocks, records};
 #[tactic(auto, using(crate::proofs::Fitting::fits_more))]
 pub fn next(part: &Part, interfaces: &[Interface], octets: &[u8]) -> Outcome
     requires back { length octets.now ≡ back part.now }
-    requires adds { length interfaces.now + adds part.now ≤ 256 }
+    requires room { length interfaces.now + adds part.now ≤ 256 }
     ensures value { result ≡ next part.now interfaces.now octets.now }
     ensures fits { Fits (256 - length (interfaces_behind part.now interfaces.now)) result }
 {

@@ -7,5 +7,5 @@ pub fn packets_begin()
     // The packets of a longer list begin with those of the shorter one,
     ensures packets { PacketsBegin }
     // and behind a fault nothing is read.
-    ensures fault { FaultStays }
+    ensures stays { FaultStays }
 {}

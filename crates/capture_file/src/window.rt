@@ -7,8 +7,8 @@ ghost use Rattle.capture_file.specs.Window.{IsHeld};
 /// the part from `begin` on.
 pub fn copy_to_window(window: &mut [u8], begin: u64, size: u64, at: u64, piece: &[u8])
     requires room { size ≤ length window.old }
-    requires window { begin + size < 2 ^ 64 }
-    requires piece { at + length piece.now < 2 ^ 64 }
+    requires few { begin + size < 2 ^ 64 }
+    requires limit { at + length piece.now < 2 ^ 64 }
     ensures { (had : List ℕ) → length had ≡ at → IsHeld begin size had window.old →
         IsHeld begin size (had ++ piece.now) window.new }
 {

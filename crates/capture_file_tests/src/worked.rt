@@ -4,8 +4,8 @@ ghost use Rattle.capture_file_tests.specs.Worked.{OfRecords, OfBlocks, OfLengths
 
 /// The packets and the faults of these captures, by the definition. It has no body, and is called for its contract.
 pub fn worked_captures()
-    ensures of_records { OfRecords }
-    ensures of_blocks { OfBlocks }
-    ensures of_lengths { OfLengths }
-    ensures of_end { OfEnd }
+    ensures packets { OfRecords }
+    ensures blocks { OfBlocks }
+    ensures lengths { OfLengths }
+    ensures short { OfEnd }
 {}

@@ -39,7 +39,7 @@ pub struct Teller<'a, O: Flush + Drop, B: Beginning> {
 impl<'a, O: Flush + Drop, B: Beginning> Teller<'a, O, B> {
     /// Tells these conversations.
     pub fn new(conversations: Conversations<'a, O>) -> Teller<'a, O, B>
-        ensures conversations { result.conversations ≡ conversations.entry }
+        ensures { result.conversations ≡ conversations.entry }
     {
         Teller {
             conversations,

@@ -158,7 +158,7 @@ fn ports_of(matches: &ArgMatches) -> Option<ArrayVec<u16, 64>> {
 /// A number by its argument, of which `clap` has checked the range, or the default where there is none.
 fn number_of(word: Option<u32>, range: (u32, u32), default: u32) -> u32
     requires order { range.0 ≤ range.1 }
-    requires default { (range.0 ≤ default) × (default ≤ range.1) }
+    requires within { (range.0 ≤ default) × (default ≤ range.1) }
     ensures range { (range.0 ≤ result) × (result ≤ range.1) }
     ensures word { (n : ℕ) → word ≡ Some n → range.0 ≤ n → n ≤ range.1 → result ≡ n }
     ensures missing { word ≡ None → result ≡ default }

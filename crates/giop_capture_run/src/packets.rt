@@ -43,7 +43,7 @@ fn heard(answer: Result<(), ListenerFault>) -> Result<(), OutFault>
 
 /// The first packet of a link type that isn't read is told.
 fn note_link<N: Notices>(unread: &mut UnreadLinks, notices: &mut N, link: u16)
-    ensures links { unread.new.told.items ≡ links_noted unread.old.told.items link }
+    ensures items { unread.new.told.items ≡ links_noted unread.old.told.items link }
     ensures told { N.told notices.old unread.old.told.items
         → N.told notices.new unread.new.told.items }
 {

@@ -25,7 +25,7 @@ fn hand_on<L: PacketListener>(
 ) -> Result<bool, OutFault>
     requires room { octets_of capture.old + length octets.now < 2 ^ 63 }
     requires taken { KeepsUp L.taken to.old capture.old }
-    ensures handed { (start : L.Start) (p : List ℕ) → Reads capture.old p
+    ensures does { (start : L.Start) (p : List ℕ) → Reads capture.old p
         → L.taken to.old start (taken_of p) → IfOk result (λ goes_on.
         HandedWhole goes_on (L.taken to.new start) capture.new p octets.now) }
     ensures count { OnOk result
@@ -54,7 +54,7 @@ fn read_once<S: Source, L: PacketListener>(
 ) -> Result<bool, RunFault>
     requires room { octets_of capture.old < 2 ^ 62 }
     requires taken { KeepsUp L.taken to.old capture.old }
-    ensures once { (start : L.Start) (p : List ℕ) → Reads capture.old p
+    ensures does { (start : L.Start) (p : List ℕ) → Reads capture.old p
         → L.taken to.old start (taken_of p)
         → (s : List ℕ) × HasReadOnce result (L.taken to.new start) capture.new p s
         (S.log source.old) (S.log source.new) }

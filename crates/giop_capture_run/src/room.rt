@@ -20,7 +20,7 @@ pub fn packet_reader<L: CaptureListener + Drop, N: Notices + Drop>(
     listener: L,
     notices: N,
 ) -> Result<PacketReader<L, N>, AllocError>
-    requires observed { L.observed listener [] }
+    requires start { L.observed listener [] }
     requires told { N.told notices [] }
     ensures { IfOk result (λ r. HasRead (L.observed r.streams.listener) (N.told r.notices) L.faulted
         r.connections r.streams.live.items r.unread.told.items

@@ -109,7 +109,7 @@ impl Connections {
     ) -> Result<(), ListenerFault>
         requires state { HasState (L.observed to.old.listener) to.old.live.items self.old }
         requires whole { length segment.payload.now ≤ 262_144 }
-        requires side { (spec_pair_of segment.flow).1 ≡ side }
+        requires flow { (spec_pair_of segment.flow).1 ≡ side }
         requires place { place < vec_len self.old.table.keys }
         ensures does { Makes result
             (λ w. known_taken L.faulted w place (segment_view segment.entry))
@@ -137,7 +137,7 @@ impl Connections {
     ) -> Result<(), ListenerFault>
         requires state { HasState (L.observed to.old.listener) to.old.live.items self.old }
         requires whole { length segment.payload.now ≤ 262_144 }
-        requires pair { spec_pair_of segment.flow ≡ (pair, side) }
+        requires flow { spec_pair_of segment.flow ≡ (pair, side) }
         requires new { place_of pair self.old.table.keys.items ≡ None }
         ensures does { Makes result (λ w. unknown_taken L.faulted w (segment_view segment.entry))
             (L.observed to.old.listener) to.old.live.items self.old

@@ -120,7 +120,7 @@ impl Connections {
     fn elder(&self, place: usize, best: usize) -> usize
         requires sound { IsSound (state_of self.now []) }
         requires place { place < vec_len self.now.table.keys }
-        requires best { best < vec_len self.now.table.keys }
+        requires within { best < vec_len self.now.table.keys }
         ensures place { result ≡ cond (goes_before (state_of self.now []) place best) place best }
         ensures within { result < vec_len self.now.table.keys }
     {

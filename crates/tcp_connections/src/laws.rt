@@ -18,7 +18,7 @@ pub fn capture_event_is_told<L: Listener + Drop>()
         → IsState (L.observed before) live c w
         → L.observed behind (w.events ++ OfCapture event ∷ [])
         → IsState (L.observed behind) live c (with_capture_event w event) }
-    ensures has { (before behind : L) (live : List ℕ) (c : Connections) (w : State)
+    ensures holds { (before behind : L) (live : List ℕ) (c : Connections) (w : State)
         (event : CaptureEvent)
         → IsState (L.observed before) live c w
         → L.observed behind (w.events ++ OfCapture event ∷ [])
@@ -28,8 +28,8 @@ pub fn capture_event_is_told<L: Listener + Drop>()
 /// Streams are without a gap, whatever segments come, and so they are where the capture ends behind these: octets come and a
 /// stream closes only while it lives, and they stand one behind another, by the numbers of segments that came.
 pub fn no_stream_has_a_gap()
-    ensures after { (faulted : Reader) (ports : List ℕ) (blocks most : ℕ) (segments : List Segment)
-        → 1 ≤ most → most ≤ 65536
+    ensures gapless { (faulted : Reader) (ports : List ℕ) (blocks most : ℕ)
+        (segments : List Segment) → 1 ≤ most → most ≤ 65536
         → AreGapless segments (after faulted (none_known ports blocks most []) segments).events }
     ensures ended { (faulted : Reader) (ports : List ℕ) (blocks most : ℕ) (segments : List Segment)
         → 1 ≤ most → most ≤ 65536

@@ -28,7 +28,7 @@ impl FlowState {
             ≡ held_by_others self.old.id pool.old.held) }
         ensures room { (f : Flow) → IsState (T.observed to.old) self.old pool.old.held f
             → OnOk result (blocks_of pool.new.held ≤ blocks_of pool.old.held) }
-        ensures fewer { (f : Flow) → IsState (T.observed to.old) self.old pool.old.held f
+        ensures shorter { (f : Flow) → IsState (T.observed to.old) self.old pool.old.held f
             → is_some (first self.old.id self.old.next pool.old.held) ≡ true
             → OnOk result (length pool.new.held < length pool.old.held) }
         ensures settled { (f : Flow) → IsState (T.observed to.old) self.old pool.old.held f

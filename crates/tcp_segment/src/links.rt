@@ -8,7 +8,7 @@ ghost use Rattle.tcp_segment.specs.Segments.{segment};
 #[tactic(auto, unfolding(crate::specs::Links::is_link_read, crate::specs::Segments::segment, crate::specs::Frames::packet_of))]
 pub fn is_link_read(link: u16) -> bool
     ensures read { result ≡ is_link_read link }
-    ensures nothing { result ≡ false → (octets : List ℕ) → segment link octets ≡ None }
+    ensures none { result ≡ false → (octets : List ℕ) → segment link octets ≡ None }
 {
     matches!(link, 0 | 1 | 12 | 14 | 101 | 108 | 113 | 228 | 229 | 276)
 }

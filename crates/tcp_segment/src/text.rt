@@ -114,7 +114,7 @@ fn put_groups(out: &mut EndpointText, groups: &[u16])
 #[tactic(auto, using(crate::proofs::ZeroRuns::is_longest))]
 fn longest_zero_run(groups: &[u16]) -> (usize, usize)
     ensures value { result ≡ net.longest_zero_run groups.now }
-    ensures longest { IsLongestRun groups.now result.0 result.1 }
+    ensures is { IsLongestRun groups.now result.0 result.1 }
 {
     let mut start = groups.len();
     let mut len = 0;

@@ -4,16 +4,16 @@ ghost use Rattle.tcp_segment_tests.specs.Worked.{Tagged, Extended, Fragment, ToI
 
 /// The segments of these packets, by the definition. It has no body, and is called for its contract.
 pub fn worked_segments()
-    ensures tagged { Tagged }
-    ensures extended { Extended }
-    ensures fragment { Fragment }
-    ensures to_itself { ToItself }
+    ensures ipv4 { Tagged }
+    ensures ipv6 { Extended }
+    ensures none { Fragment }
+    ensures same { ToItself }
 {}
 
 /// The texts of these endpoints, by the definition. It has no body, and is called for its contract.
 pub fn worked_texts()
-    ensures of_ipv4 { OfIpv4 }
-    ensures of_ipv6 { OfIpv6 }
-    ensures of_equal_runs { OfEqualRuns }
+    ensures ipv4 { OfIpv4 }
+    ensures ipv6 { OfIpv6 }
+    ensures first { OfEqualRuns }
     ensures of_mapped { OfMapped }
 {}

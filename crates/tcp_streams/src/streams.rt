@@ -29,8 +29,8 @@ pub struct Streams<L: Listener + Drop> {
 impl<L: Listener + Drop> Streams<L> {
     /// No stream lives. There is memory for one stream of each flow; no other call allocates.
     pub fn new(alloc: Global, listener: L) -> Result<Streams<L>, AllocError>
-        ensures listener { IfOk result (λ s. s.listener ≡ listener) }
-        ensures live { IfOk result (λ s. s.live.items ≡ []) }
+        ensures is { IfOk result (λ s. s.listener ≡ listener) }
+        ensures empty { IfOk result (λ s. s.live.items ≡ []) }
     {
         let live = VecDeque::with_capacity(alloc, MOST_IDS as usize)?;
         Ok(Streams { listener, live })
@@ -100,7 +100,7 @@ fn take_away(numbers: &mut VecDeque<u32>, wanted: u32)
 /// A stream of a flow begins: it is the last.
 fn begin(live: &mut VecDeque<u32>, flow: u32)
     requires room { most_ids ≤ deque_capacity live.old }
-    requires ids { AreIds live.old.items }
+    requires sound { AreIds live.old.items }
     ensures items { live.new.items ≡ begun flow live.old.items }
     ensures capacity { deque_capacity live.new ≡ deque_capacity live.old }
 {

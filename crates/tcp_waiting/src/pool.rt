@@ -68,7 +68,7 @@ impl Pool {
     /// nothing is looked for where they hold nothing.
     pub fn new(alloc: Global, blocks: usize, flows: usize) -> Result<Pool, AllocError>
         requires blocks { blocks ≤ 1_048_576 }
-        requires flows { flows ≤ 1_048_576 }
+        requires few { flows ≤ 1_048_576 }
         ensures empty { IfOk result (λ p. p.held ≡ []) }
         ensures blocks { IfOk result (λ p. p.blocks ≡ blocks) }
     {
@@ -272,7 +272,7 @@ fn count_less(counts: &mut Vec<usize>, flow: u32)
 /// Closes the holes between what waits.
 fn pack(waiting: &mut Vec<Waiting>, octets: &mut Vec<u8>)
     requires laid { IsLaid 0 waiting.old.items (length octets.old.items) }
-    ensures waiting { waiting.new.items ≡ moved 0 waiting.old.items }
+    ensures items { waiting.new.items ≡ moved 0 waiting.old.items }
     ensures octets { octets.new.items ≡ packed octets.old.items waiting.old.items }
     ensures places { vec_capacity waiting.new ≡ vec_capacity waiting.old }
     ensures room { vec_capacity octets.new ≡ vec_capacity octets.old }
@@ -305,7 +305,7 @@ fn make_room(waiting: &mut Vec<Waiting>, octets: &mut Vec<u8>, count: usize, mos
     ensures fits { length octets.new.items + count ≤ most }
     ensures len { length waiting.new.items ≡ length waiting.old.items }
     ensures places { vec_capacity waiting.new ≡ vec_capacity waiting.old }
-    ensures octets_room { vec_capacity octets.new ≡ vec_capacity octets.old }
+    ensures room { vec_capacity octets.new ≡ vec_capacity octets.old }
 {
     if octets.len() + count > most {
         pack(waiting, octets);

@@ -11,4 +11,4 @@ unfolding two_at four_at beginning file_version file_rest record_time record_hea
     section byte_order_magic section_version block_of block_header options interface_header
     option_header time_unit enhanced_interface packet_of time_of enhanced_header simple_header
     block_end reading_from reading digit octets
-returns c = record { of_records = refl; of_blocks = refl; of_lengths = refl; of_end = refl }
+returns c = record { packets = refl; blocks = refl; lengths = refl; short = refl }

@@ -2,9 +2,9 @@
 use Rattle.std.proofs.Common.{◌∙◌, ap}
 use Rattle.giop_capture_program.proofs.steps.reader.Goals as goal
 
-pub packet_reader-requires-clause-observed : goal.packet_reader-requires-clause-observed
-packet_reader-requires-clause-observed g c =
-    rw c.new-3.ensures.conversations (
+pub packet_reader-requires-clause-start : goal.packet_reader-requires-clause-start
+packet_reader-requires-clause-start g c =
+    rw c.new-3.ensures (
       c.in-Ok.ensures.follows,
       λ S written begins.
           let b = c.requires.begins S written begins in

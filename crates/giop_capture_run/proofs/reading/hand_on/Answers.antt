@@ -6,8 +6,8 @@ use Rattle.giop_capture_run.specs.Packets.{taken_of}
 use Rattle.giop_capture_run.proofs.Handing.{handed_more, rest_of, fault_shows, one_more, packet_short}
 use Rattle.giop_capture_run.proofs.reading.hand_on.Goals as goal
 
-pub returns-in_default-Fault-clause-handed : goal.returns-in_default-Fault-clause-handed
-returns-in_default-Fault-clause-handed g c =
+pub returns-in_default-Fault-clause-does : goal.returns-in_default-Fault-clause-does
+returns-in_default-Fault-clause-does g c =
     λ start p reads taken.
     let so_far = c.loop-count.invariant.handed start p reads taken in
     let n = c.take.result.0 in

@@ -3,12 +3,12 @@ use Rattle.std.proofs.Common.{take, arith}
 use Rattle.giop_capture_run.proofs.ReadingOn.{handed_once, some_given}
 use Rattle.giop_capture_run.proofs.reading.read_once.Goals as goal
 
-pub returns-in-Ok-hand_on-clause-once : goal.returns-in-Ok-hand_on-clause-once
-returns-in-Ok-hand_on-clause-once g c =
+pub returns-in-Ok-hand_on-clause-does : goal.returns-in-Ok-hand_on-clause-does
+returns-in-Ok-hand_on-clause-does g c =
     λ start p reads taken. (
       take c.in-Ok.given c.read.new.into,
       handed_once c.in-Ok-hand_on.goes_on _ c.hand_on.new.capture p _ _ _
           (some_given _ c.in-Ok.given c.in-Ok.ensures.read.within
           (omega (arith, c.if-given-eq0.false))) c.in-Ok.ensures.read.left
-          (c.in-Ok-hand_on.ensures.handed start p reads taken),
+          (c.in-Ok-hand_on.ensures.does start p reads taken),
     )

@@ -10,7 +10,7 @@ returns-in_err-read_once-clause-ran g c =
     λ start taken.
     let so_far = c.loop-turn.invariant.all start taken in
     let flushed = c.in_ok-flush.ensures.flushed start (taken_of so_far.0) so_far.1.handed.taken in
-    let once = c.in_err-read_once.ensures.once start so_far.0 so_far.1.handed.reads flushed in
+    let once = c.in_err-read_once.ensures.does start so_far.0 so_far.1.handed.reads flushed in
     let r = err_from_is_err_and c.from_residual-in_err-read_once.result
     c.from_residual-in_err-read_once.ensures.1 in (
       so_far.0 ++ once.0,
@@ -28,7 +28,7 @@ returns-then-not-branch-clause-ran g c =
     λ start taken.
     let so_far = c.loop-turn.invariant.all start taken in
     let flushed = c.in_ok-flush.ensures.flushed start (taken_of so_far.0) so_far.1.handed.taken in
-    let once = c.in_ok-read_once.ensures.once start so_far.0 so_far.1.handed.reads flushed in (
+    let once = c.in_ok-read_once.ensures.does start so_far.0 so_far.1.handed.reads flushed in (
       so_far.0 ++ once.0,
       end_after _ _ _ _ so_far.0 once.0 _ _ _ so_far.1
           (rw c.if-not-branch.true at once.1),
@@ -46,7 +46,7 @@ loop-turn-preserved g c =
           let so_far = c.loop-turn.invariant.all start taken in
           let flushed = c.in_ok-flush.ensures.flushed start (taken_of so_far.0)
           so_far.1.handed.taken in
-          let once = c.in_ok-read_once.ensures.once start so_far.0 so_far.1.handed.reads flushed in
+          let once = c.in_ok-read_once.ensures.does start so_far.0 so_far.1.handed.reads flushed in
           let more = rw c.if-not-branch.false at once.1 in (
             so_far.0 ++ once.0,
             all_after _ _ _ _ so_far.0 once.0 _ _ _ so_far.1 more.0,

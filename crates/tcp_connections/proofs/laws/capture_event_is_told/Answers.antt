@@ -7,7 +7,7 @@ returns g c = record {
   state = λ before behind live known w event h o.
       told_capture (g.L.Listener.observed before) (g.L.Listener.observed behind) live known w event
       h o;
-  has = λ before behind live known w event h o. (
+  holds = λ before behind live known w event h o. (
     with_capture_event w event,
     told_capture (g.L.Listener.observed before)
         (g.L.Listener.observed behind) live known w event h o,

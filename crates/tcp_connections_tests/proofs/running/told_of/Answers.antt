@@ -12,7 +12,7 @@ loop-index-init c =
       (
         state_of c.in-Ok.known [],
         starts _ _ c.in-Ok.known _ _ c.args.row.now.setting.connections []
-            tt c.in-Ok-new.ensures.live (new.start []) new.sound new.free new.room,
+            tt c.in-Ok-new.ensures.empty (new.start []) new.sound new.free new.room,
       ),
       ap (λ (w : State). w.segments) (new.start []),
     )

@@ -19,6 +19,6 @@ longest_of : (groups : List ℕ) (start len : ℕ) → start ≡ (longest_zero_r
     → len ≡ (longest_zero_run groups).1 → IsLongestRun groups start len
 longest_of groups start len first second = rw (first, second) (is_longest groups)
 
-pub returns-clause-longest : goal.returns-clause-longest
-returns-clause-longest c =
+pub returns-clause-is : goal.returns-clause-is
+returns-clause-is c =
     longest_of c.args.groups.now _ _ (grind (arith, common_steps)) (grind (arith, common_steps))

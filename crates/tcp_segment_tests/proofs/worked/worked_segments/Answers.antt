@@ -9,4 +9,4 @@ use Rattle.tcp_segment_tests.proofs.worked.worked_segments.Goals as goal
 pub returns : goal.returns
 unfolding two_at four_at behind_tag behind_tags typed packet_of limited ipv4 behind_extension
     behind_extensions payload_of behind_headers ipv6 segment_in segment digit octets v4 v6
-returns c = record { tagged = refl; extended = refl; fragment = refl; to_itself = refl }
+returns c = record { ipv4 = refl; ipv6 = refl; none = refl; same = refl }

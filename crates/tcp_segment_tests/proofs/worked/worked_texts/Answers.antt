@@ -7,4 +7,4 @@ use Rattle.tcp_segment_tests.proofs.worked.worked_texts.Goals as goal
 
 pub returns : goal.returns
 unfolding digits hex hex_groups_text ipv6_text endpoint_text digit octets v4 v6
-returns c = record { of_ipv4 = refl; of_ipv6 = refl; of_equal_runs = refl; of_mapped = refl }
+returns c = record { ipv4 = refl; ipv6 = refl; first = refl; of_mapped = refl }

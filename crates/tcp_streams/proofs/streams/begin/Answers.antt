@@ -8,7 +8,7 @@ pub push_back_reserved-requires : goal.push_back_reserved-requires
 push_back_reserved-requires c =
     let fewer : length (without c.args.flow c.args.live.now.items) < most_ids =
     fewer_ids c.args.flow c.args.live.now.items (omega (arith, c.if-flow-lt-MOST_IDS.true))
-    c.requires.ids in
+    c.requires.sound in
     omega (
       arith,
       fewer,

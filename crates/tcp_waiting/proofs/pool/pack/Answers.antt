@@ -100,8 +100,8 @@ loop-index-preserved c =
       c.copy_within.ensures.capacity ∙ c.loop-index.invariant.2,
     )
 
-pub returns-clause-waiting : goal.returns-clause-waiting
-returns-clause-waiting c = (pack_end c.args.octets.now.items c.args.waiting.now.items
+pub returns-clause-items : goal.returns-clause-items
+returns-clause-items c = (pack_end c.args.octets.now.items c.args.waiting.now.items
     c.loop-index.index c.loop-index.to c.loop-index.octets.items c.loop-index.waiting.items
     c.loop-index.invariant.0 (omega (
       arith,

@@ -33,7 +33,7 @@ returns-in_default-clause-does g c =
     read_more _ _ _ _ _ _ _ _ _ _ _ start packets p h
     (segment_came _ _ _ _ start packets p None none
     (told_of _ _ _ _ w p h.state (c.arrives.ensures w.events h.state.observed))) (omega arith)
-    c.note_link.ensures.links c.note_link.ensures.told
+    c.note_link.ensures.items c.note_link.ensures.told
 
 pub returns-clause-does : goal.returns-clause-does
 returns-clause-does g c =
@@ -47,4 +47,4 @@ returns-clause-does g c =
     answered _ _ c.heard.ensures (both _ _ c.take.result came c.take.ensures.count)
     (λ k. read_more _ _ _ _ _ _ _ _ _ _ _ start packets p h
     (segment_came _ _ _ _ start packets p (Some (segment_view c.in-Some.segment)) some k.0)
-    (let n = k.1 in omega arith) c.note_link.ensures.links c.note_link.ensures.told)
+    (let n = k.1 in omega arith) c.note_link.ensures.items c.note_link.ensures.told)

@@ -146,7 +146,7 @@ returns-clause-does g c w h =
     let at = c.room-room.ensures ∙ ap (λ (u : State). get_or u.rooms c.args.place 0) h.same in
     moved_ok c.reset.result _ _ _ _ _
     (known_is g.L.Listener.faulted w c.args.place (segment_view c.args.segment) c.room-room.result
-    c.args.side c.flow_id-id.result c.flow_id.result at (sym c.requires.side)
+    c.args.side c.flow_id-id.result c.flow_id.result at (sym c.requires.flow)
     c.flow_id-id.ensures.id
     (c.flow_id.ensures.id ∙ ap (flow_id c.room-room.result) c.other.ensures))
     (c.reset.ensures.does _ (c.in_ok-fin.ensures.does _

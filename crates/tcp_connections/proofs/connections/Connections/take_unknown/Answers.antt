@@ -135,7 +135,7 @@ returns-clause-does g c w h =
     moved_ok c.fin.result _ _ _ _ _
     (unknown_first F w V first
     ∙ ap (λ q. fin_taken F (began F (made_known v q.0) (flow_id (next_room v.free) q.1)
-    (first_number V) V.payload) (flow_id (next_room v.free) q.1) V) c.requires.pair
+    (first_number V) V.payload) (flow_id (next_room v.free) q.1) V) c.requires.flow
     ∙ ap (λ (i : ℕ). fin_taken F (began F (made_known v c.args.pair) i (first_number V) V.payload) i
     V) (sym id))
     (c.fin.ensures.does _ (c.in_ok-begin.ensures.does _ (c.in_ok-room.ensures.does _ n)))

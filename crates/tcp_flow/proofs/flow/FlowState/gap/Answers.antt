@@ -27,9 +27,9 @@ returns-clause-room g c f h =
     subst (λ ps. blocks_of c.go_on.new.pool.held ≤ blocks_of ps) (sym (held_of _ _ _ f h))
     (subst (λ ps. blocks_of ps ≤ blocks_of f.held) (sym (held_of _ _ _ _ n)) less)
 
-pub returns-clause-fewer : goal.returns-clause-fewer
+pub returns-clause-shorter : goal.returns-clause-shorter
 unfolding gap first_of
-returns-clause-fewer g c f h some =
+returns-clause-shorter g c f h some =
     let n = c.in_ok-go_on.ensures.does (closed f Gap)
     (c.in_ok-close.ensures.does c.args.pool.now.held f h) in
     let own : is_some (first_of f) ≡ true =

@@ -42,7 +42,7 @@ invariant_of-self c =
     (omega (
       arith,
       c.make_room.ensures.fits,
-      c.make_room.ensures.octets_room,
+      c.make_room.ensures.room,
       c.self.invariant.1.octets,
     ))) c.extend_from_slice-copied.ensures.items in
     let waiting : c.push-noted.new.self.items ≡ c.make_room.new.waiting.items ++ v ∷ [] =
@@ -80,7 +80,7 @@ invariant_of-self c =
         octets = omega (
           arith,
           c.extend_from_slice-copied.ensures.capacity,
-          c.make_room.ensures.octets_room,
+          c.make_room.ensures.room,
           c.self.invariant.1.octets,
         );
       },
@@ -131,7 +131,7 @@ returns-clause-held c =
     (omega (
       arith,
       c.make_room.ensures.fits,
-      c.make_room.ensures.octets_room,
+      c.make_room.ensures.room,
       c.self.invariant.1.octets,
     ))) c.extend_from_slice-copied.ensures.items in
     let waiting : c.push-noted.new.self.items ≡ c.make_room.new.waiting.items ++ v ∷ [] =
