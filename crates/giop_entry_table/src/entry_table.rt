@@ -158,7 +158,7 @@ impl<V> EntryTable<V> {
         ensures entries { OnSome result (self.new.entries ≡ remove self.old.entries place) }
         ensures len { OnSome result
             (length self.new.entries + 1 ≡ length self.old.entries) }
-        ensures absent { IfNone result (self.new ≡ self.old) }
+        ensures none { IfNone result (self.new ≡ self.old) }
         ensures most { self.new.most ≡ self.old.most }
     {
         match self.key(place) {

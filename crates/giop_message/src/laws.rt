@@ -23,7 +23,7 @@ pub fn message_laws()
         message (signatures_of C answer) header (s ++ b ∷ [])
         ≡ advance (signatures_of C answer) header (message (signatures_of C answer) header s) b }
     // Many octets more are as many steps: a message may be left and resumed anywhere.
-    ensures many { (C : Table) (answer : Answer) (header s t : List ℕ) →
+    ensures more { (C : Table) (answer : Answer) (header s t : List ℕ) →
         message (signatures_of C answer) header (s ++ t)
         ≡ goes_on (signatures_of C answer) header (message (signatures_of C answer) header s) t }
     // A message is over exactly if its lines have a fault.
@@ -31,13 +31,13 @@ pub fn message_laws()
         is_over (stage_of (message (signatures_of C answer) header s))
         ≡ list_any is_wrong (message_lines (message (signatures_of C answer) header s)) }
     // What the stream needs of a reading: more octets change no lines of those before them,
-    ensures causal { (C : Table) (answers : Answers) → IsCausal (message_reader C answers) }
+    ensures stays { (C : Table) (answers : Answers) → IsCausal (message_reader C answers) }
     // a close ends a message,
-    ensures ending { (C : Table) (answers : Answers) → IsEnding (message_reader C answers) }
+    ensures ends { (C : Table) (answers : Answers) → IsEnding (message_reader C answers) }
     // the first four octets of a message that begins with its request id have only lines of values,
     ensures named { (C : Table) (answers : Answers) → HasOnlyValuesInId (message_reader C answers) }
     // the lines of one octet come in their order, and a message that is faulted at its last octet has no rest left.
-    ensures ordered { (C : Table) (answers : Answers) → IsOrdered (message_reader C answers) }
+    ensures order { (C : Table) (answers : Answers) → IsOrdered (message_reader C answers) }
     ensures closing { (C : Table) (answers : Answers) → IsClosing (message_reader C answers) }
     // The request id of a header that begins with it is the number of the first four octets.
     ensures id { (C : Table) (answer : Answer) (header : List ℕ) (T : Ty) →

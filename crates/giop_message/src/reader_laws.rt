@@ -24,7 +24,7 @@ pub fn message_reader_laws()
         is_over (stage_of (message (signatures_of C (answers number)) header (s ++ x ∷ [])))
         ≡ list_any (λ r. is_fault r.line_class) (due (message_reader C answers) number header s x) }
     // A message that follows a list isn't over.
-    ensures going { (C : Table) (answers : Answers) (number : ℕ) (header : List ℕ) (m : Message)
+    ensures running { (C : Table) (answers : Answers) (number : ℕ) (header : List ℕ) (m : Message)
         (s : List ℕ) → Follows C answers number header m s →
         is_over (stage_of (message (signatures_of C (answers number)) header s)) ≡ false }
     // A close is short exactly if it has the line of a fault.

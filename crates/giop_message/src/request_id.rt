@@ -21,7 +21,7 @@ pub fn request_id_laws()
     ensures few { (C : Table) (answers : Answers) (number : ℕ) (header : List ℕ) (T : Ty) →
         header_type (minor header) (kind header) ≡ Some T → BeginsWithId T →
         (xs : List ℕ) → length xs < 4 → (message_reader C answers).reads number header xs ≡ [] }
-    ensures four { (C : Table) (answers : Answers) (number : ℕ) (header : List ℕ) (T : Ty) →
+    ensures value { (C : Table) (answers : Answers) (number : ℕ) (header : List ℕ) (T : Ty) →
         header_type (minor header) (kind header) ≡ Some T → BeginsWithId T →
         (a b c d : ℕ) → (message_reader C answers).reads number header (a ∷ b ∷ c ∷ d ∷ [])
         ≡ request_id_said (num (order header) (a ∷ b ∷ c ∷ d ∷ [])) ∷ [] }

@@ -51,7 +51,7 @@ impl Message {
 
     /// Takes an octet of the padding in front of a body of this type.
     fn take_padding(&mut self, catalogue: &Catalogue, body_type_id: BodyTypeId)
-        requires part { self.old.part ≡ Part.Padding body_type_id }
+        requires is { self.old.part ≡ Part.Padding body_type_id }
         requires known { IsKnown catalogue.now body_type_id }
         requires limit { self.old.at ≤ 2 ^ 48 }
         ensures told { (answers : Answers) (number : ℕ) (header s : List ℕ) (octet : ℕ) →
@@ -92,7 +92,7 @@ impl Message {
             Follows catalogue.now answers number header self.old s →
             WritesRun result (signatures_of catalogue.now (answers number)) number place header s
             octets.now (O.log out.old) (O.log out.new) }
-        ensures went { IfOk result (λ went. (answers : Answers) (number : ℕ) (header s : List ℕ) →
+        ensures took { IfOk result (λ went. (answers : Answers) (number : ℕ) (header s : List ℕ) →
             Follows catalogue.now answers number header self.old s →
             AgreesAtEnds Q.answer Q.notified catalogue.now (Q.state correspondent.old) answers
             (header_ends number header s octets.now) →

@@ -11,13 +11,13 @@ pub returns : goal.returns
 unfolding signatures_of
 returns c = record {
   step = λ C answer. message_goes (signatures_of C answer);
-  many = λ C answer. message_resumes (signatures_of C answer);
+  more = λ C answer. message_resumes (signatures_of C answer);
   over = λ C answer. over_where_faulted (signatures_of C answer);
-  causal = λ C answers. is_causal (λ number. signatures_of C (answers number));
-  ending = λ C answers. is_ending (λ number. signatures_of C (answers number));
+  stays = λ C answers. is_causal (λ number. signatures_of C (answers number));
+  ends = λ C answers. is_ending (λ number. signatures_of C (answers number));
   named = λ C answers. is_named (λ number. signatures_of C (answers number))
       (λ number. has_ids C (answers number));
-  ordered = λ C answers. is_ordered (λ number. signatures_of C (answers number));
+  order = λ C answers. is_ordered (λ number. signatures_of C (answers number));
   closing = λ C answers. is_closing (λ number. signatures_of C (answers number));
   id = λ C answer. id_is_said (signatures_of C answer);
   writes = λ C answers number. text_is (signatures_of C (answers number)) number;

@@ -7,6 +7,6 @@ pub returns : goal.returns
 returns c = record {
   text = λ C answers number. octet_text (signatures_of C (answers number)) number;
   over = λ C answers number. octet_over (signatures_of C (answers number));
-  going = λ C answers number header m s f. follows_goes f;
+  running = λ C answers number header m s f. follows_goes f;
   short = λ C answers number. close_short (signatures_of C (answers number));
 }

@@ -6,5 +6,5 @@ pub returns : goal.returns
 unfolding signatures_of
 returns c = record {
   few = λ C answers. few_said (λ number. signatures_of C (answers number));
-  four = λ C answers. four_said (λ number. signatures_of C (answers number));
+  value = λ C answers. four_said (λ number. signatures_of C (answers number));
 }

@@ -55,7 +55,7 @@ returns-then-is_over-clause-writes g c answers number header s f agrees =
     let text = rw (rest_from t octets) at (c.in_ok-count.ensures.writes answers number header
     (s ++ take t octets) follows) in
     let went = (rw (rest_from t octets, c.if-is_over.true) at
-    (c.in_ok-count.ensures.went answers number header (s ++ take t octets) follows)) now in
+    (c.in_ok-count.ensures.took answers number header (s ++ take t octets) follows)) now in
     let over = faulted_behind S header s octets t n before.within went in
     let so_far = text_so_far S number c.args.place header s octets t (take n (drop t octets))
     before.within in
@@ -78,7 +78,7 @@ returns-then-is_over-clause-took g c answers number header s f agrees =
     let follows = before.follows answers number header s f agrees in
     let went =
     (rw (rest_from t octets, c.if-is_over.true) at
-    (c.in_ok-count.ensures.went answers number header (s ++ take t octets) follows)) now in
+    (c.in_ok-count.ensures.took answers number header (s ++ take t octets) follows)) now in
     faulted_behind S header s octets t c.in_ok-count.count before.within went
 
 pub returns-then-is_over-clause-told : goal.returns-then-is_over-clause-told
@@ -94,7 +94,7 @@ returns-then-is_over-clause-told g c answers number header s f agrees =
     let n = c.in_ok-count.count in
     let went =
     (rw (rest_from t octets, c.if-is_over.true) at
-    (c.in_ok-count.ensures.went answers number header (s ++ take t octets) follows)) now in
+    (c.in_ok-count.ensures.took answers number header (s ++ take t octets) follows)) now in
     let over = faulted_behind S header s octets t n before.within went in
     let told = rw (rest_from t octets) at (c.in_ok-count.ensures.told answers number header
     (s ++ take t octets) follows) in
@@ -122,7 +122,7 @@ loop-taken-preserved g c =
           (before.told answers number header s f agrees) agrees in
           let went =
           (rw (rest_from t octets, c.if-is_over.false) at
-          (c.in_ok-count.ensures.went answers number header (s ++ take t octets)
+          (c.in_ok-count.ensures.took answers number header (s ++ take t octets)
           (before.follows answers number header s f agrees))) now in
           rw (take-add t n octets, ← append_assoc s (take t octets) (take n (drop t octets))) went;
       text = λ answers number header s f agrees.

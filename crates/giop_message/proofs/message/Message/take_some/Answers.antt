@@ -22,8 +22,8 @@ returns-in-More-clause-writes g c answers number header s f =
     (ran.some c.requires.some) (by_reads t ran.takes) c.in-More.is in
     rw (text_more k c.args.place) (by_reads t ran.writes)
 
-pub returns-in-More-clause-went : goal.returns-in-More-clause-went
-returns-in-More-clause-went g c answers number header s f agrees =
+pub returns-in-More-clause-took : goal.returns-in-More-clause-took
+returns-in-More-clause-took g c answers number header s f agrees =
     let t = standing f c.in-Typed.is c.requires.fits in
     let ran = c.in_ok-taken-in-Typed.ensures in
     let k = took t c.args.octets.now c.in_ok-taken-in-Typed.taken ran.within
@@ -52,8 +52,8 @@ returns-in_ok-call-in-Named-clause-writes g c answers number header s f =
     (ReadWith t (take c.in_ok-taken-in-Typed.taken c.args.octets.now)) (keeps_noted_header k) in
     rw (text_named k c.args.place) (wrote-append _ _ _ _ _ (by_reads t ran.writes) called)
 
-pub returns-in_ok-call-in-Named-clause-went : goal.returns-in_ok-call-in-Named-clause-went
-returns-in_ok-call-in-Named-clause-went g c answers number header s f agrees =
+pub returns-in_ok-call-in-Named-clause-took : goal.returns-in_ok-call-in-Named-clause-took
+returns-in_ok-call-in-Named-clause-took g c answers number header s f agrees =
     let t = standing f c.in-Typed.is c.requires.fits in
     let ran = c.in_ok-taken-in-Typed.ensures in
     let k = took t c.args.octets.now c.in_ok-taken-in-Typed.taken ran.within
@@ -68,8 +68,8 @@ returns-in-Done-clause-writes g c answers number header s f =
     (ran.some c.requires.some) (by_reads t ran.takes) c.in-Done.is in
     rw (text_done k c.args.place) (by_reads t ran.writes)
 
-pub returns-in-Done-clause-went : goal.returns-in-Done-clause-went
-returns-in-Done-clause-went g c answers number header s f agrees =
+pub returns-in-Done-clause-took : goal.returns-in-Done-clause-took
+returns-in-Done-clause-took g c answers number header s f agrees =
     let t = standing f c.in-Typed.is c.requires.fits in
     let ran = c.in_ok-taken-in-Typed.ensures in
     let k = took t c.args.octets.now c.in_ok-taken-in-Typed.taken ran.within
@@ -107,9 +107,9 @@ returns-in_ok-fault_line-in-Fault-clause-writes g c answers number header s f =
     rw (text_wrong c.in-Fault.kind k c.args.place)
     (wrote-append _ _ _ _ _ (by_reads t ran.writes) emitted)
 
-pub returns-in_ok-fault_line-in-Fault-clause-went :
-    goal.returns-in_ok-fault_line-in-Fault-clause-went
-returns-in_ok-fault_line-in-Fault-clause-went g c answers number header s f agrees =
+pub returns-in_ok-fault_line-in-Fault-clause-took :
+    goal.returns-in_ok-fault_line-in-Fault-clause-took
+returns-in_ok-fault_line-in-Fault-clause-took g c answers number header s f agrees =
     let t = standing f c.in-Typed.is c.requires.fits in
     let ran = c.in_ok-taken-in-Typed.ensures in
     let k = took t c.args.octets.now c.in_ok-taken-in-Typed.taken ran.within
@@ -126,8 +126,8 @@ returns-in-Padding-clause-writes g c answers number header s f =
       no_text _ number c.args.place header s (octet ∷ []) none,
     ) (wrote-nil _)
 
-pub returns-in-Padding-clause-went : goal.returns-in-Padding-clause-went
-returns-in-Padding-clause-went g c answers number header s f agrees =
+pub returns-in-Padding-clause-took : goal.returns-in-Padding-clause-took
+returns-in-Padding-clause-took g c answers number header s f agrees =
     let here = same_fields f refl refl refl refl (sym c.in-Padding.is) in
     rw (first_alone c.args.octets.now c.requires.some)
     (c.take_padding.ensures.follows answers number header s (get_or c.args.octets.now 0 0) here)
@@ -155,8 +155,8 @@ returns-in_ok-take-in-Rest-clause-writes g c answers number header s f =
     rw text (c.in_ok-take-in-Rest.ensures.writes c.args.place At
     (At + length (take c.min-taken.result octets)))
 
-pub returns-in_ok-take-in-Rest-clause-went : goal.returns-in_ok-take-in-Rest-clause-went
-returns-in_ok-take-in-Rest-clause-went g c answers number header s f agrees =
+pub returns-in_ok-take-in-Rest-clause-took : goal.returns-in_ok-take-in-Rest-clause-took
+returns-in_ok-take-in-Rest-clause-took g c answers number header s f agrees =
     let octets = c.args.octets.now in
     let end = (12 + length s) + length (take c.min-taken.result octets) in
     rest_follows f c.in-Rest.is octets c.requires.some c.room.ensures c.min-taken.ensures
