@@ -11,7 +11,7 @@ use Rattle.giop_sig.specs.declared.cases.PlacedLabel.{PlacedLabel}
 use Rattle.giop_sig.specs.Table.{Part, Case, case_with}
 
 abbrev pub part_view : PartEntry → Part
-part_view p = record { name = p.name.items; type = p.type_id.0 }
+part_view p = record { name = p.name; type = p.type_id.0 }
 
 abbrev pub case_view : CaseEntry → Case
 case_view c = record { labels = c.labels.items; part = part_view c.part }

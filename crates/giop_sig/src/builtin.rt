@@ -18,6 +18,7 @@ use crate::numbers::{
     SERVICE_CONTEXT, SERVICE_CONTEXTS, SHORT, STRING, SYSTEM_EXCEPTION, TAGGED_PROFILE,
     TAGGED_PROFILES, TARGET, ULONG, ULONGLONG, USHORT,
 };
+use crate::part_name::PartName;
 use crate::types::{Fixed, Selected, TypeId};
 use giop_cdr::{Number, Prim};
 use std::alloc::{AllocError, Global};
@@ -339,7 +340,7 @@ fn part_of(alloc: Global, name: &[u8], number: u32) -> Result<PartEntry, AllocEr
     ensures { IfOk result (λ p. part_view p ≡ record { name = name.now; type = number }) }
 {
     Ok(PartEntry {
-        name: Vec::from_slice(alloc, name)?,
+        name: PartName::new(alloc, name)?,
         type_id: TypeId(number),
     })
 }

@@ -1,5 +1,5 @@
 //! The catalogue: the types of a signature file with the built-in ones, and its operations and exceptions by name.
-ghost use Rattle.std.specs.Prelude.{◌≡◌, ℕ, ◌+◌, ◌^◌, ◌<◌, ◌≤◌, ◌↔◌, nat_le, length, IsTrue, IfSome, IfOk, IfErr, OnOk, OnErr, None, MatchOption};
+ghost use Rattle.std.specs.Prelude.{◌≡◌, ℕ, ◌+◌, ◌^◌, ◌<◌, ◌≤◌, ◌++◌, ◌↔◌, codes, drop, nat_le, length, IsTrue, IfSome, IfOk, IfErr, OnOk, OnErr, None, MatchOption};
 ghost use Rattle.std.specs.Option.{option_map};
 ghost use Rattle.giop_sig.specs.Types.{depth, part_of, name_in, enum_name_in, switch_of, select_in, interpreted_in, shape_in, HasShape, HasMember, HasPlace, IsUnion};
 ghost use Rattle.giop_sig.specs.Fits.{IsFit, IsRoot};
@@ -9,6 +9,7 @@ ghost use Rattle.giop_sig.specs.HeaderTypes.{header_number, header_type, fixed_n
 
 use crate::builtin::{builtin_list, fixed_id, header_id};
 use crate::entries::{Entry, Types};
+use crate::part_name::PartName;
 use crate::types::{Counts, Fixed, OpId, Selected, Shape, TypeId};
 use arrayvec::ArrayVec;
 use giop_cdr::Number;
@@ -133,6 +134,31 @@ impl Catalogue {
 
     /// The name of the member, case or tagged type's part at a place.
     pub fn part_name(&self, t: TypeId, place: u32) -> &[u8]
+        requires known { t.0 < length self.now.types }
+        requires place { HasMember (shape_in (tree self.now t.0)) place }
+        ensures name { result.now ≡ name_of (part_at (node_at self.now t.0) place) }
+        ensures tree { result.now ≡ name_in (tree self.now t.0) place }
+        ensures short { length result.now ≤ 64 }
+    {
+        self.kept_name(t, place).octets()
+    }
+
+    /// The same name behind a dot, which is the 16th of its octets: those before it say nothing, so that a short name
+    /// with its dot is the end of a block of 16.
+    #[inline(always)]
+    pub fn dotted_name(&self, t: TypeId, place: u32) -> &[u8]
+        requires known { t.0 < length self.now.types }
+        requires place { HasMember (shape_in (tree self.now t.0)) place }
+        ensures tree { drop 15 result.now ≡ codes "." ++ name_in (tree self.now t.0) place }
+        ensures size { 16 ≤ length result.now }
+        ensures short { length result.now ≤ 80 }
+    {
+        self.kept_name(t, place).dotted()
+    }
+
+    /// The same name, as it is kept.
+    #[inline(always)]
+    fn kept_name(&self, t: TypeId, place: u32) -> &PartName
         requires known { t.0 < length self.now.types }
         requires place { HasMember (shape_in (tree self.now t.0)) place }
         ensures name { result.now ≡ name_of (part_at (node_at self.now t.0) place) }

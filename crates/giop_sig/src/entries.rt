@@ -7,6 +7,7 @@ ghost use Rattle.giop_sig.specs.Trees.{grow, type_in, depth_of, part_depth, AreT
 ghost use Rattle.giop_sig.specs.UnionCases.{part_view};
 
 use crate::cases::UnionCases;
+use crate::part_name::PartName;
 use crate::types::{Selected, Shape, TypeId};
 use giop_cdr::{Number, Prim};
 use std::alloc::{AllocError, Global};
@@ -15,7 +16,7 @@ use std::marker::Model;
 /// A member of a struct, or a case of a union.
 #[derive(Drop)]
 pub(crate) struct PartEntry {
-    pub(crate) name: Vec<u8>,
+    pub(crate) name: PartName,
     pub(crate) type_id: TypeId,
 }
 
@@ -133,7 +134,8 @@ impl Entry {
     }
 
     /// The name of the member or case at a place, or of a tagged type's part.
-    pub(crate) fn part_name(&self, place: u32) -> &[u8]
+    #[inline(always)]
+    pub(crate) fn part_name(&self, place: u32) -> &PartName
         requires { HasMember (shape_of (node_view self.now)) place }
         ensures { result.now ≡ name_of (part_at (node_view self.now) place) }
     {

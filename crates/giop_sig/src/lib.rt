@@ -12,6 +12,7 @@ mod labels;
 mod numbers;
 mod parse;
 mod parse_stop;
+mod part_name;
 mod read_calls;
 mod read_enums;
 mod read_items;

@@ -15,6 +15,7 @@ ghost use Rattle.giop_sig.specs.ItemReading.{array_type, new_name_at, declared_a
 use crate::draft::Draft;
 use crate::entries::{Entry, PartEntry};
 use crate::parse_stop::ParseStop;
+use crate::part_name::PartName;
 use crate::read_types::{enclosed_at, refused, type_at};
 use crate::types::TypeId;
 use giop_tokens::{Mark, SigFaultKind, identifier, left_of, mark, repository_id, starts_with_mark};
@@ -115,7 +116,7 @@ pub(crate) fn part_of(alloc: Global, name: &[u8], type_id: TypeId) -> Result<Par
     ensures { Gives part_view result (Ok (part name.now type_id.0)) }
 {
     Ok(PartEntry {
-        name: Vec::from_slice(alloc, name)?,
+        name: PartName::new(alloc, name)?,
         type_id,
     })
 }

@@ -76,8 +76,13 @@ fn add_parts(catalogue: &Catalogue, t: TypeId, count: u32, row: &mut Sheet) -> R
         if place > 0 {
             put_all(row, b", ")?;
         }
-        put_all(row, catalogue.part_name(t, place))?;
+        let name = catalogue.part_name(t, place);
+        put_all(row, name)?;
         put_all(row, b" ")?;
+        let dotted = catalogue.dotted_name(t, place);
+        if dotted[15] != b'.' || &dotted[16..] != name {
+            put_all(row, b"not dotted ")?;
+        }
         add_kind(catalogue, catalogue.part(t, place), row)?;
     }
     Ok(())

@@ -1,6 +1,6 @@
 use Rattle.giop_sig.specs.Views.{node_view}
 use Rattle.giop_sig.proofs.Tables.{entered, member_entered, name_tree, name_within}
-use Rattle.giop_sig.proofs.catalogue.Catalogue.part_name.Goals as goal
+use Rattle.giop_sig.proofs.catalogue.Catalogue.kept_name.Goals as goal
 
 pub part_name-requires : goal.part_name-requires
 part_name-requires c =
