@@ -102,7 +102,7 @@ pub fn first_record<'a>(octets: &'a [u8]) -> Option<FirstRecord<'a>>
     ensures own { IfSome result (λ first. take 32 octets.now ≡ own_octets first.record) }
     ensures range { IfSome result (λ first. RecordHasRange first.record) }
     ensures message { IfSome result (λ first. first.message ≡ take 224 (drop 32 octets.now)) }
-    ensures frames { IfSome result (λ first.
+    ensures len { IfSome result (λ first.
         length first.frames.now ≡ FRAME_SIZE * first.record.frames) }
     ensures rest { IfSome result (λ first. first.rest.now ≡ drop (used octets.now) octets.now) }
     // A record that was written is read.
@@ -160,7 +160,7 @@ fn record_at(octets: &[u8]) -> Option<Record>
 /// The record that octets give; unused octets aren't checked.
 fn parsed(octets: &[u8]) -> Option<Record>
     requires long { length octets.now ≡ 32 }
-    ensures record_kind { IfSome result (λ r. RecordKindHasRange r.record_kind) }
+    ensures range { IfSome result (λ r. RecordKindHasRange r.record_kind) }
     ensures again { (r : RecordOf) → RecordHasRange r → octets.now ≡ own_octets r →
         result ≡ Some r }
 {
