@@ -69,7 +69,7 @@ stands_at C d f leaf e = subst (Stands C d) (same_some f.leaf leaf (sym f.goes_o
 
 going_by : (C : Table) (d : Decoder) (named ended : Bool) (leaf : Option Innermost)
     (lines : List Line) (at : ℕ) (p : Progress) (r : Read) →
-    named ≡ names_operation (is_header_root d.root) lines → ended ≡ has_ended d.outer.items →
+    named ≡ names_operation (is_header_root d.head.root) lines → ended ≡ has_ended d.outer.items →
     d.leaf ≡ leaf → r ≡ stopped C d leaf lines at → IsGoing named ended leaf p →
     Comes C d p at r
 going_by C d named ended None lines at p r n k is e h = rw h (lines, (rw is e, is))
@@ -82,7 +82,7 @@ going_by C d false false (Some leaf) lines at p r n k is e h =
 
 pub comes_by : (C : Table) (T : Ty) (d : Decoder) (named ended : Bool) (transition : Transition)
     (lines : List Line) (at : ℕ) (p : Progress) (r : Read) →
-    named ≡ names_operation (is_header_root d.root) lines → ended ≡ has_ended d.outer.items →
+    named ≡ names_operation (is_header_root d.head.root) lines → ended ≡ has_ended d.outer.items →
     r ≡ transition_result C T d transition lines at →
     IsProgress named ended transition d.leaf p → Comes C d p at r
 comes_by C T d named ended (transitions.Refused kind) lines at p r n k e h = rw h (lines, (T, e))
@@ -134,8 +134,8 @@ pub step_fits : (C : Table) (d new : Decoder) (f : Fits C d) (octet : ℕ)
     new.inside ≡ is_inside new.outer.items → Link C f.root new.outer.items (leaf_type g.leaf) →
     AreKnown C new.outer.items → leaf_type g.leaf < length C.types →
     IsClean g.leaf new.carry new.piece.items →
-    (is_header_root new.root ≡ false → new.notes.request_id ≡ None) →
-    FitsName new.root (string_offset (tree C (leaf_type g.leaf)) g.leaf) new.notes.buffer
+    (is_header_root new.head.root ≡ false → new.notes.request_id ≡ None) →
+    FitsName new.head.root (string_offset (tree C (leaf_type g.leaf)) g.leaf) new.notes.buffer
     new.notes.name.items → Fits C new
 step_fits C d new f octet g here ahead inside link known_outer known clean id_in_header_only name =
     let sound : Sound (tree C f.root) (f.here + 1) (decoder_step C d f.here octet) =

@@ -1,5 +1,5 @@
 -- The path of the innermost part, spelled from its end, is that of the decoder's frames.
-use Rattle.std.proofs.Common.{◌≡◌, ℕ, true, false, Bool, Option, Some, None, ◌+◌, ◌-◌, ◌<◌, ◌≤◌, List, [], ◌∷◌, ◌++◌, length, get_or, drop, refl, ap, ◌∙◌, sym, append_assoc, append-nil, length-append, arith}
+use Rattle.std.proofs.Common.{◌≡◌, ℕ, true, false, Bool, Option, Some, None, ◌+◌, ◌-◌, ◌<◌, ◌≤◌, List, [], ◌∷◌, ◌++◌, length, get_or, drop, refl, ap, ◌∙◌, sym, append_assoc, append-nil, length-append, codes, decimal, arith}
 use Rattle.std.proofs.lemmas.Bool.{false≢true}
 use Rattle.std.proofs.lemmas.List.{drop_more}
 use Rattle.giop_cdr.specs.declared.order.Order.{Order}
@@ -12,7 +12,7 @@ use Rattle.giop_decode.specs.declared.frame.Frame.{Frame}
 use Rattle.giop_decode.proofs.Segments.{segments_text-append}
 use Rattle.giop_print.specs.declared.line.Line.{Line}
 use Rattle.giop_print.specs.declared.path.Root.{Root}
-use Rattle.giop_print.specs.Line.{line_text, line_room, Spells}
+use Rattle.giop_print.specs.Line.{line_text, line_room, headed, Spells}
 use Rattle.giop_print.specs.Paths.{root_word}
 use Rattle.giop_sig.specs.Table.{Table}
 use Rattle.giop_sig.specs.Trees.{tree}
@@ -78,6 +78,13 @@ path_spelled C here root outer =
     ap (λ text. root_word root ++ text) (sym (append-nil (frames_text C outer)))
     ∙ (here_spelled C root outer None ∙ stands_at C here root outer)
 
+-- what a line begins with, and what follows that
+pub headed_is : (message : ℕ) (place rest : List ℕ) →
+    headed message place [] ++ rest ≡ headed message place rest
+headed_is message place rest =
+    ap (λ t. codes "m" ++ t) (append_assoc (decimal message) (codes " " ++ (place ++ [])) rest
+    ∙ ap (λ t. decimal message ++ (codes " " ++ (t ++ rest))) (append-nil place))
+
 -- no room for what is left of a path
 pub spells_end : (a b : Line) (end text : List ℕ) → line_text b ≡ end ++ line_text a →
     line_room b + length end ≡ line_room a → Spells false a b text
@@ -98,33 +105,40 @@ spells_more w a b c end more text e r s =
     (omega (arith, length-append s.front end, s.room, r))
 
 -- room for all of it
-pub spells_here : (C : Table) (root : Root) (outer : List Frame) (switch : Option TypeId) (w : Bool)
+pub spells_here : (message : ℕ) (C : Table) (root : Root) (outer : List Frame)
+    (switch : Option TypeId) (w : Bool)
     (a b c d : Line) → line_text b ≡ end_text C switch ++ line_text a →
     line_room b + length (end_text C switch) ≡ line_room a → Spells w b c (frames_text C outer) →
-    w ≡ true → line_text d ≡ root_word root ++ line_text c →
-    line_room d + length (root_word root) ≡ line_room c →
-    Spells true a d (path_text root (path_in [] (open_parts C 0 outer) ++ end_segments C switch))
-spells_here C root outer switch w a b c d be br s whole de dr =
+    w ≡ true → line_text d ≡ headed message (root_word root) [] ++ line_text c →
+    line_room d + length (headed message (root_word root) []) ≡ line_room c →
+    Spells true a d (headed message
+    (path_text root (path_in [] (open_parts C 0 outer) ++ end_segments C switch)) [])
+spells_here message C root outer switch w a b c d be br s whole de dr =
+    let head = headed message (root_word root) [] in
     let frames = frames_text C outer in
     let end = end_text C switch in
     let front : s.front ≡ frames = s.all whole in
     let c_text : line_text c ≡ frames ++ line_text b = rw front at s.spelled in
     let c_room : line_room c + length frames ≡ line_room b = rw front at s.room in
     record {
-      front = root_word root ++ (frames ++ end);
-      spelled = rw (de, c_text, be) (sym (append_assoc (root_word root) (frames ++ end)
+      front = head ++ (frames ++ end);
+      spelled = rw (de, c_text, be) (sym (append_assoc head (frames ++ end)
           (line_text a)
-          ∙ ap (λ text. root_word root ++ text) (append_assoc frames end (line_text a))));
+          ∙ ap (λ text. head ++ text) (append_assoc frames end (line_text a))));
       room = omega (
         arith,
         dr,
         c_room,
         br,
-        length-append (root_word root)
+        length-append head
             (frames ++ end),
         length-append frames end,
       );
-      all = λ h. here_spelled C root outer switch;
+      all = λ h. headed_is message (root_word root) (frames ++ end)
+          ∙ ap (λ t. codes "m" ++ (decimal message ++ (codes " " ++ t)))
+          (here_spelled C root outer switch
+          ∙ sym (append-nil (path_text root (path_in [] (open_parts C 0 outer)
+          ++ end_segments C switch))));
     }
 
 -- the segments of frames, the innermost first

@@ -29,8 +29,7 @@ use Rattle.giop_sig.specs.Trees.{tree}
 -- hold other octets
 pub record IsFurther (d new : Decoder) (count : ℕ) (frames : List Frame) : Type 0 where
   pub order : new.order ≡ d.order
-  pub root : new.root ≡ d.root
-  pub message : new.message ≡ d.message
+  pub head : new.head ≡ d.head
   pub at : new.at ≡ (d.at + count) % 8
   pub outer : new.outer.items ≡ frames
   pub inside : new.inside ≡ d.inside
@@ -69,8 +68,8 @@ module _ (C : Table) (d new : Decoder) where
       known = f.known;
       clean = rw (carry, piece) f.clean;
       at = omega (arith, on.at);
-      id_in_header_only = rw (on.root, on.notes) f.id_in_header_only;
-      name = rw (on.root, on.notes) f.name;
+      id_in_header_only = rw (on.head, on.notes) f.id_in_header_only;
+      name = rw (on.head, on.notes) f.name;
     },
     λ T order at message root s r.
         let same : read_by_leaf C d d.leaf r.lines (at + length s)
@@ -88,8 +87,8 @@ module _ (C : Table) (d new : Decoder) where
               is = r.is ∙ same;
               keeps_noted = keeps_noted;
               same_order = on.order ∙ r.same_order;
-              same_message = on.message ∙ r.same_message;
-              same_root = on.root ∙ r.same_root;
+              same_message = ap (λ h. h.message) on.head ∙ r.same_message;
+              same_root = ap (λ h. h.root) on.head ∙ r.same_root;
               offset = still_here (at + length s) on f.at r.offset;
             });
             keeps_noted = rw (append-nil s) keeps_noted;
@@ -112,12 +111,11 @@ module _ (C : Table) (d new : Decoder) (leaf : Innermost) (b : ℕ) where
       Fits C new × AllGathered C d new (b ∷ [])
   one_gathered ahead on f e clean holds =
       let e' = on.leaf ∙ e in (
-        held_fits C d new leaf b ahead f e e' on.outer on.root on.notes on.inside on.at clean
+        held_fits C d new leaf b ahead f e e' on.outer on.head on.notes on.inside on.at clean
             (holds f.here f.stands),
         λ T order at message root s r. record {
           takes = takes_one C T order at message root new s b progress.More
-              (takes_to C T order at message root d new s b progress.More f on.order on.root
-              on.message
+              (takes_to C T order at message root d new s b progress.More f on.order on.head
               (λ here h. held_here C d new leaf b ahead f e e' on.outer here on.at h)
               (λ here h. held_comes C d new leaf b ahead f e e' on.outer here h (holds here h))
               (λ here front h old. held_keeps_noted C d new leaf b ahead f e e' on.outer here front
@@ -146,8 +144,7 @@ module _ (C : Table) (d new : Decoder) (leaf : Innermost) (b : ℕ) where
 abbrev next_in : Decoder → List ℕ → List ℕ → Decoder
 next_in d carry piece = record {
   order = d.order;
-  root = d.root;
-  message = d.message;
+  head = d.head;
   at = (d.at + 1) % 8;
   outer = record { items = ticked d.outer.items };
   inside = d.inside;
@@ -161,8 +158,7 @@ next_on : (d : Decoder) (carry piece : List ℕ) →
     IsFurther d (next_in d carry piece) 1 (ticked d.outer.items)
 next_on d carry piece = record {
   order = refl;
-  root = refl;
-  message = refl;
+  head = refl;
   at = refl;
   outer = refl;
   inside = refl;
@@ -176,8 +172,7 @@ others_on d new carry piece count on =
     let same = ticked_more count d.outer.items in (
       record {
         order = on.0.order;
-        root = on.0.root;
-        message = on.0.message;
+        head = on.0.head;
         at = omega (arith, on.0.at);
         outer = on.0.outer ∙ sym same;
         inside = on.0.inside;

@@ -40,7 +40,7 @@ use Rattle.giop_decode.proofs.Counting.{ahead_free, free_ticked_by}
 use Rattle.giop_decode.proofs.Going.{PartPopped, Next, part_popped, next_in, goes_next, part_is}
 use Rattle.giop_decode.proofs.Surrounding.{ahead_by, around_unless_ended, behind_stopped, free_coding_by, free_ended, free_first, free_ticked, front_gone, inside_push, outside_pop, places_ticked}
 use Rattle.giop_decode.proofs.TransitionsInFrames.{around_done}
-use Rattle.giop_decode.proofs.FieldsRead.{path_spelled}
+use Rattle.giop_decode.proofs.FieldsRead.{headed_is, path_spelled}
 use Rattle.giop_decode.proofs.Linking.{link_pop, link_push}
 use Rattle.giop_decode.proofs.Noting.{stopped_silent}
 use Rattle.giop_decode.proofs.Passing.{last_says, passed_broken, passed_some}
@@ -94,8 +94,7 @@ last_frame frames i x e =
 pub front_kept : (C : Table) (d new : Decoder) (part : PartAhead) (next : TypeId) →
     IsAtNext C d new part next → front_text C new ≡ front_text C d
 front_kept C d new part next n = rw (
-  n.message,
-  n.root,
+  n.head,
   n.outer,
   above_push (frames_above d.outer.items) (next_of part.frame),
 ) refl
@@ -143,13 +142,6 @@ number_text_is : (message : ℕ) (place : List ℕ) (p : Primitive) (n : ℕ) (n
     ≡ kind_line message place (spaced (kind_word p)) (number_text (size_of p) number)
 unfolding kind_line
 number_text_is message place p n number e = rw e refl
-
--- what a line begins with, and what follows that
-pub headed_is : (message : ℕ) (place rest : List ℕ) →
-    headed message place [] ++ rest ≡ headed message place rest
-headed_is message place rest =
-    ap (λ t. codes "m" ++ t) (append_assoc (decimal message) (codes " " ++ (place ++ [])) rest
-    ∙ ap (λ t. decimal message ++ (codes " " ++ (t ++ rest))) (append-nil place))
 
 -- the line behind what it begins with
 pub line_is : (message : ℕ) (place segment kind text : List ℕ) →
@@ -232,11 +224,11 @@ module _ (C : Table) (d : Decoder) (part : PartAhead) (f : Fits C d)
 
   -- its path, and its line
   abbrev place : List ℕ
-  place = (root_word d.root ++ frames_text C above)
+  place = (root_word d.head.root ++ frames_text C above)
       ++ segment_text (segment_in (open_part C 0 part.frame))
 
   abbrev text : List ℕ
-  text = kind_line d.message place (spaced (kind_word part.prim))
+  text = kind_line d.head.message place (spaced (kind_word part.prim))
       (number_text (size_of part.prim) part.number)
 
   pub part_says : (Says : List ℕ → Type 0) → Says text → AllSay C d octets last Says
@@ -245,23 +237,25 @@ module _ (C : Table) (d : Decoder) (part : PartAhead) (f : Fits C d)
       (λ here at lines says.
       let is = same_plain (tree C part.of.0) part.prim says.0.scalar h.prim says.0.is in
       let path = path_in [] (open_parts C here d.outer.items) in
-      let placed : place ≡ path_text d.root path = path_is here in
+      let placed : place ≡ path_text d.head.root path = path_is here in
       let taken : interpreted_as part.prim says.0.n ≡ Some part.number = rw is at says.0.taken in
-      let value : value_text d.message place (Number (Plain part.prim) says.0.n)
-      ≡ lines_text d.message d.root lines =
-      said_one d.message d.root at path place (Number (Plain part.prim) says.0.n) lines placed
+      let value : value_text d.head.message place (Number (Plain part.prim) says.0.n)
+      ≡ lines_text d.head.message d.head.root lines =
+      said_one d.head.message d.head.root at path place (Number (Plain part.prim) says.0.n) lines
+      placed
       (rw is at says.1) in
-      let same = sym (number_text_is d.message place part.prim says.0.n part.number taken)
+      let same = sym (number_text_is d.head.message place part.prim says.0.n part.number taken)
       ∙ value in
       subst Says same w)
     where
-      path_is : (here : ℕ) → place ≡ path_text d.root (path_in [] (open_parts C here d.outer.items))
+      path_is : (here : ℕ) →
+          place ≡ path_text d.head.root (path_in [] (open_parts C here d.outer.items))
       path_is here =
           let seg = segment_text (segment_in (open_part C 0 part.frame)) in
-          append_assoc (root_word d.root) (frames_text C above) seg
-          ∙ (ap (λ t. root_word d.root ++ t)
+          append_assoc (root_word d.head.root) (frames_text C above) seg
+          ∙ (ap (λ t. root_word d.head.root ++ t)
           (sym (ap (frames_text C) h.outer ∙ frames_text-push C above part.frame))
-          ∙ path_spelled C here d.root d.outer.items)
+          ∙ path_spelled C here d.head.root d.outer.items)
 
   above_free : is_inside above ≡ false
   above_free = free_above C d part.of part.frame f h.leaf h.outside h.outer
@@ -275,7 +269,7 @@ module _ (C : Table) (d : Decoder) (part : PartAhead) (f : Fits C d)
 
   module _ (new : Decoder) (next : TypeId) (follower : IsNextNumber C part.frame next)
       (n : IsAtNext C d new part next)
-      (body : is_header_root d.root ≡ false) where
+      (body : is_header_root d.head.root ≡ false) where
     new_free : is_inside new.outer.items ≡ false
     new_free = rw n.outer (push_free above (next_of part.frame) above_free none)
 
@@ -353,15 +347,14 @@ module _ (C : Table) (d : Decoder) (part : PartAhead) (f : Fits C d)
       k.1,
     )
 
-    body_new : is_header_root new.root ≡ false
-    body_new = rw n.root body
+    body_new : is_header_root new.head.root ≡ false
+    body_new = rw n.head body
 
     part_passes : Passes C there new part.of.0 ended [] progress.More
     part_passes =
         record {
           order = n.order;
-          root = n.root;
-          message = n.message;
+          head = n.head;
           here = λ here k. (
             let some = taken_together.some in omega (arith, k.0, n.at, some),
             stand_free (here + 1) new.outer.items new_free,
@@ -400,7 +393,7 @@ module _ (C : Table) (d : Decoder) (part : PartAhead) (f : Fits C d)
               let k = plain_says here at lines says in
               let kept = plain_noted d.notes o part.prim k.1 at
               (path_in [] (open_parts C here d.outer.items)) held in
-              subst (λ m. HoldsNoted m (noted (is_header_root d.root) o lines)) (sym n.notes)
+              subst (λ m. HoldsNoted m (noted (is_header_root d.head.root) o lines)) (sym n.notes)
               (rw (body, k.4, k.2) kept);
         }
       where

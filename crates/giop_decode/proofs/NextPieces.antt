@@ -26,7 +26,8 @@ use Rattle.giop_decode.specs.Transitions.{IsClean, Link, is_inside, leaf_of, lea
 use Rattle.giop_decode.proofs.Advancing.{comes_by, same_some}
 use Rattle.giop_decode.proofs.Counting.{ahead_free, free_ticked_by}
 use Rattle.giop_decode.proofs.FieldsRead.{path_spelled}
-use Rattle.giop_decode.proofs.NextParts.{headed_is, places_free, stand_free}
+use Rattle.giop_decode.proofs.FieldsRead.{headed_is}
+use Rattle.giop_decode.proofs.NextParts.{places_free, stand_free}
 use Rattle.giop_decode.proofs.Noting.{stopped_silent}
 use Rattle.giop_decode.proofs.Passing.{last_says, passed_broken, passed_some}
 use Rattle.giop_decode.proofs.Segments.{said_one}
@@ -94,10 +95,10 @@ module _ (C : Table) (d : Decoder) (ahead : PieceAhead) (f : Fits C d)
 
   -- its path, and its line
   abbrev place : List ℕ
-  place = root_word d.root ++ frames_text C d.outer.items
+  place = root_word d.head.root ++ frames_text C d.outer.items
 
   abbrev text : List ℕ
-  text = content_line d.message place (codes " octets @") ahead.offset (spaced_hex rest)
+  text = content_line d.head.message place (codes " octets @") ahead.offset (spaced_hex rest)
       (more_word true)
 
   given : (here at : ℕ) (lines : List Line) → Gives C there ahead.of.0 step rest here at lines →
@@ -109,10 +110,10 @@ module _ (C : Table) (d : Decoder) (ahead : PieceAhead) (f : Fits C d)
   piece_says Says w =
       last_says C d octets ahead.of 32 step rest f taken_together there on Says
       (λ here at lines says.
-      subst Says (piece_text_is d.message ahead.offset place rest h.bound
-      ∙ said_one d.message d.root at (path_in [] (open_parts C here d.outer.items)) place
+      subst Says (piece_text_is d.head.message ahead.offset place rest h.bound
+      ∙ said_one d.head.message d.head.root at (path_in [] (open_parts C here d.outer.items)) place
       (Piece (Octets h.bound) ahead.offset rest true) lines
-      (path_spelled C here d.root d.outer.items) (given here at lines says)) w)
+      (path_spelled C here d.head.root d.outer.items) (given here at lines says)) w)
 
   abbrev new : Decoder
   new = behind_piece d ahead
@@ -129,19 +130,19 @@ module _ (C : Table) (d : Decoder) (ahead : PieceAhead) (f : Fits C d)
 
   -- a piece that isn't the last names no operation
   unnamed : (here at : ℕ) (lines : List Line) → Gives C there ahead.of.0 step rest here at lines →
-      false ≡ names_operation (is_header_root d.root) lines
+      false ≡ names_operation (is_header_root d.head.root) lines
   unnamed here at lines says =
       let path = path_in [] (open_parts C here d.outer.items) in
       rw (
         given here at lines says,
         and-false (is_member (codes "operation") path),
-        and-false (is_header_root d.root),
+        and-false (is_header_root d.head.root),
       ) refl
 
   -- nothing is noted of an octet sequence
   kept : (o : Noted) (here at : ℕ) (lines : List Line) → HoldsNoted d.notes o →
       Gives C there ahead.of.0 step rest here at lines →
-      HoldsNoted d.notes (noted (is_header_root d.root) o lines)
+      HoldsNoted d.notes (noted (is_header_root d.head.root) o lines)
   kept o here at lines held says =
       rw (given here at lines says) (record {
         request_id = held.request_id;
@@ -163,8 +164,7 @@ module _ (C : Table) (d : Decoder) (ahead : PieceAhead) (f : Fits C d)
   piece_passes =
       record {
         order = refl;
-        root = refl;
-        message = refl;
+        head = refl;
         here = λ here k. (
           let small = f.at in omega (arith, k.0, small),
           stand_free (here + 1) d.outer.items free,

@@ -21,8 +21,7 @@ use Rattle.giop_sig.specs.Table.{Table}
 abbrev pub held_in : Decoder → List ℕ → ArrayVec ℕ → Decoder
 held_in d carry piece = record {
   order = d.order;
-  root = d.root;
-  message = d.message;
+  head = d.head;
   at = d.at;
   outer = d.outer;
   inside = d.inside;
@@ -76,7 +75,7 @@ module _ (C : Table) (d new : Decoder) (leaf : Innermost) (octet : ℕ)
       CanStandAt new (here + 1)
   held_here here at h = (omega (arith, h.0, at), rw counts (stand_ticked here d.outer.items h.1))
 
-  pub held_fits : new.root ≡ d.root → new.notes ≡ d.notes → new.inside ≡ d.inside →
+  pub held_fits : new.head ≡ d.head → new.notes ≡ d.notes → new.inside ≡ d.inside →
       new.at ≡ (d.at + 1) % 8 →
       IsClean leaf new.carry new.piece.items → Holds C d new leaf f.here octet → Fits C new
   held_fits root notes encloses at clean holds =
@@ -95,10 +94,10 @@ module _ (C : Table) (d new : Decoder) (leaf : Innermost) (octet : ℕ)
       (rw (root, notes, ← it) f.name)
 
   pub held_keeps_noted : (here : ℕ) (front : List Line) → new.notes ≡ d.notes → CanStandAt d here →
-      Holds C d new leaf here octet → KeepsNoted d.root d (read_by_fields C d front here) →
-      KeepsNoted d.root new (with_front front (decoder_step C d here octet))
+      Holds C d new leaf here octet → KeepsNoted d.head.root d (read_by_fields C d front here) →
+      KeepsNoted d.head.root new (with_front front (decoder_step C d here octet))
   held_keeps_noted here front notes h holds old =
-      let header = is_header_root d.root in
+      let header = is_header_root d.head.root in
       let before : HoldsNoted d.notes (noted_of header
       (Short front here (open_parts C here d.outer.items)
       (leaf_of C leaf d.carry d.piece.items))) =

@@ -1,5 +1,5 @@
 -- Octets that are taken together, the last of which is passed: they are taken as a run.
-use Rattle.std.proofs.Common.{◌≡◌, Result, Ok, IsErr, ℕ, ◌+◌, ◌-◌, ◌<◌, List, ◌++◌, length, take, get_or, sym, ◌∙◌, subst, arith}
+use Rattle.std.proofs.Common.{◌≡◌, Result, Ok, IsErr, ℕ, ◌+◌, ◌-◌, ◌<◌, List, ◌++◌, length, take, get_or, sym, ◌∙◌, subst, arith, ap}
 use Rattle.giop_cdr.specs.declared.order.Order.{Order}
 use Rattle.giop_decode.specs.declared.decoder.Decoder.{Decoder}
 use Rattle.giop_decode.specs.declared.leaf.Step.{Step}
@@ -63,7 +63,7 @@ module _ (C : Table) (d : Decoder) (octets : List ℕ) (of : TypeId) (count : �
 
   pub last_says : (Says : List ℕ → Type 0) →
       ((here at : ℕ) (lines : List Line) → Gives C m of.0 step rest here at lines →
-      Says (lines_text m.message m.root lines)) → AllSay C d octets (count - 1) Says
+      Says (lines_text m.head.message m.head.root lines)) → AllSay C d octets (count - 1) Says
   last_says Says w =
       step_says C d before octets (count - 1) fits_before reads_before Says (λ here stands.
       rw (lines_whole C d octets of count step rest f h m on here stands)
@@ -73,7 +73,7 @@ module _ (C : Table) (d : Decoder) (octets : List ℕ) (of : TypeId) (count : �
     pub last_takes : AllTake C d new octets (count - 1) p
     last_takes T order at message root s r =
         takes_to C T order at message root before new (s ++ take (count - 1) octets) octet p
-        fits_before e.order e.root e.message e.here
+        fits_before e.order e.head e.here
         (λ here stands.
         rw (told_whole C d octets of count step rest f h m on here stands)
         (e.steps here (lines here) (says here)))
@@ -101,9 +101,9 @@ module _ (C : Table) (d : Decoder) (octets : List ℕ) (of : TypeId) (count : �
         step_fits C before new g octet k (e.here g.here g.stands) next.ahead next.inside
         (next.link g.root k.leaf link k.goes_on) next.known_outer (next.known k.leaf k.goes_on)
         (next.clean k.leaf k.goes_on)
-        (λ other. let was = rw e.root at other in e.id was ∙ g.id_in_header_only was)
+        (λ other. let was = rw e.head at other in e.id was ∙ g.id_in_header_only was)
         (subst (λ r. FitsName r (string_offset (tree C (leaf_type k.leaf)) k.leaf)
-        new.notes.buffer new.notes.name.items) (sym e.root)
+        new.notes.buffer new.notes.name.items) (sym (ap (λ h. h.root) e.head))
         (name_whole C d octets of count step rest f h m on g.here k.leaf new.notes next.going
         (next.offset k.leaf k.goes_on)
         (λ o held. e.notes o g.here (g.here + 1) (lines g.here) held (says g.here))))

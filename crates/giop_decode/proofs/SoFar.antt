@@ -84,7 +84,7 @@ pub step_says : (C : Table) (old mid : Decoder) (octets : List ℕ) (n : ℕ) �
     Reads C T order at message root mid (s ++ take n octets)) →
     (Says : List ℕ → Type 0) →
     ((here : ℕ) → CanStandAt mid here →
-    Says (lines_text mid.message mid.root
+    Says (lines_text mid.head.message mid.head.root
     (lines_of (decoder_step C mid here (get_or octets n 0))))) →
     AllSay C old octets n Says
 step_says C old mid octets n f reads Says w T order at message root s r =

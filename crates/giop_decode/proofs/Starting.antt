@@ -25,7 +25,8 @@ module _ (C : Table) (T : Ty) (order : Order) (at message : ℕ) (root : Root) (
   pub first_reads : (first : TypeId) → IsFit 24 T → d.leaf ≡ Some (innermost.Number first) →
       d.carry ≡ [] → ((here : ℕ) → open_parts C here d.outer.items ≡ start_outer T) →
       StandAt at d.outer.items → start_leaf T ≡ LeadingNumber (tree C first.0) [] →
-      HoldsNoted d.notes nothing_noted → d.order ≡ order → d.message ≡ message → d.root ≡ root →
+      HoldsNoted d.notes nothing_noted → d.order ≡ order → d.head.message ≡ message →
+      d.head.root ≡ root →
       d.at ≡ at % 8 → Reads C T order at message root d []
   first_reads first fit goes_on empty are stand leaf recalls same_order same_message same_root
       offset =
@@ -74,7 +75,7 @@ first_fits C of d first known_root fit goes_on empty none are stand ahead inside
       clean = none;
       at = at;
       id_in_header_only = λ other. none_noted.request_id;
-      name = nothing_fits d.root d.notes none_noted;
+      name = nothing_fits d.head.root d.notes none_noted;
     }
 
 -- what can stand at the root, and isn't the empty struct, fits

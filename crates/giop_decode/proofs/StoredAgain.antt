@@ -42,9 +42,9 @@ restored_fits C d e r h = record {
   known = h.known;
   clean = rw (r.carry, r.piece) h.clean;
   at = rw r.at h.at;
-  id_in_header_only = rw (r.root, r.notes.request_id) h.id_in_header_only;
-  name = rw (r.root, r.notes.buffer, r.notes.name)
-      (kept_fits d.root (string_offset (tree C (leaf_type h.leaf)) h.leaf) d.notes.buffer
+  id_in_header_only = rw (r.head, r.notes.request_id) h.id_in_header_only;
+  name = rw (r.head, r.notes.buffer, r.notes.name)
+      (kept_fits d.head.root (string_offset (tree C (leaf_type h.leaf)) h.leaf) d.notes.buffer
       d.notes.name.items h.name);
 }
 
@@ -86,8 +86,8 @@ restored_reads C d e T order at message root s r reads = record {
   is = reads.is ∙ standing_again C d e reads.lines _ r;
   keeps_noted = keeps_noted_again root d e (read (plain order) [] T at s) r reads.keeps_noted;
   same_order = r.order ∙ reads.same_order;
-  same_message = r.message ∙ reads.same_message;
-  same_root = r.root ∙ reads.same_root;
+  same_message = ap (λ h. h.message) r.head ∙ reads.same_message;
+  same_root = ap (λ h. h.root) r.head ∙ reads.same_root;
   offset = (reads.offset.0 ∙ sym r.at, rw r.outer reads.offset.1);
 }
 
@@ -103,8 +103,7 @@ unfolding fixed_octets
 fixed_again d e leaf r =
     rw (
       r.order,
-      r.root,
-      r.message,
+      r.head,
       r.at,
       r.carry,
       r.piece,

@@ -80,8 +80,8 @@ memory_stands m at octets rest short is =
 
 pub record FieldsStand (d : Decoder) (inner : Innermost) (fixed : List ℕ) : Type 0 where
   pub order : Stands 0 fixed (order_octet d.order ∷ [])
-  pub root : Stands 1 fixed (root_octet d.root ∷ [])
-  pub message : Stands 2 fixed (eight d.message)
+  pub root : Stands 1 fixed (root_octet d.head.root ∷ [])
+  pub message : Stands 2 fixed (eight d.head.message)
   pub at : Stands 10 fixed (d.at ∷ [])
   pub leaf : Stands 11 fixed (leaf_octets inner)
   pub carry : Stands 24 fixed (held 8 d.carry)
@@ -99,11 +99,11 @@ fields_stand d leaf fixed is range =
     let memory_on : List ℕ = notes_octets d.notes ++ zeros in
     let piece_on : List ℕ = held 32 d.piece.items ++ memory_on in
     let carry_on : List ℕ = held 8 d.carry ++ piece_on in
-    let message : drop 2 fixed ≡ eight d.message ++ ((d.at ∷ leaf_octets leaf) ++ carry_on) =
-    ap (drop 2) is ∙ six (eight d.message) (d.at ∷ leaf_octets leaf) (held 8 d.carry)
+    let message : drop 2 fixed ≡ eight d.head.message ++ ((d.at ∷ leaf_octets leaf) ++ carry_on) =
+    ap (drop 2) is ∙ six (eight d.head.message) (d.at ∷ leaf_octets leaf) (held 8 d.carry)
     (held 32 d.piece.items) (notes_octets d.notes) zeros in
     let at : drop 10 fixed ≡ (d.at ∷ []) ++ (leaf_octets leaf ++ carry_on) =
-    behind 2 8 fixed _ _ message (eight_long d.message) in
+    behind 2 8 fixed _ _ message (eight_long d.head.message) in
     let inner : drop 11 fixed ≡ leaf_octets leaf ++ carry_on =
     behind 10 1 fixed (d.at ∷ []) _ at refl in
     let carry : drop 24 fixed ≡ held 8 d.carry ++ piece_on =
@@ -127,14 +127,14 @@ fields_stand d leaf fixed is range =
 -- the fields, written one after the other
 pub fields_written : (d : Decoder) (leaf : Innermost) (carry piece o0 o1 o2 o3 o4 o5 o6 o7 o8
     o9 : List ℕ) → carry ≡ d.carry → piece ≡ d.piece.items → o0 ≡ [] →
-    o1 ≡ o0 ++ order_octet d.order ∷ [] → o2 ≡ o1 ++ root_octet d.root ∷ [] →
-    o3 ≡ o2 ++ eight d.message → o4 ≡ o3 ++ d.at ∷ [] → o5 ≡ o4 ++ leaf_octets leaf →
+    o1 ≡ o0 ++ order_octet d.order ∷ [] → o2 ≡ o1 ++ root_octet d.head.root ∷ [] →
+    o3 ≡ o2 ++ eight d.head.message → o4 ≡ o3 ++ d.at ∷ [] → o5 ≡ o4 ++ leaf_octets leaf →
     o6 ≡ o5 ++ held 8 carry → o7 ≡ o6 ++ held 32 piece → o8 ≡ o7 ++ notes_octets d.notes →
     o9 ≡ o8 ++ 0 ∷ [] → o9 ≡ fixed_octets d leaf
 unfolding fixed_octets
 fields_written d leaf carry piece o0 o1 o2 o3 o4 o5 o6 o7 o8 o9 a b e0 e1 e2 e3 e4 e5 e6 e7 e8 e9 =
-    let front : List ℕ = order_octet d.order ∷ root_octet d.root ∷ eight d.message in
-    let f2 : o2 ≡ order_octet d.order ∷ root_octet d.root ∷ [] = rw (e2, e1, e0) refl in
+    let front : List ℕ = order_octet d.order ∷ root_octet d.head.root ∷ eight d.head.message in
+    let f2 : o2 ≡ order_octet d.order ∷ root_octet d.head.root ∷ [] = rw (e2, e1, e0) refl in
     let f3 : o3 ≡ front = rw (e3, f2) refl in
     let f5 : o5 ≡ front ++ d.at ∷ leaf_octets leaf =
     rw (e5, e4, f3) (append_assoc front (d.at ∷ []) (leaf_octets leaf)) in

@@ -383,8 +383,7 @@ pub record IsAtLast (d m : Decoder) (count : ℕ) : Type 0 where
 abbrev pub at_last : Decoder → ℕ → ArrayVec Frame → Decoder
 at_last d at outer = record {
   order = d.order;
-  root = d.root;
-  message = d.message;
+  head = d.head;
   at = at;
   outer = outer;
   inside = d.inside;
@@ -400,8 +399,7 @@ pub is_at_last : (d : Decoder) (count at : ℕ) (outer : ArrayVec Frame) →
 is_at_last d count at outer there counted = record {
   further = record {
     order = refl;
-    root = refl;
-    message = refl;
+    head = refl;
     at = there;
     outer = counted;
     inside = refl;
@@ -430,8 +428,7 @@ module _ (C : Table) (d : Decoder) (octets : List ℕ) (of : TypeId) (count : �
       (rw (length-take-le (count - 1) octets (omega (arith, h.within))) (
         record {
           order = t.order;
-          root = t.root;
-          message = t.message;
+          head = t.head;
           at = t.at;
           outer = t.outer;
           inside = t.inside;
@@ -524,13 +521,13 @@ module _ (C : Table) (d : Decoder) (octets : List ℕ) (of : TypeId) (count : �
       s.transition →
       ((o : Noted) → HoldsNoted m.notes o →
       HoldsNoted new.notes (without_name_if (clears_name s.output)
-      (noted (is_header_root m.root) o (lines_at here)))) →
-      KeepsNoted m.root before_last (read_by_fields C before_last front here) →
-      KeepsNoted m.root new (with_front front
+      (noted (is_header_root m.head.root) o (lines_at here)))) →
+      KeepsNoted m.head.root before_last (read_by_fields C before_last front here) →
+      KeepsNoted m.head.root new (with_front front
       (decoder_step C before_last here (get_or octets (count - 1) 0)))
   keeps_noted_whole new here front stands inside notes old =
       let r = decoder_step C before_last here (get_or octets (count - 1) 0) in
-      let header = is_header_root m.root in
+      let header = is_header_root m.head.root in
       let path = path_in [] (open_parts C here m.outer.items) in
       let back = sym h.same in
       let T = tree C (leaf_type h.leaf) in
@@ -554,17 +551,17 @@ module _ (C : Table) (d : Decoder) (octets : List ℕ) (of : TypeId) (count : �
   pub name_whole : (here : ℕ) (next : Innermost) (new : Notes) → IsNotRefused s.transition →
       string_offset (tree C (leaf_type next)) next ≡ transition_offset (tree C of.0) s.transition →
       ((o : Noted) → HoldsNoted m.notes o → HoldsNoted new (without_name_if (clears_name s.output)
-      (noted (is_header_root m.root) o (lines_at here)))) →
-      FitsName m.root (string_offset (tree C (leaf_type next)) next) new.buffer new.name.items
+      (noted (is_header_root m.head.root) o (lines_at here)))) →
+      FitsName m.head.root (string_offset (tree C (leaf_type next)) next) new.buffer new.name.items
   name_whole here next new going to notes =
       let T = tree C of.0 in
       let same = same_some fits_then.leaf h.leaf (sym fits_then.goes_on ∙ leads) in
-      name_kept (is_header_root m.root) m.root T (string_offset T h.leaf)
+      name_kept (is_header_root m.head.root) m.head.root T (string_offset T h.leaf)
       (string_offset (tree C (leaf_type next)) next) s.transition s.output
       (path_in [] (open_parts C here m.outer.items)) (here + 1) (m.piece.items ++ rest)
       (lines_at here) m.notes new going
       (rw on.piece h.string_goes_on) to (says_at here)
-      (subst (λ n. FitsName m.root (string_offset (tree C n) h.leaf) m.notes.buffer
+      (subst (λ n. FitsName m.head.root (string_offset (tree C n) h.leaf) m.notes.buffer
       m.notes.name.items) h.same
-      (subst (λ l. FitsName m.root (string_offset (tree C (leaf_type l)) l) m.notes.buffer
+      (subst (λ l. FitsName m.head.root (string_offset (tree C (leaf_type l)) l) m.notes.buffer
       m.notes.name.items) same fits_then.name)) notes

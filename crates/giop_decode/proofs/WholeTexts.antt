@@ -229,8 +229,7 @@ module _ (C : Table) (d : Decoder) (octets : List ℕ) (text : TextAhead) (f : F
   abbrev pub begun : Decoder
   begun = record {
     order = d.order;
-    root = d.root;
-    message = d.message;
+    head = d.head;
     at = (d.at + text.head) % 8;
     outer = d.outer;
     inside = d.inside;
@@ -268,8 +267,7 @@ module _ (C : Table) (d : Decoder) (octets : List ℕ) (text : TextAhead) (f : F
       let known : text.of.0 < length C.types = rw same at g.known in
       record {
         order = refl;
-        root = refl;
-        message = refl;
+        head = refl;
         here = λ here k. (
           let some = h.leads.some in omega (arith, k.0, some),
           stand_free (here + 1) d.outer.items free,
@@ -306,7 +304,7 @@ module _ (C : Table) (d : Decoder) (octets : List ℕ) (text : TextAhead) (f : F
       (passed_some C d octets text.of text.head step h.none f h.leads at_head on_head begun
       progress.More length_passes a a
       (last_says C d octets text.of text.head step h.none f h.leads at_head on_head (Wrote a a)
-      (λ here at lines says. rw (said_none d.message d.root lines says) (wrote-nil a))))
+      (λ here at lines says. rw (said_none d.head.message d.head.root lines says) (wrote-nil a))))
 
   abbrev ended_step : Step
   ended_step = record { transition = transitions.Ended; output = outputs.Piece 0 false }
@@ -329,11 +327,11 @@ module _ (C : Table) (d : Decoder) (octets : List ℕ) (text : TextAhead) (f : F
   noted_behind : (new : Notes) (here at : ℕ) (lines : List Line) →
       Gives C d text.of.0 ended_step text.content.now here at lines →
       ((o : Noted) → HoldsNoted d.notes o →
-      HoldsNoted new (noted (is_header_root d.root) o lines)) →
+      HoldsNoted new (noted (is_header_root d.head.root) o lines)) →
       (o : Noted) → HoldsNoted begun.notes o →
-      HoldsNoted new (noted (is_header_root d.root) o lines)
+      HoldsNoted new (noted (is_header_root d.head.root) o lines)
   noted_behind new here at lines says notes o k =
-      let header = is_header_root d.root in
+      let header = is_header_root d.head.root in
       let r = recalled d.notes d.notes.buffer o refl k in
       subst (HoldsNoted new) (piece_recalled header d.notes o r (tree C text.of.0) h.bound at
       (path_in [] (open_parts C here d.outer.items)) (d.piece.items ++ text.content.now) lines h.is
@@ -354,8 +352,7 @@ module _ (C : Table) (d : Decoder) (octets : List ℕ) (text : TextAhead) (f : F
     content_passes new p e =
         record {
           order = e.order;
-          root = e.root;
-          message = e.message;
+          head = e.head;
           here = e.here;
           next = λ goes_on.
               let next = e.next goes_on in
@@ -381,7 +378,7 @@ module _ (C : Table) (d : Decoder) (octets : List ℕ) (text : TextAhead) (f : F
         Passes C (at_last d zero_at d.outer) new text.of.0 ended_step text.content.now p →
         ((here at : ℕ) (lines : List Line) →
         Gives C (at_last d zero_at d.outer) text.of.0 ended_step text.content.now here at lines →
-        Wrote a c (lines_text d.message d.root lines)) →
+        Wrote a c (lines_text d.head.message d.head.root lines)) →
         TakesSome {E = E} C d new octets a c (Ok (text.head + length text.content.now + 1, p))
     text_some {E = E} new p a c e writes =
         let n = length text.content.now in
@@ -397,7 +394,7 @@ module _ (C : Table) (d : Decoder) (octets : List ℕ) (text : TextAhead) (f : F
         IsErr r →
         ((here at : ℕ) (lines : List Line) →
         Gives C (at_last d zero_at d.outer) text.of.0 ended_step text.content.now here at lines →
-        WroteFront a c (lines_text d.message d.root lines)) →
+        WroteFront a c (lines_text d.head.message d.head.root lines)) →
         TakesSome C d new octets a c r
     text_broken r new a c is writes =
         let n = length text.content.now in

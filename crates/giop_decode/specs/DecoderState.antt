@@ -47,8 +47,8 @@ pub record Fits (C : Table) (d : Decoder) : Type 0 where
   pub clean : IsClean leaf d.carry d.piece.items
   pub at : d.at < 8
   -- none but a header has a request id
-  pub id_in_header_only : is_header_root d.root ≡ false → d.notes.request_id ≡ None
-  pub name : FitsName d.root (string_offset (tree C (leaf_type leaf)) leaf) d.notes.buffer
+  pub id_in_header_only : is_header_root d.head.root ≡ false → d.notes.request_id ≡ None
+  pub name : FitsName d.head.root (string_offset (tree C (leaf_type leaf)) leaf) d.notes.buffer
       d.notes.name.items
 
 -- the value has ended
@@ -94,8 +94,8 @@ pub record Reads (C : Table) (T : Ty) (order : Order) (at message : ℕ) (root :
   pub is : read (plain order) [] T at s ≡ read_by_fields C d lines (at + length s)
   pub keeps_noted : KeepsNoted root d (read (plain order) [] T at s)
   pub same_order : d.order ≡ order
-  pub same_message : d.message ≡ message
-  pub same_root : d.root ≡ root
+  pub same_message : d.head.message ≡ message
+  pub same_root : d.head.root ≡ root
   pub offset : CanStandAt d (at + length s)
 
 -- ---- one octet more

@@ -76,7 +76,7 @@ IsProgress named ended transition leaf p = IsGoing named ended leaf p
 abbrev pub Comes : Table → Decoder → Progress → ℕ → Read → Type 0
 Comes C d p at r =
     (lines : List Line)
-    × progressed C d (names_operation (is_header_root d.root) lines) p lines at r
+    × progressed C d (names_operation (is_header_root d.head.root) lines) p lines at r
 
 -- a transition at which no rule is broken
 abbrev pub IsNotRefused : Transition → Type 0

@@ -52,6 +52,6 @@ pub record Chains (C : Table) (d : Decoder) : Type 0 where
   pub inside : d.inside ≡ is_inside d.outer.items
   pub fits : LeafFits C leaf d.carry d.piece.items
   pub at : d.at < 8
-  pub id_in_header_only : is_header_root d.root ≡ false → d.notes.request_id ≡ None
-  pub name : FitsName d.root (string_offset (tree C (leaf_type leaf)) leaf) d.notes.buffer
+  pub id_in_header_only : is_header_root d.head.root ≡ false → d.notes.request_id ≡ None
+  pub name : FitsName d.head.root (string_offset (tree C (leaf_type leaf)) leaf) d.notes.buffer
       d.notes.name.items

@@ -24,7 +24,8 @@ frames_above frames = take (length frames - 1) frames
 
 -- what the lines of the innermost frame's parts begin with, up to its own segment
 abbrev pub front_text : Table → Decoder → List ℕ
-front_text C d = headed d.message (root_word d.root ++ frames_text C (frames_above d.outer.items))
+front_text C d =
+    headed d.head.message (root_word d.head.root ++ frames_text C (frames_above d.outer.items))
     []
 
 -- the number that stands whole at the head of its octets is a primitive's, and a part of the
@@ -50,8 +51,7 @@ pub record IsNextNumber (C : Table) (frame : Frame) (next : TypeId) : Type 0 whe
 -- the decoder at the part that follows
 pub record IsAtNext (C : Table) (d new : Decoder) (part : PartAhead) (next : TypeId) : Type 0 where
   pub order : new.order ≡ d.order
-  pub root : new.root ≡ d.root
-  pub message : new.message ≡ d.message
+  pub head : new.head ≡ d.head
   pub inside : new.inside ≡ d.inside
   pub notes : new.notes ≡ d.notes
   pub carry : new.carry ≡ d.carry

@@ -12,7 +12,7 @@ use Rattle.giop_sig.specs.Types.{Octets}
 
 -- what a line begins with, up to the end of its path, where the frames are the parts around it
 abbrev pub path_front : Table → Decoder → List ℕ
-path_front C d = headed d.message (root_word d.root ++ frames_text C d.outer.items) []
+path_front C d = headed d.head.message (root_word d.head.root ++ frames_text C d.outer.items) []
 
 -- A full piece of an octet sequence stands whole at the head of its octets: none of it is held, and
 -- more comes behind it.
@@ -28,8 +28,7 @@ pub record IsPieceAhead (C : Table) (d : Decoder) (ahead : PieceAhead) : Type 0 
 abbrev pub behind_piece : Decoder → PieceAhead → Decoder
 behind_piece d ahead = record {
   order = d.order;
-  root = d.root;
-  message = d.message;
+  head = d.head;
   at = d.at;
   outer = d.outer;
   inside = d.inside;

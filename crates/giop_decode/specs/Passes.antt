@@ -32,8 +32,7 @@ Gives C d of step rest here at lines =
 pub record Passes (C : Table) (d new : Decoder) (of : ℕ) (step : Step) (rest : List ℕ)
     (p : Progress) : Type 0 where
   pub order : new.order ≡ d.order
-  pub root : new.root ≡ d.root
-  pub message : new.message ≡ d.message
+  pub head : new.head ≡ d.head
   -- one octet further
   pub here : (here : ℕ) → CanStandAt d here → CanStandAt new (here + 1)
   pub next : GoesOn p → IsNext C d new of step.transition
@@ -42,8 +41,8 @@ pub record Passes (C : Table) (d new : Decoder) (of : ℕ) (step : Step) (rest :
   pub inside : (here : ℕ) (lines : List Line) →
       ends_in_string (emitted C d of step.transition step.output lines here)
       ≡ transition_in_string (tree C of) step.transition
-  pub id : is_header_root d.root ≡ false → new.notes.request_id ≡ d.notes.request_id
+  pub id : is_header_root d.head.root ≡ false → new.notes.request_id ≡ d.notes.request_id
   pub notes : (h : Noted) (here at : ℕ) (lines : List Line) → HoldsNoted d.notes h →
       Gives C d of step rest here at lines →
       HoldsNoted new.notes (without_name_if (clears_name step.output)
-      (noted (is_header_root d.root) h lines))
+      (noted (is_header_root d.head.root) h lines))

@@ -5,7 +5,7 @@ use Rattle.giop_decode.specs.ReadResult.{PathSegment}
 use Rattle.giop_decode.specs.Spelling.{segment_text, path_text}
 use Rattle.giop_decode.specs.ReadingSteps.{segment_in, path_in}
 use Rattle.giop_decode.specs.Transitions.{open_part, open_parts, switch_segment}
-use Rattle.giop_print.specs.declared.path.Root.{Root}
+use Rattle.giop_print.specs.Paths.{HeadView}
 use Rattle.giop_sig.specs.Table.{Table}
 use Rattle.giop_sig.specs.Trees.{tree}
 use Rattle.giop_sig.specs.Types.{shape_in, IsUnion}
@@ -31,15 +31,16 @@ abbrev pub frames_text : Table → List Frame → List ℕ
 frames_text C [] = []
 frames_text C (f ∷ outer) = segment_text (segment_in (open_part C 0 f)) ++ frames_text C outer
 
--- where the innermost part stands, or its discriminator: its root, the frames around it, and the
--- union whose discriminator is meant
+-- where the innermost part stands, or its discriminator: its message and root, the frames around it,
+-- and the union whose discriminator is meant
 pub record PathView : Type 0 where
   pub table : Table
-  pub root : Root
+  pub head : HeadView
   pub frames : List Frame
   pub union : Option TypeId
 
 -- the text of its path; at which offset the parts around it stand makes no difference
 abbrev pub current_path_text : PathView → List ℕ
 current_path_text h =
-    path_text h.root (path_in [] (open_parts h.table 0 h.frames) ++ end_segments h.table h.union)
+    path_text h.head.root
+    (path_in [] (open_parts h.table 0 h.frames) ++ end_segments h.table h.union)

@@ -87,7 +87,7 @@ notes_octets m =
 -- of a decoder whose innermost part this is
 unfoldable pub fixed_octets : Decoder → Innermost → List ℕ
 fixed_octets d leaf =
-    order_octet d.order ∷ root_octet d.root ∷ eight d.message ++ d.at ∷ leaf_octets leaf
+    order_octet d.order ∷ root_octet d.head.root ∷ eight d.head.message ++ d.at ∷ leaf_octets leaf
     ++ held 8 d.carry ++ held 32 d.piece.items ++ notes_octets d.notes ++ 0 ∷ []
 
 -- how many octets a frame has
@@ -131,7 +131,7 @@ pub record NotesHaveRange (m : Notes) : Type 0 where
 
 -- each of the decoder's own fields has room
 pub record HasRange (d : Decoder) : Type 0 where
-  pub message : d.message < 2 ^ 64
+  pub message : d.head.message < 2 ^ 64
   pub carry : length d.carry ≤ 8
   pub piece : length d.piece.items ≤ 32
   pub notes : NotesHaveRange d.notes
@@ -160,8 +160,7 @@ pub record IsKept (m n : Notes) : Type 0 where
 -- the decoder e is what a checkpoint keeps of the decoder d
 pub record IsRestored (d e : Decoder) : Type 0 where
   pub order : e.order ≡ d.order
-  pub root : e.root ≡ d.root
-  pub message : e.message ≡ d.message
+  pub head : e.head ≡ d.head
   pub at : e.at ≡ d.at
   pub leaf : e.leaf ≡ d.leaf
   pub outer : e.outer.items ≡ d.outer.items

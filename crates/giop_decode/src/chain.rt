@@ -26,14 +26,18 @@ impl Decoder {
         };
         let root = root_of(self.outer.as_slice(), leaf);
         self.at < 8
-            && (is_header(self.root) || self.notes.request_id.is_none())
+            && (is_header(self.head.root()) || self.notes.request_id.is_none())
             && catalogue.has(leaf.of())
             && catalogue.has(root)
             && !is_empty(catalogue, root)
             && self.inside == is_inside(true, self.outer.as_slice())
             && follow(catalogue, root, self.outer.as_slice(), leaf)
             && leaf_fits(catalogue, leaf, &self.carry, self.piece.as_slice())
-            && name_fits(self.root, string_offset(catalogue, leaf), &self.notes)
+            && name_fits(
+                self.head.root(),
+                string_offset(catalogue, leaf),
+                &self.notes,
+            )
     }
 }
 

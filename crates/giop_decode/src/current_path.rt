@@ -1,6 +1,6 @@
 //! The path of the innermost part, which its lines show, spelled from the frames and the catalogue.
 
-ghost use Rattle.std.specs.Prelude.{◌≡◌, ℕ, ◌+◌, ◌<◌, ◌≤◌, [], ◌++◌, length};
+ghost use Rattle.std.specs.Prelude.{◌≡◌, ℕ, ◌+◌, ◌<◌, ◌≤◌, [], ◌++◌, drop, length};
 ghost use Rattle.giop_decode.specs.Spelling.{segment_text, path_text};
 ghost use Rattle.giop_decode.specs.ReadingSteps.{segment_in, path_in};
 ghost use Rattle.giop_decode.specs.Transitions.{open_part, open_parts, IsKnown, AreKnown, switch_segment};
@@ -11,7 +11,7 @@ ghost use Rattle.giop_sig.specs.Types.{shape_in, IsUnion};
 ghost use Rattle.giop_sig.specs.Trees.{tree};
 
 use crate::frame::Frame;
-use giop_print::{Line, Path, Position, Root, put_root};
+use giop_print::{Head, Line, Path, Position, Root};
 use giop_sig::{Catalogue, Shape, TypeId};
 use std::marker::Model;
 
@@ -19,7 +19,7 @@ use std::marker::Model;
 #[derive(Drop)]
 pub(crate) struct CurrentPath<'a> {
     pub(crate) catalogue: &'a Catalogue,
-    pub(crate) root: Root,
+    pub(crate) head: &'a Head,
     pub(crate) outer: &'a [Frame],
     /// The type of the innermost part, where it is a union and its discriminator is meant.
     pub(crate) switch: Option<TypeId>,
@@ -34,7 +34,7 @@ impl<'a> Model for CurrentPath<'a> {
 
     ghost view = { λ here. record {
       table = here.catalogue.now;
-      root = here.root;
+      head = here.head.now;
       frames = here.outer.now;
       union = here.switch;
     } };
@@ -46,6 +46,8 @@ impl<'a> Model for CurrentPath<'a> {
 impl Position for CurrentPath<'_> {
     ghost use Rattle.giop_decode.specs.Segments.{current_path_text};
 
+    ghost message = { λ here. here.head.message };
+
     ghost spelled = { current_path_text };
 
     fn spell(&self, line: &mut Line) -> bool {
@@ -56,15 +58,19 @@ impl Position for CurrentPath<'_> {
         if !spell_segments(self.catalogue, self.outer, line) {
             return false;
         }
-        if line.room() < SEGMENT {
+        if line.room() < HEAD {
             return false;
         }
-        put_root(line, self.root);
+        self.head.put(line);
         true
     }
 
+    fn message(&self) -> u64 {
+        self.head.message()
+    }
+
     fn path(&self) -> Path {
-        let mut path = go_to(self.catalogue, self.root, self.outer);
+        let mut path = go_to(self.catalogue, self.head.root(), self.outer);
         let Some(of) = self.switch else {
             return path;
         };
@@ -73,8 +79,17 @@ impl Position for CurrentPath<'_> {
     }
 }
 
-/// The most octets that a segment has, or the word of a root.
+/// How many octets stand before a name's dot.
+const BEFORE: usize = 15;
+
+/// How many octets a block has.
+const BLOCK: usize = 16;
+
+/// The most octets that a segment has.
 const SEGMENT: usize = 65;
+
+/// The most octets that a head has.
+pub(crate) const HEAD: usize = 32;
 
 /// Spells the segments of the parts that are begun, the innermost first, and answers whether there was room for
 /// them.
@@ -111,9 +126,9 @@ pub(crate) fn spell_segment(catalogue: &Catalogue, frame: Frame, line: &mut Line
         return;
     }
     match catalogue.shape(frame.of) {
-        Shape::Members(_) => spell_name(line, catalogue.part_name(frame.of, frame.index)),
-        Shape::Union(_) => spell_name(line, catalogue.part_name(frame.of, frame.index)),
-        Shape::Tagged => spell_name(line, catalogue.part_name(frame.of, frame.index)),
+        Shape::Members(_) => spell_name(line, catalogue.dotted_name(frame.of, frame.index)),
+        Shape::Union(_) => spell_name(line, catalogue.dotted_name(frame.of, frame.index)),
+        Shape::Tagged => spell_name(line, catalogue.dotted_name(frame.of, frame.index)),
         Shape::Sequence(_) => spell_index(line, frame.index),
         Shape::Array(_) => spell_index(line, frame.index),
         _ => unreachable!(),
@@ -146,21 +161,29 @@ fn spell_switch(catalogue: &Catalogue, of: TypeId, line: &mut Line)
         ≡ line_room line.old }
 {
     match catalogue.shape(of) {
-        Shape::Union(_) => spell_name(line, b"switch"),
-        Shape::Tagged => spell_name(line, catalogue.part_name(of, 0)),
+        Shape::Union(_) => line.put_octets(b".switch"),
+        Shape::Tagged => spell_name(line, catalogue.dotted_name(of, 0)),
         _ => unreachable!(),
     }
 }
 
-/// Spells the segment of a member, a case or a discriminator.
-#[inline]
-fn spell_name(line: &mut Line, name: &[u8])
-    requires { length name.now < line_room line.old }
-    ensures text { line_text line.new ≡ name_segment name.now ++ line_text line.old }
-    ensures room { line_room line.new + length (name_segment name.now) ≡ line_room line.old }
+/// Spells the segment of a member, a case or a discriminator, which stands behind 15 octets that say nothing: one of at
+/// most 16 octets is the end of a block.
+#[inline(always)]
+fn spell_name(line: &mut Line, dotted: &[u8])
+    requires size { 16 ≤ length dotted.now }
+    requires short { length dotted.now ≤ 80 }
+    requires room { 65 ≤ line_room line.old }
+    ensures text { line_text line.new ≡ drop 15 dotted.now ++ line_text line.old }
+    ensures room { line_room line.new + length (drop 15 dotted.now) ≡ line_room line.old }
+    ensures most { line_room line.old ≤ line_room line.new + 65 }
 {
-    line.put_octets(name);
-    line.put(b'.');
+    let size = dotted.len() - BEFORE;
+    if size <= BLOCK {
+        line.put_end(&dotted[size - 1..], size);
+    } else {
+        line.put_octets(&dotted[BEFORE..]);
+    }
 }
 
 /// Spells the segment of an element.

@@ -30,15 +30,15 @@ use crate::notes::Notes;
 use crate::progress::{Progress, progress_of};
 use arrayvec::ArrayVec;
 use giop_cdr::{Carry, Order};
-use giop_print::{Out, OutFault, Root};
+use giop_print::{Head, Out, OutFault, Root};
 use giop_sig::{Catalogue, TypeId};
 
 /// The parts of a value that are begun and not ended, and what was last noted of the value.
 #[derive(Debug, Drop)]
 pub struct Decoder {
     pub(crate) order: Order,
-    pub(crate) root: Root,
-    pub(crate) message: u64,
+    // What the lines of the value begin with.
+    pub(crate) head: Head,
     // The offset of the next octet, modulo 8.
     pub(crate) at: u8,
     pub(crate) outer: ArrayVec<Frame, 24>,
@@ -69,8 +69,7 @@ impl Decoder {
     {
         let mut decoder = Decoder {
             order,
-            root,
-            message,
+            head: Head::new(message, root),
             at: 0,
             outer: ArrayVec::new(),
             inside: false,
@@ -79,7 +78,7 @@ impl Decoder {
             piece: ArrayVec::new(),
             notes: Notes::new(),
         };
-        decoder.restart(catalogue, of, order, offset, message, root);
+        decoder.begin(catalogue, of, offset);
         decoder
     }
 
@@ -102,8 +101,19 @@ impl Decoder {
             Fits catalogue.now self.new }
     {
         self.order = order;
-        self.root = root;
-        self.message = message;
+        self.head = Head::new(message, root);
+        self.begin(catalogue, of, offset);
+    }
+
+    /// Begins to read a value of a type, in the order and with the head that are set.
+    fn begin(&mut self, catalogue: &Catalogue, of: TypeId, offset: u64)
+        requires { of.0 < length catalogue.now.types }
+        ensures reads { Reads catalogue.now (tree catalogue.now of.0) self.old.order offset
+            self.old.head.message self.old.head.root self.new [] }
+        ensures done { IsDone self.new ↔ IsEmptyStruct (tree catalogue.now of.0) }
+        ensures fits { (IsEmptyStruct (tree catalogue.now of.0) → ⊥) →
+            Fits catalogue.now self.new }
+    {
         self.at = (offset % 8) as u8;
         self.outer.clear();
         self.inside = false;
@@ -205,8 +215,7 @@ impl Decoder {
             string_offset (tree catalogue.now (leaf_type leaf)) leaf
             ≡ transition_offset (tree catalogue.now of.0) transition }
         ensures order { self.new.order ≡ self.old.order }
-        ensures root { self.new.root ≡ self.old.root }
-        ensures message { self.new.message ≡ self.old.message }
+        ensures head { self.new.head ≡ self.old.head }
         ensures notes { self.new.notes ≡ self.old.notes }
         ensures at { self.new.at ≡ self.old.at }
         ensures inside { (at : ℕ) (lines : List Line) →
@@ -283,21 +292,22 @@ impl Decoder {
     ) -> Result<Progress, OutFault>
         requires fits { Fits catalogue.now self.old }
         ensures order { OnOk result (self.new.order ≡ self.old.order) }
-        ensures root { OnOk result (self.new.root ≡ self.old.root) }
-        ensures message { OnOk result (self.new.message ≡ self.old.message) }
+        ensures head { OnOk result (self.new.head ≡ self.old.head) }
         ensures here { OnOk result ((here : ℕ) → CanStandAt self.old here →
             CanStandAt self.new (here + 1)) }
         ensures fits { IfOk result (λ p. GoesOn p → Fits catalogue.now self.new) }
         ensures writes { (here : ℕ) → CanStandAt self.old here →
-            Writes result (O.log out.old) (O.log out.new) (lines_text self.old.message self.old.root
+            Writes result (O.log out.old) (O.log out.new)
+            (lines_text self.old.head.message self.old.head.root
             (lines_of (decoder_step catalogue.now self.old here octet))) }
         ensures steps { IfOk result (λ p. (here : ℕ) → CanStandAt self.old here →
             Comes catalogue.now self.new p (here + 1)
             (decoder_step catalogue.now self.old here octet)) }
         ensures keeps_noted { OnOk result ((here : ℕ) (front : List Line) →
             CanStandAt self.old here →
-            KeepsNoted self.old.root self.old (read_by_fields catalogue.now self.old front here) →
-            KeepsNoted self.old.root self.new
+            KeepsNoted self.old.head.root self.old
+            (read_by_fields catalogue.now self.old front here) →
+            KeepsNoted self.old.head.root self.new
             (with_front front (decoder_step catalogue.now self.old here octet))) }
     {
         let Some(leaf) = self.leaf else {
@@ -348,12 +358,11 @@ impl Decoder {
             Gives catalogue.now self.old ahead.entry.of.0 ahead.entry.step ahead.entry.rest.now
             here at lines →
             Writes result (O.log out.old) (O.log out.new)
-            (lines_text self.old.message self.old.root lines) }
+            (lines_text self.old.head.message self.old.head.root lines) }
     {
         write_line(
             catalogue,
-            self.message,
-            self.root,
+            &self.head,
             self.outer.as_slice(),
             Finished {
                 of: ahead.of,
@@ -386,7 +395,7 @@ impl Decoder {
     {
         let named = self.notes.note(
             catalogue,
-            self.root,
+            self.head.root(),
             self.outer.as_slice(),
             Finished {
                 of: ahead.of,

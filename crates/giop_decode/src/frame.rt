@@ -265,7 +265,7 @@ pub(crate) fn begin(catalogue: &Catalogue, outer: &mut ArrayVec<Frame, 24>, t: T
     requires fit { IsFit (24 - array_vec_len outer.old) (tree catalogue.now t.0) }
     ensures known { result.0 < length catalogue.now.types }
     ensures known_outer { AreKnown catalogue.now outer.new.items }
-    ensures open_parts { (at : ℕ) → open_parts catalogue.now at outer.new.items
+    ensures begun { (at : ℕ) → open_parts catalogue.now at outer.new.items
         ≡ open_parts catalogue.now at outer.old.items ++ start_outer (tree catalogue.now t.0) }
     ensures ended { has_ended outer.new.items ≡ has_ended outer.old.items }
     ensures inside { is_inside outer.new.items ≡ is_inside outer.old.items }
@@ -323,12 +323,12 @@ pub(crate) fn go_on(catalogue: &Catalogue, outer: &mut ArrayVec<Frame, 24>) -> O
     requires open { (at : ℕ) × OpenFrom 24 (open_parts catalogue.now at outer.old.items) }
     ensures known { IfSome result (λ leaf. leaf_type leaf < length catalogue.now.types) }
     ensures clean { IfSome result (λ leaf. IsClean leaf [] []) }
-    ensures silent { IfSome result (λ leaf.
+    ensures plain { IfSome result (λ leaf.
         leaf_in_string (tree catalogue.now (leaf_type leaf)) leaf ≡ false) }
     ensures known_outer { AreKnown catalogue.now outer.new.items }
     ensures outside { is_inside outer.old.items ≡ false → is_inside outer.new.items ≡ false }
     ensures stand { (at : ℕ) → StandAt at outer.old.items → StandAt at outer.new.items }
-    ensures gone { (coding : Coding) (path : List PathSegment) (at : ℕ) →
+    ensures next { (coding : Coding) (path : List PathSegment) (at : ℕ) →
         around coding path (open_parts catalogue.now at outer.old.items) (Done [] at [])
         ≡ gone_on catalogue.now at outer.new.items result }
     ensures linked { IfSome result (λ leaf. (root inner : ℕ) →

@@ -20,7 +20,7 @@ pub fn reading_laws()
         (s : List ℕ) (b : ℕ) →
         read coding path T at (s ++ b ∷ []) ≡ advance coding path (read coding path T at s) b }
     // Many octets more are as many steps: a reading may be left and resumed anywhere.
-    ensures resumption { (coding : Coding) (path : List PathSegment) (T : Ty) (at : ℕ)
+    ensures more { (coding : Coding) (path : List PathSegment) (T : Ty) (at : ℕ)
         (s t : List ℕ) →
         read coding path T at (s ++ t) ≡ resumes coding path (read coding path T at s) t }
     // The lines of a longer list begin with those of a shorter.
@@ -29,7 +29,7 @@ pub fn reading_laws()
         × (lines_of (read coding path T at (s ++ t)) ≡ lines_of (read coding path T at s) ++ more) }
     // A step has at most one line, which stands at its octet, and none where that breaks a rule of its own value; an
     // octet that only ends an encapsulation too soon has the line of what it completes.
-    ensures prompt { (coding : Coding) (path : List PathSegment) (outer : List OpenPart)
+    ensures octet { (coding : Coding) (path : List PathSegment) (outer : List OpenPart)
         (leaf : Leaf)
         (at b : ℕ) →
         IsOctetResult (at + 1) (step coding path outer leaf at b) }
@@ -60,7 +60,7 @@ pub fn noting_laws()
         (s : List ℕ) →
         IsLeft is_header (read coding path T at s) (noted_of is_header (read coding path T at s)) }
     // Lines are the pieces of one list of contents at most.
-    ensures one { (contents others : List (List ℕ)) (begun other : List TextPiece) →
+    ensures same { (contents others : List (List ℕ)) (begun other : List TextPiece) →
         AreUnended begun → AreUnended other →
         flat_map pieces_of contents ++ begun ≡ flat_map pieces_of others ++ other →
         contents ≡ others }

@@ -16,7 +16,7 @@ use crate::frame::Frame;
 use crate::leaf::{Finished, Output};
 use giop_cdr::Number;
 use giop_print::{
-    Out, OutFault, Piece, Root, SplitPiece, Value, encapsulation_line, order_line,
+    Head, Out, OutFault, Piece, SplitPiece, Value, encapsulation_line, order_line,
     split_inner_rest_line, split_piece_line, value_line,
 };
 use giop_sig::{Catalogue, Shape, TypeId};
@@ -25,7 +25,6 @@ use giop_sig::{Catalogue, Shape, TypeId};
 #[tactic(auto, unfolding(giop_print::specs::Lines::kind_line))]
 #[inline(always)]
 fn number_line<O: Out>(
-    message: u64,
     path: &CurrentPath<'_>,
     t: TypeId,
     number: Number,
@@ -35,13 +34,14 @@ fn number_line<O: Out>(
     requires number { IsNumberOf (tree path.now.table t.0) number }
     ensures { (is : IsNumberOf (tree path.now.table t.0) number) →
         Writes result (O.log out.old) (O.log out.new)
-        (value_text message (current_path_text path.now) (results.Number is.scalar is.n)) }
+        (value_text path.now.head.message (current_path_text path.now)
+        (results.Number is.scalar is.n)) }
 {
     match path.catalogue.shape(t) {
-        Shape::Prim(prim) => value_line(out, message, path, Value::Primitive(prim, number)),
+        Shape::Prim(prim) => value_line(out, path, Value::Primitive(prim, number)),
         Shape::Enumeration(_) => match number {
             Number::Unsigned(n) => match path.catalogue.enum_name(t, n as u32) {
-                Some(name) => value_line(out, message, path, Value::Enum(name)),
+                Some(name) => value_line(out, path, Value::Enum(name)),
                 None => unreachable!(),
             },
             _ => unreachable!(),
@@ -54,7 +54,6 @@ fn number_line<O: Out>(
 #[inline(always)]
 #[tactic(auto, unfolding(giop_print::specs::Lines::content_line))]
 fn octets_line<O: Out>(
-    message: u64,
     path: &CurrentPath<'_>,
     finished: Finished<'_>,
     offset: u32,
@@ -65,7 +64,7 @@ fn octets_line<O: Out>(
     requires content { HasContent (tree path.now.table finished.of.0) }
     requires short { length finished.held.now + length finished.rest.now ≤ 32 }
     ensures { Writes result (O.log out.old) (O.log out.new)
-        (value_text message (current_path_text path.now)
+        (value_text path.now.head.message (current_path_text path.now)
         (results.Piece (tree path.now.table finished.entry.of.0) offset
         (finished.entry.held.now ++ finished.entry.rest.now) more)) }
 {
@@ -75,7 +74,7 @@ fn octets_line<O: Out>(
         Shape::Text(_) => Piece::Text(held),
         Shape::Octets(_) => Piece::Octets(held),
         Shape::Encapsulation => {
-            return split_inner_rest_line(out, message, path, offset, held, rest);
+            return split_inner_rest_line(out, path, offset, held, rest);
         }
         _ => unreachable!(),
     };
@@ -85,15 +84,14 @@ fn octets_line<O: Out>(
         rest,
         more,
     };
-    split_piece_line(out, message, path, piece)
+    split_piece_line(out, path, piece)
 }
 
 /// Writes what an octet of an innermost part finishes.
 #[inline(always)]
 pub(crate) fn write_line<O: Out>(
     catalogue: &Catalogue,
-    message: u64,
-    root: Root,
+    head: &Head,
     outer: &[Frame],
     finished: Finished<'_>,
     out: &mut O,
@@ -105,33 +103,32 @@ pub(crate) fn write_line<O: Out>(
     requires short { length finished.held.now + length finished.rest.now ≤ 32 }
     ensures { (here at : ℕ) (lines : List Line) →
         Finishes catalogue.now outer.now finished.entry here at lines →
-        Writes result (O.log out.old) (O.log out.new) (lines_text message root lines) }
+        Writes result (O.log out.old) (O.log out.new)
+        (lines_text head.now.message head.now.root lines) }
 {
     let here = CurrentPath {
         catalogue,
-        root,
+        head,
         outer,
         switch: None,
     };
     match finished.output {
         Output::Nothing => Ok(()),
         Output::Length => Ok(()),
-        Output::Number(number) => number_line(message, &here, finished.of, number, out),
+        Output::Number(number) => number_line(&here, finished.of, number, out),
         Output::Switch(number) => {
             let path = CurrentPath {
                 catalogue,
-                root,
+                head,
                 outer,
                 switch: Some(finished.of),
             };
             let switch = catalogue.switch_type(finished.of);
-            number_line(message, &path, switch, number, out)
+            number_line(&path, switch, number, out)
         }
-        Output::Count(count) => value_line(out, message, &here, Value::Count(count)),
-        Output::Size(size) => encapsulation_line(out, message, &here, size),
-        Output::Ordered(order) => order_line(out, message, &here, order),
-        Output::Piece { offset, more } => {
-            octets_line(message, &here, finished, offset, more, out)
-        }
+        Output::Count(count) => value_line(out, &here, Value::Count(count)),
+        Output::Size(size) => encapsulation_line(out, &here, size),
+        Output::Ordered(order) => order_line(out, &here, order),
+        Output::Piece { offset, more } => { octets_line(&here, finished, offset, more, out) }
     }
 }

@@ -15,7 +15,7 @@ ghost use Rattle.giop_print.specs.Lines.{kind_line, kind_word, number_text, spac
 ghost use Rattle.giop_print.specs.Output.{Writes};
 ghost use Rattle.giop_print.specs.Paths.{root_word};
 
-use crate::current_path::{spell_segment, spell_segments};
+use crate::current_path::{HEAD, spell_segment, spell_segments};
 use crate::decoder::Decoder;
 use crate::frame::{Frame, go_to_next};
 use crate::leaf::{Leaf, Output, Step, Transition};
@@ -24,7 +24,7 @@ use crate::notes::is_header;
 use crate::progress::Progress;
 use crate::run::further;
 use giop_cdr::{Number, Prim};
-use giop_print::{Line, Out, OutFault, Root, line_behind, put_number_end, put_root};
+use giop_print::{Head, Line, Out, OutFault, line_behind, put_number_end};
 use giop_sig::{Catalogue, Shape, TypeId};
 
 /// The number of a primitive that comes next, where it is a part of a part that is begun.
@@ -44,9 +44,6 @@ struct PartAhead<'a> {
 /// How many octets may stand in a line before the last segment of its path.
 const FRONT: usize = 128;
 
-/// The most octets that a message's number has with the root behind it.
-const HEAD: usize = 31;
-
 /// How many octets there must be that a run of numbers is begun.
 const RUN: usize = 16;
 
@@ -56,12 +53,12 @@ impl Decoder {
     #[inline(always)]
     pub(crate) fn has_parts(&self, octets: &[u8]) -> bool
         ensures some { IsTrue result → 0 < length self.now.outer.items }
-        ensures body { IsTrue result → is_header_root self.now.root ≡ false }
+        ensures body { IsTrue result → is_header_root self.now.head.root ≡ false }
     {
         let Some(Leaf::Number(_)) = self.leaf else {
             return false;
         };
-        if is_header(self.root) || octets.len() < RUN {
+        if is_header(self.head.root()) || octets.len() < RUN {
             return false;
         }
         let depth = self.outer.len();
@@ -84,7 +81,7 @@ impl Decoder {
         requires fits { Fits catalogue.now self.old }
         requires octets { 0 < length octets.now }
         requires some { 0 < length self.old.outer.items }
-        requires body { is_header_root self.old.root ≡ false }
+        requires body { is_header_root self.old.head.root ≡ false }
         requires outside { self.old.inside ≡ false }
         ensures { TakesSome catalogue.now self.old self.new octets.now
             (O.log out.old) (O.log out.new) result }
@@ -93,7 +90,7 @@ impl Decoder {
         if !self.put_front_of_parts(catalogue, &mut line) {
             return self.take_one(catalogue, octets, out);
         }
-        self.take_several(catalogue, octets, line.text(), out)
+        self.take_several(catalogue, octets, &line, out)
     }
 
     /// The same where what their lines begin with is spelled.
@@ -102,25 +99,26 @@ impl Decoder {
         &mut self,
         catalogue: &Catalogue,
         octets: &[u8],
-        front: &[u8],
+        front: &Line,
         out: &mut O,
     ) -> Result<(usize, Progress), OutFault>
         requires fits { Fits catalogue.now self.old }
         requires octets { 0 < length octets.now }
-        requires body { is_header_root self.old.root ≡ false }
+        requires body { is_header_root self.old.head.root ≡ false }
         requires outside { self.old.inside ≡ false }
-        requires front { front.now ≡ front_text catalogue.now self.old }
-        requires short { length front.now ≤ 128 }
+        requires front { line_text front.now ≡ front_text catalogue.now self.old }
+        requires short { length (line_text front.now) ≤ 128 }
         ensures { TakesSome catalogue.now self.old self.new octets.now
             (O.log out.old) (O.log out.new) result }
     {
+        let mut line = Line::new();
         let mut taken = 0;
         while let Some(part) = self.part_ahead(catalogue, &octets[taken..]) {
             let Some(next) = self.next_number(catalogue, part) else {
-                let (last, progress) = self.take_last(catalogue, part, front, out)?;
+                let (last, progress) = self.take_last(catalogue, part, front, &mut line, out)?;
                 return Ok((taken + last, progress));
             };
-            let (count, _) = self.take_part(catalogue, part, next, front, out)?;
+            let (count, _) = self.take_part(catalogue, part, next, front, &mut line, out)?;
             taken += count;
         }
         if taken == octets.len() {
@@ -169,21 +167,22 @@ impl Decoder {
         catalogue: &Catalogue,
         part: PartAhead<'_>,
         next: TypeId,
-        front: &[u8],
+        front: &Line,
+        line: &mut Line,
         out: &mut O,
     ) -> Result<(usize, Progress), OutFault>
         requires fits { Fits catalogue.now self.old }
-        requires body { is_header_root self.old.root ≡ false }
+        requires body { is_header_root self.old.head.root ≡ false }
         requires ahead { IsPartAhead catalogue.now self.old part }
         requires next { IsNextNumber catalogue.now part.frame next }
-        requires front { front.now ≡ front_text catalogue.now self.old }
-        requires short { length front.now ≤ 128 }
+        requires front { line_text front.now ≡ front_text catalogue.now self.old }
+        requires short { length (line_text front.now) ≤ 128 }
         ensures takes { TakesSome catalogue.now self.old self.new part.entry.octets.now
             (O.log out.old) (O.log out.new) result }
         ensures more { IfOk result (λ taken. taken.1 ≡ Progress.More) }
         ensures next { OnOk result (IsAtNext catalogue.now self.old self.new part.entry next) }
     {
-        part_line(catalogue, part, front, out)?;
+        part_line(catalogue, part, front, line, out)?;
         self.at = further(self.at, part.count);
         go_to_next(&mut self.outer);
         self.leaf = Some(Leaf::Number(next));
@@ -197,18 +196,19 @@ impl Decoder {
         &mut self,
         catalogue: &Catalogue,
         part: PartAhead<'_>,
-        front: &[u8],
+        front: &Line,
+        line: &mut Line,
         out: &mut O,
     ) -> Result<(usize, Progress), OutFault>
         requires fits { Fits catalogue.now self.old }
-        requires body { is_header_root self.old.root ≡ false }
+        requires body { is_header_root self.old.head.root ≡ false }
         requires ahead { IsPartAhead catalogue.now self.old part }
-        requires front { front.now ≡ front_text catalogue.now self.old }
-        requires short { length front.now ≤ 128 }
+        requires front { line_text front.now ≡ front_text catalogue.now self.old }
+        requires short { length (line_text front.now) ≤ 128 }
         ensures { TakesSome catalogue.now self.old self.new part.entry.octets.now
             (O.log out.old) (O.log out.new) result }
     {
-        part_line(catalogue, part, front, out)?;
+        part_line(catalogue, part, front, line, out)?;
         self.at = further(self.at, part.count - 1);
         let ahead = Lookahead {
             of: part.of,
@@ -242,7 +242,7 @@ impl Decoder {
     }
 
     /// Puts what the lines of the innermost part's parts begin with, up to their own segment, on an empty line, and
-    /// answers whether that is at most 128 octets.
+    /// answers whether it did so: not where that has too many octets.
     fn put_front_of_parts(&self, catalogue: &Catalogue, line: &mut Line) -> bool
         requires known { AreKnown catalogue.now self.now.outer.items }
         requires some { 0 < length self.now.outer.items }
@@ -252,45 +252,41 @@ impl Decoder {
         ensures short { IsTrue result → length (line_text line.new) ≤ 128 }
     {
         let depth = self.outer.len() - 1;
-        put_front(
-            catalogue,
-            self.message,
-            self.root,
-            &self.outer[..depth],
-            line,
-        )
+        put_front(catalogue, &self.head, &self.outer[..depth], line)
     }
 }
 
-/// The line of a number that is a part, of which the front is spelled.
+/// The line of a number that is a part, of which the front is spelled; the rest of it is spelled in `line`, whatever
+/// that has.
 #[inline(always)]
 fn part_line<O: Out>(
     catalogue: &Catalogue,
     part: PartAhead<'_>,
-    front: &[u8],
+    front: &Line,
+    line: &mut Line,
     out: &mut O,
 ) -> Result<(), OutFault>
     requires known { IsKnown catalogue.now part.frame }
-    requires short { length front.now ≤ 128 }
-    ensures { (message : ℕ) (place : List ℕ) → front.now ≡ headed message place [] →
+    requires short { length (line_text front.now) ≤ 128 }
+    ensures { (message : ℕ) (place : List ℕ) →
+        line_text front.now ≡ headed message place [] →
         Writes result (O.log out.old) (O.log out.new) (kind_line message
         (place ++ segment_text (segment_in (open_part catalogue.now 0 part.entry.frame)))
         (spaced (kind_word part.entry.prim))
         (number_text (size_of part.entry.prim) part.entry.number)) }
 {
-    let mut line = Line::new();
-    put_number_end(&mut line, part.prim, part.number);
-    spell_segment(catalogue, part.frame, &mut line);
-    line_behind(out, front, &mut line)
+    line.clear();
+    put_number_end(line, part.prim, part.number);
+    spell_segment(catalogue, part.frame, line);
+    line_behind(out, front, line)
 }
 
 /// Puts what the lines of the parts in these begin with, up to their own segment, on an empty line, and answers
-/// whether that is at most 128 octets.
+/// whether it did so: it does where the segments have at most 96 octets, and all of it is then at most 128.
 #[inline(always)]
 pub(crate) fn put_front(
     catalogue: &Catalogue,
-    message: u64,
-    root: Root,
+    head: &Head,
     outer: &[Frame],
     line: &mut Line,
 ) -> bool
@@ -298,15 +294,13 @@ pub(crate) fn put_front(
     requires empty { line_text line.old ≡ [] }
     requires room { line_room line.old ≡ 256 }
     ensures text { IsTrue result → line_text line.new
-        ≡ headed message (root_word root ++ frames_text catalogue.now outer.now) [] }
+        ≡ headed head.now.message
+        (root_word head.now.root ++ frames_text catalogue.now outer.now) [] }
     ensures short { IsTrue result → length (line_text line.new) ≤ 128 }
 {
     if !spell_segments(catalogue, outer, line) || line.room() < 256 - FRONT + HEAD {
         return false;
     }
-    put_root(line, root);
-    line.put(b' ');
-    line.put_number(message);
-    line.put(b'm');
+    head.put(line);
     true
 }

@@ -4,7 +4,7 @@ ghost use Rattle.std.specs.Prelude.{◌≡◌, ℕ, ◌<◌, ◌≤◌, false, t
 ghost use Rattle.giop_decode.specs.DecoderState.{Fits};
 ghost use Rattle.giop_decode.specs.NextPieces.{IsPieceAhead, behind_piece, path_front};
 ghost use Rattle.giop_decode.specs.Runs.{TakesSome};
-ghost use Rattle.giop_print.specs.Line.{headed};
+ghost use Rattle.giop_print.specs.Line.{headed, line_text};
 ghost use Rattle.giop_print.specs.Lines.{content_line, more_word, spaced_hex};
 ghost use Rattle.giop_print.specs.Output.{Writes};
 
@@ -30,10 +30,11 @@ struct PieceAhead<'a> {
 /// How many octets a full piece has.
 const PIECE: usize = 32;
 
-/// How many octets there must be that full pieces are taken one after another.
+/// How many octets there must be, and more than so many of the content to come, that full pieces are taken one after
+/// another.
 const RUN: usize = 2 * PIECE;
 
-/// How many octets may stand in a line before the word of its piece.
+/// How many octets may stand in a line before the word of its piece: what `put_piece_end` leaves.
 const FRONT: usize = 90;
 
 impl Decoder {
@@ -65,17 +66,11 @@ impl Decoder {
             (O.log out.old) (O.log out.new) result }
     {
         let mut line = Line::new();
-        let front = put_front(
-            catalogue,
-            self.message,
-            self.root,
-            self.outer.as_slice(),
-            &mut line,
-        );
+        let front = put_front(catalogue, &self.head, self.outer.as_slice(), &mut line);
         if !front || line.text().len() > FRONT {
             return self.take_one(catalogue, octets, out);
         }
-        self.take_full(catalogue, octets, line.text(), out)
+        self.take_full(catalogue, octets, &line, out)
     }
 
     /// The same where what their lines begin with is spelled.
@@ -84,20 +79,21 @@ impl Decoder {
         &mut self,
         catalogue: &Catalogue,
         octets: &[u8],
-        front: &[u8],
+        front: &Line,
         out: &mut O,
     ) -> Result<(usize, Progress), OutFault>
         requires fits { Fits catalogue.now self.old }
         requires octets { 0 < length octets.now }
         requires outside { self.old.inside ≡ false }
-        requires front { front.now ≡ path_front catalogue.now self.old }
-        requires short { length front.now ≤ 90 }
+        requires front { line_text front.now ≡ path_front catalogue.now self.old }
+        requires short { length (line_text front.now) ≤ 90 }
         ensures { TakesSome catalogue.now self.old self.new octets.now
             (O.log out.old) (O.log out.new) result }
     {
+        let mut line = Line::new();
         let mut taken = 0;
         while let Some(piece) = self.next_piece(catalogue, &octets[taken..]) {
-            let (count, _) = self.take_piece(catalogue, piece, front, out)?;
+            let (count, _) = self.take_piece(catalogue, piece, front, &mut line, out)?;
             taken += count;
         }
         if taken == octets.len() {
@@ -107,7 +103,8 @@ impl Decoder {
         Ok((taken + rest, progress))
     }
 
-    /// The full piece that comes next, where it is an octet sequence's and stands whole at the head of these octets.
+    /// The full piece that comes next, where it is an octet sequence's, stands whole at the head of these octets, and
+    /// none of it is held.
     #[inline(always)]
     fn next_piece<'a>(&self, catalogue: &Catalogue, octets: &'a [u8]) -> Option<PieceAhead<'a>>
         requires { Fits catalogue.now self.now }
@@ -117,7 +114,10 @@ impl Decoder {
         let Some(Leaf::Content { of, total, offset }) = self.leaf else {
             return None;
         };
-        if total.saturating_sub(offset) <= 32 || octets.len() < PIECE || !self.piece.is_empty() {
+        if total.saturating_sub(offset) as usize <= PIECE
+            || octets.len() < PIECE
+            || !self.piece.is_empty()
+        {
             return None;
         }
         match catalogue.shape(of) {
@@ -137,20 +137,21 @@ impl Decoder {
         &mut self,
         catalogue: &Catalogue,
         piece: PieceAhead<'_>,
-        front: &[u8],
+        front: &Line,
+        line: &mut Line,
         out: &mut O,
     ) -> Result<(usize, Progress), OutFault>
         requires fits { Fits catalogue.now self.old }
         requires ahead { IsPieceAhead catalogue.now self.old piece }
         requires outside { self.old.inside ≡ false }
-        requires front { front.now ≡ path_front catalogue.now self.old }
-        requires short { length front.now ≤ 90 }
+        requires front { line_text front.now ≡ path_front catalogue.now self.old }
+        requires short { length (line_text front.now) ≤ 90 }
         ensures takes { TakesSome catalogue.now self.old self.new piece.entry.octets.now
             (O.log out.old) (O.log out.new) result }
         ensures more { IfOk result (λ taken. taken.1 ≡ Progress.More) }
         ensures next { OnOk result (self.new ≡ behind_piece self.old piece.entry) }
     {
-        piece_line(piece, front, out)?;
+        piece_line(piece, front, line, out)?;
         self.leaf = Some(Leaf::Content {
             of: piece.of,
             total: piece.total,
@@ -160,23 +161,29 @@ impl Decoder {
     }
 }
 
-/// The line of that piece, of which the front is spelled.
+/// The line of that piece, of which the front is spelled; the rest of it is spelled in `line`, whatever that has.
 #[inline(always)]
-fn piece_line<O: Out>(piece: PieceAhead<'_>, front: &[u8], out: &mut O) -> Result<(), OutFault>
+fn piece_line<O: Out>(
+    piece: PieceAhead<'_>,
+    front: &Line,
+    line: &mut Line,
+    out: &mut O,
+) -> Result<(), OutFault>
     requires whole { 32 ≤ length piece.octets.now }
-    requires short { length front.now ≤ 90 }
-    ensures { (message : ℕ) (place : List ℕ) → front.now ≡ headed message place [] →
+    requires short { length (line_text front.now) ≤ 90 }
+    ensures { (message : ℕ) (place : List ℕ) →
+        line_text front.now ≡ headed message place [] →
         Writes result (O.log out.old) (O.log out.new) (content_line message place
         (codes " octets @") piece.entry.offset
         (spaced_hex (take 32 piece.entry.octets.now)) (more_word true)) }
 {
-    let mut line = Line::new();
     let piece = SplitPiece {
         offset: u64::from(piece.offset),
         held: Piece::Octets(&piece.octets[..PIECE]),
         rest: &[],
         more: true,
     };
-    put_piece_end(&mut line, piece);
-    line_behind(out, front, &mut line)
+    line.clear();
+    put_piece_end(line, piece);
+    line_behind(out, front, line)
 }

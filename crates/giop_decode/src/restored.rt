@@ -23,7 +23,7 @@ use crate::stored::FRAME_SIZE;
 use arrayvec::ArrayVec;
 use giop_cdr::{Carry, Order};
 use giop_octets::{eight_at, four_at, held_at, octet_at, optional_at};
-use giop_print::Root;
+use giop_print::{Head, Root};
 use giop_sig::{Catalogue, TypeId};
 
 impl Decoder {
@@ -86,8 +86,7 @@ fn parsed(fixed: &[u8; 208], frames: &[u8]) -> Decoder
     let inside = is_inside(true, outer.as_slice());
     Decoder {
         order: order_at(fixed, 0),
-        root,
-        message: eight_at(fixed, 2),
+        head: Head::new(eight_at(fixed, 2), root),
         at: octet_at(fixed, 10),
         outer,
         inside,

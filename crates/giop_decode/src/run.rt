@@ -25,6 +25,7 @@ impl Decoder {
     /// Takes octets of the value, and writes their lines: all of them, or as many as there are up to one that ends an
     /// operation or the value, or breaks a rule. Answers how many it took, and the answer to the last of them; no
     /// octets leave the value as it is. A decoder that is done or faulted takes no more.
+    #[inline(never)]
     pub fn take_run<O: Out>(
         &mut self,
         catalogue: &Catalogue,
@@ -62,7 +63,7 @@ impl Decoder {
     /// Takes some of the octets, of which there is at least one: a number or the rest of a piece that stands whole at
     /// their head, or those that only add to what is held, and one more. Numbers that are parts of one part are taken
     /// together, and so are full pieces of an octet sequence.
-    #[inline(never)]
+    #[inline(always)]
     fn take_some<O: Out>(
         &mut self,
         catalogue: &Catalogue,
@@ -82,6 +83,9 @@ impl Decoder {
             if self.has_pieces(catalogue, octets) {
                 return self.take_pieces(catalogue, octets, out);
             }
+            if let Some(text) = self.text_ahead(catalogue, octets) {
+                return self.take_text(catalogue, octets, text, out);
+            }
             return self.take_other(catalogue, coded, octets, out);
         };
         if self.has_parts(octets) {
@@ -90,7 +94,8 @@ impl Decoder {
         self.take_ahead(catalogue, octets, ahead, true, out)
     }
 
-    /// The same, but for numbers one at a time, and within encapsulations too: there of the octets up to where one ends.
+    /// The same, but for numbers and full pieces one at a time, and within encapsulations too: there of the octets up to
+    /// where one ends.
     #[inline(never)]
     pub(crate) fn take_one<O: Out>(
         &mut self,
@@ -130,9 +135,6 @@ impl Decoder {
     {
         if let Some(ahead) = self.piece_ahead(catalogue, octets) {
             return self.take_ahead(catalogue, octets, ahead, false, out);
-        }
-        if let Some(text) = self.text_ahead(catalogue, octets) {
-            return self.take_text(catalogue, octets, text, out);
         }
         if let Some(ahead) = self.leading_number_ahead(catalogue, coded, octets) {
             return self.take_ahead(catalogue, octets, ahead, false, out);
@@ -176,7 +178,7 @@ impl Decoder {
         requires { Fits catalogue.now self.old }
         ensures within { result ≤ length octets.now }
         ensures fits { Fits catalogue.now self.new }
-        ensures gathers { AllGathered catalogue.now self.old self.new (take result octets.now) }
+        ensures takes { AllGathered catalogue.now self.old self.new (take result octets.now) }
     {
         let Some(leaf) = self.leaf else {
             unreachable!();

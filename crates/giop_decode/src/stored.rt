@@ -55,11 +55,11 @@ impl Decoder {
         ensures put { out.new.items ≡ fixed_octets self.now leaf }
         ensures len { array_vec_len out.new ≡ 208 }
         ensures range { HasRange self.now }
-        ensures leaf_range { LeafHasRange leaf }
+        ensures leaf { LeafHasRange leaf }
     {
         out.push(order_octet(self.order));
-        out.push(root_octet(self.root));
-        put_eight(out, self.message);
+        out.push(root_octet(self.head.root()));
+        put_eight(out, self.head.message());
         out.push(self.at);
         put_leaf(out, leaf);
         put_held(out, self.carry.as_slice(), 8);

@@ -27,20 +27,31 @@ pub fn request_id_laws()
         ≡ request_id_said (num (order header) (a ∷ b ∷ c ∷ d ∷ [])) ∷ [] }
 {}
 
-/// The path of the request id.
-struct RequestIdPath;
+/// Where the request id of a message stands.
+#[derive(Drop)]
+struct RequestIdPlace {
+    message: u64,
+}
 
-impl Position for RequestIdPath {
+impl Position for RequestIdPlace {
     ghost use Rattle.giop_message.specs.RequestId.{request_id_path};
+
+    ghost message = { λ here. here.message };
 
     ghost spelled = { λ _. request_id_path };
 
     fn spell(&self, line: &mut Line) -> bool {
-        if line.room() < 17 {
+        if line.room() < 39 {
             return false;
         }
-        line.put_octets(b"header.request_id");
+        line.put_octets(b" header.request_id");
+        line.put_number(self.message);
+        line.put(b'm');
         true
+    }
+
+    fn message(&self) -> u64 {
+        self.message
     }
 
     fn path(&self) -> Path {
@@ -56,5 +67,5 @@ pub fn request_id_line<O: Out>(out: &mut O, number: u64, id: u32) -> Result<(), 
         (numbered_line number (request_id_text id)) }
 {
     let value = Value::Primitive(Prim::ULong, Number::Unsigned(u64::from(id)));
-    value_line(out, number, &RequestIdPath, value)
+    value_line(out, &RequestIdPlace { message: number }, value)
 }

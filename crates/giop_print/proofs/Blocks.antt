@@ -1,10 +1,12 @@
--- A block of octets that is copied in front of a line, and the last octets of a line.
-use Rattle.std.proofs.Common.{◌≡◌, ℕ, ◌+◌, ◌-◌, ◌≤◌, List, [], ◌++◌, length, take, drop, sym, ap, ◌∙◌, arith, append-nil, length-take, length-drop}
+-- A block of octets that is copied in front of a line, the last octets of a line, and the two blocks
+-- of a head.
+use Rattle.std.proofs.Common.{◌≡◌, ℕ, ◌+◌, ◌-◌, ◌≤◌, ◌<◌, List, [], ◌∷◌, ◌++◌, length, take, drop, sym, ap, ◌∙◌, arith, append_assoc, append-nil, length-take, length-drop, refl}
 use Rattle.std.proofs.Math.Seq.{drop-append-add}
-use Rattle.std.proofs.lemmas.List.{drop_all, drop-drop, drop-append-le, take_all}
+use Rattle.std.proofs.lemmas.List.{drop_all, drop-drop, drop-append-le, drop-set, take-append-drop, take_all}
 use Rattle.std.proofs.lemmas.Simd.{put_chunk_is}
 use borrow.Rule.Slice.PartMut.{put_mid, mid_of}
 use lib.Lanes.{put_chunk}
+use lib.ListN.{set}
 
 -- all octets of an array from one on
 all_from : (octets : List ℕ) (a : ℕ) → a ≤ 256 → length octets ≡ 256 →
@@ -53,3 +55,58 @@ block_before octets block at count size few room within less =
     rw (placed octets block (at - 16) size few (omega (arith, within)), start, from)
     (drop-append-add before (block ++ drop at octets) (16 - count)
     ∙ drop-append-le (16 - count) block (drop at octets) (omega (arith, few)))
+
+-- ---- the two blocks of a head, at whose end a text stands
+
+last_block : (octets : List ℕ) → mid_of 16 (length octets - 16) octets ≡ drop 16 octets
+last_block octets =
+    take_all (length octets - 16) (drop 16 octets) (omega (arith, length-drop 16 octets))
+
+pub one_block : (octets rest : List ℕ) (count : ℕ) → count ≤ 16 →
+    drop (16 - count) (mid_of 16 (length octets - 16) octets) ++ rest
+    ≡ drop (32 - count) octets ++ rest
+one_block octets rest count few =
+    let from : 16 + (16 - count) ≡ 32 - count = omega (arith, few) in
+    rw (last_block octets, drop-drop (16 - count) 16 octets, from) refl
+
+pub two_blocks : (octets rest : List ℕ) (count : ℕ) → length octets ≡ 32 → 16 < count →
+    drop (16 - (count - 16)) (take 16 octets) ++ (mid_of 16 (length octets - 16) octets ++ rest)
+    ≡ drop (32 - count) octets ++ rest
+two_blocks octets rest count size more =
+    let front = drop (16 - (count - 16)) (take 16 octets) in
+    let all : front ++ drop 16 octets ≡ drop (16 - (count - 16)) octets =
+    sym (drop-append-le (16 - (count - 16)) (take 16 octets) (drop 16 octets)
+    (omega (arith, length-take 16 octets, size, more)))
+    ∙ ap (drop (16 - (count - 16))) (take-append-drop 16 octets) in
+    let from : 16 - (count - 16) ≡ 32 - count = omega (arith, more) in
+    rw (last_block octets)
+    (sym (append_assoc front (drop 16 octets) rest)
+    ∙ ap (λ t. t ++ rest) (all ∙ ap (λ n. drop n octets) from))
+
+-- the last 32 of 64 octets, at whose end a text stands
+pub last_half : (last text rest : List ℕ) (room : ℕ) → length last ≡ 64 → 256 - room ≤ 32 →
+    room ≤ 256 → drop (room - 192) last ≡ text →
+    drop (32 - (256 - room)) (mid_of 32 (length last - 32) last) ++ rest ≡ text ++ rest
+last_half last text rest room size few most is =
+    let from : 32 + (32 - (256 - room)) ≡ room - 192 = omega (arith, few, most) in
+    let all : mid_of 32 (length last - 32) last ≡ drop 32 last =
+    take_all (length last - 32) (drop 32 last) (omega (arith, length-drop 32 last)) in
+    ap (λ t. t ++ rest) (rw (all, drop-drop (32 - (256 - room)) 32 last, from) is)
+
+-- how long the text is
+pub text_size : (octets text : List ℕ) (count : ℕ) → length octets ≡ 32 → count ≤ 32 →
+    drop (32 - count) octets ≡ text → length text ≡ count
+text_size octets text count size few is =
+    rw (← is) (omega (arith, length-drop (32 - count) octets, size, few))
+
+-- the digits of a number in front of a word, and a letter in front of these
+pub head_spelled : (octets before number word : List ℕ) (at end : ℕ) → length octets ≡ 32 →
+    1 ≤ at → at ≤ 32 → drop at octets ≡ number ++ drop end before → drop end before ≡ 32 ∷ word →
+    drop (32 - (33 - at)) (set octets (at - 1) 109) ≡ 109 ∷ (number ++ 32 ∷ (word ++ []))
+head_spelled octets before number word at end size some within digits is =
+    let from : 32 - (33 - at) ≡ at - 1 = omega (arith, some, within) in
+    let next : at - 1 + 1 ≡ at = omega (arith, some) in
+    rw from
+    (drop-set octets (at - 1) 109 (omega (arith, size, some, within))
+    ∙ ap (λ t. 109 ∷ t) (ap (λ n. drop n octets) next ∙ (digits
+    ∙ ap (λ t. number ++ t) (is ∙ ap (λ t. 32 ∷ t) (sym (append-nil word))))))

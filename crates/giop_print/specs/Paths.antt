@@ -9,6 +9,11 @@ pub record PathText : Type 0 where
   pub text : List ℕ
   pub segments : ℕ
 
+-- what a contract sees of a head: the number of a message, and a root
+pub record HeadView : Type 0 where
+  pub message : ℕ
+  pub root : Root
+
 -- the text of a path
 abbrev pub path_text_of : PathText → List ℕ
 path_text_of path = path.text

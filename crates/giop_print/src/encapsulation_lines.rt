@@ -16,42 +16,35 @@ use giop_cdr::Order;
 /// The line of an encapsulation: how many octets it has.
 pub fn encapsulation_line<O: Out, P: Position>(
     out: &mut O,
-    message: u64,
     path: &P,
     length: u32,
 ) -> Result<(), OutFault>
     ensures { Writes result (O.log out.old) (O.log out.new)
-        (encapsulation_line message (P.spelled path.now) length) }
+        (encapsulation_line (P.message path.now) (P.spelled path.now) length) }
 {
-    counted_line(out, message, path, b" encapsulation ", length)
+    counted_line(out, path, b" encapsulation ", length)
 }
 
 /// The line of an encapsulation's byte order.
-pub fn order_line<O: Out, P: Position>(
-    out: &mut O,
-    message: u64,
-    path: &P,
-    order: Order,
-) -> Result<(), OutFault>
+pub fn order_line<O: Out, P: Position>(out: &mut O, path: &P, order: Order) -> Result<(), OutFault>
     ensures { Writes result (O.log out.old) (O.log out.new)
-        (order_line message (P.spelled path.now) order) }
+        (order_line (P.message path.now) (P.spelled path.now) order) }
 {
-    kind_line(out, message, path, b" order ", order_word(order))
+    kind_line(out, path, b" order ", order_word(order))
 }
 
 /// The line of at most 32 octets that stand at this offset in the rest of an encapsulation.
 pub fn inner_rest_line<O: Out, P: Position>(
     out: &mut O,
-    message: u64,
     path: &P,
     offset: u64,
     octets: &[u8],
 ) -> Result<(), OutFault>
     requires { length octets.now ≤ 32 }
     ensures { Writes result (O.log out.old) (O.log out.new)
-        (inner_rest_line message (P.spelled path.now) offset octets.now) }
+        (inner_rest_line (P.message path.now) (P.spelled path.now) offset octets.now) }
 {
-    split_inner_rest_line(out, message, path, offset, octets, &[])
+    split_inner_rest_line(out, path, offset, octets, &[])
 }
 
 /// The line of a part of an encapsulation's rest that came in two: the octets that were held, and those that follow
@@ -59,7 +52,6 @@ pub fn inner_rest_line<O: Out, P: Position>(
 #[tactic(auto, unfolding(crate::specs::Lines::content_line))]
 pub fn split_inner_rest_line<O: Out, P: Position>(
     out: &mut O,
-    message: u64,
     path: &P,
     offset: u64,
     held: &[u8],
@@ -67,7 +59,8 @@ pub fn split_inner_rest_line<O: Out, P: Position>(
 ) -> Result<(), OutFault>
     requires { length held.now + length octets.now ≤ 32 }
     ensures { Writes result (O.log out.old) (O.log out.new)
-        (inner_rest_line message (P.spelled path.now) offset (held.now ++ octets.now)) }
+        (inner_rest_line (P.message path.now) (P.spelled path.now) offset
+        (held.now ++ octets.now)) }
 {
     let rest = SplitPiece {
         offset,
@@ -78,5 +71,5 @@ pub fn split_inner_rest_line<O: Out, P: Position>(
     let mut line = Line::new();
     put_content(&mut line, rest);
     line.put_octets(b" rest @");
-    spelled_line(out, message, path, &mut line)
+    spelled_line(out, path, &mut line)
 }

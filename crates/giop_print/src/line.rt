@@ -73,6 +73,15 @@ impl Line {
         &self.octets[ROOM - 64..]
     }
 
+    /// Begins anew: nothing is spelled.
+    #[inline]
+    pub fn clear(&mut self)
+        ensures text { line_text self.new ≡ [] }
+        ensures room { line_room self.new ≡ 256 }
+    {
+        self.at = ROOM;
+    }
+
     /// Drops what was spelled last, so that so many octets more fit.
     #[inline]
     pub(crate) fn cut(&mut self, room: usize)
@@ -119,6 +128,39 @@ impl Line {
         ensures room { line_room self.new + count ≡ line_room self.old }
     {
         self.put_lanes(u8x16::from_slice(block), count);
+    }
+
+    /// Puts the end of two blocks, so many octets, before what was spelled, the last block first.
+    #[inline(always)]
+    pub(crate) fn put_blocks(&mut self, blocks: &[u8], count: usize)
+        requires size { length blocks.now ≡ 32 }
+        requires within { count ≤ 32 }
+        requires room { 32 ≤ line_room self.old }
+        ensures text { line_text self.new ≡ drop (32 - count) blocks.now ++ line_text self.old }
+        ensures room { line_room self.new + count ≡ line_room self.old }
+    {
+        if count <= BLOCK {
+            self.put_end(&blocks[BLOCK..], count);
+        } else {
+            self.put_end(&blocks[BLOCK..], BLOCK);
+            self.put_end(&blocks[..BLOCK], count - BLOCK);
+        }
+    }
+
+    /// Puts what was spelled of another line before what was spelled of this: by blocks, where it is short.
+    #[inline(always)]
+    pub(crate) fn put_front(&mut self, front: &Line)
+        requires within { length (line_text front.now) ≤ line_room self.old }
+        requires room { 32 ≤ line_room self.old }
+        ensures text { line_text self.new ≡ line_text front.now ++ line_text self.old }
+        ensures room { line_room self.new + length (line_text front.now) ≡ line_room self.old }
+    {
+        let count = ROOM - front.at;
+        if count <= 2 * BLOCK {
+            self.put_blocks(&front.last_octets()[2 * BLOCK..], count);
+        } else {
+            self.put_octets(front.text());
+        }
     }
 
     /// Puts the last lanes of a vector, so many, before what was spelled.

@@ -18,17 +18,16 @@ use itoa::Buffer;
 /// The line of a value: a number, an enum's name or a count.
 pub fn value_line<O: Out, P: Position>(
     out: &mut O,
-    message: u64,
     path: &P,
     value: Value<'_>,
 ) -> Result<(), OutFault>
     ensures { Writes result (O.log out.old) (O.log out.new)
-        (value_line message (P.spelled path.now) value.entry) }
+        (value_line (P.message path.now) (P.spelled path.now) value.entry) }
 {
     match value {
-        Value::Primitive(prim, number) => number_line(out, message, path, prim, number),
-        Value::Enum(name) => kind_line(out, message, path, b" enum ", name),
-        Value::Count(count) => counted_line(out, message, path, b" count ", count),
+        Value::Primitive(prim, number) => number_line(out, path, prim, number),
+        Value::Enum(name) => kind_line(out, path, b" enum ", name),
+        Value::Count(count) => counted_line(out, path, b" count ", count),
     }
 }
 
@@ -37,38 +36,36 @@ pub fn value_line<O: Out, P: Position>(
 #[inline(always)]
 pub(crate) fn counted_line<O: Out, P: Position>(
     out: &mut O,
-    message: u64,
     path: &P,
     kind: &[u8],
     count: u32,
 ) -> Result<(), OutFault>
     requires { length kind.now ≤ 128 }
     ensures { Writes result (O.log out.old) (O.log out.new)
-        (kind_line message (P.spelled path.now) kind.now (decimal count)) }
+        (kind_line (P.message path.now) (P.spelled path.now) kind.now (decimal count)) }
 {
     let mut line = Line::new();
     line.put(b'\n');
     line.put_number(u64::from(count));
     line.put_octets(kind);
-    spelled_line(out, message, path, &mut line)
+    spelled_line(out, path, &mut line)
 }
 
 /// The line of a primitive's number.
 #[tactic(auto, unfolding(crate::specs::Lines::kind_line))]
 fn number_line<O: Out, P: Position>(
     out: &mut O,
-    message: u64,
     path: &P,
     prim: Prim,
     number: Number,
 ) -> Result<(), OutFault>
     ensures { Writes result (O.log out.old) (O.log out.new)
-        (kind_line message (P.spelled path.now) (spaced (kind_word prim))
+        (kind_line (P.message path.now) (P.spelled path.now) (spaced (kind_word prim))
         (number_text (size_of prim) number)) }
 {
     let mut line = Line::new();
     put_number_end(&mut line, prim, number);
-    spelled_line(out, message, path, &mut line)
+    spelled_line(out, path, &mut line)
 }
 
 /// Puts what the line of a primitive's number has after its path on an empty line: kind, number and line feed.
@@ -93,11 +90,13 @@ pub fn put_number_end(line: &mut Line, prim: Prim, number: Number)
 
 /// A line whose front is at hand, and the rest of it, which is spelled.
 #[inline(always)]
-pub fn line_behind<O: Out>(out: &mut O, front: &[u8], line: &mut Line) -> Result<(), OutFault>
-    requires { length front.now ≤ line_room line.old }
-    ensures { Writes result (O.log out.old) (O.log out.new) (front.now ++ line_text line.old) }
+pub fn line_behind<O: Out>(out: &mut O, front: &Line, line: &mut Line) -> Result<(), OutFault>
+    requires within { length (line_text front.now) ≤ line_room line.old }
+    requires room { 32 ≤ line_room line.old }
+    ensures { Writes result (O.log out.old) (O.log out.new)
+        (line_text front.now ++ line_text line.old) }
 {
-    line.put_octets(front);
+    line.put_front(front);
     out.put_line(line)
 }
 
@@ -108,21 +107,20 @@ const SHORT: usize = 128;
 #[tactic(auto, unfolding(crate::specs::Lines::kind_line))]
 pub fn kind_line<'a, O: Out, P: Position>(
     out: &mut O,
-    message: u64,
     path: &'a P,
     kind: &'a [u8],
     text: &'a [u8],
 ) -> Result<(), OutFault>
     ensures { Writes result (O.log out.old) (O.log out.new)
-        (kind_line message (P.spelled path.now) kind.now text.now) }
+        (kind_line (P.message path.now) (P.spelled path.now) kind.now text.now) }
 {
     if text.len() > SHORT {
-        return long_kind_line(out, message, path, kind, text);
+        return long_kind_line(out, path, kind, text);
     }
     let mut line = Line::new();
     line.put(b'\n');
     line.put_octets(text);
-    placed_line(out, message, path, kind, &mut line)
+    placed_line(out, path, kind, &mut line)
 }
 
 /// The same of any text, in parts.
@@ -130,23 +128,22 @@ pub fn kind_line<'a, O: Out, P: Position>(
 #[inline(never)]
 fn long_kind_line<'a, O: Out, P: Position>(
     out: &mut O,
-    message: u64,
     path: &'a P,
     kind: &'a [u8],
     text: &'a [u8],
 ) -> Result<(), OutFault>
     ensures { Writes result (O.log out.old) (O.log out.new)
-        (kind_line message (P.spelled path.now) kind.now text.now) }
+        (kind_line (P.message path.now) (P.spelled path.now) kind.now text.now) }
 {
     let mut message_digits = Buffer::new();
-    let path = path.path();
+    let place = path.path();
     put_parts(
         out,
         &[
             b"m",
-            message_digits.format(message).as_bytes(),
+            message_digits.format(path.message()).as_bytes(),
             b" ",
-            path.text(),
+            place.text(),
             kind,
             text,
             b"\n",
@@ -158,23 +155,22 @@ fn long_kind_line<'a, O: Out, P: Position>(
 #[inline(never)]
 fn long_line<'a, O: Out, P: Position>(
     out: &mut O,
-    message: u64,
     path: &'a P,
     kind: &'a [u8],
     rest: &'a [u8],
 ) -> Result<(), OutFault>
     ensures { Writes result (O.log out.old) (O.log out.new)
-        (headed message (P.spelled path.now) (kind.now ++ rest.now)) }
+        (headed (P.message path.now) (P.spelled path.now) (kind.now ++ rest.now)) }
 {
     let mut digits = Buffer::new();
-    let path = path.path();
+    let place = path.path();
     put_parts(
         out,
         &[
             b"m",
-            digits.format(message).as_bytes(),
+            digits.format(path.message()).as_bytes(),
             b" ",
-            path.text(),
+            place.text(),
             kind,
             rest,
         ],
@@ -184,42 +180,36 @@ fn long_line<'a, O: Out, P: Position>(
 /// What begins a line of a message at a position, a kind, and the rest of it, which is spelled.
 fn placed_line<O: Out, P: Position>(
     out: &mut O,
-    message: u64,
     path: &P,
     kind: &[u8],
     line: &mut Line,
 ) -> Result<(), OutFault>
     ensures { Writes result (O.log out.old) (O.log out.new)
-        (headed message (P.spelled path.now) (kind.now ++ line_text line.old)) }
+        (headed (P.message path.now) (P.spelled path.now) (kind.now ++ line_text line.old)) }
 {
     if kind.len() > line.room() {
-        return long_line(out, message, path, kind, line.text());
+        return long_line(out, path, kind, line.text());
     }
     line.put_octets(kind);
-    spelled_line(out, message, path, line)
+    spelled_line(out, path, line)
 }
 
 /// What begins a line of a message at a position, and the rest of it, which is spelled with its kind.
 pub(crate) fn spelled_line<O: Out, P: Position>(
     out: &mut O,
-    message: u64,
     path: &P,
     line: &mut Line,
 ) -> Result<(), OutFault>
     ensures { Writes result (O.log out.old) (O.log out.new)
-        (headed message (P.spelled path.now) (line_text line.old)) }
+        (headed (P.message path.now) (P.spelled path.now) (line_text line.old)) }
 {
     let room = line.room();
-    if path.spell(line) && line.room() > NUMBER {
-        line.put(b' ');
-        return numbered_line(out, message, line);
+    if path.spell(line) {
+        return out.put_line(line);
     }
     line.cut(room);
-    long_line(out, message, path, &[], line.text())
+    long_line(out, path, &[], line.text())
 }
-
-/// How many octets the number of a message may take with what stands before it.
-const NUMBER: usize = 21;
 
 /// The number of a message, and the rest of its line, which is spelled.
 #[inline(always)]
@@ -236,7 +226,6 @@ pub fn numbered_line<O: Out>(out: &mut O, message: u64, line: &mut Line) -> Resu
 /// The line of a piece of at most 32 octets, which stands at this offset in its content, and whether more comes.
 pub fn piece_line<O: Out, P: Position>(
     out: &mut O,
-    message: u64,
     path: &P,
     piece: Piece<'_>,
     offset: u64,
@@ -244,7 +233,7 @@ pub fn piece_line<O: Out, P: Position>(
 ) -> Result<(), OutFault>
     requires { length (piece_octets piece) ≤ 32 }
     ensures { Writes result (O.log out.old) (O.log out.new)
-        (piece_line message (P.spelled path.now) piece.entry offset more) }
+        (piece_line (P.message path.now) (P.spelled path.now) piece.entry offset more) }
 {
     let piece = SplitPiece {
         offset,
@@ -252,25 +241,24 @@ pub fn piece_line<O: Out, P: Position>(
         rest: &[],
         more,
     };
-    split_piece_line(out, message, path, piece)
+    split_piece_line(out, path, piece)
 }
 
 /// The line of a piece that came in two, at most 32 octets in all.
 #[tactic(auto, unfolding(crate::specs::Lines::content_line))]
 pub fn split_piece_line<O: Out, P: Position>(
     out: &mut O,
-    message: u64,
     path: &P,
     piece: SplitPiece<'_>,
 ) -> Result<(), OutFault>
     requires { length (piece_octets piece.held) + length piece.rest.now ≤ 32 }
     ensures { Writes result (O.log out.old) (O.log out.new)
-        (split_piece_line message (P.spelled path.now) piece.entry.held piece.entry.rest.now
-        piece.entry.offset piece.entry.more) }
+        (split_piece_line (P.message path.now) (P.spelled path.now) piece.entry.held
+        piece.entry.rest.now piece.entry.offset piece.entry.more) }
 {
     let mut line = Line::new();
     put_piece_end(&mut line, piece);
-    spelled_line(out, message, path, &mut line)
+    spelled_line(out, path, &mut line)
 }
 
 /// Puts what the line of a piece has after its path on an empty line: its word, its offset, its octets, whether more

@@ -80,7 +80,7 @@ impl Path {
     }
 
     /// Another of the same text.
-    pub(crate) fn copied(&self) -> Path
+    pub fn copied(&self) -> Path
         ensures { result ≡ self.now }
     {
         let mut text = ArrayVec::new();
@@ -138,20 +138,5 @@ fn root_word(root: Root) -> &'static [u8]
         Root::Header => b"header",
         Root::Exception => b"exception",
         Root::Body => b"body",
-    }
-}
-
-/// Puts the word of a root before what was spelled of a line. Each word has a copy of its own, whose length the
-/// compiler knows.
-#[inline(always)]
-pub fn put_root(line: &mut Line, root: Root)
-    requires { 9 ≤ line_room line.old }
-    ensures text { line_text line.new ≡ root_word root ++ line_text line.old }
-    ensures room { line_room line.new + length (root_word root) ≡ line_room line.old }
-{
-    match root {
-        Root::Header => line.put_octets(b"header"),
-        Root::Exception => line.put_octets(b"exception"),
-        Root::Body => line.put_octets(b"body"),
     }
 }

@@ -1,40 +1,30 @@
-//! A trait for what spells the path of a value: a path, or the parts that a path is made of.
+//! A trait for where a value stands: in which message, and at which path, or at the parts that a path is made of.
 
-ghost use Rattle.std.specs.Prelude.{◌≡◌, List, ℕ};
-ghost use Rattle.giop_print.specs.Line.{Spells};
+ghost use Rattle.std.specs.Prelude.{◌≡◌, List, [], ℕ};
+ghost use Rattle.giop_print.specs.Line.{Spells, headed};
 
 use crate::line::Line;
 use crate::path::Path;
 
-/// Something that spells the path of a value, straight before what was spelled of its line.
+/// Where a value stands: its message and its path, which its lines begin with.
 pub trait Position {
+    /// The number of the message.
+    ghost message: { Self → ℕ };
+
     /// The path's text.
     ghost spelled: { Self → List ℕ };
 
-    /// Spells the path before what was spelled of a line, and answers whether that had room for it: where it
-    /// hadn't, an end of the path may stand there.
+    /// Spells what a line here begins with, before what was spelled of it: `m`, the message's number, a space and the
+    /// path. Answers whether the line had room for it: where it hadn't, an end of it may stand there.
     fn spell(&self, line: &mut Line) -> bool
-        ensures { Spells result line.old line.new (spelled self.now) };
+        ensures { Spells result line.old line.new
+            (headed (message self.now) (spelled self.now) []) };
+
+    /// The number of the message, for a line that has no room.
+    fn message(&self) -> u64
+        ensures { result ≡ message self.now };
 
     /// The path, for a line that has no room for it.
     fn path(&self) -> Path
         ensures { result.text ≡ spelled self.now };
-}
-
-impl Position for Path {
-    ghost use Rattle.giop_print.specs.Paths.{path_text_of};
-
-    ghost spelled = { path_text_of };
-
-    fn spell(&self, line: &mut Line) -> bool {
-        if self.text().len() > line.room() {
-            return false;
-        }
-        line.put_octets(self.text());
-        true
-    }
-
-    fn path(&self) -> Path {
-        self.copied()
-    }
 }

@@ -6,6 +6,8 @@ mod line_tests;
 #[cfg(test)]
 mod out_tests;
 #[cfg(test)]
+mod place;
+#[cfg(test)]
 mod streams;
 #[cfg(test)]
 mod value_tests;

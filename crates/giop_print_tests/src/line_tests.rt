@@ -2,11 +2,13 @@
 
 ghost use Rattle.std.specs.Prelude.{◌≡◌};
 
+use crate::place::placed;
 use crate::streams::{FRAGMENTS, REQUEST, fragments, request};
 use giop_cdr::Order;
 use giop_print::{
-    Line, OutFault, Path, Piece, Root, Sheet, SplitPiece, encapsulation_line, inner_rest_line,
-    order_line, piece_line, split_inner_rest_line, split_piece_line, split_rest_line,
+    Head, Line, OutFault, Path, Piece, Root, Sheet, SplitPiece, encapsulation_line,
+    inner_rest_line, order_line, piece_line, split_inner_rest_line, split_piece_line,
+    split_rest_line,
 };
 use std::test::Fail;
 
@@ -30,21 +32,26 @@ fn lines_of_fragments_and_faults(rt: HostRuntime) -> Result<(), Fail> {
 
 /// Pieces of a text and of octets, whole and with more to come.
 fn pieces(sheet: &mut Sheet, path: &mut Path) -> Result<(), OutFault> {
-    piece_line(sheet, 1, path, Piece::Text(b"IDL:Late:1.0"), 0, false)?;
+    piece_line(
+        sheet,
+        &placed(1, path),
+        Piece::Text(b"IDL:Late:1.0"),
+        0,
+        false,
+    )?;
     path.restart(Root::Body);
     path.push_name(b"s");
     path.push_index(4_294_967_295);
-    piece_line(sheet, 1, path, Piece::Text(b""), 0, false)?;
+    piece_line(sheet, &placed(1, path), Piece::Text(b""), 0, false)?;
     piece_line(
         sheet,
-        1,
-        path,
+        &placed(1, path),
         Piece::Text(b"\"\\\x07 ~\x7f\xff"),
         32,
         false,
     )?;
-    piece_line(sheet, 1, path, Piece::Text(&[0; 32]), 64, true)?;
-    piece_line(sheet, 1, path, Piece::Octets(&[0xab; 32]), 0, true)
+    piece_line(sheet, &placed(1, path), Piece::Text(&[0; 32]), 64, true)?;
+    piece_line(sheet, &placed(1, path), Piece::Octets(&[0xab; 32]), 0, true)
 }
 
 const PIECES: &[u8] = b"m1 exception string @0 \"IDL:Late:1.0\"
@@ -81,18 +88,24 @@ fn split<'a>(offset: u64, held: Piece<'a>, rest: &'a [u8], more: bool) -> SplitP
 fn split_parts(sheet: &mut Sheet, path: &Path) -> Result<(), OutFault> {
     split_piece_line(
         sheet,
-        1,
-        path,
+        &placed(1, path),
         split(0, Piece::Text(b"IDL:"), b"La\x07", false),
     )?;
-    split_piece_line(sheet, 1, path, split(32, Piece::Text(b""), b"te\"", true))?;
     split_piece_line(
         sheet,
-        1,
-        path,
+        &placed(1, path),
+        split(32, Piece::Text(b""), b"te\"", true),
+    )?;
+    split_piece_line(
+        sheet,
+        &placed(1, path),
         split(0, Piece::Octets(&[0xab; 31]), b"\xcd", true),
     )?;
-    split_piece_line(sheet, 1, path, split(32, Piece::Octets(b""), b"", false))?;
+    split_piece_line(
+        sheet,
+        &placed(1, path),
+        split(32, Piece::Octets(b""), b"", false),
+    )?;
     split_rest_line(sheet, 1, 32, b"\x00\x00", b"\x00\x2a\x09")
 }
 
@@ -113,6 +126,31 @@ fn parts_that_came_in_two_are_written_as_one(rt: HostRuntime) -> Result<(), Fail
     Ok(())
 }
 
+/// Whether the head of a message and a root says these, and puts this text before a line.
+fn is_head(message: u64, root: Root, text: &[u8]) -> bool {
+    let head = Head::new(message, root);
+    let mut line = Line::new();
+    line.put_octets(b".a\n");
+    head.put(&mut line);
+    let said = head.message() == message && head.root() == root;
+    said && line.text() == text && line.room() == 256 - text.len()
+}
+
+#[test]
+fn a_head_goes_before_a_line(rt: HostRuntime) {
+    assert!(rt; is_head(0, Root::Body, b"m0 body.a\n"));
+    assert!(rt; is_head(1_234_567, Root::Header, b"m1234567 header.a\n"));
+    assert!(rt; is_head(12_345_678, Root::Header, b"m12345678 header.a\n"));
+    let most = u64::MAX;
+    assert!(rt;
+        is_head(
+            most,
+            Root::Exception,
+            b"m18446744073709551615 exception.a\n"
+        )
+    );
+}
+
 #[test]
 fn the_end_of_a_block_goes_before_a_line(rt: HostRuntime) {
     let mut line = Line::new();
@@ -126,12 +164,12 @@ fn the_end_of_a_block_goes_before_a_line(rt: HostRuntime) {
 
 /// An encapsulation and its order, and what is left of it behind its value, whole and in two.
 fn encapsulations(sheet: &mut Sheet, path: &Path) -> Result<(), OutFault> {
-    encapsulation_line(sheet, 1, path, 12)?;
-    order_line(sheet, 1, path, Order::Big)?;
-    order_line(sheet, 1, path, Order::Little)?;
-    inner_rest_line(sheet, 1, path, 0, &[0xab; 32])?;
-    inner_rest_line(sheet, 1, path, 32, b"\x00\x2a")?;
-    split_inner_rest_line(sheet, 1, path, 64, b"\x00", b"\x2a\x09")
+    encapsulation_line(sheet, &placed(1, path), 12)?;
+    order_line(sheet, &placed(1, path), Order::Big)?;
+    order_line(sheet, &placed(1, path), Order::Little)?;
+    inner_rest_line(sheet, &placed(1, path), 0, &[0xab; 32])?;
+    inner_rest_line(sheet, &placed(1, path), 32, b"\x00\x2a")?;
+    split_inner_rest_line(sheet, &placed(1, path), 64, b"\x00", b"\x2a\x09")
 }
 
 const ENCAPSULATIONS: &[u8] = b"m1 body.e encapsulation 12

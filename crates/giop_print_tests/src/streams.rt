@@ -1,5 +1,6 @@
 //! The lines of two worked streams.
 
+use crate::place::placed;
 use giop_cdr::{Number, Order, Prim};
 use giop_print::{
     MessageHeader, Out, OutFault, Path, Piece, Root, Value, call_line, cancelled_line,
@@ -23,13 +24,12 @@ pub fn request<O: Out>(out: &mut O) -> Result<(), OutFault> {
     let mut path = Path::new(Root::Header);
     start_line(out, 1, header(0, Order::Big, 0, 36))?;
     path.push_name(b"service_contexts");
-    value_line(out, 1, &path, Value::Count(0))?;
+    value_line(out, &placed(1, &path), Value::Count(0))?;
     path.restart(Root::Header);
     path.push_name(b"request_id");
     value_line(
         out,
-        1,
-        &path,
+        &placed(1, &path),
         Value::Primitive(Prim::ULong, Number::Unsigned(7)),
     )?;
     request_target(out, &mut path)?;
@@ -42,20 +42,20 @@ pub fn request<O: Out>(out: &mut O) -> Result<(), OutFault> {
 fn request_target<O: Out>(out: &mut O, path: &mut Path) -> Result<(), OutFault> {
     path.restart(Root::Header);
     path.push_name(b"object_key");
-    piece_line(out, 1, path, Piece::Octets(b"k1"), 0, false)?;
+    piece_line(out, &placed(1, path), Piece::Octets(b"k1"), 0, false)?;
     path.restart(Root::Header);
     path.push_name(b"operation");
-    piece_line(out, 1, path, Piece::Text(b"set"), 0, false)
+    piece_line(out, &placed(1, path), Piece::Text(b"set"), 0, false)
 }
 
 fn request_body<O: Out>(out: &mut O, path: &mut Path) -> Result<(), OutFault> {
     path.restart(Root::Header);
     path.push_name(b"requesting_principal");
-    piece_line(out, 1, path, Piece::Octets(b""), 0, false)?;
+    piece_line(out, &placed(1, path), Piece::Octets(b""), 0, false)?;
     path.restart(Root::Body);
     path.push_name(b"v");
     let value = Value::Primitive(Prim::Long, Number::Signed(-5));
-    value_line(out, 1, path, value)
+    value_line(out, &placed(1, path), value)
 }
 
 pub const REQUEST: &[u8] = b"m1 start 1.0 big Request size 36

@@ -1,5 +1,6 @@
 //! The line of each kind of value.
 
+use crate::place::placed;
 use giop_cdr::{Number, Prim};
 use giop_print::{OutFault, Path, Root, Sheet, Value, put_all, value_line};
 use std::process::Abort;
@@ -84,7 +85,7 @@ fn each_has_its_line(rt: &impl Abort, path: &Path) -> Result<(), Fail> {
 fn is_its_line(path: &Path, value: Value, want: &str) -> Result<bool, OutFault> {
     let mut room = [0; 128];
     let mut sheet = Sheet::new(&mut room);
-    value_line(&mut sheet, 9, path, value)?;
+    value_line(&mut sheet, &placed(9, path), value)?;
     let mut wanted = [0; 128];
     let mut sample = Sheet::new(&mut wanted);
     put_all(&mut sample, b"m9 body.m.switch ")?;
@@ -112,7 +113,7 @@ fn a_value_at_a_long_path_has_its_line(rt: HostRuntime) -> Result<(), Fail> {
     let mut room = [0; 512];
     let mut sheet = Sheet::new(&mut room);
     let value = Value::Primitive(Prim::ULong, Number::Unsigned(7));
-    value_line(&mut sheet, 9, &long_path(), value)?;
+    value_line(&mut sheet, &placed(9, &long_path()), value)?;
     let mut wanted = [0; 512];
     let mut sample = Sheet::new(&mut wanted);
     put_all(&mut sample, b"m9 body")?;

@@ -21,8 +21,8 @@ returns-then-left-gt0-clause-stand c at h =
     stand_pop at c.pop.new.self.items c.in-Some.frame
     (subst (StandAt at) is (c.loop-frame.invariant.stand at h))
 
-pub returns-then-left-gt0-clause-gone : goal.returns-then-left-gt0-clause-gone
-returns-then-left-gt0-clause-gone c coding path at =
+pub returns-then-left-gt0-clause-next : goal.returns-then-left-gt0-clause-next
+returns-then-left-gt0-clause-next c coding path at =
     let is = popped_is c.loop-frame.outer.items c.pop.new.self.items c.in-Some.frame
     c.pop.ensures.rest c.in-Some.ensures.some in
     let t = c.args.catalogue.now in
@@ -175,8 +175,8 @@ returns-then-frame-last-clause-stand c at h =
     (stand_pop at rest f (subst (StandAt at) c.in-Some.ensures.some (v.stand at h)))
     (rw c.in-None.is tt)))
 
-pub returns-then-frame-last-clause-gone : goal.returns-then-frame-last-clause-gone
-returns-then-frame-last-clause-gone c coding path at =
+pub returns-then-frame-last-clause-next : goal.returns-then-frame-last-clause-next
+returns-then-frame-last-clause-next c coding path at =
     let gone = c.go_to_next.ensures (frames_above c.loop-frame.outer.items) c.in-Some.frame
     c.in-Some.ensures.some in
     let t = c.args.catalogue.now in
@@ -196,7 +196,7 @@ returns-then-frame-last-clause-gone c coding path at =
     let same : unless_ended (has_ended rest) [] at
     (open_parts t at rest ++ (next ∷ start_outer part)) (start_leaf part)
     ≡ unless_ended (has_ended new) [] at (open_parts t at new) (start_leaf part) =
-    rw (c.begin.ensures.ended, c.begin.ensures.open_parts at, ended, gone, map_push)
+    rw (c.begin.ensures.ended, c.begin.ensures.begun at, ended, gone, map_push)
     (rw (c.part-part.ensures.tree, add-one f.index, c.in-None.is, append_assoc) refl) in
     v.same coding path at
     ∙ (ap (λ ps. around coding path ps (Done [] at []))
@@ -248,8 +248,8 @@ loop-frame-preserved c =
           (f.of.0, link_pop t root c.loop-frame.outer.items rest f l.0 is l.1));
     }
 
-pub returns-then-left-gt0-clause-silent : goal.returns-then-left-gt0-clause-silent
-returns-then-left-gt0-clause-silent c =
+pub returns-then-left-gt0-clause-plain : goal.returns-then-left-gt0-clause-plain
+returns-then-left-gt0-clause-plain c =
     let is = popped_is c.loop-frame.outer.items c.pop.new.self.items c.in-Some.frame
     c.pop.ensures.rest c.in-Some.ensures.some in
     let t = c.args.catalogue.now in

@@ -8,8 +8,10 @@ returns c d h =
     let f = fields_stand d h.leaf c.args.fixed.now h.fixed_are h.range in
     record {
       order = c.order_at.ensures d.order _ f.order.1;
-      root = c.root_at-root.ensures d.root _ f.root.1;
-      message = c.eight_at.ensures d.message _ h.range.message f.message.1;
+      head = rw (
+        c.eight_at.ensures d.head.message _ h.range.message f.message.1,
+        c.root_at-root.ensures d.head.root _ f.root.1,
+      ) at c.new.ensures;
       at = c.octet_at.ensures d.at _ f.at.1;
       leaf = ap Some (c.leaf_at.ensures h.leaf _ h.leaf_range f.leaf.1) ∙ sym h.goes_on;
       outer = c.outer_at-outer.ensures d.outer.items _ h.outer_range h.few h.frames_are;

@@ -6,14 +6,15 @@ pub returns-then-not-spell_segments : goal.returns-then-not-spell_segments
 returns-then-not-spell_segments c = spells_more _ _ _ _ _ _ _ c.spell_end.ensures.text
     c.spell_end.ensures.room c.spell_segments.ensures
 
-pub returns-then-room-lt-SEGMENT-2 : goal.returns-then-room-lt-SEGMENT-2
-returns-then-room-lt-SEGMENT-2 c = spells_more _ _ _ _ _ _ _ c.spell_end.ensures.text
+pub returns-then-room-lt-HEAD : goal.returns-then-room-lt-HEAD
+returns-then-room-lt-HEAD c = spells_more _ _ _ _ _ _ _ c.spell_end.ensures.text
     c.spell_end.ensures.room c.spell_segments.ensures
 
 pub returns : goal.returns
 returns c =
     let here = c.self.inside in
     rw (← c.self.view_is)
-    (spells_here here.catalogue.now here.root here.outer.now here.switch _ _ _ _ _
+    (spells_here here.head.now.message here.catalogue.now here.head.now.root here.outer.now
+    here.switch _ _ _ _ _
     c.spell_end.ensures.text c.spell_end.ensures.room c.if-not-spell_segments.ensures refl
-    c.put_root.ensures.text c.put_root.ensures.room)
+    c.put.ensures.text c.put.ensures.room)

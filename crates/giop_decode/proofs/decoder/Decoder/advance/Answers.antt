@@ -134,25 +134,25 @@ returns-clause-fits g c goes_on =
     let before : Link C f.root d.outer.items c.of.result.0 = rw (c.of.ensures, ← same) f.link in
     let notes : (h : Noted) → HoldsNoted d.notes h →
     HoldsNoted new.notes (without_name_if (clears_name step.output)
-    (noted (is_header_root d.root) h t.lines)) =
+    (noted (is_header_root d.head.root) h t.lines)) =
     λ h held. (rw (c.of.ensures, append-nil piece) at
     (c.in_ok-progress.ensures.passes.notes h f.here (f.here + 1) t.lines held)) t.says in
-    let name = name_kept (is_header_root d.root) d.root T (string_offset T leaf)
+    let name = name_kept (is_header_root d.head.root) d.head.root T (string_offset T leaf)
     (string_offset (tree C (leaf_type k.leaf)) k.leaf) step.transition step.output
     (path_in [] ps) (f.here + 1) piece t.lines d.notes new.notes next.going
     c.take_octet-step.ensures.string_goes_on
     (next.offset k.leaf k.goes_on ∙ ap (λ n. transition_offset (tree C n) step.transition)
     c.of.ensures) t.says
-    (subst (λ l. FitsName d.root (string_offset (tree C (leaf_type l)) l) d.notes.buffer
+    (subst (λ l. FitsName d.head.root (string_offset (tree C (leaf_type l)) l) d.notes.buffer
     d.notes.name.items) same f.name) notes in
     step_fits C d new f c.args.octet k (c.in_ok-progress.ensures.passes.here f.here f.stands)
     next.ahead next.inside
     (next.link f.root k.leaf before k.goes_on) next.known_outer (next.known k.leaf k.goes_on)
     (next.clean k.leaf k.goes_on)
-    (λ other. let was = rw c.in_ok-progress.ensures.passes.root at other in
+    (λ other. let was = rw c.in_ok-progress.ensures.passes.head at other in
     c.in_ok-progress.ensures.passes.id was ∙ f.id_in_header_only was)
     (subst (λ r. FitsName r (string_offset (tree C (leaf_type k.leaf)) k.leaf) new.notes.buffer
-    new.notes.name.items) (sym c.in_ok-progress.ensures.passes.root) name)
+    new.notes.name.items) (sym (ap (λ h. h.root) c.in_ok-progress.ensures.passes.head)) name)
 
 pub returns-clause-keeps_noted : goal.returns-clause-keeps_noted
 returns-clause-keeps_noted g c here front h old_keeps_noted =
@@ -176,7 +176,7 @@ returns-clause-keeps_noted g c here front h old_keeps_noted =
     let ls = ap lines_of e ∙ lines_after_transition C here (plain d.order) [] d.outer.items T
     transition c.take_octet-step.new.carry (still_held output piece) t.lines f.ahead
     f.known_outer in
-    let header = is_header_root d.root in
+    let header = is_header_root d.head.root in
     let i = rw c.of.ensures at (c.in_ok-progress.ensures.passes.inside here t.lines) in
     let before : HoldsNoted d.notes (without_name_if (leaf_in_string T leaf)
     (noted header nothing_noted front)) =

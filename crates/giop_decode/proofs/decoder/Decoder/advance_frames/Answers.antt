@@ -102,7 +102,7 @@ returns-in-Opened-clause-advances c coding path at lines =
     (start_leaf (part_of T 0)) =
     rw (
       c.begin.ensures.ended,
-      c.begin.ensures.open_parts at,
+      c.begin.ensures.begun at,
       ended,
       c.push.ensures.items,
       map_push,
@@ -133,7 +133,7 @@ returns-in-Selected-clause-advances c coding path at lines =
     (start_leaf (part_of T c.in-Selected.index)) =
     rw (
       c.begin-in-Selected.ensures.ended,
-      c.begin-in-Selected.ensures.open_parts at,
+      c.begin-in-Selected.ensures.begun at,
       ended,
       c.push-in-Selected.ensures.items,
       map_push,
@@ -169,7 +169,7 @@ returns-in-Entered-clause-advances c coding path at lines =
     (start_leaf part) =
     rw (
       c.begin-in-Entered.ensures.ended,
-      c.begin-in-Entered.ensures.open_parts at,
+      c.begin-in-Entered.ensures.begun at,
       c.part-part-in-Entered.ensures.tree,
     ) refl in
     rw (c.in-Entered.is, c.clear-in-Entered.ensures)
@@ -213,7 +213,7 @@ returns-in-Ended-clause-advances c coding path at lines =
     let C = c.args.catalogue.now in
     rw c.in-Ended.is
     (around_done coding path (open_parts C at c.args.self.now.outer.items) lines at
-    ∙ (ap (with_front lines) (c.go_on-self.ensures.gone coding path at)
+    ∙ (ap (with_front lines) (c.go_on-self.ensures.next coding path at)
     ∙ (front_gone C lines at c.go_on-self.new.outer.items c.go_on-self.result
     ∙ behind_stopped C c.go_on-self.new.outer.items _ _ c.go_on-self.result lines at
     c.clear-in-Ended.ensures c.clear-in-Ended-2.ensures)))
@@ -248,7 +248,7 @@ returns-in-More-clause-inside c at lines =
 pub returns-in-Ended-clause-inside : goal.returns-in-Ended-clause-inside
 returns-in-Ended-clause-inside c at lines =
     rw c.in-Ended.is (stopped_silent c.args.catalogue.now c.go_on-self.new.outer.items _ _
-    c.go_on-self.result lines at c.go_on-self.ensures.silent)
+    c.go_on-self.result lines at c.go_on-self.ensures.plain)
 
 pub returns-in-Opened-clause-encloses : goal.returns-in-Opened-clause-encloses
 returns-in-Opened-clause-encloses c =

@@ -55,8 +55,7 @@ returns-in-Number-clause-fits c =
     (number_counted c.args.catalogue.now c.in-Number.of d _ (take n octets) (rw size (
       record {
         order = refl;
-        root = refl;
-        message = refl;
+        head = refl;
         at = c.further-self.ensures;
         outer = c.tick_by.ensures.ticked;
         inside = refl;
@@ -71,8 +70,8 @@ returns-in-Number-clause-fits c =
       ← c.width-width.ensures.width head.kind,
     ) c.gather_number-count.ensures.holds)).0
 
-pub returns-in-Number-clause-gathers : goal.returns-in-Number-clause-gathers
-returns-in-Number-clause-gathers c =
+pub returns-in-Number-clause-takes : goal.returns-in-Number-clause-takes
+returns-in-Number-clause-takes c =
     let d = c.args.self.now in
     let n = c.gather_number-count.result in
     let most = c.before_end-most.result in
@@ -90,8 +89,7 @@ returns-in-Number-clause-gathers c =
     (number_counted c.args.catalogue.now c.in-Number.of d _ (take n octets) (rw size (
       record {
         order = refl;
-        root = refl;
-        message = refl;
+        head = refl;
         at = c.further-self.ensures;
         outer = c.tick_by.ensures.ticked;
         inside = refl;
@@ -123,8 +121,7 @@ returns-in-Content-clause-fits c =
     _ (take n octets) (rw size (
       record {
         order = refl;
-        root = refl;
-        message = refl;
+        head = refl;
         at = c.further-self-in-Content.ensures;
         outer = c.tick_by-in-Content.ensures.ticked;
         inside = refl;
@@ -137,8 +134,8 @@ returns-in-Content-clause-fits c =
     (c.in-Some.is ∙ ap Some c.in-Content.is) (λ some. rw size (e.room (rw size at some)))
     (λ some. omega (arith, size, e.some (rw size at some), c.saturating_sub-left.ensures))).0
 
-pub returns-in-Content-clause-gathers : goal.returns-in-Content-clause-gathers
-returns-in-Content-clause-gathers c =
+pub returns-in-Content-clause-takes : goal.returns-in-Content-clause-takes
+returns-in-Content-clause-takes c =
     let d = c.args.self.now in
     let n = c.gather_content-count.result in
     let most = c.before_end-most.result in
@@ -154,8 +151,7 @@ returns-in-Content-clause-gathers c =
     _ (take n octets) (rw size (
       record {
         order = refl;
-        root = refl;
-        message = refl;
+        head = refl;
         at = c.further-self-in-Content.ensures;
         outer = c.tick_by-in-Content.ensures.ticked;
         inside = refl;

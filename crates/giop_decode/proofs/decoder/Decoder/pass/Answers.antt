@@ -62,8 +62,7 @@ returns c =
     ∙ rw c.let_go.ensures at (e.advances (plain d.order) [] (here + 1) lines) in
     record {
       order = e.order;
-      root = e.root;
-      message = e.message;
+      head = e.head;
       here = λ here h. (
         omega (arith, h.0, e.at),
         e.stand (here + 1) (omega arith)
@@ -89,15 +88,15 @@ returns c =
             offset = λ leaf is. e.offset leaf m is;
           };
       steps = λ here lines says.
-          let n = rw (c.as_slice.ensures.value, c.deref.ensures.0) at
+          let n = rw (c.as_slice.ensures.value, c.deref.ensures.0, c.root.ensures) at
           (c.note-named.ensures.named here (here + 1) lines) in
           comes_by C T new c.note-named.result c.has_ended-ended.result transition lines
           (here + 1) p _
-          (rw e.root (n says)) ended (come here lines) c.progress_of.ensures;
+          (rw e.head (n says)) ended (come here lines) c.progress_of.ensures;
       inside = λ here lines. ap ends_in_string (come here lines) ∙ e.inside (here + 1) lines;
-      id = λ no. rw e.notes (c.note-named.ensures.id no);
+      id = λ no. rw e.notes (c.note-named.ensures.id (rw c.root.ensures no));
       notes = λ h here at lines before says.
-          let now = rw (c.as_slice.ensures.value, c.deref.ensures.0) at
+          let now = rw (c.as_slice.ensures.value, c.deref.ensures.0, c.root.ensures) at
           (c.note-named.ensures.notes h here at lines before) in
           rw e.notes (now says);
     }

@@ -8,7 +8,8 @@ returns-clause-put c =
     c.push-3.new.self.items
     c.put_leaf.new.out.items c.put_held.new.out.items c.put_held-2.new.out.items
     c.put_notes.new.out.items c.push-4.new.self.items
-    c.as_slice.ensures.value c.as_slice-2.ensures.value c.requires (cc) (cc) c.put_eight.ensures.put
+    c.as_slice.ensures.value c.as_slice-2.ensures.value c.requires (cc) (cc)
+    (rw c.message.ensures at c.put_eight.ensures.put)
     c.push-3.ensures.items
     c.put_leaf.ensures.put c.put_held.ensures.put c.put_held-2.ensures.put c.put_notes.ensures.put
     c.push-4.ensures.items

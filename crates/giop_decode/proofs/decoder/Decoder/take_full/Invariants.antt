@@ -1,4 +1,5 @@
 use Rattle.std.proofs.Common.{◌≡◌, ◌-◌, ◌≤◌, false, length}
+use Rattle.giop_print.specs.Line.{line_text}
 use Rattle.giop_decode.specs.NextPieces.{path_front}
 use Rattle.giop_decode.proofs.SoFar.{TakenSoFar}
 use Rattle.giop_decode.proofs.decoder.Decoder.take_full.Given as goal
@@ -10,8 +11,8 @@ invariant-loop-piece g l =
           (g.O.Out.log l.initial.out) (g.O.Out.log l.out);
       within : l.taken ≤ length l.octets;
       outside : l.self.inside ≡ false;
-      front : l.front ≡ path_front l.catalogue l.self;
-      short : length l.front ≤ 90;
+      front : line_text l.front ≡ path_front l.catalogue l.self;
+      short : length (line_text l.front) ≤ 90;
     }
 
 abbrev pub decreases-loop-piece : goal.decreases-loop-piece

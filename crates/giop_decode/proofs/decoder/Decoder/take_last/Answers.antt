@@ -33,7 +33,7 @@ returns-in_err-part_line g c =
     let d = c.args.self.now in
     part_broken C d c.args.part c.requires.fits c.requires.ahead
     c.from_residual.result _ _ _ c.from_residual.ensures.0
-    (c.in_err-part_line.ensures d.message (root_word d.root ++ frames_text C
+    (c.in_err-part_line.ensures d.head.message (root_word d.head.root ++ frames_text C
     (frames_above d.outer.items)) c.requires.front)
 
 pub returns : goal.returns
@@ -51,5 +51,5 @@ returns g c =
     c.pass-progress.new.self c.pass-progress.result c.pass-progress.ensures
     _ _ (part_says C d a f h (Wrote (g.O.Out.log c.args.out.now)
     (g.O.Out.log c.part_line.new.out))
-    (c.in_ok-part_line.ensures d.message (root_word d.root ++ frames_text C
+    (c.in_ok-part_line.ensures d.head.message (root_word d.head.root ++ frames_text C
     (frames_above d.outer.items)) c.requires.front))

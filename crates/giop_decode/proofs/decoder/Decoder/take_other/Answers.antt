@@ -11,7 +11,7 @@ returns-then-gathered-octets g c =
     c.gather-gathered.result _ _
     (gathered_so_far c.args.catalogue.now c.args.self.now c.gather-gathered.new.self
     c.args.octets.now c.gather-gathered.result _
-    e.within e.fits e.gathers) (omega (arith, c.if-gathered-octets.true, c.requires.some))
+    e.within e.fits e.takes) (omega (arith, c.if-gathered-octets.true, c.requires.some))
 
 pub returns-in_err-progress : goal.returns-in_err-progress
 returns-in_err-progress g c =
@@ -23,7 +23,7 @@ returns-in_err-progress g c =
     let e = c.gather-gathered.ensures in
     let below : i < length octets = omega (arith, e.within, c.if-gathered-octets.false) in
     let held = gathered_so_far C d mid octets i (g.O.Out.log c.args.out.now) e.within e.fits
-    e.gathers in
+    e.takes in
     then_one_broken C d mid octets i _ _ held c.advance.new.self _ c.from_residual.result
     c.from_residual.ensures.0 below
     (step_says C d mid octets i held.fits held.reads (WroteFront (g.O.Out.log c.args.out.now)
@@ -47,11 +47,11 @@ returns g c =
       c.if-gathered-octets.false,
     ) in
     let held = gathered_so_far C d mid octets i (g.O.Out.log c.args.out.now)
-    c.gather-gathered.ensures.within f c.gather-gathered.ensures.gathers in
+    c.gather-gathered.ensures.within f c.gather-gathered.ensures.takes in
     then_one C d mid octets i _ _ held new _ p below
     (λ T order at message root s r.
     takes_to C T order at message root mid new (s ++ take i octets) (get_or octets i 0) p f e.order
-    e.root e.message e.here e.steps e.keeps_noted
+    e.head e.here e.steps e.keeps_noted
     (held.reads T order at message root s r))
     (step_says C d mid octets i held.fits held.reads (Wrote (g.O.Out.log c.args.out.now)
     (g.O.Out.log c.advance.new.out)) e.writes)

@@ -11,7 +11,7 @@ returns-in_err-part_line-clause-takes g c =
     let d = c.args.self.now in
     part_broken C d c.args.part c.requires.fits c.requires.ahead
     c.from_residual.result _ _ _ c.from_residual.ensures.0
-    (c.in_err-part_line.ensures d.message (root_word d.root ++ frames_text C
+    (c.in_err-part_line.ensures d.head.message (root_word d.head.root ++ frames_text C
     (frames_above d.outer.items)) c.requires.front)
 
 pub returns-clause-takes : goal.returns-clause-takes
@@ -22,8 +22,7 @@ returns-clause-takes g c =
     c.requires.next
     (record {
       order = refl;
-      root = refl;
-      message = refl;
+      head = refl;
       inside = refl;
       notes = refl;
       carry = refl;
@@ -33,5 +32,5 @@ returns-clause-takes g c =
       outer = c.go_to_next.ensures (frames_above d.outer.items) c.args.part.frame
           c.requires.ahead.outer;
     }) c.requires.body _ _
-    (c.in_ok-part_line.ensures d.message (root_word d.root ++ frames_text C
+    (c.in_ok-part_line.ensures d.head.message (root_word d.head.root ++ frames_text C
     (frames_above d.outer.items)) c.requires.front)

@@ -10,7 +10,8 @@ returns-in_err-piece_line-clause-takes g c =
     let d = c.args.self.now in
     piece_broken C d c.args.piece c.requires.fits c.requires.ahead c.requires.outside
     c.from_residual.result _ _ _ c.from_residual.ensures.0
-    (c.in_err-piece_line.ensures d.message (root_word d.root ++ frames_text C d.outer.items)
+    (c.in_err-piece_line.ensures d.head.message (root_word d.head.root
+    ++ frames_text C d.outer.items)
     c.requires.front)
 
 pub returns-clause-takes : goal.returns-clause-takes
@@ -18,5 +19,6 @@ returns-clause-takes g c =
     let C = c.args.catalogue.now in
     let d = c.args.self.now in
     piece_some C d c.args.piece c.requires.fits c.requires.ahead c.requires.outside _ _
-    (c.in_ok-piece_line.ensures d.message (root_word d.root ++ frames_text C d.outer.items)
+    (c.in_ok-piece_line.ensures d.head.message (root_word d.head.root
+    ++ frames_text C d.outer.items)
     c.requires.front)

@@ -39,7 +39,7 @@ loop-part-preserved g c =
     record {
       so_far = then;
       within = then.within;
-      body = ap is_header_root next.root ∙ before.body;
+      body = ap (λ h. is_header_root h.root) next.head ∙ before.body;
       outside = next.inside ∙ before.outside;
       front = before.front ∙ sym (front_kept c.args.catalogue.now c.loop-part.self
           c.take_part.new.self c.in-Some.part c.in-Some-next_number.next next);

@@ -1,4 +1,5 @@
 use Rattle.std.proofs.Common.{◌≡◌, ◌-◌, ◌≤◌, false, length}
+use Rattle.giop_print.specs.Line.{line_text}
 use Rattle.giop_decode.specs.NextParts.{front_text}
 use Rattle.giop_decode.specs.Noted.{is_header_root}
 use Rattle.giop_decode.proofs.SoFar.{TakenSoFar}
@@ -10,10 +11,10 @@ invariant-loop-part g l =
       so_far : TakenSoFar l.catalogue l.initial.self l.self l.octets l.taken
           (g.O.Out.log l.initial.out) (g.O.Out.log l.out);
       within : l.taken ≤ length l.octets;
-      body : is_header_root l.self.root ≡ false;
+      body : is_header_root l.self.head.root ≡ false;
       outside : l.self.inside ≡ false;
-      front : l.front ≡ front_text l.catalogue l.self;
-      short : length l.front ≤ 128;
+      front : line_text l.front ≡ front_text l.catalogue l.self;
+      short : length (line_text l.front) ≤ 128;
     }
 
 abbrev pub decreases-loop-part : goal.decreases-loop-part

@@ -3,7 +3,7 @@ use Rattle.std.specs.Prelude.{codes}
 use Rattle.giop_print.specs.Paths.{PathText, name_segment}
 use Rattle.giop_decode.specs.Spelling.{path_text}
 use Rattle.giop_message.specs.RequestId.{request_id_path}
-use Rattle.giop_message.proofs.request_id.RequestIdPathPosition.path.Goals as goal
+use Rattle.giop_message.proofs.request_id.RequestIdPlacePosition.path.Goals as goal
 
 pub returns : goal.returns
 unfolding path_text request_id_path

@@ -1,17 +1,18 @@
 use Rattle.std.proofs.Common.{refl, sym, ◌∙◌, arith}
 use Rattle.giop_decode.proofs.Starting.{first_reads, first_fits, fit_some}
 use Rattle.giop_decode.proofs.Surrounding.{ahead_by}
-use Rattle.giop_decode.proofs.decoder.Decoder.restart.Goals as goal
+use Rattle.giop_decode.proofs.decoder.Decoder.begin.Goals as goal
 use Rattle.giop_sig.specs.Trees.{tree}
 
 pub returns-clause-reads : goal.returns-clause-reads
 returns-clause-reads c =
     let C = c.args.catalogue.now in
     let T = tree C c.args.of.0 in
-    first_reads C T c.args.order c.args.offset c.args.message c.args.root _ c.begin-first.result
+    first_reads C T c.args.self.now.order c.args.offset c.args.self.now.head.message
+    c.args.self.now.head.root _ c.begin-first.result
     (fit_some T c.if-is_empty.ensures.root
     (λ empty. let t = c.if-is_empty.ensures.value.1 empty in cc)) refl
-    c.new-self.ensures (λ here. c.begin-first.ensures.open_parts here ∙ rw c.clear.ensures refl)
+    c.new-self.ensures (λ here. c.begin-first.ensures.begun here ∙ rw c.clear.ensures refl)
     (c.begin-first.ensures.stand c.args.offset (rw c.clear.ensures tt)) c.begin-first.ensures.leaf
     c.clear-3.ensures refl refl refl refl
 
@@ -21,7 +22,7 @@ returns-clause-fits c some =
     let T = tree C c.args.of.0 in
     first_fits C c.args.of.0 _ c.begin-first.result c.requires
     (fit_some T c.if-is_empty.ensures.root some) refl
-    c.new-self.ensures c.clear-2.ensures (λ here. c.begin-first.ensures.open_parts here
+    c.new-self.ensures c.clear-2.ensures (λ here. c.begin-first.ensures.begun here
     ∙ rw c.clear.ensures refl) (c.begin-first.ensures.stand _ (rw c.clear.ensures tt))
     (ahead_by C _ c.begin-first.ensures.known_outer
     (c.begin-first.ensures.ended ∙ rw c.clear.ensures refl))
