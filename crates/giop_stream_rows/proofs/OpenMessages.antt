@@ -57,8 +57,7 @@ parameters_frame = record { of = type_id parameters; index = 0; count = 1; insid
 in_body : Decoder
 in_body = record {
   order = orders.Big;
-  root = roots.Body;
-  message = 1;
+  head = record { message = 1; root = roots.Body };
   at = 4;
   outer = record { items = parameters_frame ∷ [] };
   inside = false;
