@@ -16,7 +16,7 @@ from dataclasses import dataclass
 from pathlib import Path
 from typing import Dict, List, Optional, Tuple
 
-from failing import EXAMPLES, PROGRAM, SECONDS
+from failing import EXAMPLES, GIOPCAP, PROGRAM, SECONDS
 
 LAB = "signatures 1;\noperation void set(in long v);\noperation long ask(in long a, out octet b);\n"
 
@@ -291,6 +291,17 @@ HELP = "(?s).*STREAM.*" + ".*".join((*OPTIONS, ""))
 VERSION = r"giopdump [0-9]+\.[0-9]+\.[0-9]+\n"
 PRINTED = [("--help", HELP), ("-h", HELP), ("--version", VERSION), ("-V", VERSION)]
 
+# Words that aren't understood, and how they are shown. The last is a program's own name.
+SHOWN = [
+    ("--\x1b[31m", r"--\x1b[31m"),
+    ("--a' found\n\nerror: b", r"--a' found\x0a\x0aerror: b"),
+    ("-\n", r"-\x0a"),
+    ("-\u00e9", r"-\xc3\xa9"),
+    ("--\x7f=\\", "--\\x7f"),
+    ("--open=\u0660\r", r"\xd9\xa0\x0d"),
+    ("\t\x1b]0;\a", r"\x09\x1b]0;\x07"),
+]
+
 
 def held(folder: Path) -> Dict[str, bytes]:
     return {path.name: path.read_bytes() for path in folder.iterdir()}
@@ -371,9 +382,26 @@ def printed() -> int:
     return wrong
 
 
+def shown() -> int:
+    """How many words that aren't understood are told otherwise than they are shown, by both programs."""
+    wrong = 0
+    for program in (PROGRAM, GIOPCAP):
+        for number, (word, wanted) in enumerate(SHOWN):
+            is_name = number == len(SHOWN) - 1
+            words = [word, "--help"] if is_name else [program.name, word]
+            done = subprocess.run(words, executable=program, capture_output=True, timeout=SECONDS)
+            said = (done.stdout if is_name else done.stderr).decode("latin-1")
+            told = f"Usage: {wanted} [" if is_name else f" '{wanted}' "
+            printable = all(" " <= each <= "~" for each in said.replace("\n", ""))
+            if done.returncode != (0 if is_name else 2) or not printable or told not in said or "\nerror:" in said:
+                wrong += 1
+                print(f"{program.name} {word!r}: status {done.returncode}, says {said!r}", file=sys.stderr)
+    return wrong
+
+
 def main() -> int:
     """Prints figures; 1 where something differs."""
-    wrong = printed()
+    wrong = printed() + shown()
     counts = [len(PRINTED) + 1]
     for is_file in (True, False):
         for cases in (STEPS, WORDS):
@@ -382,7 +410,7 @@ def main() -> int:
             wrong += differ
     print(
         f"{len(STEPS)} cases of steps and {len(WORDS) + len(PRINTED) + 1} of words, {sum(counts)} runs of them by files and by"
-        f" standard input, {wrong} differ"
+        f" standard input, and {len(SHOWN)} words of each program that are shown, {wrong} differ"
     )
     return 1 if wrong else 0
 

@@ -23,6 +23,7 @@ from typing import List, Sequence
 from giopdump_idl.model import MOST_OCTETS
 from giopdump_idl.selection import Selection
 from giopdump_idl.sheet import Sheet
+from giopdump_idl.shown import shown
 from omniidl import idlast
 
 PROGRAM = "giopdump_signatures"
@@ -60,7 +61,7 @@ def wanted_interfaces(arguments: Sequence[str]) -> List[str]:
     for argument in arguments:
         word, equals, name = argument.partition("=")
         if word != "only" or not equals or not name:
-            sys.exit(f"{PROGRAM}: unknown argument {argument}; there is\n{usage_string}")
+            sys.exit(f"{PROGRAM}: unknown argument {shown(argument)}; there is\n{usage_string}")
         only.append(name)
     return only
 

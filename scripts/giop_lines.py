@@ -9,6 +9,7 @@ A dump may be cut, or be a part of one, as `head` and `grep` give it. What stand
 
 from __future__ import annotations
 
+import argparse
 import os
 import re
 import select
@@ -16,7 +17,7 @@ import signal
 import sys
 from abc import ABC, abstractmethod
 from functools import lru_cache
-from typing import Dict, Generic, Iterator, List, NamedTuple, Optional, Tuple, TypeVar
+from typing import Dict, Generic, Iterator, List, NamedTuple, NoReturn, Optional, Tuple, TypeVar
 
 MOST_READ = 1 << 16  # octets at once
 MOST_OCTETS = 1 << 13  # of a line, far more than any has
@@ -442,7 +443,7 @@ def write(text: str) -> None:
 def run(program: str, path: Optional[str], dump: Dump[M]) -> int:
     """Reads a dump from a file, or from standard input where it has no name; gives the exit status."""
     signal.signal(signal.SIGPIPE, signal.SIG_DFL)
-    name = "standard input" if path is None else "".join(each if " " <= each <= "~" else "?" for each in path)
+    name = "standard input" if path is None else shown(path)
     try:
         descriptor = 0 if path is None else os.open(path, os.O_RDONLY)
     except OSError:
@@ -456,6 +457,18 @@ def run(program: str, path: Optional[str], dump: Dump[M]) -> int:
     except OSError:
         return failed(4, f"{program}: write failed")
     return 0
+
+
+def shown(text: str) -> str:
+    """What stands on the command line as it is printed: an octet outside 20 to 7e is \\xHH."""
+    return "".join(chr(octet) if 0x20 <= octet <= 0x7E else f"\\x{octet:02x}" for octet in os.fsencode(text))
+
+
+class Words(argparse.ArgumentParser):
+    """The words of a command line; what is wrong with them is shown."""
+
+    def error(self, message: str) -> NoReturn:
+        super().error(shown(message))
 
 
 def failed(status: int, message: str) -> int:

@@ -13,6 +13,7 @@ from .model import (
     MOST_DECLARATIONS, RETURNED, Array, Cut, Declared, Half, Item, Operation, Place, Raised, Scalar, Series, Slot, Text,
     Type, Unsayable, at_most, place_in, spelled,
 )  # fmt: skip
+from .shown import shown
 from .translator import Translator
 
 UNEQUAL = "equal names, unequal parameters"
@@ -315,7 +316,7 @@ def chosen(interfaces: Sequence[idlast.Interface], only: Sequence[str]) -> List[
     by_name = {spelled(each.scopedName()): each for each in interfaces}
     for name in only:
         if name.lstrip(":") not in by_name:
-            sys.exit(f"giopdump_signatures: there is no interface {name}")
+            sys.exit(f"giopdump_signatures: there is no interface {shown(name)}")
         with_bases(by_name[name.lstrip(":")], picked)
     return [each for each in (picked if only else interfaces) if not each.local()]
 

@@ -8,6 +8,7 @@ from typing import Sequence, Tuple
 from .model import Array, Declared, Enum, Item, Operation, Raised, Reference, Scalar, Series, Struct, Text, Type, Union
 from .names import names_for
 from .selection import Entry
+from .shown import shown
 
 
 class Sheet:
@@ -75,6 +76,5 @@ class Sheet:
 
 
 def comment(text: str) -> str:
-    """A comment of one line, in octets that any terminal shows."""
-    plain = text.encode("ascii", "backslashreplace").decode()
-    return "// " + "".join(each if " " <= each <= "~" else "?" for each in plain)
+    """A comment of one line."""
+    return f"// {shown(text)}"

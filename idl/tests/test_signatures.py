@@ -64,6 +64,14 @@ class Texts(unittest.TestCase):
                 self.assertEqual(done.stdout, text.with_suffix(".sig").read_text())
                 self.assertEqual(refusal_of(done.stdout), "")
 
+    def test_the_name_of_a_file_is_shown(self) -> None:
+        with tempfile.TemporaryDirectory() as folder:
+            path = with_files({"o\x1b\u00e9.idl": b"interface I { void o(); };"}, folder)["o\x1b\u00e9.idl"]
+            done = omniidl(path)
+        self.assertEqual(done.returncode, 0, done.stderr)
+        self.assertIn("// Written by giopdump_signatures from o\\x1b\\xc3\\xa9.idl.\n", done.stdout)
+        self.assertIn("\n// I (o\\x1b\\xc3\\xa9.idl:1)\n", done.stdout)
+
     def test_names_in_comments_are_single_lines(self) -> None:
         done = omniidl("left_out.idl")
         for line in done.stdout.splitlines():
@@ -101,6 +109,8 @@ class Errors(unittest.TestCase):
             (["-Wbonly=O::Nobody", "only.idl"], "there is no interface O::Nobody"),
             (["-Wbonly=", "only.idl"], "unknown argument only="),
             (["-Wball", "only.idl"], "unknown argument all"),
+            (["-Wbonly=O::\x1b[2J\n", "only.idl"], "there is no interface O::\\x1b[2J\\x0a\n"),
+            (["-Wb\u00e9", "only.idl"], "unknown argument \\xc3\\xa9; there is\n"),
             (["no_such_file.idl"], "does not exist"),
         ]
         for words, message in rows:

@@ -892,7 +892,7 @@ class Program(unittest.TestCase):
 
     def test_what_cannot_be_read(self) -> None:
         for program in PROGRAMS:
-            for path, said in (("no/such\x1bfile", "no/such?file: cannot read"), ("/", "read failed")):
+            for path, said in (("no/such\x1b\nfile", "no/such\\x1b\\x0afile: cannot read"), ("/", "read failed")):
                 done = run(program, "", path)
                 self.assertEqual((done.returncode, done.stderr), (4, f"{program}: {said}\n"))
             done = subprocess.run(
@@ -917,6 +917,16 @@ class Program(unittest.TestCase):
         for program in PROGRAMS:
             done = run(program, "", "--help")
             self.assertEqual((done.returncode, done.stdout[:6], done.stderr), (0, "usage:", ""))
+
+    def test_wrong_words_are_told_in_octets_that_can_be_printed(self) -> None:
+        for program, *words, said in (
+            ("giop-json", "a", "\x1b[2J\n\u00e9", r"unrecognized arguments: \x1b[2J\x0a\xc3\xa9"),
+            ("giop-stat", "--\udcff\x7f", r"unrecognized arguments: --\xff\x7f"),
+            ("giop-chart", "--most", "\n", r"argument --most: '\x0a' is no number from 1 to 999999999"),
+            ("giop-chart", "--to", "\x1b", r"argument --to: '\x1b' is no time as 2026-11-23T08:13:25.58 or 08:13:25"),
+        ):
+            done = run(program, "", *words)
+            self.assertEqual((done.returncode, done.stderr.splitlines()[-1]), (2, f"{program}: error: {said}"))
 
     def test_head_ends_them_quietly(self) -> None:
         for program in PROGRAMS:

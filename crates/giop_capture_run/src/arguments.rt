@@ -7,6 +7,7 @@ use arrayvec::ArrayVec;
 use clap::builder::ValueParser;
 use clap::error::ErrorKind;
 use clap::{Arg, ArgAction, ArgMatches, Command, Error};
+use giop_run::marked;
 use giop_stream::MOST_OPEN;
 use std::alloc::{AllocError, Global};
 
@@ -173,6 +174,8 @@ impl<'a> Arguments<'a> {
     /// Parses the arguments, the first of which is the program's name. An `Err` has the text to print and the status,
     /// also for `--help` and `--version`, which have status 0.
     pub fn read(alloc: Global, words: &'a [String]) -> Result<Arguments<'a>, Error> {
+        // What is wrong with the words is said of marked ones.
+        command(alloc)?.try_get_matches_from(marked(alloc, words)?.as_slice())?;
         let mut command = command(alloc)?;
         let matches = command.try_get_matches_from_mut(words)?;
         let Some(ports) = ports_of(&matches) else {

@@ -6,6 +6,7 @@ ghost use Rattle.giop_stream.specs.Rules.{most_open};
 
 use clap::builder::ValueParser;
 use clap::{Arg, Command, Error};
+use giop_run::marked;
 use giop_stream::MOST_OPEN;
 use std::alloc::{AllocError, Global};
 
@@ -107,6 +108,8 @@ impl<'a> Arguments<'a> {
     /// Parses the arguments, the first of which is the program's name. An `Err` has the text to print and the status,
     /// also for `--help` and `--version`, which have status 0.
     pub fn read(alloc: Global, words: &'a [String]) -> Result<Arguments<'a>, Error> {
+        // What is wrong with the words is said of marked ones.
+        command(alloc)?.try_get_matches_from(marked(alloc, words)?.as_slice())?;
         let matches = command(alloc)?.try_get_matches_from(words)?;
         Ok(Arguments {
             signatures: matches.get_str("signatures"),

@@ -43,9 +43,7 @@ fn print_run(rt: &HostRuntime, asked: Arguments) -> u8
     let Ok(mut lines) = Lines::new(rt.alloc(), Retrying::new(rt.stdout())) else {
         return failed(rt, PROGRAM, &ProgramFault::OutOfMemory);
     };
-    // Standard input is an input too, where it is a plain file that has a name.
-    let stream = asked.stream.unwrap_or("/dev/stdin");
-    let mut files = Disk::new(rt, [asked.signatures, asked.requests, Some(stream)]);
+    let mut files = Disk::new(rt, [asked.signatures, asked.requests, asked.stream]);
     report_outcome(rt, &perform_run(rt, asked, &mut lines, &mut files))
 }
 

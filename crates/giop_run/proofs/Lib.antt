@@ -3,3 +3,4 @@ mod ReadLemmas
 mod FlushLemmas
 mod TurnLemmas
 mod ResumeLemmas
+mod MarkedLemmas

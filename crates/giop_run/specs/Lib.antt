@@ -9,4 +9,5 @@ pub mod RunSteps
 pub mod Console
 pub mod Files
 pub mod Saving
+pub mod CommandLine
 pub mod Performing

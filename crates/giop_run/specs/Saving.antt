@@ -1,8 +1,9 @@
 -- What a save writes to files (meaning).
-use Rattle.std.specs.Prelude.{◌≡◌, ℕ, List, [], ◌∷◌, ◌++◌, Option, None, Some, Result, MatchResult}
+use Rattle.std.specs.Prelude.{◌≡◌, ℕ, Bool, ◌==◌, ◌&&◌, bit_and, if◌then◌else◌, List, [], ◌∷◌, ◌++◌, Option, None, Some, Result, MatchResult}
 use Rattle.giop_stream.specs.Checkpoint.{Spells}
 use Rattle.giop_stream.specs.EngineHolds.{Holds}
 use Rattle.giop_stream.specs.EngineView.{EngineView}
+use Rattle.giop_run.specs.declared.part.Rights.{Rights}
 
 -- a file that was written whole: its name and its octets
 pub record Saved : Type 0 where
@@ -26,3 +27,12 @@ abbrev pub SavesOne : {A E : Type 0} → Result A E → Option (List Saved) → 
     → EngineView → Type 0
 SavesOne result before after name e =
     MatchResult result (λ _. SavedMore before after name e) (λ _. after ≡ before)
+
+-- whether a file has the user and the group of another, and no name but one
+abbrev pub is_alike : Rights → Rights → Bool
+is_alike old own = old.user == own.user && (old.group == own.group && old.names == 1)
+
+-- what a part gets of the mode of the file that it replaces, if that is alike: who may read, write and run it
+abbrev pub kept_mode : Rights → Option Rights → Option ℕ
+kept_mode own None = None
+kept_mode own (Some old) = if is_alike old own then Some (bit_and old.mode 0o777) else None

@@ -6,6 +6,7 @@ ghost use Rattle.clap.specs.Values.{kind_of};
 ghost use Rattle.giop_run.specs.Console.{fault_status};
 
 use super::fault::ProgramFault;
+use super::shown::ShownText;
 use clap::Error;
 use clap::error::ErrorKind;
 use std::env;
@@ -52,7 +53,12 @@ pub fn refused(rt: &HostRuntime, program: &str, error: &Error) -> u8
     if error.kind() == ErrorKind::OutOfMemory {
         return failed(rt, program, &ProgramFault::OutOfMemory);
     }
-    match error.print(rt) {
+    let printed = if error.use_stderr() {
+        rt.eprint(ShownText(error))
+    } else {
+        rt.print(ShownText(error))
+    };
+    match printed {
         Err(_) => FAILED,
         Ok(()) if error.use_stderr() => USAGE,
         Ok(()) => 0,

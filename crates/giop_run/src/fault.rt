@@ -4,7 +4,7 @@ ghost use Rattle.std.specs.Prelude.{◌≡◌, ◌≢◌};
 ghost use Rattle.std.specs.IoError.{error_kind};
 ghost use Rattle.giop_run.specs.Console.{fault_status};
 
-use super::shown_name::ShownName;
+use super::shown::ShownName;
 use giop_checkpoint::LoadFault;
 use giop_sig::{ListFault, ListFaultKind, SigFault, SigFaultKind};
 use std::io;

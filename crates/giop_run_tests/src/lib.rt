@@ -1,4 +1,4 @@
-//! Tests of runs, of the files that are read whole, and of what is told of the program's faults.
+//! Tests of runs, of the files that are read whole, and of what is told of the program's words and faults.
 #![tactic(auto)]
 
 #[cfg(test)]
@@ -15,3 +15,5 @@ mod files_tests;
 mod run_tests;
 #[cfg(test)]
 mod save_tests;
+#[cfg(test)]
+mod shown_tests;

@@ -1,0 +1,44 @@
+-- How a text that is said of marked words is shown in several calls through a `&mut`: `at` is what that refers to, and
+-- `name` says which one it is.
+use Rattle.std.proofs.Common.{◌≡◌, ℕ, List, [], ◌∷◌, sym, ◌∙◌, subst, rules, Option, None, Some, option_map, Result, Ok, Err, OnOk}
+use Rattle.std.proofs.lemmas.Grind.{flat_map-append}
+use Rattle.std.proofs.Output.{has_written_append, has_written_of_eq}
+use Rattle.std.specs.Fmt.{DisplaysOnOk, HasWritten, IsPlainFormatter, WritesText}
+use Rattle.std.specs.List.{concat, FoldsTo}
+use Rattle.std.specs.declared.fmt.Formatter.{Formatter}
+use Rattle.std.specs.declared.fmt.Error.{Error}
+use Rattle.giop_run.specs.CommandLine.{shown_marked}
+
+module _ {E W N : Type 0} (took : W → List ℕ → W → Type 0) (at : E → Formatter W) (name : E → N)
+  where
+    -- what a call does
+    abbrev pub ShowsMarked : E → List ℕ → E → Type 0
+    ShowsMarked old text new =
+        (IsPlainFormatter (at old) → HasWritten took (at old) (shown_marked text) (at new))
+        × (name new ≡ name old)
+
+    all_shown : (parts : List (List ℕ)) (old new : E) → FoldsTo ShowsMarked old parts new →
+        ShowsMarked old (concat parts) new
+    unfolding shown_marked
+    all_shown [] old new calls = (λ plain. search rules, search rules)
+    all_shown (x ∷ xs) old new calls =
+        let rest = all_shown xs calls.0 new calls.2 in (
+          λ plain.
+              let first = calls.1.0 plain in
+              has_written_of_eq took _ _ _ _ (sym (flat_map-append _ x (concat xs)))
+              (has_written_append took _ _ _ _ _ first (rest.0 first.plain)),
+          rest.1 ∙ calls.1.1,
+        )
+
+    -- how a text is shown whose octets may be known, once the loan ends
+    pub shown_on_ok : (text : Option (List ℕ)) (r : Result (Unit {0}) Error) (old new : E)
+        (v : Formatter W) → (name new ≡ name old → v ≡ at new) →
+        OnOk r (WritesText ShowsMarked old text new) →
+        DisplaysOnOk took (at old) r (option_map shown_marked text) v
+    shown_on_ok None r old new v back w = tt
+    shown_on_ok (Some text) (Ok x) old new v back w = λ plain ok.
+        let shows = all_shown w.parts old new w.calls in
+        let all = subst (λ t. HasWritten took (at old) (shown_marked t) (at new)) w.whole in
+        subst (HasWritten took (at old) (shown_marked text)) (sym (back shows.1))
+        (all (shows.0 plain))
+    shown_on_ok (Some text) (Err e) old new v back w = λ plain ok. absurd (search rules)

@@ -1,0 +1,137 @@
+//! What stands on the command line, as the programs show it: an octet outside 20 to 7e is `\xHH`, so that a word has no line
+//! feed and no escape sequence for the terminal that shows it.
+
+ghost use Rattle.std.specs.Prelude.{◌≡◌, ◌<◌, Some, option_map, IfOk, map, string_bytes, encode_utf8};
+ghost use Rattle.std.specs.Fmt.{WritesOnOk, IsPlainFormatter, HasWritten};
+ghost use Rattle.giop_print.specs.Text.{hex_digit};
+ghost use Rattle.giop_run.specs.CommandLine.{mark, shown, shown_marked, shown_octet, shown_marked_octet};
+
+use std::alloc::{AllocError, Global};
+use std::fmt;
+use std::fmt::{Display, Formatter, Write};
+
+/// What stands for a line feed of a word in what `clap` says of the words. No word has it, since it ends a word.
+const STAND_IN: u8 = 0;
+
+/// A file's name.
+#[derive(Clone, Copy)]
+pub struct ShownName<'a>(pub &'a str);
+
+impl Display for ShownName<'_> {
+    ghost output = { λ name. Some (shown name.0.now) };
+
+    fn fmt<W: Write>(&self, f: &mut Formatter<W>) -> fmt::Result {
+        for octet in self.0.as_bytes() {
+            put_shown(f, *octet)?;
+        }
+        Ok(())
+    }
+}
+
+/// The words in which `clap` looks for what is wrong, so that what it says of them tells their line feeds from its own.
+pub fn marked(alloc: Global, words: &[String]) -> Result<Vec<String>, AllocError>
+    ensures { IfOk result (λ marked. map string_bytes marked.items
+        ≡ map (λ word. mark (string_bytes word)) words.now) }
+{
+    let mut marked = Vec::new(alloc);
+    for word in words {
+        marked.push(marked_word(alloc, word)?)?;
+    }
+    Ok(marked)
+}
+
+/// A word with what stands for its line feeds.
+fn marked_word(alloc: Global, word: &str) -> Result<String, AllocError>
+    ensures { IfOk result (λ marked. string_bytes marked ≡ mark word.now) }
+{
+    let mut marked = String::new(alloc);
+    for letter in word.chars() {
+        marked.push(marked_letter(letter))?;
+    }
+    Ok(marked)
+}
+
+/// A letter of a word, or what stands for its line feed.
+fn marked_letter(letter: char) -> char
+    ensures { encode_utf8 result ≡ mark (encode_utf8 letter) }
+{
+    if letter == '\n' {
+        char::from(STAND_IN)
+    } else {
+        letter
+    }
+}
+
+/// A text that is said of marked words, as `clap` says it.
+#[derive(Drop)]
+pub(crate) struct ShownText<'a, D: Display>(pub(crate) &'a D);
+
+impl<D: Display> Display for ShownText<'_, D> {
+    ghost output = { λ text. option_map shown_marked (D.output text.0.now) };
+
+    fn fmt<W: Write>(&self, f: &mut Formatter<W>) -> fmt::Result {
+        let mut escaping = Escaping(f);
+        let written = escaping.write(self.0);
+        // It does nothing; by the reference that comes back a proof knows what `f` holds.
+        escaping.into_inner();
+        written
+    }
+}
+
+/// Writes a text that is said of marked words: a line feed of it is no word's, and stays.
+#[derive(Drop)]
+struct Escaping<'f, W: Write>(&'f mut Formatter<W>);
+
+impl<'f, W: Write> Escaping<'f, W> {
+    /// What is written to.
+    fn into_inner(self) -> &'f mut Formatter<W>
+        ensures { result ≡ self.entry.0 }
+    {
+        self.0
+    }
+}
+
+impl<W: Write> Write for Escaping<'_, W> {
+    ghost write_str_gives = { λ old text new. (IsPlainFormatter old.0.now
+        → HasWritten W.write_str_gives old.0.now (shown_marked text) new.0.now)
+        × (new.0.ghost_name ≡ old.0.ghost_name) };
+
+    fn write_str(&mut self, text: &str) -> fmt::Result {
+        for octet in text.as_bytes() {
+            put_marked(self.0, *octet)?;
+        }
+        Ok(())
+    }
+}
+
+/// Writes an octet of a text that is said of marked words.
+fn put_marked<W: Write>(f: &mut Formatter<W>, octet: u8) -> fmt::Result
+    ensures { WritesOnOk W.write_str_gives f.old result (shown_marked_octet octet) f.new }
+{
+    match octet {
+        b'\n' => f.write_char('\n'),
+        STAND_IN => put_shown(f, b'\n'),
+        octet => put_shown(f, octet),
+    }
+}
+
+/// Writes an octet as it is shown.
+fn put_shown<W: Write>(f: &mut Formatter<W>, octet: u8) -> fmt::Result
+    ensures { WritesOnOk W.write_str_gives f.old result (shown_octet octet) f.new }
+{
+    if (0x20..=0x7e).contains(&octet) {
+        return f.write_char(char::from(octet));
+    }
+    f.write_str("\\x")?;
+    f.write_char(hex_char(octet / 16))?;
+    f.write_char(hex_char(octet % 16))
+}
+
+/// The hexadecimal digit of a number.
+fn hex_char(number: u8) -> char
+    requires { number < 16 }
+    ensures digit { result ≡ hex_digit number }
+    ensures ascii { result < 128 }
+{
+    char::from(b"0123456789abcdef"[usize::from(number)])
+}
