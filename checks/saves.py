@@ -213,8 +213,8 @@ def main() -> int:
             wrong += 1
             print(f"as {by.user}: {what}: {difference}", file=sys.stderr)
 
-    with tempfile.TemporaryDirectory() as name:
-        top = Path(name)
+    with tempfile.TemporaryDirectory() as made:
+        top = Path(made)
         top.chmod(0o755)
         shutil.copy(PROGRAM, top / "giopdump")
         (top / "giopdump").chmod(0o755)
