@@ -1,5 +1,5 @@
 -- All that is written is whole lines.
-use Rattle.std.proofs.Common.{◌≡◌, ℕ, Bool, true, false, List, [], ◌∷◌, ◌++◌, length, drop, flat_map, Option, Some, None, refl, sym, ap, ◌∙◌, codes, decimal, nat_lt, if◌then◌else◌}
+use Rattle.std.proofs.Common.{◌≡◌, ℕ, Bool, true, List, [], ◌∷◌, ◌++◌, length, drop, flat_map, Option, Some, None, refl, sym, ap, ◌∙◌, codes, decimal, if◌then◌else◌}
 use Rattle.giop_print.specs.Text.{joined}
 use Rattle.giop_print.specs.Lines.{order_word, type_word, more_word, start_line, fault_line, stream_fault_line, continues_line, cancelled_line, unfinished_line, total_line}
 use Rattle.giop_message.specs.Headers.{minor, order, kind, size, has_more}
@@ -23,7 +23,8 @@ use Rattle.giop_conversation.specs.Times.{time_text, span_text}
 use Rattle.giop_conversation.specs.Lines.{stream_line, time_line, answers_line, raises_line, cause_word, closed_line, capture_fault_line, capture_total_line}
 use Rattle.giop_conversation.specs.TaggedText.{ends_line, is_due}
 use Rattle.giop_conversation.specs.Exchanges.{Exchanged, Answering, Raising}
-use Rattle.giop_conversation.specs.Stamped.{begun, time_due, answers_due, raises_due, told, lines_due, stamped}
+use Rattle.giop_stream.specs.DueOctets.{begun_in}
+use Rattle.giop_conversation.specs.Stamped.{time_due, answers_due, raises_due, told, lines_due, stamped}
 use Rattle.giop_conversation.proofs.TagLemmas.{ends_append}
 
 -- parts of which the last is LF
@@ -195,12 +196,9 @@ closing_lines_end R p cause = ends_both (closed_line cause) (closing R p) (close
 
 -- ---- the lines that are due behind octets
 
-time_due_ends : (p octets : List ℕ) (time : Option ℕ) → is_due (time_due p octets time) ≡ true
-time_due_ends p octets time = by (nat_lt (begun p) (begun (p ++ octets)))
-  where
-    by : (b : Bool) → is_due (if b then time_line (begun (p ++ octets)) time else []) ≡ true
-    by true = time_line_ends (begun (p ++ octets)) time
-    by false = none_ends
+time_due_ends : (begun time : Option ℕ) → is_due (time_due begun time) ≡ true
+time_due_ends None time = none_ends
+time_due_ends (Some message) time = time_line_ends message time
 
 answers_due_ends : (answered : Option Answering) (time : Option ℕ) →
     is_due (answers_due answered time) ≡ true
@@ -216,9 +214,9 @@ pub lines_due_end : (R : Rules) (s : Exchanged) (p octets : List ℕ) →
 unfolding lines_due
 lines_due_end R s p octets =
     let behind = told R s p octets in
-    ends_both (time_due p octets s.time) (answers_due behind.answered s.time
+    ends_both (time_due (begun_in p octets) s.time) (answers_due behind.answered s.time
     ++ raises_due behind.raised)
-    (time_due_ends p octets s.time) (ends_both (answers_due behind.answered s.time)
+    (time_due_ends (begun_in p octets) s.time) (ends_both (answers_due behind.answered s.time)
     (raises_due behind.raised)
     (answers_due_ends behind.answered s.time) (raises_due_ends behind.raised))
 

@@ -1,5 +1,5 @@
 -- Lines of a stream in a capture as parts of its text.
-use Rattle.std.proofs.Common.{◌≡◌, ℕ, ◌==◌, Bool, true, false, List, [], ◌∷◌, ◌++◌, drop, length, map, flat_map, Option, Some, None, refl, sym, ap, subst, ◌∙◌, append-nil, nat_lt, if◌then◌else◌}
+use Rattle.std.proofs.Common.{◌≡◌, ℕ, ◌==◌, true, false, List, [], ◌∷◌, ◌++◌, drop, length, map, flat_map, Option, Some, None, refl, sym, ap, subst, ◌∙◌, append-nil}
 use Rattle.std.specs.List.{AllByRecursion as Each}
 use Rattle.std.proofs.Math.Seq.{drop-length}
 use Rattle.std.proofs.lemmas.Bool.{eq-eqb}
@@ -14,9 +14,10 @@ use Rattle.tcp_flow.specs.declared.flow.CloseCause.{CloseCause}
 use Rattle.tcp_segment.specs.declared.endpoint.Flow.{Flow}
 use Rattle.giop_conversation.specs.Tags.{tagged, with_tags, stream_tag}
 use Rattle.giop_conversation.specs.TaggedText.{is_due}
-use Rattle.giop_conversation.specs.Lines.{time_line, closed_line}
+use Rattle.giop_conversation.specs.Lines.{closed_line}
 use Rattle.giop_conversation.specs.Exchanges.{Exchanged, Answering, Raising}
-use Rattle.giop_conversation.specs.Stamped.{begin_lines, begun, time_due, answers_due, raises_due, told, taken, lines_due, stamped}
+use Rattle.giop_stream.specs.DueOctets.{begun_in}
+use Rattle.giop_conversation.specs.Stamped.{begin_lines, time_due, answers_due, raises_due, told, taken, lines_due, stamped}
 use Rattle.giop_conversation.specs.CaptureParts.{StreamPart, Reads, Closing, StreamLine, TimeLine, AnswersLine, RaisesLine, ClosedLine, lines_of, read_lines, own_lines, Part, OfStream, text_of, IsWhole, of_stream}
 use Rattle.giop_conversation.proofs.TagLemmas.{joined}
 use Rattle.giop_conversation.proofs.LineEnds.{added_ends, closing_ends, stream_line_ends, time_line_ends, answers_line_ends, raises_line_ends, closed_line_ends}
@@ -114,12 +115,9 @@ closed_parts R p cause =
     (one (ClosedLine cause) (closed_line_ends cause))
     (one (Closing (closing R p)) (closing_ends R p))
 
-time_parts : (p octets : List ℕ) (time : Option ℕ) → AreParts (time_due p octets time) [] []
-time_parts p octets time = by (nat_lt (begun p) (begun (p ++ octets)))
-  where
-    by : (b : Bool) → AreParts (if b then time_line (begun (p ++ octets)) time else []) [] []
-    by true = one (TimeLine (begun (p ++ octets)) time) (time_line_ends (begun (p ++ octets)) time)
-    by false = none
+time_parts : (begun time : Option ℕ) → AreParts (time_due begun time) [] []
+time_parts None time = none
+time_parts (Some message) time = one (TimeLine message time) (time_line_ends message time)
 
 answers_parts : (answered : Option Answering) (time : Option ℕ) →
     AreParts (answers_due answered time) [] []
@@ -136,9 +134,9 @@ due_parts : (R : Rules) (s : Exchanged) (p octets : List ℕ) →
 unfolding lines_due
 due_parts R s p octets =
     let behind = told R s p octets in
-    both (time_due p octets s.time) [] [] (answers_due behind.answered s.time
+    both (time_due (begun_in p octets) s.time) [] [] (answers_due behind.answered s.time
     ++ raises_due behind.raised) [] []
-    (time_parts p octets s.time)
+    (time_parts (begun_in p octets) s.time)
     (both (answers_due behind.answered s.time) [] [] (raises_due behind.raised) [] []
     (answers_parts behind.answered s.time) (raises_parts behind.raised))
 

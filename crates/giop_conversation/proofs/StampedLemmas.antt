@@ -1,23 +1,22 @@
 -- What is written of octets that come in parts, and of a piece before whose last octet nothing is
 -- due.
-use Rattle.std.specs.Prelude.{◌==◌, ◌&&◌, is_none}
-use Rattle.std.proofs.lemmas.Bool.{false≢true}
+use Rattle.std.specs.Prelude.{◌⊎◌, ◌||◌, is_some}
+use Rattle.std.proofs.lemmas.Bool.{cases_lt, le-ltb, false≢true}
 use Rattle.std.proofs.lemmas.List.{drop_all}
-use Rattle.std.proofs.Common.{◌≡◌, ℕ, zero, suc, ◌<◌, ◌≤◌, Bool, true, false, drop, List, [], ◌∷◌, ◌++◌, length, Option, Some, None, refl, sym, ap, subst, ◌∙◌, arith, append-nil, append_assoc, nat_lt, if◌then◌else◌}
+use Rattle.std.proofs.Common.{◌≡◌, inl, inr, ℕ, zero, suc, ◌<◌, ◌≤◌, Bool, true, false, take, drop, List, [], ◌∷◌, ◌++◌, length, Option, Some, None, refl, sym, ap, subst, ◌∙◌, arith, append-nil, append_assoc, nat_lt}
 use Rattle.giop_sig.specs.Table.{Table}
 use Rattle.giop_message.specs.Signatures.{Answers}
-use Rattle.giop_message.specs.Headers.{kind}
-use Rattle.giop_message.specs.HeaderEnds.{HeaderEnd, Header_end, Exception_end, IsAnswered, CallEvent, Requested, Replied, Raised, operation_of, request_event, header_event, call_event, after_event, after_ends, AgreesAtEnds, AreSilent}
-use Rattle.giop_message.proofs.MessageLaws.{told_both, answers_first, answers_then}
+use Rattle.giop_message.specs.HeaderEnds.{HeaderEnd, Header_end, Exception_end, IsAnswered, CallEvent, Requested, Replied, Raised, call_event, after_event, after_ends, AgreesAtEnds}
+use Rattle.giop_message.proofs.MessageLaws.{told_both, answers_then}
 use Rattle.giop_stream.specs.Rules.{Rules, rules_by}
-use Rattle.giop_stream.specs.HeaderEndsOfStream.{header_ends_at, header_ends_from}
+use Rattle.giop_stream.specs.HeaderEndsOfStream.{header_ends_from}
 use Rattle.giop_stream.specs.EngineHolds.{added}
-use Rattle.giop_stream.specs.PieceLimit.{IsQuiet}
-use Rattle.giop_stream.proofs.StreamLaws.{added_both_by, header_ends_both, silent_behind}
-use Rattle.giop_conversation.specs.Lines.{time_line}
-use Rattle.giop_conversation.specs.Exchanges.{Exchanged, Answering, Raising, answer_of, notified}
+use Rattle.giop_stream.specs.DueOctets.{begins_in, begun_in, is_due_after}
+use Rattle.giop_stream.specs.Framing.{cut, messages}
+use Rattle.giop_stream.proofs.StreamLaws.{added_both_by, header_ends_both, messages_grow}
+use Rattle.giop_conversation.specs.Exchanges.{Exchanged, Answering, Raising, answer_of, notified, is_waiting}
 use Rattle.giop_stream.specs.Stream.{text}
-use Rattle.giop_conversation.specs.Stamped.{begun, time_due, answers_due, raises_due, told, taken, lines_due, exchanged, stamped}
+use Rattle.giop_conversation.specs.Stamped.{answers_due, raises_due, told, taken, lines_due, exchanged, stamped}
 
 -- ---- in two parts
 
@@ -143,15 +142,6 @@ agrees_otherwise C a (e ∷ es) s answered raised agrees = (
       (call_event C e) agrees.1,
 )
 
--- those that agree for octets agree for the first of them, and for the others behind them
-pub agrees_first : (R : Rules) (C : Table) (a : Answers) (s : Exchanged) (p q r : List ℕ) →
-    AgreesAtEnds answer_of notified C s a (header_ends_from R p (q ++ r)) →
-    AgreesAtEnds answer_of notified C s a (header_ends_from R p q)
-agrees_first R C a s p q r agrees =
-    answers_first answer_of notified C s a (header_ends_from R p q) (header_ends_from R (p ++ q) r)
-    (subst (λ (es : List HeaderEnd). AgreesAtEnds answer_of notified C s a es)
-    (header_ends_both R p q r) agrees)
-
 pub agrees_then : (R : Rules) (C : Table) (a : Answers) (s : Exchanged) (p q r : List ℕ) →
     s.table ≡ C →
     AgreesAtEnds answer_of notified C s a (header_ends_from R p (q ++ r)) →
@@ -184,95 +174,72 @@ agrees_behind R C a (x ∷ xs) s p r table agrees =
 
 -- ---- a piece before whose last octet nothing is due
 
--- fewer octets than so many are quiet
-abbrev pub AreQuiet : Rules → ℕ → List ℕ → Type 0
-AreQuiet R n p = (front : List ℕ) → length front < n → IsQuiet R p front
+-- no line is due after fewer of these octets than n, by the operations of this table
+abbrev pub AreUndue : Table → Rules → Exchanged → List ℕ → List ℕ → ℕ → Type 0
+AreUndue C R s p octets n = (k : ℕ) → k < n →
+    is_due_after is_waiting notified true C s R p (take k octets) ≡ false
 
-same_is_not_less : (n : ℕ) → nat_lt n n ≡ false
-same_is_not_less n = search arith
+-- how many messages of the stream have begun
+abbrev Begun : List ℕ → ℕ
+Begun p = length (messages (cut p))
 
-both_none : {A B : Type 0} (o : Option A) (q : Option B) → (is_none o && is_none q) ≡ true →
-    (o ≡ None) × (q ≡ None)
-both_none None None e = (refl, refl)
-both_none None (Some y) e = absurd (false≢true e)
-both_none (Some x) q e = absurd (false≢true e)
+both_false : (a b : Bool) → (a || b) ≡ false → (a ≡ false) × (b ≡ false)
+both_false true b e = absurd (false≢true (sym e))
+both_false false b e = (refl, e)
 
-pub none_waits : (s : Exchanged) → (is_none s.answered && is_none s.raised) ≡ true → IsTaken s
-none_waits s e = (let both = both_none s.answered s.raised e in
-    record { answered = both.0; raised = both.1 })
+none_of : {A : Type 0} (o : Option A) → is_some o ≡ false → o ≡ None
+none_of None e = refl
+none_of (Some x) e = absurd (false≢true (sym e))
+
+-- where no Reply waits
+waits_not : (s : Exchanged) → is_waiting s ≡ false → IsTaken s
+waits_not s e = (let both = both_false (is_some s.answered) (is_some s.raised) e in
+    record { answered = none_of s.answered both.0; raised = none_of s.raised both.1 })
+
+pub not_waiting : (s : Exchanged) → IsTaken s → is_waiting s ≡ false
+not_waiting s none = rw (none.answered, none.raised) refl
+
+not_less : (m n : ℕ) → nat_lt m n ≡ false → n ≤ m
+not_less m n e = go (cases_lt m n)
+  where
+    go : (m < n) ⊎ (n ≤ m) → n ≤ m
+    go (inl less) = grind (arith, e, less)
+    go (inr most) = most
 
 pub none_due : (s : Exchanged) (time : Option ℕ) → IsTaken s → answers_due s.answered time
     ++ raises_due s.raised ≡ []
 none_due s time none = ap (λ (o : Option Answering). answers_due o time ++ raises_due s.raised)
     none.answered ∙ ap raises_due none.raised
 
--- what ends leaves nothing to be written, where it is no Reply's header and no name of an exception
-silent_event : (C : Table) (e : HeaderEnd) (s : Exchanged) → IsTaken s → AreSilent (e ∷ []) →
-    IsTaken (after_event notified s (call_event C e))
-unfolding header_event
-silent_event C (Header_end number header n) s none silent =
-    rw silent.0 (by (kind header == 0) n.request_id)
-  where
-    by : (b : Bool) (id : Option ℕ) →
-        IsTaken (after_event notified s (if b then request_event number id n.name
-        (operation_of C header n) n.expects_reply else None))
-    by true None = none
-    by true (Some id) = record { answered = none.answered; raised = none.raised }
-    by false id = none
-silent_event C (Exception_end number name) s none silent = absurd silent
-
-silent_taken : (C : Table) (es : List HeaderEnd) (s : Exchanged) → IsTaken s → AreSilent es →
-    IsTaken (after_ends notified C s es)
-silent_taken C [] s none silent = none
-silent_taken C (Header_end number header n ∷ es) s none silent =
-    let e = Header_end number header n in
-    silent_taken C es (after_event notified s (call_event C e))
-    (silent_event C e s none (silent.0, tt)) silent.1
-silent_taken C (Exception_end number name ∷ es) s none silent = absurd silent
-
 module _ (C : Table) (a : Answers) (most : ℕ) where
   abbrev R : Rules
   R = rules_by C a most
 
   -- where nothing is told that is written, and no message begins, nothing is due
-  nothing_due : (s : Exchanged) (p octets : List ℕ) → begun (p ++ octets) ≡ begun p →
+  nothing_due : (s : Exchanged) (p octets : List ℕ) → begins_in p octets ≡ false →
       IsTaken (told R s p octets) → lines_due R s p octets ≡ []
   unfolding lines_due
   nothing_due s p octets none_begin behind =
-      let t = told R s p octets in
-      let time : time_due p octets s.time ≡ [] =
-      ap (λ n. if nat_lt (begun p) n then time_line n s.time else []) none_begin
-      ∙ ap (λ b. if b then time_line (begun p) s.time else []) (same_is_not_less (begun p)) in
-      ap (λ (l : List ℕ). l ++ (answers_due t.answered s.time ++ raises_due t.raised)) time
-      ∙ none_due t s.time behind
+      rw none_begin (none_due (told R s p octets) s.time behind)
 
-  quiet_taken : (s : Exchanged) (p octets : List ℕ) → IsTaken s → IsQuiet R p octets →
-      IsTaken (told R s p octets)
-  quiet_taken s p octets none quiet = silent_taken s.table (header_ends_from R p octets) s none
-      quiet.none_end
+  -- after the octets of a front
+  undue_front : (s : Exchanged) (p octets : List ℕ) → s.table ≡ C →
+      is_due_after is_waiting notified true C s R p octets ≡ false →
+      IsTaken (told R s p octets) × (begins_in p octets ≡ false)
+  undue_front s p octets table undue =
+      let both = both_false _ (begins_in p octets) undue in (
+        waits_not (told R s p octets) (ap (λ (D : Table). is_waiting
+            (after_ends notified D s (header_ends_from R p octets))) table ∙ both.0),
+        both.1,
+      )
 
-  -- those behind the first are quiet as they were
-  quiet_then : (n : ℕ) (p : List ℕ) (x : ℕ) → AreQuiet R (suc n) p → 0 < n →
-      AreQuiet R n (p ++ x ∷ [])
-  unfolding header_ends_from
-  quiet_then n p x quiet some = λ front fewer.
-      let all = quiet (x ∷ front) (omega arith) in
-      let first = quiet (x ∷ []) (omega arith) in
-      record {
-        none_begin = ap begun (append_assoc p (x ∷ []) front)
-            ∙ (all.none_begin ∙ sym first.none_begin);
-        none_end = silent_behind (header_ends_at R p x) (header_ends_from R (p ++ x ∷ []) front)
-            all.none_end;
-      }
-
-  -- what is due behind a piece is due behind its last octet
-  time_then : (time : Option ℕ) (p : List ℕ) (x : ℕ) (rest : List ℕ) → IsQuiet R p (x ∷ []) →
-      time_due (p ++ x ∷ []) rest time ≡ time_due p (x ∷ rest) time
-  time_then time p x rest quiet =
-      ap (λ (f : List ℕ). if nat_lt (begun (p ++ x ∷ [])) (begun f) then time_line (begun f) time
-      else []) (append_assoc p (x ∷ []) rest)
-      ∙ ap (λ n. if nat_lt n (begun (p ++ x ∷ rest)) then time_line (begun (p ++ x ∷ rest)) time
-      else []) quiet.none_begin
+  -- as many have begun before it
+  same_begun : (p q : List ℕ) → begins_in p q ≡ false → Begun (p ++ q) ≡ Begun p
+  same_begun p q none = omega (
+    arith,
+    not_less (Begun p) (Begun (p ++ q)) none,
+    messages_grow p q,
+  )
 
   told_then : (s : Exchanged) (p : List ℕ) (x : ℕ) (rest : List ℕ) →
       told R (told R s p (x ∷ [])) (p ++ x ∷ []) rest ≡ told R s p (x ∷ rest)
@@ -284,19 +251,41 @@ module _ (C : Table) (a : Answers) (most : ℕ) where
       ∙ (sym (told_both answer_of notified s.table s first others)
       ∙ ap (after_ends notified s.table s) (sym (header_ends_both R p (x ∷ []) rest)))
 
-  due_then : (s : Exchanged) (p : List ℕ) (x : ℕ) (rest : List ℕ) → IsQuiet R p (x ∷ []) →
+  -- those behind the first are undue as they were
+  undue_then : (n : ℕ) (s : Exchanged) (p : List ℕ) (x : ℕ) (rest : List ℕ) → s.table ≡ C →
+      AreUndue C R s p (x ∷ rest) (suc n) → 0 < n →
+      AreUndue C R (told R s p (x ∷ [])) (p ++ x ∷ []) rest n
+  undue_then n s p x rest table undue some k few =
+      let here = undue_front s p (x ∷ []) table (undue 1 (omega (arith, some))) in
+      let all = undue (suc k) (omega (arith, few)) in
+      let both = both_false _ (begins_in p (x ∷ take k rest)) all in
+      let t = told R s p (x ∷ []) in
+      let tells : after_ends notified C t (header_ends_from R (p ++ x ∷ []) (take k rest))
+      ≡ after_ends notified C s (header_ends_from R p (x ∷ take k rest)) =
+      ap (λ (D : Table). after_ends notified D t
+      (header_ends_from R (p ++ x ∷ []) (take k rest))) (sym (told_table R s p (x ∷ []) ∙ table))
+      ∙ (told_then s p x (take k rest)
+      ∙ ap (λ (D : Table). after_ends notified D s (header_ends_from R p (x ∷ take k rest))) table)
+      in
+      rw (tells, both.0) (le-ltb (Begun (p ++ x ∷ []))
+      (Begun ((p ++ x ∷ []) ++ take k rest)) (omega (
+        arith,
+        not_less (Begun p) (Begun (p ++ x ∷ take k rest)) both.1,
+        ap Begun (append_assoc p (x ∷ []) (take k rest)),
+        messages_grow p (x ∷ []),
+      )))
+
+  -- what is due behind a piece is due behind its last octet
+  time_then : (p : List ℕ) (x : ℕ) (rest : List ℕ) → begins_in p (x ∷ []) ≡ false →
+      begun_in (p ++ x ∷ []) rest ≡ begun_in p (x ∷ rest)
+  time_then p x rest none =
+      rw (append_assoc p (x ∷ []) rest, same_begun p (x ∷ []) none) refl
+
+  due_then : (s : Exchanged) (p : List ℕ) (x : ℕ) (rest : List ℕ) → begins_in p (x ∷ []) ≡ false →
       lines_due R (told R s p (x ∷ [])) (p ++ x ∷ []) rest ≡ lines_due R s p (x ∷ rest)
   unfolding lines_due
-  due_then s p x rest quiet =
-      let t = told R s p (x ∷ []) in
-      let behind = told R t (p ++ x ∷ []) rest in
-      ap (λ (time : Option ℕ). time_due (p ++ x ∷ []) rest time
-      ++ (answers_due behind.answered time ++ raises_due behind.raised))
-      (told_time R s p (x ∷ []))
-      ∙ (ap (λ (l : List ℕ). l ++ (answers_due behind.answered s.time ++ raises_due behind.raised))
-      (time_then s.time p x rest quiet)
-      ∙ ap (λ (u : Exchanged). time_due p (x ∷ rest) s.time
-      ++ (answers_due u.answered s.time ++ raises_due u.raised)) (told_then s p x rest))
+  due_then s p x rest none =
+      rw (told_time R s p (x ∷ []), time_then p x rest none, told_then s p x rest) refl
 
   -- by its first octet and the others
   stamped_first : (s : Exchanged) (p : List ℕ) (x : ℕ) (rest : List ℕ) →
@@ -320,7 +309,7 @@ module _ (C : Table) (a : Answers) (most : ℕ) where
       let add : added R p [] ≡ [] = ap (λ (f : List ℕ). drop (length (text R p)) (text R f)) same
       ∙ drop_all (length (text R p)) (text R p) (omega arith) in
       sym (ap (λ (l : List ℕ). l ++ lines_due R s p []) add
-      ∙ nothing_due s p [] (ap begun same) none)
+      ∙ nothing_due s p [] (le-ltb (Begun p) (Begun (p ++ [])) (omega (arith, ap Begun same))) none)
 
   exchanged_none : (s : Exchanged) (p : List ℕ) → IsTaken s →
       exchanged R s p [] ≡ taken (told R s p [])
@@ -337,44 +326,42 @@ module _ (C : Table) (a : Answers) (most : ℕ) where
   unfolding exchanged
   exchanged_one s p x = refl
 
-  pub piece_text : (piece : List ℕ) (n : ℕ) (s : Exchanged) (p : List ℕ) → IsTaken s →
-      AreQuiet R n p → length piece ≤ n →
+  pub piece_text : (piece : List ℕ) (n : ℕ) (s : Exchanged) (p : List ℕ) → s.table ≡ C →
+      IsTaken s → AreUndue C R s p piece n → length piece ≤ n →
       stamped R s p piece ≡ added R p piece ++ lines_due R s p piece
-  piece_text [] n s p none quiet within = stamped_none s p none
-  piece_text (x ∷ []) n s p none quiet within = stamped_one s p x
-  piece_text (x ∷ y ∷ zs) zero s p none quiet within = absurd (omega (arith, within))
-  piece_text (x ∷ y ∷ zs) (suc n) s p none quiet within =
-      let here = quiet (x ∷ []) (omega (arith, within)) in
+  piece_text [] n s p table none undue within = stamped_none s p none
+  piece_text (x ∷ []) n s p table none undue within = stamped_one s p x
+  piece_text (x ∷ y ∷ zs) zero s p table none undue within = absurd (omega (arith, within))
+  piece_text (x ∷ y ∷ zs) (suc n) s p table none undue within =
+      let here = undue_front s p (x ∷ []) table (undue 1 (omega (arith, within))) in
       let t = told R s p (x ∷ []) in
-      let so = quiet_taken s p (x ∷ []) none here in
       let rest = y ∷ zs in
-      let behind = piece_text rest n t (p ++ x ∷ []) so
-      (quiet_then n p x quiet (omega (arith, within))) (omega (arith, within)) in
+      let behind = piece_text rest n t (p ++ x ∷ []) (told_table R s p (x ∷ []) ∙ table) here.0
+      (undue_then n s p x rest table undue (omega (arith, within))) (omega (arith, within)) in
       let first = added R p (x ∷ []) in
       stamped_first s p x rest
       ∙ (ap (λ (l : List ℕ). (first ++ l) ++ stamped R (taken t) (p ++ x ∷ []) rest)
-      (nothing_due s p (x ∷ []) here.none_begin so)
+      (nothing_due s p (x ∷ []) here.1 here.0)
       ∙ (ap (λ (l : List ℕ). l ++ stamped R (taken t) (p ++ x ∷ []) rest) (append-nil first)
-      ∙ (ap (λ (u : Exchanged). first ++ stamped R u (p ++ x ∷ []) rest) (taken_stays t so)
+      ∙ (ap (λ (u : Exchanged). first ++ stamped R u (p ++ x ∷ []) rest) (taken_stays t here.0)
       ∙ (ap (λ (l : List ℕ). first ++ l) behind
       ∙ (sym (append_assoc first (added R (p ++ x ∷ []) rest) (lines_due R t (p ++ x ∷ []) rest))
       ∙ (ap (λ (l : List ℕ). l ++ lines_due R t (p ++ x ∷ []) rest)
       (sym (added_both_by C a most p (x ∷ []) rest))
-      ∙ ap (λ (l : List ℕ). added R p (x ∷ rest) ++ l) (due_then s p x rest here)))))))
+      ∙ ap (λ (l : List ℕ). added R p (x ∷ rest) ++ l) (due_then s p x rest here.1)))))))
 
-  pub piece_told : (piece : List ℕ) (n : ℕ) (s : Exchanged) (p : List ℕ) → IsTaken s →
-      AreQuiet R n p → length piece ≤ n →
+  pub piece_told : (piece : List ℕ) (n : ℕ) (s : Exchanged) (p : List ℕ) → s.table ≡ C →
+      IsTaken s → AreUndue C R s p piece n → length piece ≤ n →
       exchanged R s p piece ≡ taken (told R s p piece)
-  piece_told [] n s p none quiet within = exchanged_none s p none
-  piece_told (x ∷ []) n s p none quiet within = exchanged_one s p x
-  piece_told (x ∷ y ∷ zs) zero s p none quiet within = absurd (omega (arith, within))
-  piece_told (x ∷ y ∷ zs) (suc n) s p none quiet within =
-      let here = quiet (x ∷ []) (omega (arith, within)) in
+  piece_told [] n s p table none undue within = exchanged_none s p none
+  piece_told (x ∷ []) n s p table none undue within = exchanged_one s p x
+  piece_told (x ∷ y ∷ zs) zero s p table none undue within = absurd (omega (arith, within))
+  piece_told (x ∷ y ∷ zs) (suc n) s p table none undue within =
+      let here = undue_front s p (x ∷ []) table (undue 1 (omega (arith, within))) in
       let t = told R s p (x ∷ []) in
-      let so = quiet_taken s p (x ∷ []) none here in
       let rest = y ∷ zs in
       exchanged_first s p x rest
-      ∙ (ap (λ (u : Exchanged). exchanged R u (p ++ x ∷ []) rest) (taken_stays t so)
-      ∙ (piece_told rest n t (p ++ x ∷ []) so (quiet_then n p x quiet (omega (arith, within)))
-      (omega (arith, within))
+      ∙ (ap (λ (u : Exchanged). exchanged R u (p ++ x ∷ []) rest) (taken_stays t here.0)
+      ∙ (piece_told rest n t (p ++ x ∷ []) (told_table R s p (x ∷ []) ∙ table) here.0
+      (undue_then n s p x rest table undue (omega (arith, within))) (omega (arith, within))
       ∙ ap taken (told_then s p x rest)))

@@ -1,6 +1,6 @@
 -- What calls of a direction write, by what the calls in them do.
-use Rattle.std.proofs.Common.{◌≡◌, ℕ, ◌+◌, true, false, ◌≤◌, List, [], ◌++◌, length, length-take, min, take, drop, Option, Some, None, Result, Ok, Err, refl, sym, ap, subst, ◌∙◌, arith, append-nil, append_assoc, take-add, nat_lt, if◌then◌else◌}
-use Rattle.std.proofs.lemmas.List.{take-append-drop, take_all}
+use Rattle.std.proofs.Common.{◌≡◌, ℕ, ◌+◌, true, false, ◌≤◌, List, [], ◌++◌, length, take, drop, Option, Some, None, Result, Ok, Err, refl, sym, ap, subst, ◌∙◌, arith, append-nil, append_assoc, take-add}
+use Rattle.std.proofs.lemmas.List.{length-take-le, take-append-drop, take-take, take_all}
 use Rattle.std.proofs.lemmas.Bool.{false≢true}
 use Rattle.giop_print.specs.Output.{OutLog, Wrote, WroteFront, Writes}
 use Rattle.giop_print.proofs.Writing.{wrote-nil, wrote-append, wrote-front, front-append}
@@ -12,6 +12,7 @@ use Rattle.giop_stream.specs.HeaderOctets.{fronts, wrong, first_wrong, first_wro
 use Rattle.giop_stream.specs.Framing.{limit, limited, cut_from, cut, messages}
 use Rattle.giop_stream.specs.Events.{events_from, events}
 use Rattle.giop_stream.specs.AnswersAgree.{AnswersAgree}
+use Rattle.giop_stream.specs.DueOctets.{begun_in, is_due_after}
 use Rattle.giop_stream.specs.HeaderEndsOfStream.{header_ends_from}
 use Rattle.giop_stream.specs.declared.fault.Stop.{Stop}
 use Rattle.giop_stream.specs.declared.fault.Stop.TheVariants as stop
@@ -21,12 +22,11 @@ use Rattle.tcp_segment.specs.declared.endpoint.Flow.{Flow}
 use Rattle.giop_conversation.specs.Tags.{with_tags, tagged}
 use Rattle.giop_conversation.specs.TaggedText.{ends_line, is_due, stopped_at}
 use Rattle.giop_conversation.specs.TaggedState.{Tagging, tagging_log, IsReady}
-use Rattle.giop_conversation.specs.Lines.{time_line}
-use Rattle.giop_conversation.specs.Exchanges.{Exchanged, answer_of, notified}
+use Rattle.giop_conversation.specs.Exchanges.{Exchanged, answer_of, notified, is_waiting}
 use Rattle.giop_conversation.specs.StreamReads.{AgreeWith, IsSetAlike, HasCome, HasStood, WritesTagged, reading_in}
-use Rattle.giop_conversation.specs.Stamped.{begin_lines, begun, time_due, answers_due, raises_due, told, taken, lines_due, exchanged, stamped}
+use Rattle.giop_conversation.specs.Stamped.{begin_lines, time_due, answers_due, raises_due, told, taken, lines_due, exchanged, stamped}
 use Rattle.giop_conversation.proofs.Tagging.{ready_wrote, ready_front, ready_with}
-use Rattle.giop_conversation.proofs.StampedLemmas.{IsTaken, AreQuiet, exchanged_both, stamped_both, exchanged_table, exchanged_time, exchanged_taken, agrees_behind, piece_text, piece_told}
+use Rattle.giop_conversation.proofs.StampedLemmas.{IsTaken, AreUndue, exchanged_both, stamped_both, exchanged_table, exchanged_time, exchanged_taken, agrees_behind, piece_text, piece_told}
 use Rattle.giop_conversation.proofs.LineEnds.{none_ends, stream_line_ends, stamped_ends}
 
 -- an engine that had not failed writes a front where a put fails
@@ -97,68 +97,59 @@ front_lines R s p octets n a b front =
     ∙ stamped_both R (take n octets) s p (drop n octets) in
     subst (WroteFront a b) (sym both) (front-append a b (stamped R s p (take n octets)) rest front)
 
-pub piece_size : (octets : List ℕ) (limit n : ℕ) → n ≡ min limit (length octets) →
-    length (take n octets) ≤ limit
-piece_size octets limit n is = (let l = length-take n octets in omega (arith, l, is))
+-- the first n of them are undue before the last
+pub undue_taken : (C : Table) (R : Rules) (s : Exchanged) (p octets : List ℕ) (n : ℕ) →
+    AreUndue C R s p octets n → AreUndue C R s p (take n octets) n
+undue_taken C R s p octets n undue k few =
+    ap (is_due_after is_waiting notified true C s R p) (take-take k n octets (omega (arith, few)))
+    ∙ undue k few
 
-module _ (C : Table) (a : Answers) (most : ℕ) where
+module _ (C : Table) (a : Answers) (most : ℕ) (s : Exchanged) (p octets : List ℕ) (n : ℕ)
+    (table : s.table ≡ C) (none : IsTaken s)
+    (undue : AreUndue C (rules_by C a most) s p octets n) (within : n ≤ length octets) where
   abbrev R : Rules
   R = rules_by C a most
 
-  due_is : (s s' : Exchanged) (p piece : List ℕ) (before behind : ℕ) (time : Option ℕ) →
-      s.table ≡ C → s.time ≡ time →
-      s' ≡ after_ends notified C s (header_ends_from R p piece) → before ≡ begun p →
-      behind ≡ begun (p ++ piece) →
-      (if nat_lt before behind then time_line behind time else [])
-      ++ (answers_due s'.answered time ++ raises_due s'.raised) ≡ lines_due R s p piece
-  unfolding lines_due
-  due_is s s' p piece before behind time table now is first second =
-      let tells : s' ≡ told R s p piece = is
-      ∙ ap (λ (D : Table). after_ends notified D s (header_ends_from R p piece)) (sym table) in
-      ap (λ n. (if nat_lt n behind then time_line behind time else [])
-      ++ (answers_due s'.answered time ++ raises_due s'.raised)) first
-      ∙ (ap (λ n. (if nat_lt (begun p) n then time_line n time else [])
-      ++ (answers_due s'.answered time ++ raises_due s'.raised)) second
-      ∙ (ap (λ (t : Exchanged). time_due p piece time
-      ++ (answers_due t.answered time ++ raises_due t.raised)) tells
-      ∙ ap (λ (t : Option ℕ). time_due p piece t
-      ++ (answers_due (told R s p piece).answered t ++ raises_due (told R s p piece).raised))
-      (sym now)))
+  abbrev piece : List ℕ
+  piece = take n octets
 
-  pub piece_written : {A E : Type 0} (r : Result A E) (s s' : Exchanged) (p piece : List ℕ)
-      (n before behind : ℕ)
-      (time : Option ℕ) (old fed new : OutLog) → IsTaken s → s.table ≡ C → s.time ≡ time →
-      AreQuiet R n p →
-      length piece ≤ n → Wrote old fed (added R p piece) →
-      s' ≡ after_ends notified C s (header_ends_from R p piece) →
-      before ≡ begun p → behind ≡ begun (p ++ piece) →
-      Writes r fed new ((if nat_lt before behind then time_line behind time else [])
+  piece_is : stamped R s p piece ≡ added R p piece ++ lines_due R s p piece
+  piece_is = piece_text C a most piece n s p table none (undue_taken C R s p octets n undue)
+      (omega (arith, length-take-le n octets within))
+
+  -- what was told of it
+  tells : (s' : Exchanged) → s' ≡ after_ends notified C s (header_ends_from R p piece) →
+      s' ≡ told R s p piece
+  tells s' is = is ∙ ap (λ (D : Table). after_ends notified D s (header_ends_from R p piece))
+      (sym table)
+
+  pub piece_written : {A E : Type 0} (r : Result A E) (s' : Exchanged) (begun time : Option ℕ)
+      (old fed new : OutLog) → s.time ≡ time → Wrote old fed (added R p piece) →
+      s' ≡ after_ends notified C s (header_ends_from R p piece) → begun ≡ begun_in p piece →
+      Writes r fed new (time_due begun time
       ++ (answers_due s'.answered time ++ raises_due s'.raised)) →
       Writes r old new (stamped R s p piece)
-  piece_written r s s' p piece n before behind time old fed new none table now quiet within wrote is
-      first second writes =
-      let due = due_is s s' p piece before behind time table now is first second in
-      subst (λ (t : List ℕ). Writes r old new t)
-      (sym (piece_text C a most piece n s p none quiet within))
+  unfolding lines_due
+  piece_written r s' begun time old fed new now wrote is begins writes =
+      let due : time_due begun time ++ (answers_due s'.answered time ++ raises_due s'.raised)
+      ≡ lines_due R s p piece = rw (begins, tells s' is, now) refl in
+      subst (Writes r old new) (sym piece_is)
       (writes_both r old fed new (added R p piece) (lines_due R s p piece) wrote
-      (subst (λ (t : List ℕ). Writes r fed new t) due writes))
+      (subst (Writes r fed new) due writes))
 
-  pub piece_calls : (s s' s'' : Exchanged) (p piece : List ℕ) (n : ℕ) → IsTaken s → s.table ≡ C →
-      AreQuiet R n p → length piece ≤ n →
+  pub piece_calls : (s' s'' : Exchanged) →
       s' ≡ after_ends notified C s (header_ends_from R p piece) → s'' ≡ taken s' →
       s'' ≡ exchanged R s p piece
-  piece_calls s s' s'' p piece n none table quiet within is behind =
-      behind ∙ (ap taken (is ∙ ap (λ (D : Table).
-      after_ends notified D s (header_ends_from R p piece)) (sym table))
-      ∙ sym (piece_told C a most piece n s p none quiet within))
+  piece_calls s' s'' is behind =
+      behind ∙ (ap taken (tells s' is) ∙ sym (piece_told C a most piece n s p table none
+      (undue_taken C R s p octets n undue) (omega (arith, length-take-le n octets within))))
 
   -- where the feeding of the piece failed
-  pub piece_front : (s : Exchanged) (p piece : List ℕ) (n : ℕ) (old new : OutLog) → IsTaken s →
-      AreQuiet R n p → length piece ≤ n →
-      WroteFront old new (added R p piece) → WroteFront old new (stamped R s p piece)
-  piece_front s p piece n old new none quiet within front =
-      subst (WroteFront old new) (sym (piece_text C a most piece n s p none quiet within))
-      (front-append old new (added R p piece) (lines_due R s p piece) front)
+  pub piece_front : (old new : OutLog) → WroteFront old new (added R p piece) →
+      WroteFront old new (stamped R s p octets)
+  piece_front old new front =
+      front_lines R s p octets n old new (subst (WroteFront old new) (sym piece_is)
+      (front-append old new (added R p piece) (lines_due R s p piece) front))
 
 -- ---- pieces, one after the other
 

@@ -1,7 +1,7 @@
 -- The calls of a connection, as the correspondent of a stream of it knows them (meaning). Of both
 -- directions the calls are kept that have no reply yet: those of the stream that is read, and those
 -- of the opposite one, which its Replies answer.
-use Rattle.std.specs.Prelude.{ℕ, ◌&&◌, ◌==◌, Bool, List, [], ◌∷◌, ◌++◌, length, Option, Some, None, nat_le, option_and_then, if◌then◌else◌}
+use Rattle.std.specs.Prelude.{ℕ, ◌&&◌, ◌||◌, ◌==◌, Bool, is_some, List, [], ◌∷◌, ◌++◌, length, Option, Some, None, nat_le, option_and_then, if◌then◌else◌}
 use Rattle.std.specs.List.{find}
 use Rattle.std.specs.Option.{option_map}
 use Rattle.giop_entry_table.specs.declared.entry_table.Entry.{Entry}
@@ -69,6 +69,10 @@ requested s number id (Some name) =
 abbrev pub kept_exception : ℕ → List ℕ → Option Raising
 kept_exception number name =
     if nat_le (length name) 128 then Some (record { message = number; name = name }) else None
+
+-- a Reply waits to be told: what it answers, or what it raises
+abbrev pub is_waiting : Exchanged → Bool
+is_waiting s = is_some s.answered || is_some s.raised
 
 -- behind the header of a Request, and behind that of a Reply, which takes the call that it answers
 abbrev pub notified : Exchanged → CallEvent → Exchanged

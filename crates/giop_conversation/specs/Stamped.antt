@@ -3,10 +3,10 @@
 -- there: when a message began, where that octet is the 12th of its header, which call a Reply
 -- answers, where the Reply's header ends, and which exception it raises, where the exception's name
 -- ends.
-use Rattle.std.specs.Prelude.{ℕ, List, [], ◌∷◌, ◌++◌, length, Option, Some, None, nat_lt, if◌then◌else◌}
+use Rattle.std.specs.Prelude.{ℕ, List, [], ◌∷◌, ◌++◌, Option, Some, None}
 use Rattle.giop_message.specs.HeaderEnds.{after_ends}
 use Rattle.giop_stream.specs.Rules.{Rules}
-use Rattle.giop_stream.specs.Framing.{cut, messages}
+use Rattle.giop_stream.specs.DueOctets.{begun_in}
 use Rattle.giop_stream.specs.HeaderEndsOfStream.{header_ends_from}
 use Rattle.giop_stream.specs.EngineHolds.{added}
 use Rattle.tcp_segment.specs.declared.endpoint.Flow.{Flow}
@@ -18,14 +18,10 @@ abbrev pub begin_lines : Option Flow → Option ℕ → List ℕ
 begin_lines None time = []
 begin_lines (Some flow) time = stream_line flow time
 
--- how many messages of the stream p have begun: the header of 12 octets is complete
-abbrev pub begun : List ℕ → ℕ
-begun p = length (messages (cut p))
-
--- when a message began, where one did in these octets after the stream p
-abbrev pub time_due : List ℕ → List ℕ → Option ℕ → List ℕ
-time_due p octets time =
-    if nat_lt (begun p) (begun (p ++ octets)) then time_line (begun (p ++ octets)) time else []
+-- when a message of this number began, where one did
+abbrev pub time_due : Option ℕ → Option ℕ → List ℕ
+time_due None time = []
+time_due (Some message) time = time_line message time
 
 -- which call a Reply answers, where it answers one
 abbrev pub answers_due : Option Answering → Option ℕ → List ℕ
@@ -49,7 +45,7 @@ taken s = record s { answered = None; raised = None }
 -- that the exchange has
 unfoldable pub lines_due : Rules → Exchanged → List ℕ → List ℕ → List ℕ
 lines_due R s p octets =
-    time_due p octets s.time
+    time_due (begun_in p octets) s.time
     ++ (answers_due (told R s p octets).answered s.time ++ raises_due (told R s p octets).raised)
 
 -- the calls of the connection behind these octets after the stream p

@@ -1,20 +1,24 @@
 -- What calls of a direction do with octets of its stream, and what they write (state).
-use Rattle.std.specs.Prelude.{◌≡◌, ℕ, List, ◌++◌, Option, None, Result, MatchResult}
+use Rattle.std.specs.Prelude.{◌≡◌, ℕ, true, false, List, ◌++◌, Option, None, Result, MatchResult}
 use Rattle.giop_print.specs.Output.{Wrote}
 use Rattle.giop_message.specs.Signatures.{Answers}
-use Rattle.giop_message.specs.HeaderEnds.{AgreesAtEnds}
 use Rattle.giop_stream.specs.EngineView.{EngineView}
 use Rattle.giop_stream.specs.EngineHolds.{HoldsBy, rules_with}
-use Rattle.giop_stream.specs.HeaderEndsOfStream.{header_ends_from}
+use Rattle.giop_stream.specs.AnswersAgree.{AgreesOver}
+use Rattle.giop_stream.specs.DueOctets.{is_due_after}
 use Rattle.giop_conversation.specs.Tags.{with_tags}
 use Rattle.giop_conversation.specs.TaggedState.{Tagging, tagging_log, IsReady, WroteTaggedFront}
-use Rattle.giop_conversation.specs.Exchanges.{Exchanged, answer_of, notified}
+use Rattle.giop_conversation.specs.Exchanges.{Exchanged, answer_of, notified, is_waiting}
 
 -- These answers agree with the calls of the connection at each header that ends in these octets
 -- after the stream p: each Reply has results of the operation of the call that it answers.
 abbrev pub AgreeWith : EngineView → Answers → Exchanged → List ℕ → List ℕ → Type 0
-AgreeWith e a s p octets =
-    AgreesAtEnds answer_of notified e.table s a (header_ends_from (rules_with e a) p octets)
+AgreeWith e a s p octets = AgreesOver answer_of notified s e a p octets
+
+-- no line of the conversation is due after these octets of the stream p
+abbrev pub IsUndueAfter : EngineView → Answers → Exchanged → List ℕ → List ℕ → Type 0
+IsUndueAfter e a s p octets =
+    is_due_after is_waiting notified true e.table s (rules_with e a) p octets ≡ false
 
 -- an engine reads by the same types, and allows as many open messages
 pub record IsSetAlike (e before : EngineView) : Type 0 where

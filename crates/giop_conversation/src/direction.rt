@@ -1,6 +1,6 @@
 //! One direction of a connection: the engine of its streams, and the number of the last one.
 
-ghost use Rattle.std.specs.Prelude.{◌≡◌, ◌≤◌, ◌<◌, ◌++◌, ℕ, List, [], length, take, None, IfOk, OnOk, MatchResult, nat_lt, if◌then◌else◌};
+ghost use Rattle.std.specs.Prelude.{◌≡◌, ◌≤◌, ◌<◌, ◌++◌, ℕ, List, [], length, take, None, false, IfOk, OnOk, MatchResult};
 ghost use Rattle.std.specs.Option.{option_map};
 ghost use Rattle.giop_print.specs.Output.{Writes, WroteFront};
 ghost use Rattle.giop_sig.specs.Table.{Table};
@@ -13,11 +13,13 @@ ghost use Rattle.giop_stream.specs.HeaderEndsOfStream.{header_ends_from};
 ghost use Rattle.giop_stream.specs.Stream.{closing, final};
 ghost use Rattle.giop_stream.specs.EngineHolds.{AreOf, HoldsBy, added, rules_with, status_of};
 ghost use Rattle.giop_conversation.specs.Tags.{with_tags, stream_tag as spec_stream_tag};
-ghost use Rattle.giop_conversation.specs.Lines.{closed_line as spec_closed_line, time_line as spec_time_line};
+ghost use Rattle.giop_conversation.specs.Lines.{closed_line as spec_closed_line};
 ghost use Rattle.giop_conversation.specs.TaggedState.{tagging_log, IsReady, WroteTaggedFront};
-ghost use Rattle.giop_conversation.specs.Exchanges.{answer_of, notified};
-ghost use Rattle.giop_conversation.specs.Stamped.{stamped, exchanged, taken, answers_due, raises_due, begin_lines};
-ghost use Rattle.giop_conversation.specs.StreamReads.{AgreeWith, IsSetAlike, HasCome, HasStood, WritesTagged, reading_in};
+ghost use Rattle.giop_message.specs.DueOctets.{TakesFront};
+ghost use Rattle.giop_stream.specs.DueOctets.{begun_in};
+ghost use Rattle.giop_conversation.specs.Exchanges.{answer_of, notified, is_waiting};
+ghost use Rattle.giop_conversation.specs.Stamped.{stamped, exchanged, taken, time_due, answers_due, raises_due, begin_lines};
+ghost use Rattle.giop_conversation.specs.StreamReads.{AgreeWith, IsUndueAfter, IsSetAlike, HasCome, HasStood, WritesTagged, reading_in};
 ghost use Rattle.giop_conversation.specs.Failing.{FailsByPut};
 ghost use Rattle.giop_conversation.specs.Directions.{HasRead};
 
@@ -27,7 +29,7 @@ use crate::tag::{Tag, stream_tag};
 use crate::tagged::Tagged;
 use giop_print::{Out, OutFault};
 use giop_sig::{Catalogue, Requests};
-use giop_stream::{Engine, NewFault, Status, Totals, answers_agree, answers_go_on};
+use giop_stream::{Engine, Fed, NewFault, Status, Totals, answers_agree, answers_go_on};
 use std::alloc::Global;
 use std::marker::Model;
 use tcp_flow::CloseCause;
@@ -122,31 +124,39 @@ impl<'a> Direction<'a> {
         write_begin(self.flow, time, out)
     }
 
-    /// Reads a piece of its stream, and writes the lines that it completes.
+    /// Reads a piece of its stream up to the first octet after which a line of the conversation is due, and writes the
+    /// lines of the stream that it completes.
     fn feed<O: Out>(
         &mut self,
         exchange: &mut Exchange<'a>,
         piece: &[u8],
         out: &mut Tagged<O>,
-    ) -> Result<Status, OutFault>
+    ) -> Result<Fed, OutFault>
         requires known { AreKnown self.old.engine.table (answer_of exchange.old) }
         ensures known { AreKnown self.new.engine.table (answer_of exchange.new) }
-        // Its stream has grown by the piece.
+        // Its stream has grown by the octets that were read.
         ensures read { (p : List ℕ) → HasRead self.old.engine p →
-            OnOk result (HasRead self.new.engine (p ++ piece.now)) }
+            IfOk result (λ fed. HasRead self.new.engine (p ++ take fed.count piece.now)) }
+        ensures begun { (p : List ℕ) → HasRead self.old.engine p →
+            IfOk result (λ fed. fed.begun ≡ begun_in p (take fed.count piece.now)) }
         ensures status { (p : List ℕ) → HasRead self.old.engine p →
-            IfOk result (λ s. s ≡ status_of (fault_of (cut (p ++ piece.now)).stop)) }
-        // By answers that agree with the calls, what the piece adds to the text is written, or a front of it; and the calls
-        // are those behind it.
+            IfOk result (λ fed. fed.status
+            ≡ status_of (fault_of (cut (p ++ take fed.count piece.now)).stop)) }
+        // By answers that agree with the calls, the calls are those behind them,
+        ensures come { (a : Answers) (p : List ℕ) → HoldsBy self.old.engine a p →
+            AgreeWith self.old.engine a exchange.old p piece.now →
+            IfOk result (λ fed. HoldsBy self.new.engine a (p ++ take fed.count piece.now)
+            × (exchange.new ≡ after_ends notified self.old.engine.table exchange.old
+            (header_ends_from (rules_with self.old.engine a) p (take fed.count piece.now)))) }
+        // and what they add to the text is written, or a front of it. No line is due after any of them but the last.
         ensures text { (a : Answers) (p : List ℕ) → HoldsBy self.old.engine a p →
             AgreeWith self.old.engine a exchange.old p piece.now →
-            MatchResult result
-            (λ _. HasCome self.new.engine a (p ++ piece.now) out.old out.new
-            (added (rules_with self.old.engine a) p piece.now) exchange.new
-            (after_ends notified self.old.engine.table exchange.old
-            (header_ends_from (rules_with self.old.engine a) p piece.now)))
-            (λ _. WroteFront (tagging_log out.old) (tagging_log out.new)
-            (added (rules_with self.old.engine a) p piece.now)) }
+            is_waiting exchange.old ≡ false →
+            TakesFront (λ fed. fed.count) (IsUndueAfter self.old.engine a exchange.old p)
+            (λ octets. Writes result (tagging_log out.old) (tagging_log out.new)
+            (added (rules_with self.old.engine a) p octets)) result piece.now }
+        ensures some { 0 < length piece.now → IfOk result (λ fed. 0 < fed.count) }
+        ensures within { IfOk result (λ fed. fed.count ≤ length piece.now) }
         ensures same { IsSetAlike self.new.engine self.old.engine }
         ensures fails { FailsByPut result out.old out.new }
         ensures stream { self.new.stream ≡ self.old.stream }
@@ -155,7 +165,7 @@ impl<'a> Direction<'a> {
         answers_agree();
         answers_go_on::<Exchange<'a>>();
         match self.engine.feed_by(exchange, piece, out) {
-            Ok(status) => Ok(status),
+            Ok(fed) => Ok(fed),
             Err(_) => {
                 self.engine.restart();
                 Err(OutFault)
@@ -197,12 +207,9 @@ impl<'a> Direction<'a> {
         ensures stream { self.new.stream ≡ self.old.stream }
         ensures flow { self.new.flow ≡ self.old.flow }
     {
-        let size = self.engine.piece_limit().min(octets.len());
-        let begun = self.engine.totals().messages;
-        let status = self.feed(exchange, &octets[..size], out)?;
-        let messages = self.engine.totals().messages;
-        write_due(exchange, begun, messages, time, out)?;
-        Ok((size, status))
+        let fed = self.feed(exchange, octets, out)?;
+        write_due(exchange, fed.begun, time, out)?;
+        Ok((fed.count, fed.status))
     }
 
     /// Reads octets of its stream, and writes the lines that they complete, at a time in nanoseconds since 1970-01-01 UTC.
@@ -281,23 +288,20 @@ fn write_begin<O: Out>(flow: Option<Flow>, time: Option<u128>, out: &mut O) -> R
     }
 }
 
-/// Writes when a message began, where one did: the messages that had begun before and behind octets are counted.
+/// Writes when a message of this number began, where one did.
 #[inline]
 fn write_time<O: Out>(
     exchange: &mut Exchange<'_>,
-    before: u64,
-    behind: u64,
+    begun: Option<u64>,
     time: Option<u128>,
     out: &mut O,
 ) -> Result<(), OutFault>
     ensures kept { exchange.new ≡ exchange.old }
-    ensures text { Writes result (O.log out.old) (O.log out.new)
-        (if nat_lt before behind then spec_time_line behind time else []) }
+    ensures text { Writes result (O.log out.old) (O.log out.new) (time_due begun time) }
 {
-    if before < behind {
-        exchange.write_time(behind, time, out)
-    } else {
-        Ok(())
+    match begun {
+        Some(message) => exchange.write_time(message, time, out),
+        None => Ok(()),
     }
 }
 
@@ -344,45 +348,39 @@ fn write_reply<O: Out>(
     }
 }
 
-/// Writes the lines that are due behind octets that were read: when a message began, where one did, which call a Reply
-/// answers, and which exception it raises. The messages that had begun before and behind them are counted.
-fn write_due<O: Out>(
-    exchange: &mut Exchange,
-    before: u64,
-    behind: u64,
-    time: Option<u128>,
-    out: &mut Tagged<O>,
-) -> Result<(), OutFault>
-    ensures taken { exchange.new ≡ taken exchange.old }
-    ensures fails { FailsByPut result out.old out.new }
-    ensures text { Writes result (tagging_log out.old) (tagging_log out.new)
-        ((if nat_lt before behind then spec_time_line behind time else [])
-        ++ (answers_due exchange.old.answered time ++ raises_due exchange.old.raised)) }
-{
-    if exchange.is_taken() {
-        return write_time(exchange, before, behind, time, out);
-    }
-    let written = write_told(exchange, before, behind, time, out);
-    exchange.forget_reply();
-    written
-}
-
 /// Writes when a message began, where one did, and then which call a Reply answers, and which exception it raises.
 fn write_told<O: Out>(
     exchange: &mut Exchange<'_>,
-    before: u64,
-    behind: u64,
+    begun: Option<u64>,
     time: Option<u128>,
     out: &mut Tagged<O>,
 ) -> Result<(), OutFault>
     ensures kept { exchange.new ≡ exchange.old }
     ensures fails { FailsByPut result out.old out.new }
     ensures text { Writes result (tagging_log out.old) (tagging_log out.new)
-        ((if nat_lt before behind then spec_time_line behind time else [])
+        (time_due begun time
         ++ (answers_due exchange.old.answered time ++ raises_due exchange.old.raised)) }
 {
-    match write_time(exchange, before, behind, time, out) {
+    match write_time(exchange, begun, time, out) {
         Ok(()) => write_reply(exchange, time, out),
         Err(fault) => Err(fault),
     }
+}
+
+/// Writes the lines that are due after octets that were read, and forgets what the last Reply answers and raises.
+fn write_due<O: Out>(
+    exchange: &mut Exchange,
+    begun: Option<u64>,
+    time: Option<u128>,
+    out: &mut Tagged<O>,
+) -> Result<(), OutFault>
+    ensures taken { exchange.new ≡ taken exchange.old }
+    ensures fails { FailsByPut result out.old out.new }
+    ensures text { Writes result (tagging_log out.old) (tagging_log out.new)
+        (time_due begun time
+        ++ (answers_due exchange.old.answered time ++ raises_due exchange.old.raised)) }
+{
+    let written = write_told(exchange, begun, time, out);
+    exchange.forget_reply();
+    written
 }

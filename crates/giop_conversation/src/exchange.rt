@@ -1,6 +1,6 @@
 //! The calls of a connection, as the correspondent of the stream that is read.
 
-ghost use Rattle.std.specs.Prelude.{◌≡◌, ◌≤◌, ◌&&◌, [], None, length, is_none, IfOk, IfSome, MatchOption};
+ghost use Rattle.std.specs.Prelude.{◌≡◌, ◌≤◌, [], None, length, IfOk, IfSome, MatchOption};
 ghost use Rattle.std.specs.Option.{option_map};
 ghost use Rattle.giop_print.specs.Output.{Writes};
 ghost use Rattle.giop_sig.specs.Table.{Table};
@@ -169,13 +169,6 @@ impl<'a> Exchange<'a> {
         }
     }
 
-    /// Whether no Reply waits to be told, neither what it answers nor what it raises.
-    pub fn is_taken(&self) -> bool
-        ensures { result ≡ (is_none self.now.answered && is_none self.now.raised) }
-    {
-        self.answered.is_none() && self.raised.is_none()
-    }
-
     /// Writes the line that says when the header of this message was complete, in the stream that is read.
     #[inline]
     pub(crate) fn write_time<O: Out>(
@@ -232,7 +225,8 @@ fn kept_exception(number: u64, name: &[u8]) -> Option<Raising>
 }
 
 impl<'a> Correspondent for Exchange<'a> {
-    ghost use Rattle.giop_conversation.specs.Exchanges.{Exchanged, answer_of, notified};
+    ghost use Rattle.std.specs.Prelude.{true};
+    ghost use Rattle.giop_conversation.specs.Exchanges.{Exchanged, answer_of, notified, is_waiting};
     ghost use Rattle.giop_conversation.specs.ExchangeLaws.{known_still};
 
     ghost State = { Exchanged };
@@ -242,6 +236,10 @@ impl<'a> Correspondent for Exchange<'a> {
     ghost answer = { answer_of };
 
     ghost notified = { notified };
+
+    ghost due = { is_waiting };
+
+    ghost awaits_messages = { true };
 
     fn operation(&self, id: u32) -> Option<OpId> {
         let call = self.opposite.find(id)?;
@@ -285,6 +283,15 @@ impl<'a> Correspondent for Exchange<'a> {
 
     fn raised(&mut self, number: u64, name: &[u8]) {
         self.raised = kept_exception(number, name);
+    }
+
+    /// Whether a Reply waits to be told, what it answers or what it raises.
+    fn is_due(&self) -> bool {
+        self.answered.is_some() || self.raised.is_some()
+    }
+
+    fn awaits_messages(&self) -> bool {
+        true
     }
 
     ghost known = { known_still };

@@ -22,7 +22,7 @@ fn a_reply_answers_the_call_of_the_other_direction(rt: HostRuntime) -> Result<()
     exchange.answered(2, 9);
     assert!(rt; exchange.replied() == 2);
     assert!(rt; exchange.operation(9).is_none());
-    assert!(rt; exchange.answering().is_some() && !exchange.is_taken());
+    assert!(rt; exchange.answering().is_some() && exchange.is_due());
     if let Some(answering) = exchange.answering() {
         assert!(rt; answering.message == 2);
         assert!(rt; answering.call.name.as_slice() == PING);
@@ -30,7 +30,7 @@ fn a_reply_answers_the_call_of_the_other_direction(rt: HostRuntime) -> Result<()
         assert!(rt; answering.call.time == Some(5));
     }
     exchange.forget_reply();
-    assert!(rt; exchange.answering().is_none() && exchange.is_taken());
+    assert!(rt; exchange.answering().is_none() && !exchange.is_due());
     Ok(())
 }
 

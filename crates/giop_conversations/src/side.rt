@@ -1,6 +1,6 @@
 //! One direction of a conversation, which knows the calls of both.
 
-ghost use Rattle.std.specs.Prelude.{◌≡◌};
+ghost use Rattle.std.specs.Prelude.{◌≡◌, false};
 ghost use Rattle.std.specs.Option.{option_map};
 ghost use Rattle.giop_conversations.specs.Sides.{SideState, answered_operation, after_event, requested, kept_name};
 ghost use Rattle.giop_conversations.specs.SideLaws.{stays_known};
@@ -12,7 +12,7 @@ use giop_sig::{Catalogue, OpId};
 use std::mem::swap;
 
 /// The correspondent of one direction's stream, by the calls of both: its Requests are added to its own, and its Replies
-/// take those of the other.
+/// take those of the other. It is never due.
 #[derive(Drop)]
 pub struct Side<'a> {
     pub catalogue: &'a Catalogue,
@@ -39,6 +39,10 @@ impl Correspondent for Side<'_> {
 
     ghost notified = { after_event };
 
+    ghost due = { λ _. false };
+
+    ghost awaits_messages = { false };
+
     fn operation(&self, id: u32) -> Option<OpId> {
         let call = self.theirs.find(id)?;
         self.catalogue.operation(call.name.as_slice())
@@ -60,6 +64,14 @@ impl Correspondent for Side<'_> {
     }
 
     fn raised(&mut self, _number: u64, _name: &[u8]) {}
+
+    fn is_due(&self) -> bool {
+        false
+    }
+
+    fn awaits_messages(&self) -> bool {
+        false
+    }
 
     ghost known = { λ C s event k h. stays_known C s event k };
 }

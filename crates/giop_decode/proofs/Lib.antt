@@ -37,7 +37,6 @@ mod SoFar
 mod Gathering
 mod Whole
 mod Passing
-mod OctetsLeft
 mod NextParts
 mod NextPieces
 mod WholeTexts

@@ -15,10 +15,9 @@ use Rattle.giop_decode.specs.ReadResult.{Coding, PathSegment, Switch, Line, Open
 use Rattle.giop_decode.specs.Pieces.{Partial, block, number}
 use Rattle.giop_decode.specs.Reading.{cut_off, parts_from, read, rest_of}
 use Rattle.giop_decode.specs.Begins.{start_outer, start_leaf}
-use Rattle.giop_decode.specs.ReadingSteps.{IsOctetResult, IsEmptyResult, advance, part_at, resumed, resumes, step}
+use Rattle.giop_decode.specs.ReadingSteps.{IsOctetResult, IsEmptyResult, advance, part_at, resumed, step}
 use Rattle.giop_decode.specs.Fits.{HasParts, Sound}
 use Rattle.giop_decode.specs.Noted.{Noted, noted, in_content, ends_in_string, is_member, is_text}
-use Rattle.giop_decode.specs.OctetsLeft.{octets_left, left_in, IsUnended}
 use Rattle.giop_decode.specs.Runs.{added_lines_of_run}
 use Rattle.giop_decode.specs.Spelling.{lines_text}
 use Rattle.giop_decode.proofs.Law as law
@@ -30,7 +29,6 @@ use Rattle.giop_decode.proofs.Resuming as resuming
 use Rattle.giop_decode.proofs.Noting as hearing
 use Rattle.giop_decode.proofs.Runs as runs
 use Rattle.giop_decode.proofs.Depths as depths
-use Rattle.giop_decode.proofs.OctetsLeft as left
 
 -- The laws of `reading_laws`: one octet more is one step;
 pub read_goes : (coding : Coding) (path : List PathSegment) (T : Ty) (at : ℕ) (s : List ℕ) (b : ℕ) →
@@ -47,18 +45,6 @@ step_now coding path outer leaf at b = now.step_now coding path outer leaf at b
 pub read_keeps : (d : ℕ) (coding : Coding) (path : List PathSegment) (T : Ty) → IsFit d T →
     (at : ℕ) (s : List ℕ) → Sound T (at + length s) (read coding path T at s)
 read_keeps d coding path T fit at s = sound.read_keeps d coding path T fit at s
-
--- Fewer octets than have to come of the innermost part do not end the value, be it read from its
--- first octet,
-pub read_unended : (coding : Coding) (path : List PathSegment) (T : Ty) (at : ℕ) (s q : List ℕ) →
-    length q < left_in (read coding path T at s) → IsUnended (read coding path T at (s ++ q))
-read_unended coding path T at s q h = left.read_unended coding path T at s q h
-
--- or be it resumed.
-pub resumes_unended : (coding : Coding) (path : List PathSegment) (at : ℕ) (outer : List OpenPart)
-    (leaf : Leaf) (q : List ℕ) →
-    length q < octets_left leaf → IsUnended (resumes coding path (Short [] at outer leaf) q)
-resumes_unended coding path at outer leaf q h = left.resumes_unended coding path at outer leaf q h
 
 -- Lines in front, and what is noted of them.
 

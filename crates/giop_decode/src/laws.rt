@@ -1,6 +1,6 @@
 //! The laws of reading: what one octet more, or many, do to the reading of a list, and what is noted of a reading.
 
-ghost use Rattle.std.specs.Prelude.{◌≡◌, ℕ, ◌+◌, ◌<◌, Bool, List, [], ◌∷◌, ◌++◌, length, flat_map};
+ghost use Rattle.std.specs.Prelude.{◌≡◌, ℕ, ◌+◌, Bool, List, [], ◌∷◌, ◌++◌, length, flat_map};
 ghost use Rattle.giop_sig.specs.Types.{Ty};
 ghost use Rattle.giop_sig.specs.Fits.{IsFit};
 ghost use Rattle.giop_decode.specs.ReadResult.{Coding, PathSegment, Line, OpenPart, Leaf, Short, lines_of};
@@ -9,7 +9,6 @@ ghost use Rattle.giop_decode.specs.Begins.{start_outer, start_leaf};
 ghost use Rattle.giop_decode.specs.ReadingSteps.{step, advance, resumes, IsOctetResult};
 ghost use Rattle.giop_decode.specs.Fits.{FitsIn, Sound, Surrounds};
 ghost use Rattle.giop_decode.specs.Noted.{noted_of};
-ghost use Rattle.giop_decode.specs.OctetsLeft.{left_in, IsUnended};
 ghost use Rattle.giop_decode.specs.NotedFromLines.{TextPiece, pieces_of, AreUnended, IsLeft};
 
 /// The reading of a list follows from the parts that the reading of a front of it has begun and not ended, and the
@@ -48,9 +47,6 @@ pub fn reading_laws()
         (leaf : Leaf) (at b : ℕ) → IsFit d T →
         FitsIn T outer leaf → Surrounds at outer →
         Sound T (at + 1) (step coding path outer leaf at b) }
-    // Fewer octets than have to come of the innermost part do not end the value.
-    ensures left { (coding : Coding) (path : List PathSegment) (T : Ty) (at : ℕ) (s q : List ℕ) →
-        length q < left_in (read coding path T at s) → IsUnended (read coding path T at (s ++ q)) }
 {}
 
 /// What is noted of a reading follows from its lines: the first request id of a header, the last of the enums, and the

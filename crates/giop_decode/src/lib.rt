@@ -13,7 +13,6 @@ mod leaf;
 mod line;
 mod lookahead;
 mod notes;
-mod octets_left;
 mod parts;
 mod pieces;
 mod progress;

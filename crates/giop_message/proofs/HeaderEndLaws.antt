@@ -1,8 +1,8 @@
 -- The headers and the names of exceptions that end in octets of a message, and the state of a
 -- correspondent after them.
-use Rattle.std.proofs.Common.{◌≡◌, ℕ, ◌+◌, Bool, true, false, List, [], ◌∷◌, ◌++◌, Option, Some, None, refl, sym, ap, subst, ◌∙◌, append-nil, append_assoc, take, drop, take-add, map, ◌⊎◌, inl, inr}
+use Rattle.std.proofs.Common.{◌≡◌, ℕ, ◌+◌, ◌-◌, ◌<◌, ◌≤◌, arith, Bool, true, false, List, [], ◌∷◌, ◌++◌, Option, Some, None, refl, sym, ap, subst, ◌∙◌, append-nil, append_assoc, take, drop, take-add, map, ◌⊎◌, inl, inr}
 use Rattle.std.proofs.lemmas.List.{take-append-drop}
-use Rattle.std.proofs.lemmas.Bool.{false≢true}
+use Rattle.std.proofs.lemmas.Bool.{cases_lt, false≢true}
 use Rattle.giop_sig.specs.Types.{Ty}
 use Rattle.giop_sig.specs.Table.{Table}
 use Rattle.giop_sig.specs.HeaderTypes.{header_type}
@@ -18,7 +18,8 @@ use Rattle.giop_message.specs.Messages.{Stage, In_typed, In_padding, In_rest, Ov
 use Rattle.giop_message.specs.ReaderOfTable.{is_over, timed_line_of, closing_of, remarks_by, closes_by}
 use Rattle.giop_message.specs.MessageState.{is_header}
 use Rattle.giop_message.proofs.Raises.{is_settled, raised_stays, raised_settled, raised_before, raised_apart}
-use Rattle.giop_message.specs.HeaderEnds.{HeaderEnd, Header_end, Exception_end, CallEvent, noted_if_whole, noted_by_type, header_noted, ends_between, raised, raises_between, header_ends, stage_told_after, reply_ahead, at_least, told_after, call_event, after_event, after_ends, AgreesAtEnds}
+use Rattle.giop_message.specs.DueOctets.{StaysUndue}
+use Rattle.giop_message.specs.HeaderEnds.{HeaderEnd, Header_end, Exception_end, CallEvent, noted_if_whole, noted_by_type, header_noted, ends_between, raised, raises_between, header_ends, call_event, after_event, after_ends, AgreesAtEnds}
 
 -- ---- what is noted of a whole header stays the same
 
@@ -153,6 +154,35 @@ header_ends_none number header s = rw (append-nil s, raises_same number (raised 
     go None = refl
     go (Some h) = refl
 
+-- after octets, of which more end neither
+pub ends_further : (number : ℕ) (header s octets : List ℕ) (t j : ℕ) →
+    header_ends number header (s ++ take t octets) (take j (drop t octets)) ≡ [] →
+    header_ends number header s (take (t + j) octets) ≡ header_ends number header s (take t octets)
+ends_further number header s octets t j none =
+    ap (header_ends number header s) (take-add t j octets)
+    ∙ (header_ends_both number header s (take t octets) (take j (drop t octets))
+    ∙ rw none (append-nil (header_ends number header s (take t octets))))
+
+-- so a correspondent stays as due as it was before these
+module _ {St : Type 0} (due : St → Bool) (notified : St → CallEvent → St) (C : Table) (st : St)
+    (number : ℕ) (header s octets : List ℕ) where
+  abbrev Undue : ℕ → Type 0
+  Undue k = StaysUndue due notified C st (header_ends number header s) (take k octets)
+
+  pub fronts_on : (t n : ℕ) → ((k : ℕ) → k ≤ t → Undue k) →
+      ((j : ℕ) → j < n → header_ends number header (s ++ take t octets) (take j (drop t octets))
+      ≡ []) → (k : ℕ) → k < t + n → Undue k
+  fronts_on t n before none k few = go (cases_lt t k)
+    where
+      go : (t < k) ⊎ (k ≤ t) → Undue k
+      go (inl above) calm =
+          let at : t + (k - t) ≡ k = omega (arith, above) in
+          let same = ends_further number header s octets t (k - t)
+          (none (k - t) (omega (arith, above, few))) in
+          subst (λ i. due (after_ends notified C st (header_ends number header s (take i octets)))
+          ≡ false) at (rw same (before t (omega arith) calm))
+      go (inr below) calm = before k below calm
+
 -- ---- one octet ends a header, or a name, or neither
 
 name_or_none : (number : ℕ) (a b : Option (List ℕ)) →
@@ -284,34 +314,6 @@ over_none C answer number header s more e =
     rw (over_header C answer number header s more e)
     (settled_none C answer number header s more
     (over_settled (stage_of (message (signatures_of C answer) header s)) e))
-
-none_at_least : (fewest : ℕ) (o : Option ℕ) → at_least fewest o ≡ None → o ≡ None
-none_at_least fewest None e = refl
-none_at_least fewest (Some n) e = absurd cc
-
--- Where no more is told none ends.
-pub nothing_told : (C : Table) (answer : Answer) (number : ℕ) (header s more : List ℕ) →
-    told_after (signatures_of C answer) header s ≡ None → header_ends number header s more ≡ []
-unfolding header_ends told_after stage_told_after waits is_settled is_over
-nothing_told C answer number header s more e =
-    go (stage_of (message (signatures_of C answer) header s)) refl
-    (none_at_least (reply_ahead header s) _ e)
-  where
-    go : (g : Stage) → stage_of (message (signatures_of C answer) header s) ≡ g →
-        stage_told_after g ≡ None →
-        ends_between number header (header_noted header s) (header_noted header (s ++ more))
-        ++ raises_between number (raised header s) (raised header (s ++ more)) ≡ []
-    go (In_typed sections.Header h outer leaf) is e = absurd cc
-    go (In_typed sections.Exception h outer leaf) is e = absurd cc
-    go (In_typed sections.SystemException h outer leaf) is e = absurd cc
-    go (In_typed sections.Body h outer leaf) is e =
-        rw (past_none C answer number header s more (ap waits is))
-        (settled_none C answer number header s more (ap is_settled is))
-    go (In_padding b) is e = absurd cc
-    go (In_rest offset held) is e =
-        rw (past_none C answer number header s more (ap waits is))
-        (settled_none C answer number header s more (ap is_settled is))
-    go Over is e = over_none C answer number header s more (ap is_over is)
 
 -- ---- events, and then others
 

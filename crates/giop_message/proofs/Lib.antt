@@ -19,8 +19,6 @@ mod Rests
 mod Dues
 mod Raises
 mod HeaderEndLaws
-mod ReplyHeaders
-mod ToldAfter
 mod MessageAgreement
 mod Closing
 mod Leaving

@@ -23,13 +23,12 @@ pub use Rattle.giop_message.proofs.RequestIdLine.{few_said, four_said}
 pub use Rattle.giop_message.proofs.Followings.{told_more}
 pub use Rattle.giop_message.proofs.Faults.{over_where_faulted}
 -- the text of octets: of two lists one after the other, of none, and after a fault
-pub use Rattle.giop_message.proofs.Dues.{text_both, text_none, text_over}
+pub use Rattle.giop_message.proofs.Dues.{text_both, text_none, text_over, text_ended}
 -- one octet, and the close, by the reading alone (`message_reader_laws`)
 pub use Rattle.giop_message.proofs.AtOctet.{octet_text, octet_over, close_short}
 pub use Rattle.giop_message.proofs.AtOctet.{close_is}
 -- where headers and names end, and what is told of some and then of others
-pub use Rattle.giop_message.proofs.HeaderEndLaws.{header_ends_both, header_ends_none, one_octet, over_none, nothing_told, told_both, answers_first, answers_then}
-pub use Rattle.giop_message.proofs.ToldAfter.{nothing_told_before, others_silent}
+pub use Rattle.giop_message.proofs.HeaderEndLaws.{header_ends_both, header_ends_none, one_octet, over_none, ends_over, told_both, answers_first, answers_then}
 pub use Rattle.giop_message.proofs.HeaderEndLaws.{header_noted_before, alike_remarks, alike_closes}
 pub use Rattle.giop_message.proofs.MessageAgreement.{follows_agree}
 

@@ -1,5 +1,5 @@
 -- Octets of a section, taken as a run: their text, and where the message is after them.
-use Rattle.std.proofs.Common.{◌≡◌, ℕ, ◌+◌, ◌-◌, ◌<◌, ◌≤◌, Bool, true, false, List, [], ◌∷◌, ◌++◌, length, take, drop, refl, sym, ap, subst, ◌∙◌, append_assoc, append-nil, arith, length-append}
+use Rattle.std.proofs.Common.{◌≡◌, ℕ, zero, suc, ◌+◌, ◌-◌, ◌<◌, ◌≤◌, Bool, true, false, List, [], ◌∷◌, ◌++◌, length, take, drop, refl, sym, ap, subst, ◌∙◌, append_assoc, append-nil, arith, length-append}
 use Rattle.std.proofs.Math.Seq.{take-append_seam}
 use Rattle.std.proofs.lemmas.List.{length-take-le, take-append-drop}
 use Rattle.giop_cdr.specs.declared.order.Order.{Order}
@@ -74,6 +74,18 @@ last_one o T at root s (b ∷ b' ∷ xs) p some h =
       answer = subst (λ z. Answers o T at root z l.octet p) (append_assoc s (b ∷ []) l.front)
           l.answer;
     }
+
+-- octets after which the value goes on, and each front of them
+pub more_fronts : (o : Order) (T : Ty) (at : ℕ) (root : Root) (k : ℕ) (s xs : List ℕ) →
+    AreAnswered o T at root s xs progress.More →
+    AreAnswered o T at root s (take k xs) progress.More
+more_fronts o T at root zero s xs h = refl
+more_fronts o T at root (suc k) s [] h = refl
+more_fronts o T at root (suc zero) s (b ∷ []) h = h
+more_fronts o T at root (suc (suc k)) s (b ∷ []) h = h
+more_fronts o T at root (suc k) s (b ∷ b' ∷ xs) h =
+    answered_more o T at root s b (take k (b' ∷ xs)) h.0
+    (more_fronts o T at root k (s ++ b ∷ []) (b' ∷ xs) h.1)
 
 -- ---- a section after them
 
@@ -280,22 +292,15 @@ module _ (w : Begun) (s octets : List ℕ) (i : Inside w s octets) where
 
   -- a put failed at one of them
   pub run_broken : (xs : List ℕ) (place : ℕ) (a b : OutLog) →
-      BreaksOff T (O w) (start w) number (R w) octets xs a b →
-      WroteFront a b (due_text S number place header s xs)
+      (broke : BreaksOff T (O w) (start w) number (R w) octets xs a b) →
+      WroteFront a b (due_text S number place header s (broke.front ++ broke.octet ∷ []))
   run_broken xs place a b broke =
       let fr = broke.front ++ broke.octet ∷ [] in
       let at = at_last broke.front broke.answers in
       let one = any_text w (s ++ broke.front) (octets ++ broke.front) at broke.octet
       (place + length broke.front) in
-      let text = ends_in fr broke.front broke.octet place _ refl broke.answers one in
-      rw (
-        broke.all,
-        ← append_assoc broke.front (broke.octet ∷ []) broke.rest,
-        whole.text_both S number place header s fr broke.rest,
-      )
-      (front-append a b (due_text S number place header s fr)
-      (due_text S number (place + length fr) header (s ++ fr) broke.rest)
-      (rw text (front-append a b (Lines fr) _ broke.wrote)))
+      rw (ends_in fr broke.front broke.octet place _ refl broke.answers one)
+      (front-append a b (Lines fr) _ broke.wrote)
 
   -- ---- where the message is after them
 

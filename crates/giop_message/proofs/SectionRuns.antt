@@ -1,13 +1,13 @@
 -- A message that follows a list, in a section whose decoder took a run of octets: what it wrote,
 -- and where the message is after them.
-use Rattle.std.proofs.Common.{◌≡◌, append-nil, Result, Ok, Err, IsErr, ℕ, ◌+◌, ◌<◌, ◌≤◌, Bool, true, false, List, [], ◌∷◌, ◌++◌, length, take, drop, get_or, Option, Some, None, refl, sym, ap, subst, ◌∙◌, arith}
-use Rattle.std.specs.Prelude.{cond, if◌then◌else◌}
-use Rattle.std.proofs.lemmas.List.{length-take-le, take-append-drop}
+use Rattle.std.proofs.Common.{◌≡◌, append-nil, Result, Ok, Err, IsErr, ℕ, zero, suc, ◌+◌, ◌<◌, ◌≤◌, Bool, true, false, List, [], ◌∷◌, ◌++◌, length, take, drop, get_or, Option, Some, None, refl, sym, ap, subst, ◌∙◌, append_assoc, length-append, arith}
+use Rattle.std.specs.Prelude.{cond, IfOk}
+use Rattle.std.proofs.lemmas.List.{length-take-le, length_push, take-append-drop, take-append-le, take-take, take_at}
 use Rattle.std.proofs.lemmas.Bool.{false≢true}
 use Rattle.giop_cdr.specs.declared.order.Order.{Order}
-use Rattle.giop_print.proofs.Writing.{front-append, wrote-front}
+use Rattle.giop_print.proofs.Writing.{writes_failed, wrote-front}
 use Rattle.giop_print.specs.Lines.{fault_line}
-use Rattle.giop_print.specs.Output.{OutLog, Wrote, WroteFront}
+use Rattle.giop_print.specs.Output.{OutLog, Wrote, WroteFront, Writes}
 use Rattle.giop_print.specs.declared.path.Root.{Root}
 use Rattle.giop_print.specs.declared.path.Root.TheVariants as roots
 use Rattle.giop_sig.specs.Types.{Ty}
@@ -21,9 +21,8 @@ use Rattle.giop_decode.specs.ReadResult.{plain, Line, OpenPart, Leaf, Read, Done
 use Rattle.giop_decode.specs.Reading.{read}
 use Rattle.giop_decode.specs.ReadingSteps.{resumes}
 use Rattle.giop_decode.specs.Noted.{Noted, nothing_noted, noted, noted_of, is_header_root}
-use Rattle.giop_decode.specs.OctetsLeft.{octets_left, left_in}
 use Rattle.giop_decode.specs.DecoderState as decoders
-use Rattle.giop_decode.specs.Runs.{TakesRun, BreaksOff}
+use Rattle.giop_decode.specs.Runs.{AreAnswered, TakesRun, BreaksOff}
 use Rattle.giop_message.specs.declared.message.Message.{Message as Struct_of}
 use Rattle.giop_message.specs.declared.part.Section.{Section}
 use Rattle.giop_message.specs.declared.part.Part.TheVariants as parts
@@ -33,39 +32,25 @@ use Rattle.giop_message.specs.declared.body_type.BodyTypeId.{BodyTypeId}
 use Rattle.giop_message.specs.Headers.{minor, kind, order}
 use Rattle.giop_message.specs.Signatures.{Signatures, Answer, Answers, signatures_of}
 use Rattle.giop_message.specs.Messages.{LineAt, with_front, section_then, section_and_rest, message, message_lines, stage_of, root_of, after}
-use Rattle.giop_message.specs.HeaderEnds.{HeaderEnd, CallEvent, Header_end, noted_if_whole, noted_by_type, header_noted, ends_between, named_if_whole, raised, raises_between, header_ends, is_told, stage_told_after, operation_of, raise_event, after_event, after_ends, AgreesAtEnds}
+use Rattle.giop_message.specs.HeaderEnds.{HeaderEnd, CallEvent, Header_end, noted_if_whole, noted_by_type, header_noted, ends_between, named_if_whole, raised, raises_between, header_ends, operation_of, raise_event, after_event, after_ends, AgreesAtEnds}
 use Rattle.giop_message.specs.ReaderOfTable.{first_request_id}
 use Rattle.giop_message.specs.Text.{fault_word}
 use Rattle.giop_message.specs.MessageState.{due_text, IsFirst, Decodes, Stands, FitsPart, Fits, is_header, in_header, Follows, FaultedAt}
-use Rattle.giop_message.specs.MessageSteps.{request_call, section_event, Arrives, WritesRun}
-use Rattle.giop_message.proofs.Dues.{text_both}
-use Rattle.giop_message.proofs.HeaderEndLaws.{waits, past_none, settled_none, header_ends_both, answers_first}
+use Rattle.giop_message.specs.MessageSteps.{request_call, section_event, Arrives}
+use Rattle.giop_message.specs.DueOctets.{TakesFront}
+use Rattle.giop_message.proofs.HeaderEndLaws.{waits, past_none, settled_none, header_ends_both, header_ends_none, answers_first}
 use Rattle.giop_message.proofs.Raises.{is_raising, raises_here, pads_here, is_settled, offset_of, tail_name, named_on, EndsHere, raised_before, raised_inside, raised_pads, raised_ended}
 use Rattle.giop_message.proofs.Octets.{stage_front}
 use Rattle.giop_message.proofs.Parts.{Begun, start, reading, Inside}
 use Rattle.giop_message.proofs.Followings.{header_only, id_noted, Moved, is_at, follows_on}
-use Rattle.giop_message.proofs.Runs.{Last, LinesOf, last_one, run_more, run_done, run_named_in, run_named, run_wrong, run_broken, decodes, same_id, last_answer, done_comes, fault_comes}
+use Rattle.giop_message.proofs.Runs.{Last, LinesOf, last_one, more_fronts, run_more, run_done, run_named_in, run_named, run_wrong, run_broken, decodes, same_id, last_answer, done_comes, fault_comes}
 
--- ---- what one call over a run wrote
+-- nothing is said of the result of a call that failed
+pub if_err : {A E : Type 0} (P : A → Type 0) (r : Result A E) → IsErr r → IfOk r P
+if_err P (Ok x) e = absurd (false≢true e)
+if_err P (Err e) failed = tt
 
--- a put failed at octets of it
-pub run_front : (S : Signatures) (number place : ℕ) (header s octets : List ℕ) (n : ℕ)
-    (a b : OutLog) → WroteFront a b (due_text S number place header s (take n octets)) →
-    WroteFront a b (due_text S number place header s octets)
-run_front S number place header s octets n a b w =
-    rw (
-      ← take-append-drop n octets,
-      text_both S number place header s (take n octets) (drop n octets),
-    ) (front-append a b _ _ w)
-
-pub run_failed : {E : Type 0} (r : Result (ℕ × Bool) E) (S : Signatures) (number place : ℕ)
-    (header s octets : List ℕ) (a b : OutLog) → IsErr r →
-    WroteFront a b (due_text S number place header s octets) →
-    WritesRun r S number place header s octets a b
-run_failed (Ok v) S number place header s octets a b e w = absurd (false≢true e)
-run_failed (Err v) S number place header s octets a b e w = w
-
--- the first of them
+-- the first of octets
 pub first_alone : (octets : List ℕ) → 0 < length octets → take 1 octets ≡ get_or octets 0 0 ∷ []
 first_alone [] some = absurd (omega arith)
 first_alone (x ∷ xs) some = refl
@@ -188,11 +173,10 @@ module _ (t : Standing) where
   by_reads each = each opened.T (order header) (start begun) number (root_of section) octets_of
       opened.reads
 
-  -- a put failed at one of the octets
-  pub text_broken : (xs : List ℕ) (place : ℕ) (a b : OutLog) →
-      BreaksOff opened.T (order header) (start begun) number (root_of section) octets_of xs a b →
-      WroteFront a b (due_text S number place header s xs)
-  text_broken xs place a b broke = run_broken begun s octets_of inside xs place a b broke
+  -- a put fails at one of the octets
+  abbrev pub Breaks : List ℕ → OutLog → OutLog → Type 0
+  Breaks xs a b = BreaksOff opened.T (order header) (start begun) number (root_of section) octets_of
+      xs a b
 
   -- What its decoder took of octets: so many, and its answer to the last of them.
   pub record Took (octets : List ℕ) (n : ℕ) (d' : Decoder) (p : Progress) : Type 0 where
@@ -264,16 +248,6 @@ module _ {t : Standing} {octets : List ℕ} {n : ℕ} {d' : Decoder} where
       ∙ ap (λ x. ValueLine t octets n ++ fault_line x (fault_word why) (place + n))
       (sym follows.same_number)
 
-  -- a put failed after those lines
-  pub failed_behind : {p : Progress} {E : Type 0} (r : Result (ℕ × Bool) E) (place : ℕ)
-      {a b c : OutLog} {x y : List ℕ} → IsErr r →
-      Took t octets n d' p → Text t octets n place ≡ x ++ y → Wrote a b x → WroteFront b c y →
-      WritesRun r (S t) number place header s octets a c
-  failed_behind {p} r place {a} {b} {c} {x} {y} failed k text wrote front =
-      run_failed r (S t) number place header s octets a c failed
-      (run_front (S t) number place header s octets n a c
-      (rw text (wrote-front a b c x y wrote front)))
-
   -- ---- where the message is after them
 
   -- where it ends an operation it is a header's
@@ -338,13 +312,6 @@ body_short : (S : Signatures) (header : List ℕ) (h : Noted) (lines : List Line
 unfolding section_then stage_of is_settled
 body_short S header h lines at outer leaf = refl
 
-told_short : (S : Signatures) (header : List ℕ) (section : Section) (h : Noted) (lines : List Line)
-    (at : ℕ) (outer : List OpenPart) (leaf : Leaf) →
-    stage_told_after (stage_of (section_and_rest S header section h (Short lines at outer leaf)))
-    ≡ (if is_told section then Some (octets_left leaf) else None)
-unfolding section_then stage_of stage_told_after
-told_short S header section h lines at outer leaf = refl
-
 short_tail : (S : Signatures) (header : List ℕ) (section : Section) (before : List LineAt)
     (lines : List Line)
     (at : ℕ) (outer : List OpenPart) (leaf : Leaf) (xs : List ℕ) →
@@ -404,28 +371,6 @@ module _ (t : Standing) where
       let i = inside t in
       i.is ∙ ap (λ r. with_front (begun t).before
       (section_and_rest (S t) header section nothing_noted r)) i.was_short
-
-  -- after how many octets the correspondent is told
-  section_told : stage_told_after (stage_of (message (S t) header s))
-      ≡ (if is_told section then Some (octets_left (inside t).leaf) else None)
-  section_told =
-      ap (λ z. stage_told_after (stage_of z)) stands_short
-      ∙ (ap stage_told_after (stage_front _ _)
-      ∙ told_short (S t) header section nothing_noted _ _ _ _)
-
-  pub section_untold : is_told section ≡ false →
-      None ≡ stage_told_after (stage_of (message (S t) header s))
-  section_untold e = sym (section_told ∙ rw e refl)
-
-  -- by its decoder
-  pub section_value : is_told section ≡ true → (n : ℕ) →
-      ((T : Ty) (o : Order) (at number : ℕ) (root : Root) (xs : List ℕ) →
-      decoders.Reads C T o at number root d xs → n ≡ left_in (read (plain o) [] T at xs)) →
-      Some n ≡ stage_told_after (stage_of (message (S t) header s))
-  unfolding left_in
-  section_value e n left =
-      let here = by_reads t left ∙ ap left_in (inside t).was_short in
-      sym (section_told ∙ rw (e, here) refl)
 
   -- another section ends none
   section_none : is_header section ≡ false → (more : List ℕ) →
@@ -520,24 +465,19 @@ module _ (C : Table) (number : ℕ) (header : List ℕ) {St : Type 0} (notified 
   event_ends sections.SystemException r = name_ends (noted_of false r).name
   event_ends sections.Body r = refl
 
-module _ {t : Standing} {octets : List ℕ} {n : ℕ} {d' : Decoder} where
-  open t use {C, answers, number, header, m, s, follows, section}
+module _ (t : Standing) (xs : List ℕ) (p : Progress) (l : LastOf t xs p) (other : IsNoEnd p) where
+  open t use {number, header, s, section}
 
-  -- octets that end no section end no header and no name
-  pub none_ends : {p : Progress} → Took t octets n d' p → IsNoEnd p →
-      header_ends number header s (take n octets) ≡ []
+  none_read : (noted_if_whole (ReadWith t xs) ≡ None)
+      × (named_if_whole nothing_noted (ReadWith t xs) ≡ None)
+  none_read =
+      let a = last_answer (begun t) s (octets_of t) (inside t) xs p l in
+      answer_none a.0 a.1 p (ReadWith t xs) a.2 other
+
+  ends_none : header_ends number header s xs ≡ []
   unfolding header_ends
-  none_ends {p} k other = go section refl
+  ends_none = go section refl
     where
-      xs : List ℕ
-      xs = take n octets
-
-      none : (noted_if_whole (ReadWith t xs) ≡ None)
-          × (named_if_whole nothing_noted (ReadWith t xs) ≡ None)
-      none =
-          let a = last_answer (begun t) s (octets_of t) (inside t) xs p (last p k) in
-          answer_none a.0 a.1 p (ReadWith t xs) a.2 other
-
       raising : is_raising section ≡ true → is_header section ≡ false →
           ends_between number header (header_noted header s) (header_noted header (s ++ xs))
           ++ raises_between number (raised header s) (raised header (s ++ xs)) ≡ []
@@ -545,7 +485,7 @@ module _ {t : Standing} {octets : List ℕ} {n : ℕ} {d' : Decoder} where
         section_none t past xs,
         name_short t raises,
         name_is t raises xs,
-        none.1,
+        none_read.1,
       ) refl
 
       go : (x : Section) → section ≡ x →
@@ -553,11 +493,97 @@ module _ {t : Standing} {octets : List ℕ} {n : ℕ} {d' : Decoder} where
           ++ raises_between number (raised header s) (raised header (s ++ xs)) ≡ []
       go sections.Header e =
           let before = header_short t e in
-          let now = header_is t e xs ∙ none.0 in
+          let now = header_is t e xs ∙ none_read.0 in
           rw (raised_before header s before, raised_before header (s ++ xs) now, before, now) refl
       go sections.Exception e = raising (ap is_raising e) (ap is_header e)
       go sections.SystemException e = raising (ap is_raising e) (ap is_header e)
       go sections.Body e = rw (section_none t (ap is_header e) xs, body_none t e xs) refl
+
+-- nor do fronts of octets after which the section goes on
+ends_sooner : (t : Standing) (front more : List ℕ) →
+    AreAnswered (order t.header) (opened t).T (start (begun t)) (root_of t.section) (octets_of t)
+    front progress.More → (k : ℕ) → k ≤ length front →
+    header_ends t.number t.header t.s (take k (front ++ more)) ≡ []
+ends_sooner t front more on zero few = header_ends_none t.number t.header t.s
+ends_sooner t front more on (suc k) few =
+    let o = order t.header in
+    let fronts = more_fronts o (opened t).T (start (begun t)) (root_of t.section) (suc k)
+    (octets_of t) front on in
+    let some : 0 < length (take (suc k) front) =
+    omega (arith, length-take-le (suc k) front few) in
+    ap (header_ends t.number t.header t.s) (take-append-le (suc k) front more few)
+    ∙ ends_none t (take (suc k) front) progress.More
+    (last_one o (opened t).T (start (begun t)) (root_of t.section) (octets_of t)
+    (take (suc k) front) progress.More some fronts) tt
+
+-- a put failed at one of the octets
+pub broken_front : (t : Standing) {E : Type 0} (r : Result (ℕ × Bool) E) (octets : List ℕ)
+    (place : ℕ) {a b : OutLog} → IsErr r → Breaks t octets a b →
+    TakesFront (λ went. went.0) (λ xs. header_ends t.number t.header t.s xs ≡ [])
+    (λ xs. Writes r a b (due_text (S t) t.number place t.header t.s xs)) r octets
+broken_front t r octets place {a} {b} failed broke =
+    let fr = broke.front ++ broke.octet ∷ [] in
+    let n = length broke.front + 1 in
+    let all : octets ≡ fr ++ broke.rest =
+    broke.all ∙ sym (append_assoc broke.front (broke.octet ∷ []) broke.rest) in
+    let long : length fr ≡ n = length_push broke.front broke.octet in
+    let first : take n octets ≡ fr = ap (take n) all ∙ take_at fr broke.rest n long in
+    record {
+      n = n;
+      counted = if_err _ r failed;
+      within = omega (arith, ap length all, length-append fr broke.rest, long);
+      some = λ _. omega arith;
+      fronts = λ k few. ap (λ z. header_ends t.number t.header t.s (take k z)) broke.all
+          ∙ ends_sooner t broke.front (broke.octet ∷ broke.rest) broke.answers k
+          (omega (arith, few));
+      all = rw first (writes_failed r a b _ failed
+          (run_broken (begun t) t.s (octets_of t) (inside t) octets place a b broke));
+    }
+
+module _ {t : Standing} {octets : List ℕ} {n : ℕ} {d' : Decoder} where
+  open t use {C, answers, number, header, m, s, follows, section}
+
+  -- octets that end no section end no header and no name
+  pub none_ends : {p : Progress} → Took t octets n d' p → IsNoEnd p →
+      header_ends number header s (take n octets) ≡ []
+  none_ends {p} k other = ends_none t (take n octets) p (last p k) other
+
+  -- nor do those before the last of a run
+  none_sooner : {p : Progress} → Took t octets n d' p → (k : ℕ) → k < n →
+      header_ends number header s (take k octets) ≡ []
+  none_sooner {p} k i few =
+      let l = last p k in
+      let same : take i (l.front ++ l.octet ∷ []) ≡ take i octets =
+      ap (take i) (sym l.all) ∙ take-take i n octets (omega (arith, few)) in
+      let long = ap length l.all ∙ length_push l.front l.octet in
+      ap (header_ends number header s) (sym same)
+      ∙ ends_sooner t l.front (l.octet ∷ []) l.before i
+      (omega (arith, long, length-take-le n octets k.within, few))
+
+  -- what a call took, and wrote
+  pub took_front : {p : Progress} {E : Type 0} (r : Result (ℕ × Bool) E) (place : ℕ)
+      (a b : OutLog) → IfOk r (λ went. went.0 ≡ n) → Took t octets n d' p →
+      Writes r a b (Text t octets n place) →
+      TakesFront (λ went. went.0) (λ xs. header_ends number header s xs ≡ [])
+      (λ xs. Writes r a b (due_text (S t) number place header s xs)) r octets
+  took_front r place a b counted k wrote = record {
+    n = n;
+    counted = counted;
+    within = k.within;
+    some = λ _. k.some;
+    fronts = none_sooner k;
+    all = wrote;
+  }
+
+  -- where a put failed after the lines of the octets
+  pub failed_front : {p : Progress} {E : Type 0} (r : Result (ℕ × Bool) E) (place : ℕ)
+      {a b c : OutLog} {x y : List ℕ} → IsErr r → Took t octets n d' p →
+      Text t octets n place ≡ x ++ y → Wrote a b x → WroteFront b c y →
+      TakesFront (λ went. went.0) (λ xs. header_ends number header s xs ≡ [])
+      (λ xs. Writes r a c (due_text (S t) number place header s xs)) r octets
+  failed_front r place {a} {b} {c} {x} {y} failed k text wrote front =
+      took_front r place a c (if_err _ r failed) k
+      (writes_failed r a c _ failed (rw text (wrote-front a b c x y wrote front)))
 
   done_ends : Took t octets n d' progress.Done →
       header_ends number header s (take n octets)
@@ -667,17 +693,20 @@ module _ {C : Table} {answers : Answers} {number : ℕ} {header : List ℕ} {m :
       (settled_none C (answers number) number header s more
       (ap (λ z. is_settled (stage_of z)) stands.1))
 
-  -- after how many octets the correspondent is told
-  pub padding_value : {body_type_id : BodyTypeId} → m.part ≡ parts.Padding body_type_id →
-      Some 1 ≡ stage_told_after (stage_of (message (signatures_of C (answers number)) header s))
-  unfolding stage_told_after stage_of
-  padding_value {body_type_id} is =
-      let stands = subst (Stands C answers number header s) is f.stands in
-      sym (ap (λ z. stage_told_after (stage_of z)) stands.1)
-
-  pub rest_value : {r : Rest} → m.part ≡ parts.Rest r →
-      None ≡ stage_told_after (stage_of (message (signatures_of C (answers number)) header s))
-  unfolding stage_told_after stage_of
-  rest_value {r} is =
-      let stands = subst (Stands C answers number header s) is f.stands in
-      sym (ap (λ z. stage_told_after (stage_of z)) stands.1)
+  -- what a call took of a rest, and wrote
+  pub rest_front : {r : Rest} → m.part ≡ parts.Rest r → (octets : List ℕ) (place : ℕ) {E : Type 0}
+      (result : Result (ℕ × Bool) E) (n : ℕ) (a b : OutLog) → IfOk result (λ went. went.0 ≡ n) →
+      n ≤ length octets → (0 < length octets → 0 < n) →
+      Writes result a b (due_text (signatures_of C (answers number)) number place header s
+      (take n octets)) →
+      TakesFront (λ went. went.0) (λ xs. header_ends number header s xs ≡ [])
+      (λ xs. Writes result a b (due_text (signatures_of C (answers number)) number place header s
+      xs)) result octets
+  rest_front is octets place result n a b counted within some wrote = record {
+    n = n;
+    counted = counted;
+    within = within;
+    some = some;
+    fronts = λ k few. rest_none is (take k octets);
+    all = wrote;
+  }

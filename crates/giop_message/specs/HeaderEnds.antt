@@ -1,6 +1,6 @@
 -- Where the header of a message ends, where the name of an exception that a Reply raises does, and
 -- what the correspondent, the other side of the conversation, is told there (meaning).
-use Rattle.std.specs.Prelude.{◌≡◌, ◌<◌, ℕ, Bool, true, false, List, [], ◌∷◌, ◌++◌, length, Option, Some, None, IfSome, option_and_then, option_map, ◌==◌, ◌+◌, ◌-◌, max, nat_lt, drop, if◌then◌else◌}
+use Rattle.std.specs.Prelude.{◌≡◌, ◌<◌, ℕ, Bool, true, false, List, [], ◌∷◌, ◌++◌, length, Option, Some, None, IfSome, option_and_then, option_map, ◌==◌, ◌+◌, nat_lt, drop, if◌then◌else◌}
 use Rattle.giop_sig.specs.declared.types.OpId.{OpId}
 use Rattle.giop_cdr.specs.Alignment.{padding}
 use Rattle.giop_sig.specs.declared.types.Fixed.TheVariants.{ExceptionId, SystemException}
@@ -10,12 +10,9 @@ use Rattle.giop_sig.specs.HeaderTypes.{header_type, fixed_type}
 use Rattle.giop_decode.specs.ReadResult.{plain, Read, Done, Short, Fault}
 use Rattle.giop_decode.specs.Reading.{read}
 use Rattle.giop_decode.specs.Noted.{Noted, nothing_noted, noted}
-use Rattle.giop_decode.specs.OctetsLeft.{octets_left}
 use Rattle.giop_message.specs.Headers.{minor, kind, order}
-use Rattle.giop_message.specs.declared.part.Section.{Section}
-use Rattle.giop_message.specs.declared.part.Section.TheVariants as sections
-use Rattle.giop_message.specs.Signatures.{Signatures, Answer, Answers}
-use Rattle.giop_message.specs.Messages.{Stage, In_typed, In_padding, In_rest, Over, message, stage_of, is_shown}
+use Rattle.giop_message.specs.Signatures.{Answer, Answers}
+use Rattle.giop_message.specs.Messages.{is_shown}
 
 -- ---- where a header ends
 
@@ -104,49 +101,6 @@ unfoldable pub header_ends : ℕ → List ℕ → List ℕ → List ℕ → List
 header_ends number header s more =
     ends_between number header (header_noted header s) (header_noted header (s ++ more))
     ++ raises_between number (raised header s) (raised header (s ++ more))
-
--- ---- where a header or a name may still end
-
--- where it ends the correspondent is told of it: a header, and what has the name of an exception
-abbrev pub is_told : Section → Bool
-is_told sections.Header = true
-is_told sections.Exception = true
-is_told sections.SystemException = true
-is_told sections.Body = false
-
--- how many octets have to come at least until the correspondent is told
-unfoldable pub stage_told_after : Stage → Option ℕ
-stage_told_after (In_typed section h outer leaf) =
-    if is_told section then Some (octets_left leaf) else None
-stage_told_after (In_padding b) = Some 1
-stage_told_after (In_rest offset held) = None
-stage_told_after Over = None
-
--- How many octets of the header of a Reply are to come at least, by those after the 12 that it
--- begins with: it has 12 for the request id, the status and the number of the service contexts
--- (GIOP Message Formats, Reply Header). None of another message.
-unfoldable pub reply_ahead : List ℕ → List ℕ → ℕ
-reply_ahead header s = if kind header == 1 then 12 - length s else 0
-
--- no fewer than so many, where there is a number
-abbrev pub at_least : ℕ → Option ℕ → Option ℕ
-at_least fewest None = None
-at_least fewest (Some n) = Some (max n fewest)
-
--- How many octets have to come at least until the header of a message, or the name of the exception
--- that it raises, ends, by these octets after the 12 of its header: at least 1 in its header, in
--- the padding behind that, in the repository id of an exception, and in the body of a system
--- exception; and of a Reply as many as its header has at least. None where no header and no name
--- ends any more.
-unfoldable pub told_after : Signatures → List ℕ → List ℕ → Option ℕ
-told_after S header s =
-    at_least (reply_ahead header s) (stage_told_after (stage_of (message S header s)))
-
--- None of them is told of a Reply: neither a Reply's header, nor the name of an exception.
-abbrev pub AreSilent : List HeaderEnd → Type 0
-AreSilent [] = Unit {0}
-AreSilent (Header_end number header n ∷ es) = ((kind header == 1) ≡ false) × AreSilent es
-AreSilent (Exception_end number name ∷ es) = ⊥
 
 -- ---- what is told there
 

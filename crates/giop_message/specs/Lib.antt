@@ -5,6 +5,7 @@ pub mod Text
 pub mod Signatures
 pub mod Messages
 pub mod HeaderEnds
+pub mod DueOctets
 pub mod StageSteps
 pub mod ReaderOfTable
 pub mod RequestId

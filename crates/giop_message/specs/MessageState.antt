@@ -1,6 +1,6 @@
 -- What a message holds of the octets that it has taken after its header, one field a clause; and
 -- what its calls write (state).
-use Rattle.std.specs.Prelude.{◌≡◌, ℕ, ◌+◌, ◌-◌, ◌<◌, ◌≤◌, Bool, true, false, cond, List, [], ◌∷◌, ◌++◌, length, take, drop, flat_map, Option, Some, None, IfSome}
+use Rattle.std.specs.Prelude.{◌≡◌, ℕ, ◌+◌, ◌-◌, ◌<◌, ◌≤◌, Bool, true, false, cond, List, [], ◌∷◌, ◌++◌, length, take, drop, flat_map, Some, None, IfSome}
 use Rattle.giop_sig.specs.Types.{Ty}
 use Rattle.giop_sig.specs.Table.{Table, operation_number}
 use Rattle.giop_sig.specs.Trees.{tree}
@@ -171,8 +171,3 @@ pub record FaultedAt (S : Signatures) (header s more : List ℕ) (n : ℕ) : Typ
   pub within : n ≤ length more
   pub here : is_over (stage_of (message S header (s ++ take n more))) ≡ true
   pub not_before : is_over (stage_of (message S header (s ++ take (n - 1) more))) ≡ false
-
-abbrev pub TookAll : Table → Answers → ℕ → List ℕ → Message → List ℕ → List ℕ → Option ℕ → Type 0
-TookAll C answers number header m s more None = Follows C answers number header m (s ++ more)
-TookAll C answers number header m s more (Some n) =
-    FaultedAt (signatures_of C (answers number)) header s more n

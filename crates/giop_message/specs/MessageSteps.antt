@@ -1,9 +1,8 @@
 -- What the parts of a message's code do: the text of an octet, and where a message is after a part
 -- that has ended (steps). Only private contracts cite it.
-use Rattle.std.specs.Prelude.{◌≡◌, ℕ, ◌+◌, Bool, true, false, List, [], ◌∷◌, ◌++◌, length, take, Option, Some, None, Result, MatchResult, ◌&&◌, ◌==◌, nat_lt, if◌then◌else◌}
+use Rattle.std.specs.Prelude.{◌≡◌, ℕ, ◌+◌, Bool, true, false, List, [], ◌∷◌, ◌++◌, length, take, Option, Some, None, ◌&&◌, ◌==◌, nat_lt, if◌then◌else◌}
 use Rattle.giop_cdr.specs.Alignment.{padding}
 use Rattle.giop_print.specs.Lines.{call_line, fault_line, rest_line}
-use Rattle.giop_print.specs.Output.{OutLog, Wrote, WroteFront}
 use Rattle.giop_sig.specs.declared.types.OpId.{OpId}
 use Rattle.giop_sig.specs.Types.{Ty}
 use Rattle.giop_sig.specs.Table.{Table}
@@ -22,7 +21,7 @@ use Rattle.giop_message.specs.Signatures.{Signatures, Answers, signatures_of}
 use Rattle.giop_message.specs.Messages
 use Rattle.giop_message.specs.Messages.{LineAt, BodyType, Untyped, is_shown, is_request, has_body, body_of, members_of, type_if, with_front, section_and_rest, root_of, message}
 use Rattle.giop_message.specs.HeaderEnds.{CallEvent, header_event, raise_event}
-use Rattle.giop_message.specs.MessageState.{due_text, IsFirst, Stands, Follows, FaultedAt}
+use Rattle.giop_message.specs.MessageState.{IsFirst, Stands, Follows, FaultedAt}
 
 -- the line of a reading's fault, whose octet has this place in the stream
 abbrev pub fault_text : ℕ → ℕ → Read → List ℕ
@@ -123,12 +122,3 @@ TookSome C answers number header m s octets n false =
     Follows C answers number header m (s ++ take n octets)
 TookSome C answers number header m s octets n true =
     FaultedAt (signatures_of C (answers number)) header s octets n
-
--- the lines of the octets that it took; or a front of those of the run, after which a put failed
-abbrev pub WritesRun : {E : Type 0} → Result (ℕ × Bool) E → Signatures → ℕ → ℕ → List ℕ → List ℕ →
-    List ℕ →
-    OutLog → OutLog → Type 0
-WritesRun result S number place header s octets before after =
-    MatchResult result
-    (λ went. Wrote before after (due_text S number place header s (take went.0 octets)))
-    (λ _. WroteFront before after (due_text S number place header s octets))

@@ -1,6 +1,6 @@
 //! The correspondent of a stream: the other side of the conversation, which knows the calls that replies answer.
 
-ghost use Rattle.std.specs.Prelude.{◌≡◌, Option};
+ghost use Rattle.std.specs.Prelude.{◌≡◌, Bool, Option, false};
 ghost use Rattle.std.specs.Option.{option_map};
 ghost use Rattle.giop_sig.specs.Table.{Table};
 ghost use Rattle.giop_sig.specs.RequestList.{kept_operation};
@@ -23,6 +23,12 @@ pub trait Correspondent {
 
     /// What it knows after an event.
     ghost notified: { State → CallEvent → State };
+
+    /// Whether it is due, by what it knows.
+    ghost due: { State → Bool };
+
+    /// Whether it is also due after each octet with which a message begins.
+    ghost awaits_messages: { Bool };
 
     /// The operation of the call with this request id, if it is known.
     fn operation(&self, id: u32) -> Option<OpId>
@@ -53,12 +59,20 @@ pub trait Correspondent {
     fn raised(&mut self, number: u64, name: &[u8])
         ensures { state self.new ≡ notified (state self.old) (Raised number name.now) };
 
+    /// Whether it has something to write after the octet that was read last: the reading stops there.
+    fn is_due(&self) -> bool
+        ensures { result ≡ due (state self.now) };
+
+    /// Whether the reading stops also after each octet with which a message begins, the 12th of its header.
+    fn awaits_messages(&self) -> bool
+        ensures { result ≡ awaits_messages };
+
     /// Where it answers operations of a table alone, and is told of one of that table, it still does.
     ghost known: { (C : Table) (s : State) (event : CallEvent) → AreKnown C (answer s) →
         HasKnownOperation C event → AreKnown C (answer (notified s event)) };
 }
 
-/// A request list answers each message alike, and no event changes it.
+/// A request list answers each message alike, no event changes it, and it is never due.
 impl<'a> Correspondent for &'a Requests {
     ghost State = { RequestTable };
 
@@ -67,6 +81,10 @@ impl<'a> Correspondent for &'a Requests {
     ghost answer = { λ request_table id. kept_operation request_table id };
 
     ghost notified = { λ request_table _. request_table };
+
+    ghost due = { λ _. false };
+
+    ghost awaits_messages = { false };
 
     fn operation(&self, id: u32) -> Option<OpId> {
         (**self).operation(id)
@@ -84,6 +102,14 @@ impl<'a> Correspondent for &'a Requests {
     fn answered(&mut self, _number: u64, _id: u32) {}
 
     fn raised(&mut self, _number: u64, _name: &[u8]) {}
+
+    fn is_due(&self) -> bool {
+        false
+    }
+
+    fn awaits_messages(&self) -> bool {
+        false
+    }
 
     ghost known = { λ C s event k h. k };
 }

@@ -1,6 +1,6 @@
 //! One joined message: what it has begun and not ended, and the calls that take its octets and close it.
 
-ghost use Rattle.std.specs.Prelude.{◌≡◌, ℕ, ◌+◌, ◌^◌, ◌<◌, ◌≤◌, true, false, List, [], length, IfOk, IfSome, Some, None};
+ghost use Rattle.std.specs.Prelude.{◌≡◌, ℕ, ◌+◌, ◌^◌, ◌<◌, ◌≤◌, true, false, List, [], length, take, IfOk, None};
 ghost use Rattle.giop_print.specs.Output.{Writes};
 
 use crate::begin::id_behind;
@@ -28,10 +28,11 @@ impl Message {
     ghost use Rattle.giop_message.specs.Signatures.{Answers, signatures_of};
     ghost use Rattle.giop_sig.specs.Table.{Table};
     ghost use Rattle.giop_message.specs.Messages.{message, message_lines, stage_of, close};
-    ghost use Rattle.giop_message.specs.MessageSteps.{last_rest_text};
+    ghost use Rattle.giop_message.specs.MessageSteps.{last_rest_text, TookSome};
     ghost use Rattle.giop_message.specs.ReaderOfTable.{first_request_id};
-    ghost use Rattle.giop_message.specs.HeaderEnds.{AgreesAtEnds, stage_told_after, reply_ahead, told_after, header_ends, after_ends};
-    ghost use Rattle.giop_message.specs.MessageState.{AreKnown, Fits, Follows, due_text, TookAll, reach, closing_text, is_short};
+    ghost use Rattle.giop_message.specs.HeaderEnds.{AgreesAtEnds, header_ends, after_ends};
+    ghost use Rattle.giop_message.specs.DueOctets.{TakesFront, StaysUndue};
+    ghost use Rattle.giop_message.specs.MessageState.{AreKnown, Fits, Follows, due_text, reach, closing_text, is_short};
 
     /// A message of this number whose header has come.
     pub fn start(catalogue: &Catalogue, number: u64, header: [u8; 12]) -> Message
@@ -54,8 +55,9 @@ impl Message {
         message
     }
 
-    /// Takes octets, after so many octets of the stream. Some(n) means that the n-th of these octets, from 1, is
-    /// faulted: then its fault is written, and the message takes no more.
+    /// Takes octets, after n octets of the stream, up to the first one after which the correspondent is due. Answers
+    /// how many it took, and whether the last of them is faulted: then its fault is written, and the message takes no
+    /// more.
     pub fn take<O: Out, Q: Correspondent>(
         &mut self,
         catalogue: &Catalogue,
@@ -63,38 +65,45 @@ impl Message {
         octets: &[u8],
         place: u64,
         out: &mut O,
-    ) -> Result<Option<usize>, OutFault>
+    ) -> Result<(usize, bool), OutFault>
         requires fits { Fits catalogue.now self.old }
         requires known { AreKnown catalogue.now (Q.answer (Q.state correspondent.old)) }
         requires before { reach self.old ≤ place }
         requires limit { place + length octets.now ≤ 2 ^ 48 }
         ensures known { AreKnown catalogue.now (Q.answer (Q.state correspondent.new)) }
         // Let `answers` give the operations that the ids of each message answer, and agree with the correspondent where
-        // the header ends in these octets. The lines that they complete are written,
+        // the header ends in these octets. The lines that those complete that it takes are written, or a front of them,
         ensures writes { (answers : Answers) (number : ℕ) (header s : List ℕ) →
             Follows catalogue.now answers number header self.old s →
             AgreesAtEnds Q.answer Q.notified catalogue.now (Q.state correspondent.old) answers
             (header_ends number header s octets.now) →
-            Writes result (O.log out.old) (O.log out.new) (due_text
-            (signatures_of catalogue.now (answers number)) number place header s octets.now) }
+            TakesFront (λ went. went.0) (StaysUndue Q.due Q.notified catalogue.now
+            (Q.state correspondent.old) (header_ends number header s))
+            (λ xs. Writes result (O.log out.old) (O.log out.new) (due_text
+            (signatures_of catalogue.now (answers number)) number place header s xs))
+            result octets.now }
         // the message follows the octets that it has taken, with these,
-        ensures took { IfOk result (λ found. (answers : Answers) (number : ℕ) (header s : List ℕ) →
+        ensures took { IfOk result (λ went. (answers : Answers) (number : ℕ) (header s : List ℕ) →
             Follows catalogue.now answers number header self.old s →
             AgreesAtEnds Q.answer Q.notified catalogue.now (Q.state correspondent.old) answers
             (header_ends number header s octets.now) →
-            TookAll catalogue.now answers number header self.new s octets.now found) }
+            TookSome catalogue.now answers number header self.new s octets.now went.0 went.1) }
         // and the correspondent was told of the header, and of the exception that a Reply raises.
-        ensures told { IfOk result (λ found. (answers : Answers) (number : ℕ) (header s : List ℕ) →
+        ensures told { IfOk result (λ went. (answers : Answers) (number : ℕ) (header s : List ℕ) →
             Follows catalogue.now answers number header self.old s →
             AgreesAtEnds Q.answer Q.notified catalogue.now (Q.state correspondent.old) answers
             (header_ends number header s octets.now) →
             Q.state correspondent.new ≡ after_ends Q.notified catalogue.now
-            (Q.state correspondent.old) (header_ends number header s octets.now)) }
-        ensures within { IfOk result (λ found. IfSome found (λ n. (0 < n) ×
-            (n ≤ length octets.now))) }
-        ensures fits { IfOk result (λ found. found ≡ None → Fits catalogue.now self.new) }
-        ensures reach { IfOk result (λ found. found ≡ None →
-            reach self.new ≡ reach self.old + length octets.now) }
+            (Q.state correspondent.old) (header_ends number header s (take went.0 octets.now))) }
+        // If octets are left, the correspondent is due; and it isn't after a fault, unless it was before.
+        ensures due { IfOk result (λ went. went.1 ≡ false → went.0 < length octets.now →
+            Q.due (Q.state correspondent.new) ≡ true) }
+        ensures over { IfOk result (λ went. Q.due (Q.state correspondent.old) ≡ false →
+            went.1 ≡ true → Q.due (Q.state correspondent.new) ≡ false) }
+        ensures some { 0 < length octets.now → IfOk result (λ went. 0 < went.0) }
+        ensures within { IfOk result (λ went. went.0 ≤ length octets.now) }
+        ensures fits { IfOk result (λ went. went.1 ≡ false → Fits catalogue.now self.new) }
+        ensures reach { IfOk result (λ went. reach self.new ≡ reach self.old + went.0) }
     {
         let mut taken: usize = 0;
         while taken < octets.len() {
@@ -108,10 +117,13 @@ impl Message {
             )?;
             taken += count;
             if is_over {
-                return Ok(Some(taken));
+                return Ok((taken, true));
+            }
+            if correspondent.is_due() {
+                break;
             }
         }
-        Ok(None)
+        Ok((taken, false))
     }
 
     /// Closes the message at a place of the stream: writes what is left of its rest, and its end, or that it is short.
@@ -193,56 +205,6 @@ impl Message {
             Part::Typed(section, decoder) => id_behind(*section, decoder, self.id),
             Part::Padding(_) => self.id,
             Part::Rest(_) => self.id,
-        }
-    }
-
-    /// How many octets have to come at least until the correspondent is told of its header, or of the exception that it
-    /// raises: in the header, in the padding behind it, in the repository id of an exception, and in the body of a system
-    /// exception. None where it is told no more.
-    pub fn told_after(&self, catalogue: &Catalogue) -> Option<usize>
-        requires fits { Fits catalogue.now self.now }
-        ensures some { IfSome result (λ n. 1 ≤ n) }
-        ensures value { (answers : Answers) (number : ℕ) (header s : List ℕ) →
-            Follows catalogue.now answers number header self.now s →
-            result ≡ told_after (signatures_of catalogue.now (answers number)) header s }
-    {
-        let ahead = self.reply_ahead();
-        match self.part_told_after(catalogue) {
-            Some(n) => Some(n.max(ahead)),
-            None => None,
-        }
-    }
-
-    /// The same by the part that the next octet belongs to alone.
-    fn part_told_after(&self, catalogue: &Catalogue) -> Option<usize>
-        requires fits { Fits catalogue.now self.now }
-        ensures some { IfSome result (λ n. 1 ≤ n) }
-        ensures value { (answers : Answers) (number : ℕ) (header s : List ℕ) →
-            Follows catalogue.now answers number header self.now s →
-            result ≡ stage_told_after (stage_of (message
-            (signatures_of catalogue.now (answers number)) header s)) }
-    {
-        match &self.part {
-            Part::Typed(section, decoder) => {
-                if !section.is_told() {
-                    return None;
-                }
-                Some(decoder.octets_left(catalogue))
-            }
-            Part::Padding(_) => Some(1),
-            Part::Rest(_) => None,
-        }
-    }
-
-    /// How many of the 12 octets that the header of a Reply has at least are to come; none of another message.
-    fn reply_ahead(&self) -> usize
-        ensures { (C : Table) (answers : Answers) (number : ℕ) (header s : List ℕ) →
-            Follows C answers number header self.now s → result ≡ reply_ahead header s }
-    {
-        if kind_of(&self.header) == 1 {
-            24u64.saturating_sub(self.at) as usize
-        } else {
-            0
         }
     }
 }

@@ -22,19 +22,6 @@ pub enum Section {
 
 impl Section {
     ghost use Rattle.giop_message.specs.Messages.{root_of};
-    ghost use Rattle.giop_message.specs.HeaderEnds.{is_told};
-
-    /// Whether the correspondent is told where it ends: of the header, or of the exception that is raised.
-    pub(crate) fn is_told(self) -> bool
-        ensures { result ≡ is_told self }
-    {
-        match self {
-            Section::Header => true,
-            Section::Exception => true,
-            Section::SystemException => true,
-            Section::Body => false,
-        }
-    }
 
     /// The root of its lines.
     pub(crate) fn root(self) -> Root

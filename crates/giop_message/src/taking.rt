@@ -44,10 +44,11 @@ fn call<O: Out>(decoder: &Decoder, number: u64, header: &[u8], out: &mut O) -> R
 
 impl Message {
     ghost use Rattle.giop_message.specs.Signatures.{Answers, signatures_of};
-    ghost use Rattle.giop_message.specs.MessageState.{AreKnown, IsKnown, Fits, Follows, due};
+    ghost use Rattle.giop_message.specs.MessageState.{AreKnown, IsKnown, Fits, Follows, due, due_text};
     ghost use Rattle.std.specs.Prelude.{take};
     ghost use Rattle.giop_message.specs.HeaderEnds.{AgreesAtEnds, header_ends, after_ends};
-    ghost use Rattle.giop_message.specs.MessageSteps.{TookSome, WritesRun};
+    ghost use Rattle.giop_message.specs.MessageSteps.{TookSome};
+    ghost use Rattle.giop_message.specs.DueOctets.{TakesFront};
 
     /// Takes an octet of the padding in front of a body of this type.
     fn take_padding(&mut self, catalogue: &Catalogue, body_type_id: BodyTypeId)
@@ -90,8 +91,10 @@ impl Message {
         ensures known { AreKnown catalogue.now (Q.answer (Q.state correspondent.new)) }
         ensures writes { (answers : Answers) (number : ℕ) (header s : List ℕ) →
             Follows catalogue.now answers number header self.old s →
-            WritesRun result (signatures_of catalogue.now (answers number)) number place header s
-            octets.now (O.log out.old) (O.log out.new) }
+            TakesFront (λ went. went.0) (λ xs. header_ends number header s xs ≡ [])
+            (λ xs. Writes result (O.log out.old) (O.log out.new) (due_text
+            (signatures_of catalogue.now (answers number)) number place header s xs))
+            result octets.now }
         ensures took { IfOk result (λ went. (answers : Answers) (number : ℕ) (header s : List ℕ) →
             Follows catalogue.now answers number header self.old s →
             AgreesAtEnds Q.answer Q.notified catalogue.now (Q.state correspondent.old) answers
@@ -101,6 +104,8 @@ impl Message {
             Follows catalogue.now answers number header self.old s →
             Q.state correspondent.new ≡ after_ends Q.notified catalogue.now
             (Q.state correspondent.old) (header_ends number header s (take went.0 octets.now))) }
+        ensures same { IfOk result (λ went. went.1 ≡ true →
+            Q.state correspondent.new ≡ Q.state correspondent.old) }
         ensures some { IfOk result (λ went. 0 < went.0) }
         ensures within { IfOk result (λ went. went.0 ≤ length octets.now) }
         ensures fits { IfOk result (λ went. went.1 ≡ false → Fits catalogue.now self.new) }

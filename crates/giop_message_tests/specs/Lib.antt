@@ -1,1 +1,2 @@
 pub mod Listened
+pub mod Waited

@@ -1,7 +1,9 @@
-//! Tests of messages: what is known of their headers, what is told of exceptions, and messages that are stored and
-//! restored.
+//! Tests of messages: what is known of their headers, what is told of exceptions, where the reading stops, and messages
+//! that are stored and restored.
 #![tactic(auto)]
 
+#[cfg(test)]
+mod due;
 #[cfg(test)]
 mod known;
 #[cfg(test)]

@@ -1,5 +1,5 @@
 //! Where a correspondent is told of the exception that a Reply raises.
-ghost use Rattle.std.specs.Prelude.{ℕ, Option, None};
+ghost use Rattle.std.specs.Prelude.{ℕ, Option, None, false};
 ghost use Rattle.giop_message_tests.specs.Listened.{listened};
 
 use giop_message::{Correspondent, Message};
@@ -9,7 +9,7 @@ use giop_testing::spelled;
 use std::process::Abort;
 use std::test::Fail;
 
-/// A correspondent that listens for exceptions alone, and answers no operation.
+/// A correspondent that listens for exceptions alone, answers no operation, and is never due.
 #[derive(Clone, Copy, Debug, PartialEq, Eq)]
 struct Listener {
     /// The number of the message that raised the last one, and how many octets its name has.
@@ -24,6 +24,10 @@ impl Correspondent for Listener {
     ghost answer = { λ raised id. None };
 
     ghost notified = { listened };
+
+    ghost due = { λ _. false };
+
+    ghost awaits_messages = { false };
 
     fn operation(&self, _id: u32) -> Option<OpId> {
         None
@@ -42,6 +46,14 @@ impl Correspondent for Listener {
 
     fn raised(&mut self, number: u64, name: &[u8]) {
         self.raised = Some((number, name.len()));
+    }
+
+    fn is_due(&self) -> bool {
+        false
+    }
+
+    fn awaits_messages(&self) -> bool {
+        false
     }
 
     ghost known = { λ C s event k h id. tt };
@@ -126,20 +138,22 @@ fn reply_differs(catalogue: &Catalogue, reply: &Reply) -> &'static str {
     let mut listener = Listener { raised: None };
     let mut message = Message::start(catalogue, 7, *header);
     let place = reply.tried as u64 - 1;
-    if message.take(catalogue, &mut listener, before, 12, &mut sheet) != Ok(None) {
+    if message.take(catalogue, &mut listener, before, 12, &mut sheet) != Ok((before.len(), false)) {
         return "the octets before it";
     }
     if listener.raised.is_some() {
         return "what is told before it";
     }
-    if message.take(catalogue, &mut listener, tried, place, &mut sheet) != Ok(None) {
+    if message.take(catalogue, &mut listener, tried, place, &mut sheet) != Ok((1, false)) {
         return "the octet";
     }
     if listener.raised != reply.told.map(|length| (7, length)) {
         return "what is told at it";
     }
     listener.raised = None;
-    if message.take(catalogue, &mut listener, after, place + 1, &mut sheet) != Ok(None) {
+    if message.take(catalogue, &mut listener, after, place + 1, &mut sheet)
+        != Ok((after.len(), false))
+    {
         return "the octets behind it";
     }
     if listener.raised.is_some() {

@@ -23,7 +23,7 @@ fn again(catalogue: &Catalogue, message: &Message) -> Option<Message>
 }
 
 /// Takes the octets behind a header in two pieces, as message 1 of a stream, and closes the message, which is stored
-/// and restored between the pieces: None where it can't be restored.
+/// and restored between the pieces: None if it can't be restored, or doesn't take a piece whole.
 fn takes_restored(
     catalogue: &Catalogue,
     requests: &Requests,
@@ -38,8 +38,12 @@ fn takes_restored(
 {
     let mut requests = requests;
     let mut message = Message::start(catalogue, 1, header);
-    if let Some(n) = message.take(catalogue, &mut requests, front, 12, out)? {
-        return Ok(Some(Closing::Fault(12 + n)));
+    let (count, is_over) = message.take(catalogue, &mut requests, front, 12, out)?;
+    if is_over {
+        return Ok(Some(Closing::Fault(12 + count)));
+    }
+    if count != front.len() {
+        return Ok(None);
     }
     let place = 12 + front.len();
     let Some(mut message) = again(catalogue, &message) else {
@@ -48,8 +52,12 @@ fn takes_restored(
     if message.reach() != place as u64 {
         return Ok(None);
     }
-    if let Some(n) = message.take(catalogue, &mut requests, back, place as u64, out)? {
-        return Ok(Some(Closing::Fault(place + n)));
+    let (count, is_over) = message.take(catalogue, &mut requests, back, place as u64, out)?;
+    if is_over {
+        return Ok(Some(Closing::Fault(place + count)));
+    }
+    if count != back.len() {
+        return Ok(None);
     }
     let place = place + back.len();
     if message.close(catalogue, place as u64, out)? {
@@ -214,7 +222,7 @@ fn stored_differs(
     let mut room = [0; 1024];
     let mut sheet = Sheet::new(&mut room);
     let mut message = Message::start(catalogue, 1, *header);
-    if message.take(catalogue, &mut requests, behind, 12, &mut sheet) != Ok(None) {
+    if message.take(catalogue, &mut requests, behind, 12, &mut sheet) != Ok((behind.len(), false)) {
         return "the answer";
     }
     let mut fixed = [0; 224];

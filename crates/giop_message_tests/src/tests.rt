@@ -46,13 +46,13 @@ fn id_differs(catalogue: &Catalogue, requests: &Requests) -> &'static str
     if message.request_id().is_some() {
         return "the id before any octet";
     }
-    if message.take(catalogue, &mut requests, front, 12, &mut sheet) != Ok(None) {
+    if message.take(catalogue, &mut requests, front, 12, &mut sheet) != Ok((15, false)) {
         return "the octets before the last";
     }
     if message.request_id().is_some() {
         return "the id before its last octet";
     }
-    if message.take(catalogue, &mut requests, b"\x02", 27, &mut sheet) != Ok(None) {
+    if message.take(catalogue, &mut requests, b"\x02", 27, &mut sheet) != Ok((1, false)) {
         return "the last octet";
     }
     if message.request_id() == Some(0x0203_0405) {

@@ -9,10 +9,12 @@ pub mod MessageEnds
 pub mod MessageOctets
 pub mod PayloadRunSteps
 pub mod Runs
+pub mod OwnerRuns
 pub mod OutsideMessages
 pub mod HeaderRuns
 pub mod HeaderEndSteps
+pub mod TakenOctets
 pub mod FragmentSteps
-pub mod QuietOctets
+pub mod DueSteps
 pub mod StreamAgreement
 pub mod AnswersGoOn

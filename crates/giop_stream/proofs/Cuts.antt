@@ -7,3 +7,4 @@ pub mod OfOctets
 pub mod Stopped
 pub mod Counts
 pub mod Sizes
+pub mod MessagesGrow

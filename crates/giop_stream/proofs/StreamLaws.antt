@@ -1,17 +1,17 @@
 -- What other crates may use of a stream, beside the contracts. No other file of this crate's proofs
 -- can be cited from outside.
-use Rattle.std.proofs.Common.{◌≡◌, ℕ, List, ◌++◌}
+use Rattle.std.proofs.Common.{◌≡◌, ◌≤◌, ℕ, List, ◌++◌, length}
 use Rattle.giop_sig.specs.Table.{Table}
-use Rattle.giop_message.specs.HeaderEnds.{HeaderEnd, AreSilent}
 use Rattle.giop_message.specs.Signatures.{RequestTable, Answers, signatures_of, by_list}
 use Rattle.giop_stream.specs.Rules.{Rules, rules, rules_by}
+use Rattle.giop_stream.specs.Framing.{cut, messages}
 use Rattle.giop_stream.specs.HeaderEndsOfStream.{header_ends_from}
 use Rattle.giop_message.proofs.MessageLaws.{is_causal}
 use Rattle.giop_stream.specs.EngineHolds.{added}
 use Rattle.giop_stream.proofs.SlotSteps.Parts.{in_turn}
 use Rattle.giop_stream.proofs.StreamLines.MoreOctets as further
 use Rattle.giop_stream.proofs.CodeSteps.HeaderEndSteps.{from_append}
-use Rattle.giop_stream.proofs.CodeSteps.QuietOctets as quiet
+use Rattle.giop_stream.proofs.Cuts.MessagesGrow as cuts
 
 -- what q and then r add to the text of the stream p
 pub added_both : (C : Table) (kept : RequestTable) (most : ℕ) (p q r : List ℕ) →
@@ -32,6 +32,6 @@ pub header_ends_both : (R : Rules) (p q r : List ℕ) →
     header_ends_from R p (q ++ r) ≡ header_ends_from R p q ++ header_ends_from R (p ++ q) r
 header_ends_both R p q r = from_append R q p r
 
--- what ends last of all that tells nothing of a Reply tells nothing either
-pub silent_behind : (es fs : List HeaderEnd) → AreSilent (es ++ fs) → AreSilent fs
-silent_behind es fs silent = quiet.silent_behind es fs silent
+-- more octets have as many messages begun, or more
+pub messages_grow : (p q : List ℕ) → length (messages (cut p)) ≤ length (messages (cut (p ++ q)))
+messages_grow p q = cuts.messages_grow q p

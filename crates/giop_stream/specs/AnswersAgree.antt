@@ -1,10 +1,13 @@
--- Which answers make no difference to a stream: those for messages whose header has not ended
--- (meaning).
+-- Which answers make no difference to a stream: those for messages whose header has not ended; and
+-- which agree with a correspondent (meaning).
 use Rattle.std.specs.Prelude.{◌≡◌, ◌⊎◌, ℕ, List, None}
 use Rattle.std.specs.List.{AllByRecursion as Each}
-use Rattle.giop_message.specs.Signatures.{Answers}
-use Rattle.giop_message.specs.HeaderEnds.{header_noted}
+use Rattle.giop_message.specs.Signatures.{Answer, Answers}
+use Rattle.giop_message.specs.HeaderEnds.{CallEvent, AgreesAtEnds, header_noted}
+use Rattle.giop_stream.specs.EngineHolds.{rules_with}
+use Rattle.giop_stream.specs.EngineView.{EngineView}
 use Rattle.giop_stream.specs.Events.{events, joined}
+use Rattle.giop_stream.specs.HeaderEndsOfStream.{header_ends_from}
 
 -- a and b answer alike for each message of the stream p whose header has ended
 abbrev pub AnswersAgree : ℕ → List ℕ → Answers → Answers → Type 0
@@ -12,3 +15,11 @@ AnswersAgree most p a b =
     Each (λ e. (a e.subject.number ≡ b e.subject.number)
     ⊎ (header_noted e.subject.header (joined e.subject.number (events most p)) ≡ None))
     (events most p)
+
+-- These answers agree with a correspondent in this state over these octets after the stream p that
+-- an engine holds: each message whose header ends in them is answered as the correspondent answers
+-- then, after it was told of the headers before.
+abbrev pub AgreesOver : {St : Type 0} → (St → Answer) → (St → CallEvent → St) → St → EngineView →
+    Answers → List ℕ → List ℕ → Type 0
+AgreesOver answer notified st e a p octets =
+    AgreesAtEnds answer notified e.table st a (header_ends_from (rules_with e a) p octets)

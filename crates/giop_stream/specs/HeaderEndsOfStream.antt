@@ -1,11 +1,8 @@
 -- The headers and the names of raised exceptions that end in octets of a stream, in the order in
 -- which they do (meaning). At each header the correspondent is asked, and at each of both it is
 -- told (giop_message, HeaderEnds).
-use Rattle.std.specs.Prelude.{ℕ, List, [], ◌∷◌, ◌++◌, length, Option, Some, None, is_none, ◌&&◌, ◌==◌, nat_lt, if◌then◌else◌}
-use Rattle.giop_sig.specs.Table.{Table}
-use Rattle.giop_message.specs.Signatures.{Answers, signatures_of}
-use Rattle.giop_message.specs.Headers.{kind}
-use Rattle.giop_message.specs.HeaderEnds.{HeaderEnd, told_after, header_ends}
+use Rattle.std.specs.Prelude.{ℕ, List, [], ◌∷◌, ◌++◌, length, Option, Some, None, is_none, ◌&&◌, nat_lt, if◌then◌else◌}
+use Rattle.giop_message.specs.HeaderEnds.{HeaderEnd, header_ends}
 use Rattle.giop_stream.specs.Rules.{Rules}
 use Rattle.giop_stream.specs.Framing.{Message, limit, cut}
 use Rattle.giop_stream.specs.Events.{MessageKey, open_after}
@@ -22,19 +19,6 @@ run_header_ends w (Some s) octets = header_ends w.number w.header s octets
 abbrev pub owner_header_ends : Tracked → Option MessageKey → List ℕ → List HeaderEnd
 owner_header_ends c None octets = []
 owner_header_ends c (Some w) octets = run_header_ends w (c.known w.number) octets
-
--- How many octets of a Reply have to come at least until its header, or the name of the exception
--- that it raises, ends, where the ids of each message answer these operations. None of another
--- message, and where no header and no name ends any more.
-abbrev pub reply_told_after : Table → Answers → MessageKey → Option (List ℕ) → Option ℕ
-reply_told_after C a w None = None
-reply_told_after C a w (Some s) =
-    if kind w.header == 1 then told_after (signatures_of C (a w.number)) w.header s else None
-
--- the same of the message that the octets belong to
-abbrev pub owner_told_after : Table → Answers → Tracked → Option MessageKey → Option ℕ
-owner_told_after C a c None = None
-owner_told_after C a c (Some w) = reply_told_after C a w (c.known w.number)
 
 -- of octets of a payload after the stream p, which belong to the current message or to the one that
 -- it continues

@@ -24,7 +24,8 @@ pub mod EngineHolds
 pub mod Pieces
 pub mod Octet
 pub mod EngineState
-pub mod PieceLimit
+pub mod DueOctets
+pub mod Further
 pub mod EngineStep
 pub mod ViewOfState
 pub mod Checkpoint

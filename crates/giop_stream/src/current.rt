@@ -1,6 +1,7 @@
 //! The current message, the one that is being read, at one of its octets.
 
-ghost use Rattle.std.specs.Prelude.{◌≤◌};
+ghost use Rattle.std.specs.Prelude.{◌≡◌, ◌+◌, ◌^◌, ◌<◌};
+ghost use Rattle.giop_stream.specs.Further.{further};
 
 /// The current message, at an octet of its payload or at the last one of its header.
 #[derive(Clone, Copy, Debug)]
@@ -11,5 +12,17 @@ pub struct Current {
     pub place: u64,
     /// How many octets of the payload were read, this one included.
     pub payload_count: u32,
-    ghost behind_header: { 12 ≤ place },
+}
+
+impl Current {
+    /// The same message after n octets more of its payload.
+    pub fn further(mut self, n: usize) -> Current
+        requires { self.place + n < 2 ^ 64 }
+        ensures { result ≡ further self n }
+    {
+        let count = u32::try_from(n).unwrap_or(u32::MAX);
+        self.place += n as u64;
+        self.payload_count = self.payload_count.saturating_add(count);
+        self
+    }
 }

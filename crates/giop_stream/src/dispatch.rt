@@ -1,6 +1,6 @@
 //! What an octet of a message does: it feeds, opens, continues, cancels, faults or closes a message.
 
-ghost use Rattle.std.specs.Prelude.{Option, List, [], ◌∷◌, ◌++◌, ◌≡◌, ◌+◌, ◌-◌, ◌<◌, ◌≤◌, ◌^◌, ℕ, length, true, false, Some, None, OnOk, IfOk, if◌then◌else◌, slice_get};
+ghost use Rattle.std.specs.Prelude.{Option, List, [], ◌∷◌, ◌++◌, ◌≡◌, ◌+◌, ◌-◌, ◌<◌, ◌≤◌, ◌^◌, ℕ, suc, length, take, true, false, Some, None, OnOk, IfOk, if◌then◌else◌, slice_get};
 ghost use Rattle.giop_sig.specs.Table.{Table};
 ghost use Rattle.giop_message.specs.Signatures.{Answers};
 ghost use Rattle.giop_message.specs.ReaderOfTable.{message_reader};
@@ -8,16 +8,18 @@ ghost use Rattle.giop_message.specs.MessageState.{AreKnown};
 ghost use Rattle.giop_message.specs.Headers.{size, is_fragment, is_opener, is_cancel};
 ghost use Rattle.giop_stream.specs.Rules.{most_open};
 ghost use Rattle.giop_stream.specs.Framing.{Message, with_payload};
-ghost use Rattle.giop_stream.specs.Events.{MessageKey, Open, events_at_header, events_at_request_id, events_at_end, events_of_octet, message_key, opener_of};
+ghost use Rattle.giop_stream.specs.Events.{MessageKey, Open, Rising, events_at_header, events_at_request_id, events_at_end, events_of_octet, message_key, opener_of};
 ghost use Rattle.giop_stream.specs.Effects.{effects, with_octet};
 ghost use Rattle.giop_stream.specs.OpenSlots.{Tracked};
 ghost use Rattle.giop_stream.specs.SlotsRepresent.{SlotsRepresent, AreReady, KeepsRoom};
 ghost use Rattle.giop_stream.specs.DoesEffect.{DoesEffect, one_if, never, all};
 ghost use Rattle.giop_stream.specs.HeaderEndsOfStream.{owner_header_ends};
 ghost use Rattle.giop_message.specs.HeaderEnds.{AgreesAtEnds, after_ends};
+ghost use Rattle.giop_message.specs.DueOctets.{TakesFront, StaysUndue};
 ghost use Rattle.giop_stream.specs.PayloadOwner.{IsAtRequestId, IsBeforeMessage, IsBeforeOctets, IsAfterTake, IsAtOctet, owner_after_id, owner_after, id_events, end_events, octets_effect};
 ghost use Rattle.giop_stream.specs.EngineState.{opener_key, owner_of_next};
 ghost use Rattle.giop_stream.specs.Continuation.{IsContinuing};
+ghost use Rattle.giop_stream.specs.Further.{further};
 
 use crate::current::Current;
 use crate::fault::FramingFault;
@@ -227,52 +229,62 @@ pub fn at_last_octet<O: Out>(
 }
 
 /// How many messages an octet faults, in its three parts.
-pub fn count(a: bool, b: bool, c: bool) -> u8
+pub fn fault_count(a: bool, b: bool, c: bool) -> u8
     ensures value { result ≡ (if a then 1 else 0) + ((if b then 1 else 0) + (if c then 1 else 0)) }
     ensures few { result ≤ 3 }
 {
     u8::from(a) + (u8::from(b) + u8::from(c))
 }
 
-/// Octets of a message's payload, of which those before the last only add to its contents; returns how many messages they
-/// fault.
+/// Octets of a message's payload, of which those before the last only add to its contents, up to the first one after which
+/// the correspondent is due. Answers how many it took, and how many messages they fault.
 pub fn octets<O: Out, Q: Correspondent>(
     slots: &mut Slots,
     catalogue: &Catalogue,
     correspondent: &mut Q,
     octets: &[u8],
-    now: Current,
+    before: Current,
     out: &mut O,
-) -> Result<u8, OutFault>
-    requires come { length octets.now ≤ now.place }
-    requires ready { AreReady catalogue.now (now.place + 1 - length octets.now) slots.old }
+) -> Result<(usize, u8), OutFault>
+    requires some { 0 < length octets.now }
+    requires ready { AreReady catalogue.now (before.place + 1) slots.old }
     requires known { AreKnown catalogue.now (Q.answer (Q.state correspondent.old)) }
-    requires limit { now.place ≤ 2 ^ 48 }
+    requires limit { before.place + length octets.now ≤ 2 ^ 48 }
     ensures known { AreKnown catalogue.now (Q.answer (Q.state correspondent.new)) }
-    ensures does { (a : Answers) (c : Tracked) (m : Message) (q : List ℕ) (x : ℕ) →
-        octets.now ≡ q ++ x ∷ [] → IsBeforeOctets catalogue.now a slots.old c m now q x →
+    ensures does { (a : Answers) (c : Tracked) (m : Message) →
+        SlotsRepresent catalogue.now a slots.old c (owner_of_next c.still_open m) →
+        Rising c.still_open →
         AgreesAtEnds Q.answer Q.notified catalogue.now (Q.state correspondent.old) a
         (owner_header_ends c (owner_of_next c.still_open m) octets.now) →
+        TakesFront (λ r. r.0) (StaysUndue Q.due Q.notified catalogue.now
+        (Q.state correspondent.old) (owner_header_ends c (owner_of_next c.still_open m)))
+        (λ xs. (q : List ℕ) (x : ℕ) → xs ≡ q ++ x ∷ [] →
+        (let now = further before (suc (length q)) in
+        IsBeforeOctets catalogue.now a slots.old c m now q x →
         (let effect = octets_effect catalogue.now a slots.old.slots.most c m now q x in
-        DoesEffect catalogue.now a all result (O.log out.old) (O.log out.new) slots.new
+        DoesEffect catalogue.now a (λ r. r.1) result (O.log out.old) (O.log out.new) slots.new
         effect (owner_after effect.tracked.still_open
-        (with_octet (with_payload m (m.payload ++ q)) x))) }
-    ensures told { IfOk result (λ _. (a : Answers) (c : Tracked) (m : Message) →
+        (with_octet (with_payload m (m.payload ++ q)) x))))) result octets.now }
+    ensures told { IfOk result (λ r. (a : Answers) (c : Tracked) (m : Message) →
         SlotsRepresent catalogue.now a slots.old c (owner_of_next c.still_open m) →
         AgreesAtEnds Q.answer Q.notified catalogue.now (Q.state correspondent.old) a
         (owner_header_ends c (owner_of_next c.still_open m) octets.now) →
         Q.state correspondent.new ≡ after_ends Q.notified catalogue.now
         (Q.state correspondent.old) (owner_header_ends c (owner_of_next c.still_open m)
-        octets.now)) }
-    ensures few { IfOk result (λ faults. faults ≤ 3) }
-    ensures ready { OnOk result (AreReady catalogue.now (now.place + 1) slots.new) }
+        (take r.0 octets.now))) }
+    ensures due { IfOk result (λ r. r.0 < length octets.now →
+        Q.due (Q.state correspondent.new) ≡ true) }
+    ensures some { IfOk result (λ r. 0 < r.0) }
+    ensures within { IfOk result (λ r. r.0 ≤ length octets.now) }
+    ensures few { IfOk result (λ r. r.1 ≤ 3) }
+    ensures ready { IfOk result (λ r. AreReady catalogue.now (before.place + r.0 + 1) slots.new) }
     ensures most { slots.new.slots.most ≡ slots.old.slots.most }
 {
-    let before = now.place - octets.len() as u64;
-    let taken = slots.take(catalogue, correspondent, octets, before, out)?;
+    let (count, taken) = slots.take(catalogue, correspondent, octets, before.place, out)?;
+    let now = before.further(count);
     let named = at_fourth_octet(slots, now, out)?;
     let ended = at_last_octet(slots, catalogue, now, out)?;
-    Ok(count(taken, named, ended))
+    Ok((count, fault_count(taken, named, ended)))
 }
 
 /// A message begins, and is faulted where its header alone is refused.
@@ -283,6 +295,7 @@ fn starts<O: Out>(
     now: Current,
     out: &mut O,
 ) -> Result<bool, OutFault>
+    requires place { 12 ≤ now.place }
     requires ready { AreReady catalogue.now now.place slots.old }
     ensures does { (l : Answers) (c : Tracked) (who : Option MessageKey) (m : Message) →
         IsBeforeMessage catalogue.now l slots.old c who m now →
@@ -306,6 +319,7 @@ pub fn header<O: Out>(
     now: Current,
     out: &mut O,
 ) -> Result<u8, OutFault>
+    requires place { 12 ≤ now.place }
     requires ready { AreReady catalogue.now now.place slots.old }
     ensures does { (l : Answers) (c : Tracked) (who : Option MessageKey) (m : Message) →
         IsBeforeMessage catalogue.now l slots.old c who m now →
@@ -319,5 +333,5 @@ pub fn header<O: Out>(
 {
     let refused = starts(slots, catalogue, now, out)?;
     let ended = at_last_octet(slots, catalogue, now, out)?;
-    Ok(count(refused, ended, false))
+    Ok(fault_count(refused, ended, false))
 }

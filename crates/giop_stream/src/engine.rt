@@ -1,18 +1,20 @@
 //! The engine: one direction of a connection in, its lines out.
 
-ghost use Rattle.std.specs.Prelude.{◌≡◌, ◌<◌, ◌≤◌, ◌++◌, ◌+◌, Err, ℕ, List, [], true, false, length, drop, IfOk, IfErr, OnOk, OnErr};
+ghost use Rattle.std.specs.Prelude.{◌≡◌, ◌<◌, ◌≤◌, ◌++◌, ◌+◌, Err, ℕ, List, [], true, false, length, take, drop, IfOk, IfErr, OnOk, OnErr};
 ghost use Rattle.std.specs.List.{concat};
 ghost use Rattle.giop_print.specs.Output.{counted};
 ghost use Rattle.giop_sig.specs.Table.{Table};
 ghost use Rattle.giop_sig.specs.Trees.{depth_of};
 ghost use Rattle.giop_checkpoint.specs.Refusals.{IsOurs};
 ghost use Rattle.giop_message.specs.Signatures.{RequestTable, Answers};
-ghost use Rattle.giop_message.specs.HeaderEnds.{AgreesAtEnds, after_ends};
+ghost use Rattle.giop_message.specs.HeaderEnds.{after_ends};
 ghost use Rattle.giop_stream.specs.HeaderEndsOfStream.{header_ends_from};
 ghost use Rattle.giop_message.specs.MessageState.{AreKnown};
 ghost use Rattle.giop_stream.specs.Rules.{rules, most_open};
 ghost use Rattle.giop_stream.specs.Framing.{cut, fault_of, messages};
-ghost use Rattle.giop_stream.specs.PieceLimit.{IsQuiet, piece_limit};
+ghost use Rattle.giop_stream.specs.AnswersAgree.{AgreesOver};
+ghost use Rattle.giop_message.specs.DueOctets.{TakesFront};
+ghost use Rattle.giop_stream.specs.DueOctets.{is_due_after, begun_in};
 ghost use Rattle.giop_stream.specs.Stream.{text, closing, final};
 ghost use Rattle.giop_stream.specs.EngineHolds.{AreOf, Holds, HoldsBy, StopWrites, Leaves, added, rules_of, rules_with, status_of};
 ghost use Rattle.giop_stream.specs.Pieces.{fed, remaining, whole_text};
@@ -20,7 +22,7 @@ ghost use Rattle.giop_stream.specs.Checkpoint.{counts_of, checkpoint_limit, Allo
 
 use crate::fault::{LoadFault, NewFault, Stop};
 use crate::framing::Framing;
-use crate::status::{Status, Totals};
+use crate::status::{Fed, Status, Totals};
 use crate::{loading, saving};
 use giop_message::Correspondent;
 use giop_print::Out;
@@ -124,41 +126,57 @@ impl<'a> Engine<'a> {
         }
     }
 
-    /// Reads a piece of the stream, and writes the lines that it completes: the results of a reply have the type of the
-    /// operation that the correspondent answers. After a stream fault it reads nothing.
+    /// Reads a piece of the stream up to the first octet after which the correspondent is due, and writes the lines that
+    /// it completes: the results of a reply have the type of the operation that the correspondent answers. After a stream
+    /// fault it reads nothing.
     pub fn feed_by<O: Out, Q: Correspondent>(
         &mut self,
         correspondent: &mut Q,
         piece: &[u8],
         out: &mut O,
-    ) -> Result<Status, Stop>
+    ) -> Result<Fed, Stop>
         // Each operation that the correspondent answers is one of the types' table.
         requires known { AreKnown self.old.table (Q.answer (Q.state correspondent.old)) }
         ensures known { AreKnown self.old.table (Q.answer (Q.state correspondent.new)) }
         // Let `a` give the operations that the ids of each message answer, and agree with the correspondent at each header
         // that ends in the piece, as it stands after it was told of the headers before. The engine then holds the stream
-        // that it held, with the piece added.
+        // that it held, with the octets added that it took.
         ensures held { (a : Answers) (p : List ℕ) → HoldsBy self.old a p →
-            AgreesAtEnds Q.answer Q.notified self.old.table (Q.state correspondent.old) a
-            (header_ends_from (rules_with self.old a) p piece.now) →
-            OnOk result (HoldsBy self.new a (p ++ piece.now)) }
-        // What the piece adds to the text is written.
+            AgreesOver Q.answer Q.notified (Q.state correspondent.old) self.old a p piece.now →
+            IfOk result (λ fed. HoldsBy self.new a (p ++ take fed.count piece.now)) }
+        // What they add to the text is written, or a front of that. If the correspondent wasn't due, it is due after none
+        // of them but the last,
         ensures text { (a : Answers) (p : List ℕ) → HoldsBy self.old a p →
-            AgreesAtEnds Q.answer Q.notified self.old.table (Q.state correspondent.old) a
-            (header_ends_from (rules_with self.old a) p piece.now) →
-            StopWrites result (O.log out.old) (O.log out.new)
-            (added (rules_with self.old a) p piece.now) }
-        // The correspondent was told of these headers, in their order.
+            AgreesOver Q.answer Q.notified (Q.state correspondent.old) self.old a p piece.now →
+            TakesFront (λ fed. fed.count) (λ octets. Q.due (Q.state correspondent.old) ≡ false →
+            is_due_after Q.due Q.notified Q.awaits_messages self.old.table
+            (Q.state correspondent.old) (rules_with self.old a) p octets ≡ false)
+            (λ octets. StopWrites result (O.log out.old) (O.log out.new)
+            (added (rules_with self.old a) p octets)) result piece.now }
+        // and then if octets of the piece are left.
+        ensures last { (a : Answers) (p : List ℕ) → HoldsBy self.old a p →
+            AgreesOver Q.answer Q.notified (Q.state correspondent.old) self.old a p piece.now →
+            IfOk result (λ fed. fed.count < length piece.now →
+            is_due_after Q.due Q.notified Q.awaits_messages self.old.table
+            (Q.state correspondent.old) (rules_with self.old a) p
+            (take fed.count piece.now) ≡ true) }
+        // The correspondent was told of the headers that end in them, in their order.
         ensures told { (a : Answers) (p : List ℕ) → HoldsBy self.old a p →
-            AgreesAtEnds Q.answer Q.notified self.old.table (Q.state correspondent.old) a
-            (header_ends_from (rules_with self.old a) p piece.now) →
-            IfOk result (λ _. Q.state correspondent.new ≡ after_ends Q.notified self.old.table
-            (Q.state correspondent.old) (header_ends_from (rules_with self.old a) p piece.now)) }
-        // The status gives whether the stream has a fault.
+            AgreesOver Q.answer Q.notified (Q.state correspondent.old) self.old a p piece.now →
+            IfOk result (λ fed. Q.state correspondent.new ≡ after_ends Q.notified self.old.table
+            (Q.state correspondent.old)
+            (header_ends_from (rules_with self.old a) p (take fed.count piece.now))) }
+        // There is one at least, if the piece has one.
+        ensures some { 0 < length piece.now → IfOk result (λ fed. 0 < fed.count) }
+        ensures within { IfOk result (λ fed. fed.count ≤ length piece.now) }
+        // It gives the last message that begins in them, and whether the stream has a fault.
+        ensures begun { (a : Answers) (p : List ℕ) → HoldsBy self.old a p →
+            AgreesOver Q.answer Q.notified (Q.state correspondent.old) self.old a p piece.now →
+            IfOk result (λ fed. fed.begun ≡ begun_in p (take fed.count piece.now)) }
         ensures status { (a : Answers) (p : List ℕ) → HoldsBy self.old a p →
-            AgreesAtEnds Q.answer Q.notified self.old.table (Q.state correspondent.old) a
-            (header_ends_from (rules_with self.old a) p piece.now) →
-            IfOk result (λ s. s ≡ status_of (fault_of (cut (p ++ piece.now)).stop)) }
+            AgreesOver Q.answer Q.notified (Q.state correspondent.old) self.old a p piece.now →
+            IfOk result (λ fed. fed.status
+            ≡ status_of (fault_of (cut (p ++ take fed.count piece.now)).stop)) }
         // After a failed put the engine is failed, with the totals from before the call.
         ensures leaves { Leaves result self.old self.new }
         // A failed engine writes nothing.
@@ -180,7 +198,11 @@ impl<'a> Engine<'a> {
             .framing
             .steps(self.catalogue, correspondent, piece, out)
         {
-            Ok(()) => Ok(self.framing.status()),
+            Ok(count) => Ok(Fed {
+                count,
+                begun: self.framing.begun_since(totals.messages),
+                status: self.framing.status(),
+            }),
             Err(fault) => {
                 self.failed = true;
                 self.framing.clear(totals, stopped);
@@ -213,7 +235,10 @@ impl<'a> Engine<'a> {
         ensures most { self.new.most ≡ self.old.most }
     {
         let mut requests = self.requests;
-        self.feed_by(&mut requests, piece, out)
+        match self.feed_by(&mut requests, piece, out) {
+            Ok(fed) => Ok(fed.status),
+            Err(stop) => Err(stop),
+        }
     }
 
     /// Forgets its stream, and that a put failed: it then holds the empty stream, as when it was made, whatever the ids of
@@ -295,21 +320,6 @@ impl<'a> Engine<'a> {
             Ok(count) => Ok(count),
             Err(fault) => Err(Stop::Out(fault)),
         }
-    }
-
-    /// How many of the next octets may be fed in one piece, so that behind no octet but the piece's last a message's
-    /// header of 12 octets is complete, or the header of a Reply or the name of the exception that it raises ends: at
-    /// least one. Headers of other messages may end in it anywhere. Who writes lines of their own behind such octets
-    /// feeds pieces of at most this many.
-    pub fn piece_limit(&self) -> usize
-        ensures some { 1 ≤ result }
-        ensures value { (a : Answers) (p : List ℕ) → HoldsBy self.now a p →
-            result ≡ piece_limit self.now.table a self.now.most p }
-        // Fewer octets begin no message, and end no Reply's header and no name.
-        ensures quiet { (a : Answers) (p octets : List ℕ) → HoldsBy self.now a p →
-            length octets < result → IsQuiet (rules_with self.now a) p octets }
-    {
-        self.framing.piece_limit(self.catalogue)
     }
 
     /// The totals of what was read; after a failed put those from before that call.

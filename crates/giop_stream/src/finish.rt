@@ -1,6 +1,6 @@
 //! The finish of a stream: its totals, and the lines of what is left.
 
-ghost use Rattle.std.specs.Prelude.{◌≡◌, ◌++◌, [], flat_map, if◌then◌else◌};
+ghost use Rattle.std.specs.Prelude.{◌≡◌, ◌++◌, [], Some, None, flat_map, nat_lt, if◌then◌else◌};
 
 use crate::framing::Framing;
 use crate::kinds::is_fragment;
@@ -29,6 +29,15 @@ impl Framing {
             Some(fault) => Status::Stopped(fault),
             None => Status::Running,
         }
+    }
+
+    /// The number of the last message that has begun, if it is above this one.
+    pub fn begun_since(&self, number: u64) -> Option<u64>
+        ensures { result ≡ (if nat_lt number self.now.totals.messages
+            then Some self.now.totals.messages else None) }
+    {
+        let now = self.totals.messages;
+        if number < now { Some(now) } else { None }
     }
 
     /// Whether the stream ends inside a message or a header.

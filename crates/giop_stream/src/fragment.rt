@@ -14,7 +14,7 @@ ghost use Rattle.giop_stream.specs.PayloadOwner.{owner_after};
 ghost use Rattle.giop_stream.specs.Continuation.{IsOpenAt, IsContinuation, IsBeforeContinuation, continuation_effect};
 
 use crate::current::Current;
-use crate::dispatch::{at_last_octet, count, passes};
+use crate::dispatch::{at_last_octet, fault_count, passes};
 use crate::framing::{Framing, LIMIT};
 use crate::header::{number_of, size_of};
 use crate::kinds::is_fragment;
@@ -55,7 +55,7 @@ fn continues<O: Out>(
     request_id_line(out, now.number, found.id)?;
     let faulted = passes(slots, found.index, now, out)?;
     let ended = at_last_octet(slots, catalogue, now, out)?;
-    Ok(count(false, faulted, ended))
+    Ok(fault_count(false, faulted, ended))
 }
 
 impl Framing {

@@ -1,6 +1,6 @@
 //! The state that is kept of a stream, and what an octet does to it: headers, payloads and stream faults.
 
-ghost use Rattle.std.specs.Prelude.{◌≡◌, ◌+◌, ◌*◌, ◌++◌, ◌∷◌, ◌^◌, ◌≤◌, ◌<◌, ℕ, List, [], length, None, IfOk, OnOk, if◌then◌else◌};
+ghost use Rattle.std.specs.Prelude.{◌≡◌, ◌+◌, ◌*◌, ◌++◌, ◌∷◌, ◌^◌, ◌≤◌, ◌<◌, ℕ, List, [], length, take, true, None, IfOk, OnOk, if◌then◌else◌};
 ghost use Rattle.arrayvec.specs.ArrayVec.{array_vec_len};
 ghost use Rattle.giop_stream.specs.Rules.{most_open};
 
@@ -65,6 +65,7 @@ impl Framing {
     ghost use Rattle.giop_stream.specs.Framing.{cut};
     ghost use Rattle.giop_stream.specs.HeaderEndsOfStream.{current_header_ends, header_ends_at};
     ghost use Rattle.giop_message.specs.HeaderEnds.{AgreesAtEnds, after_ends};
+    ghost use Rattle.giop_message.specs.DueOctets.{TakesFront, StaysUndue};
 
     /// The state before the first octet, where so many messages may be open.
     pub fn new(alloc: Global, most: usize) -> Result<Framing, AllocError>
@@ -221,14 +222,15 @@ impl Framing {
         Ok(())
     }
 
-    /// Octets of a payload, of which at most the last one is the last of a request id or of the message.
+    /// Octets of a payload, of which at most the last one is the last of a request id or of the message, up to the first one
+    /// after which the correspondent is due. Answers how many it took.
     pub fn payload_octets<O: Out, Q: Correspondent>(
         &mut self,
         catalogue: &Catalogue,
         correspondent: &mut Q,
         octets: &[u8],
         out: &mut O,
-    ) -> Result<(), OutFault>
+    ) -> Result<usize, OutFault>
         requires full { length self.old.header.items ≡ 12 }
         requires running { self.old.stopped ≡ None }
         requires some { 0 < length octets.now }
@@ -246,9 +248,14 @@ impl Framing {
             AgreesAtEnds Q.answer Q.notified catalogue.now (Q.state correspondent.old) a
             (current_header_ends (rules_by catalogue.now a self.old.slots.slots.most)
             r.stream (cut r.stream).current octets.now) →
-            Does catalogue.now a result (O.log out.old) (O.log out.new) (framing_view self.new)
-            (one.runs (rules_by catalogue.now a self.old.slots.slots.most) s octets.now) }
-        ensures told { IfOk result (λ _. (a : Answers) (s : State)
+            TakesFront (λ n. n) (StaysUndue Q.due Q.notified catalogue.now
+            (Q.state correspondent.old) (current_header_ends
+            (rules_by catalogue.now a self.old.slots.slots.most) r.stream (cut r.stream).current))
+            (λ xs. Does catalogue.now a result (O.log out.old) (O.log out.new)
+            (framing_view self.new)
+            (one.runs (rules_by catalogue.now a self.old.slots.slots.most) s xs))
+            result octets.now }
+        ensures told { IfOk result (λ n. (a : Answers) (s : State)
             (r : IsReached catalogue.now a self.old.slots.slots.most s) →
             Shows catalogue.now a (framing_view self.old) s →
             AgreesAtEnds Q.answer Q.notified catalogue.now (Q.state correspondent.old) a
@@ -257,19 +264,30 @@ impl Framing {
             Q.state correspondent.new ≡ after_ends Q.notified catalogue.now
             (Q.state correspondent.old) (current_header_ends
             (rules_by catalogue.now a self.old.slots.slots.most)
-            r.stream (cut r.stream).current octets.now)) }
+            r.stream (cut r.stream).current (take n octets.now))) }
+        ensures due { IfOk result (λ n. n < length octets.now →
+            Q.due (Q.state correspondent.new) ≡ true) }
+        ensures some { IfOk result (λ n. 0 < n) }
+        ensures within { IfOk result (λ n. n ≤ length octets.now) }
         ensures ready { OnOk result
             (AreReady catalogue.now (self.new.totals.octets + 1) self.new.slots) }
         ensures most { self.new.slots.slots.most ≡ self.old.slots.slots.most }
     {
-        self.totals.octets += octets.len() as u64;
-        let payload_count = u32::try_from(octets.len()).unwrap_or(u32::MAX);
-        self.payload_count = self.payload_count.saturating_add(payload_count);
-        let now = self.current();
-        let faults = dispatch::octets(&mut self.slots, catalogue, correspondent, octets, now, out)?;
+        let before = self.current();
+        let (count, faults) = dispatch::octets(
+            &mut self.slots,
+            catalogue,
+            correspondent,
+            octets,
+            before,
+            out,
+        )?;
+        let now = before.further(count);
+        self.totals.octets = now.place;
+        self.payload_count = now.payload_count;
         self.totals.faults += u64::from(faults);
         self.end_message(size_of(&now.header));
-        Ok(())
+        Ok(count)
     }
 
     /// An octet of the stream.
@@ -314,7 +332,8 @@ impl Framing {
         if self.header.len() < 12 {
             self.header_octet(catalogue, octet, out)
         } else {
-            self.payload_octets(catalogue, correspondent, &[octet], out)
+            self.payload_octets(catalogue, correspondent, &[octet], out)?;
+            Ok(())
         }
     }
 }

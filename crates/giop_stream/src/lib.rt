@@ -15,7 +15,6 @@ mod laws;
 mod lines;
 mod loading;
 mod open_message;
-mod piece_limit;
 mod runs;
 mod saving;
 mod slots;
@@ -29,4 +28,4 @@ pub use laws::{
     open_messages,
 };
 pub use slots::MOST_OPEN;
-pub use status::{Status, Totals};
+pub use status::{Fed, Status, Totals};

@@ -1,6 +1,6 @@
 //! What is done to one message that has begun and not ended; it is `None` once it is over (faulted or ended).
 
-ghost use Rattle.std.specs.Prelude.{◌≡◌, ◌+◌, ◌≤◌, ◌^◌, ℕ, List, length, Option, None, OnOk, IfOk, IfSome, if◌then◌else◌};
+ghost use Rattle.std.specs.Prelude.{◌≡◌, ◌+◌, ◌<◌, ◌≤◌, ◌^◌, ℕ, List, length, take, true, Option, None, OnOk, IfOk, if◌then◌else◌};
 ghost use Rattle.giop_sig.specs.Table.{Table};
 ghost use Rattle.giop_message.specs.Signatures.{Answers};
 ghost use Rattle.giop_message.specs.ReaderOfTable.{message_reader};
@@ -10,8 +10,9 @@ ghost use Rattle.giop_stream.specs.Effects.{part_of, lines_of, event};
 ghost use Rattle.giop_stream.specs.SlotsRepresent.{RepresentsMessage, IsReady};
 ghost use Rattle.giop_stream.specs.DoesEffect.{DoesPart, WritesLines, one_if};
 ghost use Rattle.giop_stream.specs.PayloadRuns.{run_part};
-ghost use Rattle.giop_stream.specs.HeaderEndsOfStream.{run_header_ends, reply_told_after};
+ghost use Rattle.giop_stream.specs.HeaderEndsOfStream.{run_header_ends};
 ghost use Rattle.giop_message.specs.HeaderEnds.{AgreesAtEnds, after_ends};
+ghost use Rattle.giop_message.specs.DueOctets.{TakesFront, StaysUndue};
 
 use crate::fault::FramingFault;
 use crate::lines::framing_fault_line;
@@ -26,7 +27,8 @@ fn forget(message: &mut Option<Message>)
     *message = None;
 }
 
-/// Feeds octets to a message, after so many of the stream; returns whether one of them faults it.
+/// Feeds octets to a message, after n octets of the stream, up to the first one after which the correspondent is due: to
+/// one that is over, or that one of them faults, all. Answers how many, and whether one faults it.
 pub fn take_octets<O: Out, Q: Correspondent>(
     message: &mut Option<Message>,
     catalogue: &Catalogue,
@@ -34,7 +36,7 @@ pub fn take_octets<O: Out, Q: Correspondent>(
     octets: &[u8],
     before: u64,
     out: &mut O,
-) -> Result<bool, OutFault>
+) -> Result<(usize, bool), OutFault>
     requires ready { IsReady catalogue.now (before + 1) message.old }
     requires known { AreKnown catalogue.now (Q.answer (Q.state correspondent.old)) }
     requires limit { before + length octets.now ≤ 2 ^ 48 }
@@ -43,47 +45,31 @@ pub fn take_octets<O: Out, Q: Correspondent>(
         RepresentsMessage catalogue.now a message.old w o →
         AgreesAtEnds Q.answer Q.notified catalogue.now (Q.state correspondent.old) a
         (run_header_ends w o octets.now) →
-        DoesPart catalogue.now a one_if result (O.log out.old) (O.log out.new)
-        message.new w (run_part catalogue.now a before w o octets.now) }
-    ensures told { IfOk result (λ _. (a : Answers) (w : MessageKey) (o : Option (List ℕ)) →
+        TakesFront (λ r. r.0) (StaysUndue Q.due Q.notified catalogue.now
+        (Q.state correspondent.old) (run_header_ends w o))
+        (λ xs. DoesPart catalogue.now a (λ r. one_if r.1) result (O.log out.old) (O.log out.new)
+        message.new w (run_part catalogue.now a before w o xs)) result octets.now }
+    ensures told { IfOk result (λ r. (a : Answers) (w : MessageKey) (o : Option (List ℕ)) →
         RepresentsMessage catalogue.now a message.old w o →
         AgreesAtEnds Q.answer Q.notified catalogue.now (Q.state correspondent.old) a
         (run_header_ends w o octets.now) →
         Q.state correspondent.new ≡ after_ends Q.notified catalogue.now
-        (Q.state correspondent.old) (run_header_ends w o octets.now)) }
-    ensures ready { OnOk result
-        (IsReady catalogue.now (before + length octets.now + 1) message.new) }
+        (Q.state correspondent.old) (run_header_ends w o (take r.0 octets.now))) }
+    ensures due { IfOk result (λ r. r.0 < length octets.now →
+        Q.due (Q.state correspondent.new) ≡ true) }
+    ensures some { 0 < length octets.now → IfOk result (λ r. 0 < r.0) }
+    ensures within { IfOk result (λ r. r.0 ≤ length octets.now) }
+    ensures ready { IfOk result (λ r. IsReady catalogue.now (before + r.0 + 1) message.new) }
 {
     let Some(m) = message else {
-        return Ok(false);
+        return Ok((octets.len(), false));
     };
-    if m.take(catalogue, correspondent, octets, before, out)?
-        .is_none()
-    {
-        return Ok(false);
+    let (count, is_over) = m.take(catalogue, correspondent, octets, before, out)?;
+    if !is_over {
+        return Ok((count, false));
     }
     forget(message);
-    Ok(true)
-}
-
-/// How many octets of a Reply have to come at least until its header, or the name of the exception that it raises, ends.
-/// None of another message, of one that is over, and where neither ends any more.
-pub fn told_after(message: &Option<Message>, catalogue: &Catalogue) -> Option<usize>
-    requires ready { (n : ℕ) × IsReady catalogue.now n message.now }
-    ensures some { IfSome result (λ n. 1 ≤ n) }
-    ensures value { (a : Answers) (w : MessageKey) (o : Option (List ℕ)) →
-        RepresentsMessage catalogue.now a message.now w o →
-        result ≡ reply_told_after catalogue.now a w o }
-{
-    let Some(m) = message else {
-        return None;
-    };
-    let is_reply = kind_of(&m.header()) == 1;
-    if is_reply {
-        m.told_after(catalogue)
-    } else {
-        None
-    }
+    Ok((octets.len(), true))
 }
 
 /// Faults a message of this number, unless it is over; returns whether it does.

@@ -1,7 +1,8 @@
 //! Takes a piece of a stream in runs: octets that only add to a header, or only to the contents of a message.
 
-ghost use Rattle.std.specs.Prelude.{◌≡◌, ◌+◌, ◌*◌, ◌++◌, ◌^◌, ◌≤◌, ◌<◌, ℕ, List, length, take, [], None, OnOk, IfOk, if◌then◌else◌};
+ghost use Rattle.std.specs.Prelude.{◌≡◌, ◌+◌, ◌*◌, ◌++◌, ◌^◌, ◌≤◌, ◌<◌, ℕ, List, length, take, [], true, false, None, OnOk, IfOk, IfSome, nat_lt, ◌&&◌, ◌||◌, if◌then◌else◌};
 
+use crate::fragment::Continuation;
 use crate::framing::{Framing, LIMIT};
 use crate::header::{begins_right, size_of, wrong_in};
 use arrayvec::ArrayVec;
@@ -23,6 +24,9 @@ impl Framing {
     ghost use Rattle.giop_stream.specs.Framing.{cut};
     ghost use Rattle.giop_stream.specs.HeaderEndsOfStream.{current_header_ends, header_ends_from};
     ghost use Rattle.giop_message.specs.HeaderEnds.{AgreesAtEnds, after_ends};
+    ghost use Rattle.giop_message.specs.DueOctets.{TakesFront, StaysUndue};
+    ghost use Rattle.giop_stream.specs.DueOctets.{begins_in, is_due_after};
+    ghost use Rattle.giop_stream.specs.Continuation.{IsContinuation};
     ghost use Rattle.giop_stream.specs.ViewOfState.{Shows, IsReached, Does};
     ghost use Rattle.giop_message.specs.MessageState.{AreKnown};
 
@@ -92,6 +96,7 @@ impl Framing {
         ensures lines { (C : Table) (l : Answers) (s : State) →
             Shows C l (framing_view self.old) s →
             one.run (rules_by C l self.old.slots.slots.most) s octets.now ≡ [] }
+        ensures same { self.new.totals.messages ≡ self.old.totals.messages }
         ensures ready { (C : Table) → AreReady C (self.old.totals.octets + 1) self.old.slots →
             AreReady C (self.new.totals.octets + 1) self.new.slots }
         ensures most { self.new.slots.slots.most ≡ self.old.slots.slots.most }
@@ -100,14 +105,105 @@ impl Framing {
         self.header.try_extend_from_slice(octets).unwrap();
     }
 
-    /// Takes the octets of a piece, in runs where that is possible.
+    /// The open message that these octets continue, unless the reading stops where their message begins.
+    fn continuation_for<Q: Correspondent>(
+        &self,
+        correspondent: &Q,
+        octets: &[u8],
+    ) -> Option<Continuation>
+        ensures quick { IfSome result (λ found. Q.awaits_messages ≡ false) }
+        ensures within { IfSome result (λ found. 5 ≤ length octets.now) }
+        ensures running { IfSome result (λ found. self.now.stopped ≡ None) }
+        ensures limit { IfSome result (λ found. self.now.totals.octets + 5 ≤ 2 ^ 48) }
+        ensures is { IfSome result (λ found.
+            IsContinuation self.now.header.items (take 5 octets.now) self.now.slots found) }
+    {
+        if correspondent.awaits_messages() {
+            return None;
+        }
+        self.continuation(octets)
+    }
+
+    /// Takes the first of the next octets, of which there is one at least: those that only add to a header, the end of a
+    /// Fragment's header with its request id, those that are of one message's payload up to the first one after which the
+    /// correspondent is due, or one. Answers how many it took.
+    #[inline]
+    fn take_some<O: Out, Q: Correspondent>(
+        &mut self,
+        catalogue: &Catalogue,
+        correspondent: &mut Q,
+        octets: &[u8],
+        out: &mut O,
+    ) -> Result<usize, OutFault>
+        requires some { 0 < length octets.now }
+        requires known { AreKnown catalogue.now (Q.answer (Q.state correspondent.old)) }
+        requires ready { AreReady catalogue.now (self.old.totals.octets + 1) self.old.slots }
+        ensures known { AreKnown catalogue.now (Q.answer (Q.state correspondent.new)) }
+        ensures does { (a : Answers) (s : State)
+            (r : IsReached catalogue.now a self.old.slots.slots.most s) →
+            Shows catalogue.now a (framing_view self.old) s →
+            AgreesAtEnds Q.answer Q.notified catalogue.now (Q.state correspondent.old) a
+            (header_ends_from (rules_by catalogue.now a self.old.slots.slots.most)
+            r.stream octets.now) →
+            TakesFront (λ n. n) (λ xs. StaysUndue Q.due Q.notified catalogue.now
+            (Q.state correspondent.old) (header_ends_from
+            (rules_by catalogue.now a self.old.slots.slots.most) r.stream) xs
+            × (Q.awaits_messages ≡ true → begins_in r.stream xs ≡ false))
+            (λ xs. Does catalogue.now a result (O.log out.old) (O.log out.new)
+            (framing_view self.new)
+            (one.runs (rules_by catalogue.now a self.old.slots.slots.most) s xs))
+            result octets.now }
+        ensures told { IfOk result (λ n. (a : Answers) (s : State)
+            (r : IsReached catalogue.now a self.old.slots.slots.most s) →
+            Shows catalogue.now a (framing_view self.old) s →
+            AgreesAtEnds Q.answer Q.notified catalogue.now (Q.state correspondent.old) a
+            (header_ends_from (rules_by catalogue.now a self.old.slots.slots.most)
+            r.stream octets.now) →
+            Q.state correspondent.new ≡ after_ends Q.notified catalogue.now
+            (Q.state correspondent.old) (header_ends_from
+            (rules_by catalogue.now a self.old.slots.slots.most)
+            r.stream (take n octets.now))) }
+        ensures some { IfOk result (λ n. 0 < n) }
+        ensures within { IfOk result (λ n. n ≤ length octets.now) }
+        ensures ready { OnOk result
+            (AreReady catalogue.now (self.new.totals.octets + 1) self.new.slots) }
+        ensures most { self.new.slots.slots.most ≡ self.old.slots.slots.most }
+    {
+        let header_run = self.header_run(octets);
+        if 0 < header_run {
+            self.take_header_octets(&octets[..header_run]);
+            return Ok(header_run);
+        }
+        let payload_run = self.payload_run(octets.len());
+        if 0 < payload_run {
+            return self.payload_octets(catalogue, correspondent, &octets[..payload_run], out);
+        }
+        if let Some(found) = self.continuation_for(correspondent, octets) {
+            self.take_continuation(catalogue, found, &octets[..5], out)?;
+            return Ok(5);
+        }
+        self.step(catalogue, correspondent, octets[0], out)?;
+        Ok(1)
+    }
+
+    /// Whether the correspondent is due, by itself or since messages have begun after so many.
+    #[inline]
+    fn is_due<Q: Correspondent>(&self, correspondent: &Q, begun: u64) -> bool
+        ensures { result ≡ (Q.due (Q.state correspondent.now)
+            || (Q.awaits_messages && nat_lt begun self.now.totals.messages)) }
+    {
+        correspondent.is_due() || (correspondent.awaits_messages() && begun < self.totals.messages)
+    }
+
+    /// Takes the octets of a piece, in runs where that is possible, up to the first one after which the correspondent is
+    /// due. Answers how many it took.
     pub fn steps<O: Out, Q: Correspondent>(
         &mut self,
         catalogue: &Catalogue,
         correspondent: &mut Q,
         piece: &[u8],
         out: &mut O,
-    ) -> Result<(), OutFault>
+    ) -> Result<usize, OutFault>
         requires known { AreKnown catalogue.now (Q.answer (Q.state correspondent.old)) }
         requires ready { AreReady catalogue.now (self.old.totals.octets + 1) self.old.slots }
         ensures known { AreKnown catalogue.now (Q.answer (Q.state correspondent.new)) }
@@ -117,9 +213,15 @@ impl Framing {
             AgreesAtEnds Q.answer Q.notified catalogue.now (Q.state correspondent.old) a
             (header_ends_from (rules_by catalogue.now a self.old.slots.slots.most)
             r.stream piece.now) →
-            Does catalogue.now a result (O.log out.old) (O.log out.new) (framing_view self.new)
-            (one.runs (rules_by catalogue.now a self.old.slots.slots.most) s piece.now) }
-        ensures told { IfOk result (λ _. (a : Answers) (s : State)
+            TakesFront (λ n. n) (λ xs. Q.due (Q.state correspondent.old) ≡ false →
+            is_due_after Q.due Q.notified Q.awaits_messages catalogue.now
+            (Q.state correspondent.old) (rules_by catalogue.now a self.old.slots.slots.most)
+            r.stream xs ≡ false)
+            (λ xs. Does catalogue.now a result (O.log out.old) (O.log out.new)
+            (framing_view self.new)
+            (one.runs (rules_by catalogue.now a self.old.slots.slots.most) s xs))
+            result piece.now }
+        ensures told { IfOk result (λ n. (a : Answers) (s : State)
             (r : IsReached catalogue.now a self.old.slots.slots.most s) →
             Shows catalogue.now a (framing_view self.old) s →
             AgreesAtEnds Q.answer Q.notified catalogue.now (Q.state correspondent.old) a
@@ -128,32 +230,32 @@ impl Framing {
             Q.state correspondent.new ≡ after_ends Q.notified catalogue.now
             (Q.state correspondent.old) (header_ends_from
             (rules_by catalogue.now a self.old.slots.slots.most)
-            r.stream piece.now)) }
+            r.stream (take n piece.now))) }
+        ensures last { IfOk result (λ n. (a : Answers) (s : State)
+            (r : IsReached catalogue.now a self.old.slots.slots.most s) →
+            Shows catalogue.now a (framing_view self.old) s →
+            AgreesAtEnds Q.answer Q.notified catalogue.now (Q.state correspondent.old) a
+            (header_ends_from (rules_by catalogue.now a self.old.slots.slots.most)
+            r.stream piece.now) → n < length piece.now →
+            is_due_after Q.due Q.notified Q.awaits_messages catalogue.now
+            (Q.state correspondent.old) (rules_by catalogue.now a self.old.slots.slots.most)
+            r.stream (take n piece.now) ≡ true) }
+        ensures some { 0 < length piece.now → IfOk result (λ n. 0 < n) }
+        ensures within { IfOk result (λ n. n ≤ length piece.now) }
         ensures ready { OnOk result
             (AreReady catalogue.now (self.new.totals.octets + 1) self.new.slots) }
         ensures most { self.new.slots.slots.most ≡ self.old.slots.slots.most }
     {
-        let mut rest = piece;
-        while let Some(octet) = rest.first() {
-            let payload_run = self.payload_run(rest.len());
-            let header_run = self.header_run(rest);
-            if 0 < header_run {
-                self.take_header_octets(&rest[..header_run]);
-                rest = &rest[header_run..];
-            } else if payload_run == 0 {
-                if let Some(found) = self.continuation(rest) {
-                    self.take_continuation(catalogue, found, &rest[..5], out)?;
-                    rest = &rest[5..];
-                } else {
-                    self.step(catalogue, correspondent, *octet, out)?;
-                    rest = &rest[1..];
-                }
-            } else {
-                self.payload_octets(catalogue, correspondent, &rest[..payload_run], out)?;
-                rest = &rest[payload_run..];
+        let begun = self.totals.messages;
+        let mut taken = 0;
+        while taken < piece.len() {
+            let count = self.take_some(catalogue, correspondent, &piece[taken..], out)?;
+            taken += count;
+            if self.is_due(correspondent, begun) {
+                break;
             }
         }
-        Ok(())
+        Ok(taken)
     }
 }
 

@@ -1,6 +1,6 @@
 //! The messages that have begun and not ended: the open ones in their slots, and the current one, which is being read.
 
-ghost use Rattle.std.specs.Prelude.{◌≡◌, ◌+◌, ◌≤◌, ◌^◌, ℕ, [], length, Option, Some, None, OnOk, IfOk, if◌then◌else◌};
+ghost use Rattle.std.specs.Prelude.{◌≡◌, ◌+◌, ◌<◌, ◌≤◌, ◌^◌, ℕ, [], length, take, true, Option, Some, None, OnOk, IfOk, if◌then◌else◌};
 ghost use Rattle.giop_print.specs.Output.{Writes};
 ghost use Rattle.giop_sig.specs.Table.{Table};
 ghost use Rattle.giop_message.specs.Signatures.{Answers};
@@ -11,7 +11,7 @@ ghost use Rattle.giop_stream.specs.OpenSlots.{Tracked, IsNotOpen};
 ghost use Rattle.giop_stream.specs.SlotsRepresent.{current_of};
 
 use crate::fault::FramingFault;
-use crate::open_message::{close_message, fault_message, take_octets, told_after};
+use crate::open_message::{close_message, fault_message, take_octets};
 use giop_entry_table::EntryTable;
 use giop_message::{Correspondent, Message};
 use giop_print::{Out, OutFault, cancelled_line, unfinished_line};
@@ -71,8 +71,9 @@ impl Slots {
     ghost use Rattle.giop_stream.specs.DoesEffect.{DoesEffect, one_if, never};
     ghost use Rattle.giop_stream.specs.OpenSlots.{Slot as Held, left_open};
     ghost use Rattle.giop_stream.specs.PayloadRuns.{run_effect};
-    ghost use Rattle.giop_stream.specs.HeaderEndsOfStream.{owner_header_ends, owner_told_after};
+    ghost use Rattle.giop_stream.specs.HeaderEndsOfStream.{owner_header_ends};
     ghost use Rattle.giop_message.specs.HeaderEnds.{AgreesAtEnds, after_ends};
+    ghost use Rattle.giop_message.specs.DueOctets.{TakesFront, StaysUndue};
 
     /// No message, where so many may be open.
     pub fn new(alloc: Global, most: usize) -> Result<Slots, AllocError>
@@ -147,7 +148,8 @@ impl Slots {
         Ok(())
     }
 
-    /// Feeds octets of the payload, after so many of the stream, to their owner; returns whether one of them faults it.
+    /// Feeds octets of the payload, after n octets of the stream, to their owner, up to the first one after which the
+    /// correspondent is due. Answers how many it took, and whether one of them faults it.
     pub fn take<O: Out, Q: Correspondent>(
         &mut self,
         catalogue: &Catalogue,
@@ -155,7 +157,7 @@ impl Slots {
         octets: &[u8],
         before: u64,
         out: &mut O,
-    ) -> Result<bool, OutFault>
+    ) -> Result<(usize, bool), OutFault>
         requires ready { AreReady catalogue.now (before + 1) self.old }
         requires known { AreKnown catalogue.now (Q.answer (Q.state correspondent.old)) }
         requires limit { before + length octets.now ≤ 2 ^ 48 }
@@ -164,24 +166,32 @@ impl Slots {
             SlotsRepresent catalogue.now a self.old c owner_of_next → Rising c.still_open →
             AgreesAtEnds Q.answer Q.notified catalogue.now (Q.state correspondent.old) a
             (owner_header_ends c owner_of_next octets.now) →
-            DoesEffect catalogue.now a one_if result (O.log out.old) (O.log out.new)
-            self.new (run_effect catalogue.now a before c owner_of_next octets.now) owner_of_next }
-        ensures told { IfOk result (λ _. (a : Answers) (c : Tracked)
+            TakesFront (λ r. r.0) (StaysUndue Q.due Q.notified catalogue.now
+            (Q.state correspondent.old) (owner_header_ends c owner_of_next))
+            (λ xs. DoesEffect catalogue.now a (λ r. one_if r.1) result
+            (O.log out.old) (O.log out.new) self.new
+            (run_effect catalogue.now a before c owner_of_next xs) owner_of_next)
+            result octets.now }
+        ensures told { IfOk result (λ r. (a : Answers) (c : Tracked)
             (owner_of_next : Option MessageKey) →
             SlotsRepresent catalogue.now a self.old c owner_of_next →
             AgreesAtEnds Q.answer Q.notified catalogue.now (Q.state correspondent.old) a
             (owner_header_ends c owner_of_next octets.now) →
             Q.state correspondent.new ≡ after_ends Q.notified catalogue.now
-            (Q.state correspondent.old) (owner_header_ends c owner_of_next octets.now)) }
-        ensures ready { OnOk result
-            (AreReady catalogue.now (before + length octets.now + 1) self.new) }
+            (Q.state correspondent.old)
+            (owner_header_ends c owner_of_next (take r.0 octets.now))) }
+        ensures due { IfOk result (λ r. r.0 < length octets.now →
+            Q.due (Q.state correspondent.new) ≡ true) }
+        ensures some { 0 < length octets.now → IfOk result (λ r. 0 < r.0) }
+        ensures within { IfOk result (λ r. r.0 ≤ length octets.now) }
+        ensures ready { IfOk result (λ r. AreReady catalogue.now (before + r.0 + 1) self.new) }
         ensures most { self.new.slots.most ≡ self.old.slots.most }
     {
         match &mut self.owner {
             PayloadOwner::Current(message) => {
                 take_octets(message, catalogue, correspondent, octets, before, out)
             }
-            PayloadOwner::Open(None) => Ok(false),
+            PayloadOwner::Open(None) => Ok((octets.len(), false)),
             PayloadOwner::Open(Some(k)) => match self.slots.get_mut(*k) {
                 Some(slot) => {
                     take_octets(
@@ -193,26 +203,7 @@ impl Slots {
                         out,
                     )
                 }
-                None => Ok(false),
-            },
-        }
-    }
-
-    /// How many octets of the payload have to come at least until the header of its owner, or the name of the exception
-    /// that it raises, ends, where the owner is a Reply.
-    pub fn told_after(&self, catalogue: &Catalogue) -> Option<usize>
-        requires ready { (n : ℕ) × AreReady catalogue.now n self.now }
-        ensures some { IfSome result (λ n. 1 ≤ n) }
-        ensures value { (a : Answers) (c : Tracked) (owner_of_next : Option MessageKey) →
-            SlotsRepresent catalogue.now a self.now c owner_of_next →
-            result ≡ owner_told_after catalogue.now a c owner_of_next }
-    {
-        match &self.owner {
-            PayloadOwner::Current(message) => told_after(message, catalogue),
-            PayloadOwner::Open(None) => None,
-            PayloadOwner::Open(Some(k)) => match self.slots.get(*k) {
-                Some(slot) => told_after(&slot.message, catalogue),
-                None => None,
+                None => Ok((octets.len(), false)),
             },
         }
     }

@@ -1,4 +1,4 @@
-//! What an engine reports of its stream: its status and its totals.
+//! What an engine reports of its stream: its status and its totals, and what it read of a piece.
 
 use crate::fault::StreamFault;
 
@@ -17,4 +17,15 @@ pub struct Totals {
     pub messages: u64,
     pub faults: u64,
     pub octets: u64,
+}
+
+/// What was read of a piece.
+#[derive(Clone, Copy, Debug, PartialEq, Eq)]
+pub struct Fed {
+    /// How many of its octets were read.
+    pub count: usize,
+    /// The number of the last message that begins in them, from 1: its header of 12 octets is complete.
+    pub begun: Option<u64>,
+    /// Whether the stream has a fault.
+    pub status: Status,
 }

@@ -3,6 +3,8 @@
 #![tactic(auto)]
 
 #[cfg(test)]
+mod due;
+#[cfg(test)]
 mod going_on;
 #[cfg(test)]
 mod known;
@@ -12,3 +14,5 @@ mod limits;
 mod own_out;
 #[cfg(test)]
 mod saved;
+#[cfg(test)]
+mod waiting;

@@ -13,7 +13,7 @@ use Rattle.giop_message.specs.Headers.{minor, kind, order, size, is_fragment}
 use Rattle.giop_message.specs.MessageReader.{IsCausal}
 use Rattle.giop_message.specs.Signatures.{Answers, signatures_of}
 use Rattle.giop_message.specs.ReaderOfTable.{message_reader}
-use Rattle.giop_message.specs.HeaderEnds.{HeaderEnd, Header_end, CallEvent, ends_between, header_noted, raised, header_ends, header_event, call_event, after_event, after_ends}
+use Rattle.giop_message.specs.HeaderEnds.{HeaderEnd, Header_end, ends_between, header_noted, raised, header_ends, header_event, call_event}
 use Rattle.giop_message.proofs.MessageLaws.{is_causal}
 use Rattle.giop_stream.specs.declared.current.Current.{Current}
 use Rattle.giop_stream.specs.declared.fragment.Continuation.{Continuation}
@@ -55,7 +55,7 @@ use Rattle.giop_stream.proofs.SlotSteps.Performing.{no_faults}
 use Rattle.giop_stream.proofs.SlotSteps.ReadingEffects.{reader_lines, take_lines, then_by}
 use Rattle.giop_stream.proofs.SlotSteps.RequestIds.{fragment_says}
 use Rattle.giop_stream.proofs.CodeSteps.EngineAlive.{sound, alive}
-use Rattle.giop_stream.proofs.CodeSteps.HeaderEndSteps.{at_none, run_from}
+use Rattle.giop_stream.proofs.CodeSteps.HeaderEndSteps.{AreUntold, at_none, run_from}
 use Rattle.giop_stream.proofs.CodeSteps.MessageEnds.{goes_on}
 use Rattle.giop_stream.proofs.CodeSteps.MessageOctets.{does_run, runs_on, all_read, header_at, no_current, knows_at, messages_at, faults_at, settled_shows}
 use Rattle.giop_stream.proofs.CodeSteps.OneOctet.{Adds, beginner, begins_is, paid_is}
@@ -85,21 +85,19 @@ fragment_tells : (C : Table) (number : ℕ) (header : List ℕ) (n : Noted) → 
 unfolding header_event
 fragment_tells C number header n seven = rw seven refl
 
-module _ {St : Type 0} (notified : St → CallEvent → St) (C : Table) (st : St) where
-  ends_tell : (number : ℕ) (header : List ℕ) (before now : Option Noted) → kind header ≡ 7
-      → after_ends notified C st (ends_between number header before now ++ []) ≡ st
-  ends_tell number header (Some before) now seven = refl
-  ends_tell number header None None seven = refl
-  ends_tell number header None (Some n) seven =
-      ap (after_event notified st) (fragment_tells C number header n seven)
+ends_untold : (C : Table) (number : ℕ) (header : List ℕ) (before now : Option Noted) →
+    kind header ≡ 7 → AreUntold C (ends_between number header before now ++ [])
+ends_untold C number header (Some before) now seven = tt
+ends_untold C number header None None seven = tt
+ends_untold C number header None (Some n) seven = (fragment_tells C number header n seven, tt)
 
-  fragment_told : (w : MessageKey) (o : Option (List ℕ)) (octets : List ℕ) → kind w.header ≡ 7
-      → after_ends notified C st (run_header_ends w o octets) ≡ st
-  unfolding header_ends raised
-  fragment_told w None octets seven = refl
-  fragment_told w (Some xs) octets seven =
-      rw seven (ends_tell w.number w.header (header_noted w.header xs)
-      (header_noted w.header (xs ++ octets)) seven)
+fragment_untold : (C : Table) (w : MessageKey) (o : Option (List ℕ)) (octets : List ℕ) →
+    kind w.header ≡ 7 → AreUntold C (run_header_ends w o octets)
+unfolding header_ends raised
+fragment_untold C w None octets seven = tt
+fragment_untold C w (Some xs) octets seven =
+    rw seven (ends_untold C w.number w.header (header_noted w.header xs)
+    (header_noted w.header (xs ++ octets)) seven)
 
 -- ---- The octets of a request id before the last one.
 
@@ -313,20 +311,19 @@ module _ (C : Table) (l : Answers) (most : ℕ) (p : List ℕ) (x : ℕ) (q : Li
       ∙ append_assoc (lines R p) (starts first ∷ []) last_does.lines))
 
   -- the correspondent is told nothing
-  pub tells_none : {St : Type 0} (notified : St → CallEvent → St) (st : St)
-      → after_ends notified C st (header_ends_from R p (x ∷ (q ++ d ∷ []))) ≡ st
+  pub tells_none : AreUntold C (header_ends_from R p (x ∷ (q ++ d ∷ [])))
   unfolding header_ends_from
-  tells_none notified st =
+  tells_none =
       let ends : header_ends_from R p₁ (q ++ d ∷ [])
       ≡ run_header_ends (message_key first) ((tracked_after R p₁).known first.number)
       (q ++ d ∷ []) =
       sym (run_from C l most q p₁ first d within (omega (arith, room, length_push p x, three)))
       ∙ ap (λ (w : Option MessageKey). owner_header_ends (tracked_after R p₁) w (q ++ d ∷ [])) own
       in
-      ap (after_ends notified C st) (ap (λ (es : List HeaderEnd). es
-      ++ header_ends_from R p₁ (q ++ d ∷ [])) (at_none R p x none) ∙ ends)
-      ∙ fragment_told notified C st (message_key first) ((tracked_after R p₁).known first.number)
-      (q ++ d ∷ []) (fragment_is header fragment).1
+      subst (AreUntold C) (sym (ap (λ (es : List HeaderEnd). es
+      ++ header_ends_from R p₁ (q ++ d ∷ [])) (at_none R p x none) ∙ ends))
+      (fragment_untold C (message_key first) ((tracked_after R p₁).known first.number)
+      (q ++ d ∷ []) (fragment_is header fragment).1)
 
 -- ---- By the fields.
 
@@ -473,9 +470,6 @@ module _ (C : Table) (l : Answers) (most : ℕ) (s : State) (reached : IsReached
       (omega (arith, octets_read, all_come, octets_before)) (stopped ∙ free) (head ∙ header_as)
       (omega (arith, payload_count, length_push q d, three)) (size_is ∙ ap size header_as) keeps)
 
-  pub continuation_told : {St : Type 0} (notified : St → CallEvent → St) (st : St) →
-      after_ends notified C st (header_ends_from R' p octets) ≡ st
-  continuation_told notified st =
-      ap (λ (z : List ℕ). after_ends notified C st (header_ends_from R' p z)) come
-      ∙ tells_none C l most p x q d runs_free no_message three full fragment sized within_limit
-      notified st
+  pub continuation_untold : AreUntold C (header_ends_from R' p octets)
+  continuation_untold = subst (λ (z : List ℕ). AreUntold C (header_ends_from R' p z)) (sym come)
+      (tells_none C l most p x q d runs_free no_message three full fragment sized within_limit)

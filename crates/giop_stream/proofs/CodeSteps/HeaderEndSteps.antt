@@ -27,7 +27,7 @@ use Rattle.giop_stream.specs.Events.{MessageKey, Takes, open_after}
 use Rattle.giop_stream.specs.Effects.{octets_then, with_octet, event, effect_to}
 use Rattle.giop_stream.specs.OpenSlots.{Tracked, tracked_after}
 use Rattle.giop_stream.specs.SlotsRepresent.{RepresentsMessage, SlotsRepresent, index_of}
-use Rattle.giop_stream.specs.HeaderEndsOfStream.{reply_told_after, run_header_ends, owner_header_ends, current_header_ends, header_ends_at, header_ends_from}
+use Rattle.giop_stream.specs.HeaderEndsOfStream.{run_header_ends, owner_header_ends, current_header_ends, header_ends_at, header_ends_from}
 use Rattle.giop_stream.proofs.Cuts.Cutting.{of_parts, next, parts_by, cut_grows, next_limit, next_front, next_stopped}
 use Rattle.giop_stream.proofs.Cuts.CutFrom.{header_case}
 use Rattle.giop_stream.proofs.SlotSteps.OneSlotChanges.{own_then}
@@ -44,65 +44,69 @@ pub if_ok_weaker : {A E : Type 0} {P Q : A → Type 0} (r : Result A E) → ((x 
 if_ok_weaker (Ok x) f h = f x h
 if_ok_weaker (Err e) f h = h
 
+pub if_ok_both : {A E : Type 0} (P Q : A → Type 0) (r : Result A E) → IfOk r P → IfOk r Q →
+    IfOk r (λ x. P x × Q x)
+if_ok_both P Q (Ok x) p q = (p, q)
+if_ok_both P Q (Err e) p q = tt
+
 pub positive : (n : ℕ) → (n ≡ 0 → ⊥) → 0 < n
 positive zero f = absurd (f refl)
 positive (suc n) f = omega arith
 
-pub none_first : (xs : List ℕ) → None ≡ slice_get xs 0 → xs ≡ []
-none_first [] e = refl
-none_first (x ∷ xs) e = absurd (let no : None ≡ Some x = e in cc)
+-- ---- ends of which the correspondent is told nothing
+
+abbrev pub AreUntold : Table → List HeaderEnd → Type 0
+AreUntold C [] = Unit {0}
+AreUntold C (e ∷ es) = (call_event C e ≡ None) × AreUntold C es
+
+pub untold_front : (C : Table) (es fs : List HeaderEnd) → AreUntold C (es ++ fs) → AreUntold C es
+untold_front C [] fs h = tt
+untold_front C (e ∷ es) fs h = (h.0, untold_front C es fs h.1)
+
+pub untold_ends : {St : Type 0} (notified : St → CallEvent → St) (C : Table) (st : St)
+    (es : List HeaderEnd) → AreUntold C es → after_ends notified C st es ≡ st
+untold_ends notified C st [] h = refl
+untold_ends notified C st (e ∷ es) h =
+    ap (λ o. after_ends notified C (after_event notified st o) es) h.0
+    ∙ untold_ends notified C st es h.1
 
 -- ---- one message
 
-pub none_told : {St : Type 0} (notified : St → CallEvent → St) (C : Table) (a : Answers) (st : St)
-    (w : MessageKey) (o : Option (List ℕ)) (octets : List ℕ)
-    → RepresentsMessage C a None w o → st ≡ after_ends notified C st (run_header_ends w o octets)
-none_told notified C a st w None octets k = refl
-none_told notified C a st w (Some s) octets k = absurd k
+-- what holds of no ends holds of a message that is over
+pub none_ends : (P : (List ℕ → List HeaderEnd) → Type 0) (C : Table) (a : Answers) (w : MessageKey)
+    (o : Option (List ℕ)) → RepresentsMessage C a None w o → P (λ octets. []) →
+    P (run_header_ends w o)
+none_ends P C a w None k f = f
+none_ends P C a w (Some s) k f = absurd k
 
-pub none_told_after : (C : Table) (a : Answers) (w : MessageKey) (o : Option (List ℕ)) →
-    RepresentsMessage C a None w o → None ≡ reply_told_after C a w o
-none_told_after C a w None k = refl
-none_told_after C a w (Some s) k = absurd k
-
-pub given_told : {St : Type 0} (notified : St → CallEvent → St) (C : Table) (a : Answers)
-    (st now : St) (m : CodeMessage) (w : MessageKey)
-    (o : Option (List ℕ)) (octets : List ℕ) → RepresentsMessage C a (Some m) w o
-    → ((s : List ℕ) → o ≡ Some s → Follows C a w.number w.header m s →
-    now ≡ after_ends notified C st (header_ends w.number w.header s octets))
-    → now ≡ after_ends notified C st (run_header_ends w o octets)
-given_told notified C a st now m w (Some s) octets k f = f s refl k
-given_told notified C a st now m w None octets k f = absurd k
+-- and what holds of those of a message that follows octets holds of it
+pub given_ends : (P : (List ℕ → List HeaderEnd) → Type 0) (C : Table) (a : Answers)
+    (m : CodeMessage) (w : MessageKey) (o : Option (List ℕ)) → RepresentsMessage C a (Some m) w o →
+    ((s : List ℕ) → o ≡ Some s → Follows C a w.number w.header m s →
+    P (header_ends w.number w.header s)) → P (run_header_ends w o)
+given_ends P C a m w (Some s) k f = f s refl k
+given_ends P C a m w None k f = absurd k
 
 -- ---- the owner of the octets
 
-module _ {St : Type 0} (answer : St → Answer) (notified : St → CallEvent → St) (C : Table)
-    (a : Answers) (st now : St) (s : Slots)
-    (c : Tracked) (who : Option MessageKey) (octets : List ℕ) (h : SlotsRepresent C a s c who) where
-  abbrev Agrees : Option MessageKey → Type 0
-  Agrees who' = AgreesAtEnds answer notified C st a (owner_header_ends c who' octets)
+-- what holds of its ends holds of theirs
+module _ (P : (List ℕ → List HeaderEnd) → Type 0) (C : Table) (a : Answers) (s : Slots)
+    (c : Tracked) (who : Option MessageKey) (h : SlotsRepresent C a s c who) where
+  pub own_ends : (m : Option CodeMessage) → IsItself s.owner m →
+      ((w : MessageKey) (o : Option (List ℕ)) → RepresentsMessage C a m w o →
+      P (run_header_ends w o)) → P (owner_header_ends c who)
+  own_ends m e f =
+      own_has C a (λ v. P (owner_header_ends c v)) s c who m e h
+      (λ none. f no_key None (rw none tt))
+      (λ w k. f w (c.known w.number) (own_kept C a s c w m e k))
 
-  abbrev IsTold : Option MessageKey → Type 0
-  IsTold who' = now ≡ after_ends notified C st (owner_header_ends c who' octets)
-
-  pub own_told : (m : Option CodeMessage) → IsItself s.owner m → Agrees who
-      → ((w : MessageKey) (o : Option (List ℕ)) → RepresentsMessage C a m w o →
-      AgreesAtEnds answer notified C st a (run_header_ends w o octets)
-      → now ≡ after_ends notified C st (run_header_ends w o octets)) → IsTold who
-  own_told m e agrees f =
-      own_has C a (λ v. Agrees v → IsTold v) s c who m e h
-      (λ none agrees_here. f no_key None (rw none tt) agrees_here)
-      (λ w k agrees_here. f w (c.known w.number) (own_kept C a s c w m e k) agrees_here) agrees
-
-  pub slot_told : (v : Contents) (k : ℕ) → index_of s.owner ≡ Some k →
-      option_map (λ e. e.value) (slice_get s.slots.entries k) ≡ Some v
-      → Agrees who
-      → ((w : MessageKey) → RepresentsMessage C a v.message w (c.known w.number) →
-      AgreesAtEnds answer notified C st a (run_header_ends w (c.known w.number) octets)
-      → now ≡ after_ends notified C st (run_header_ends w (c.known w.number) octets)) → IsTold who
-  slot_told v k e get agrees f =
-      slot_has C a (λ v. Agrees v → IsTold v) s c who k e h
-      (λ w kept agrees_here. f w (slot_kept C a s v c w k e get kept) agrees_here) agrees
+  pub slot_ends : (v : Contents) (k : ℕ) → index_of s.owner ≡ Some k →
+      option_map (λ e. e.value) (slice_get s.slots.entries k) ≡ Some v →
+      ((w : MessageKey) → RepresentsMessage C a v.message w (c.known w.number) →
+      P (run_header_ends w (c.known w.number))) → P (owner_header_ends c who)
+  slot_ends v k e get f =
+      slot_has C a (λ v. P (owner_header_ends c v)) s c who k e h
+      (λ w kept. f w (slot_kept C a s v c w k e get kept))
 
 -- ---- one octet, and others after it
 
@@ -433,13 +437,6 @@ module _ {St : Type 0} (answer : St → Answer) (notified : St → CallEvent →
       (header_ends_from R (p ++ past) q) (header_ends_from R ((p ++ past) ++ q) left)
       (ap (header_ends_from R (p ++ past)) parts ∙ from_append R q (p ++ past) left) behind
 
-  pub step_agrees : (rest piece left : List ℕ) (x : ℕ) → piece ≡ past ++ rest → rest ≡ x ∷ left
-      → AgreesAtEnds answer notified C st a (header_ends_from R p piece) →
-      AgreesAtEnds answer notified C now a (header_ends_at R (p ++ past) x)
-  step_agrees rest piece left x split parts agrees =
-      subst (AgreesAtEnds answer notified C now a) (from_one R (p ++ past) x)
-      (run_agrees rest piece (x ∷ []) left split parts agrees)
-
   pub told_on : (q : List ℕ) (later : St) →
       later ≡ after_ends notified C now (header_ends_from R (p ++ past) q)
       → later ≡ after_ends notified C st (header_ends_from R p (past ++ q))
@@ -447,16 +444,6 @@ module _ {St : Type 0} (answer : St → Answer) (notified : St → CallEvent →
       told_after answer notified C a st now later (header_ends_from R p past)
       (header_ends_from R (p ++ past) q) told more
       ∙ sym (ap (after_ends notified C st) (from_append R past p q))
-
-  pub told_step : (x : ℕ) (later : St) → later
-      ≡ after_ends notified C now (header_ends_at R (p ++ past) x)
-      → later ≡ after_ends notified C st (header_ends_from R p (past ++ x ∷ []))
-  told_step x later more = told_on (x ∷ []) later
-      (more ∙ sym (ap (after_ends notified C now) (from_one R (p ++ past) x)))
-
-  pub told_none : (q : List ℕ) → header_ends_from R (p ++ past) q ≡ [] →
-      now ≡ after_ends notified C st (header_ends_from R p (past ++ q))
-  told_none q none = told_on q now (sym (ap (after_ends notified C now) none))
 
 pub list_notified : (C : Table) (k l : RequestTable) (es : List HeaderEnd) → k ≡ l
     → AgreesAtEnds (λ (k : RequestTable) id. kept_operation k id) (λ k t. k) C k (by_list l) es

@@ -1,10 +1,10 @@
 -- Runs of payload octets, of which at most the last one ends a request id or the message: the
 -- stream with them, and that the code does their steps.
-use Rattle.std.proofs.Common.{◌≡◌, ◌≢◌, ℕ, suc, ◌+◌, ◌-◌, ◌^◌, ◌<◌, ◌≤◌, List, [], ◌∷◌, ◌++◌, length, get_or, refl, sym, ap, subst, ◌∙◌, append_assoc, append-nil, length-append, Option, Some, None, Result, Ok, Err, arith}
+use Rattle.std.proofs.Common.{◌≡◌, ◌≢◌, ℕ, suc, ◌+◌, ◌-◌, ◌^◌, ◌<◌, ◌≤◌, List, [], ◌∷◌, ◌++◌, length, take, get_or, refl, sym, ap, subst, ◌∙◌, append_assoc, append-nil, length-append, Option, Some, None, Result, Ok, Err, arith}
 use Rattle.std.specs.Prelude.{OnOk}
 use Rattle.std.specs.Result.{OkIff, result_unwrap_or}
 use Rattle.std.proofs.lemmas.Bool.{le-ltb, ne_eqb}
-use Rattle.std.proofs.lemmas.List.{length_push, get_or_push}
+use Rattle.std.proofs.lemmas.List.{length_push, length-take-le, get_or_push}
 use Rattle.giop_print.specs.Output.{OutLog, Writes}
 use Rattle.giop_sig.specs.Table.{Table}
 use Rattle.giop_message.specs.Headers.{size}
@@ -14,7 +14,7 @@ use Rattle.giop_message.specs.MessageReader.{IsCausal}
 use Rattle.giop_message.proofs.MessageLaws.{is_causal}
 use Rattle.giop_stream.specs.declared.current.Current.{Current}
 use Rattle.giop_stream.specs.Rules.{Rules, rules_by}
-use Rattle.giop_stream.specs.Framing.{Message, Cut, with_payload, limit, cut}
+use Rattle.giop_stream.specs.Framing.{Message, Cut, with_payload, limit, cut, messages}
 use Rattle.giop_stream.specs.Events.{Takes, MessageKey, Open, events_of_octet, events_at_octet, changed, open_after}
 use Rattle.giop_stream.specs.Lines.{Line, lines}
 use Rattle.giop_stream.specs.Text.{lines_text}
@@ -23,6 +23,7 @@ use Rattle.giop_stream.specs.Effects.{Effect, effects, tracked_at, with_octet, e
 use Rattle.giop_stream.specs.OpenSlots.{Tracked, tracked_after}
 use Rattle.giop_stream.specs.SlotsRepresent.{SlotsRepresent}
 use Rattle.giop_stream.specs.PayloadRuns.{run_effect}
+use Rattle.giop_stream.specs.Further.{further}
 use Rattle.giop_stream.specs.PayloadOwner.{IsBeforeOctet, IsBeforeOctets, IsNewest, effect_before, octets_effect, owner_after}
 use Rattle.giop_stream.specs.EngineView.{FramingView}
 use Rattle.giop_stream.specs.EngineState.{State, state_of, owner_of_next, owner_of_next_in}
@@ -162,6 +163,37 @@ module _ (C : Table) (l : Answers) where
         (owner_of_next (open_after most p) m) x in
         ap (λ (open' : List Open). owner_of_next open' (with_octet m x)) still_open
         ∙ owner_on (open_after most p) m x (not_named p m x n h)
+
+-- fewer of them are payload too
+pub within_less : (p : List ℕ) (m : Message) (k n : ℕ) → k ≤ n → Within p m n → Within p m k
+within_less p m k n less h = record {
+  free = h.free;
+  current = h.current;
+  apart = λ early. omega (arith, less, h.apart early);
+  before_last = omega (arith, less, h.before_last);
+  room = omega (arith, less, h.room);
+}
+
+-- and no message begins in them
+pub none_begin : (xs p : List ℕ) (m : Message) → Within p m (length xs) →
+    length (messages (cut (p ++ xs))) ≡ length (messages (cut p))
+unfolding of_parts messages
+none_begin [] p m h = ap (λ z. length (messages (cut z))) (append-nil p)
+none_begin (x ∷ xs) p m h =
+    let grown = ap (λ (c : Cut). length (messages c)) (within_grows p m x (length xs) h) in
+    let was = ap (λ (c : Cut). length (messages c)) (parts_by (cut p) (Some m) None h.current
+    h.free)
+    in
+    let more = none_begin xs (p ++ x ∷ []) (with_octet m x) (within_on p m x (length xs) h) in
+    ap (λ z. length (messages (cut z))) (sym (append_assoc p (x ∷ []) xs))
+    ∙ omega (
+      arith,
+      more,
+      grown,
+      was,
+      length_push (cut p).whole m,
+      length_push (cut p).whole (with_octet m x),
+    )
 
 -- ---- All of them.
 
@@ -442,3 +474,80 @@ module _ (C : Table) (l : Answers) (most : ℕ) (s : State) (reached : IsReached
         )) (sized ∙ ap size header)
         (subst (λ (t : Tracked). SlotsRepresent C l b.slots (x_does t).tracked
         (owner_after (x_does t).tracked.still_open n)) ran_then keeps))
+
+-- ---- The first n of them, as many as are taken.
+
+module _ (C : Table) (l : Answers) (most : ℕ) (s : State) (reached : IsReached C l most s)
+    (m : FramingView) (h : Shows C l m s)
+    (free : m.stopped ≡ None) (c : Message) (current : (cut reached.stream).current ≡ Some c)
+    (octets : List ℕ) (apart : m.payload_count < 4 → m.payload_count + length octets ≤ 4)
+    (few : 1 < length octets → m.payload_count + length octets ≤ size m.header)
+    (room : m.totals.octets + length octets ≤ 2 ^ 48) (n : ℕ) (some : 0 < n)
+    (within : n ≤ length octets) (before : Current)
+    (known : (before.number ≡ m.totals.messages) × (before.header ≡ m.header)
+    × (before.place ≡ m.totals.octets) × (before.payload_count ≡ m.payload_count)) where
+  abbrev xs : List ℕ
+  xs = take n octets
+
+  pub long : length xs ≡ n
+  long = length-take-le n octets within
+
+  abbrev pub parts : (q : List ℕ) × ((x : ℕ) × (xs ≡ q ++ x ∷ []))
+  parts = octets_are xs (omega (arith, long, some))
+
+  abbrev pub now : Current
+  now = further before (suc (length parts.0))
+
+  apart_then : m.payload_count < 4 → m.payload_count + length xs ≤ 4
+  apart_then less = omega (arith, long, within, apart less)
+
+  few_then : 1 < length xs → m.payload_count + length xs ≤ size m.header
+  few_then more = omega (arith, long, within, more, few (omega (arith, long, within, more)))
+
+  room_then : m.totals.octets + length xs ≤ 2 ^ 48
+  room_then = omega (arith, long, within, room)
+
+  few_taken : m.payload_count + length xs < 2 ^ 32
+  few_taken = run_fits C l most s reached m h free c current xs parts.0 parts.1.0 parts.1.1
+      apart_then
+      few_then room_then
+
+  last : length xs ≡ suc (length parts.0)
+  last = omega (arith, ap length parts.1.1, length_push parts.0 parts.1.0)
+
+  pub place_is : now.place ≡ m.totals.octets + length xs
+  place_is = omega (arith, known.2, last)
+
+  pub count_is : now.payload_count ≡ m.payload_count + length xs
+  count_is = omega (arith, known.3, last, few_taken)
+
+  pub taken_before : IsBeforeOctets C l m.slots (tracked_after (rules_by C l most) reached.stream) c
+      now parts.0 parts.1.0
+  taken_before = run_before C l most s reached m h free c current xs parts.0 parts.1.0 parts.1.1
+      apart_then few_then room_then now known.0 known.1 place_is count_is
+
+  -- what they do
+  abbrev pub taken_do : Effect
+  taken_do = octets_effect C l most (tracked_after (rules_by C l most) reached.stream) c now parts.0
+      parts.1.0
+
+  pub taken_does : {A E : Type 0} (result : Result A E) (a b : OutLog) (f : FramingView) →
+      Writes result a b (lines_text taken_do.lines) →
+      OnOk result (Shows C l f (state_of (rules_by C l most) (reached.stream ++ xs))) →
+      Does C l result a b f (runs (rules_by C l most) s xs)
+  taken_does result a b f text shows =
+      run_does C l most s reached m h free c current xs parts.0 parts.1.0 parts.1.1 apart_then
+      few_then room_then now known.0 known.1 place_is count_is result a b f text shows
+
+  pub taken_shows : (b f : FramingView) (k : ℕ) → f ≡ settled b k →
+      b.totals.messages ≡ m.totals.messages →
+      b.totals.faults ≡ m.totals.faults + fault_count taken_do.lines →
+      b.totals.octets ≡ now.place → b.stopped ≡ m.stopped → b.header ≡ m.header →
+      b.payload_count ≡ now.payload_count → k ≡ size m.header →
+      SlotsRepresent C l b.slots taken_do.tracked (owner_after taken_do.tracked.still_open
+      (with_octet (with_payload c (c.payload ++ parts.0)) parts.1.0)) →
+      Shows C l f (state_of (rules_by C l most) (reached.stream ++ xs))
+  taken_shows b f k is messages faults octets_are stopped head count sized keeps =
+      run_shows C l most s reached m h free c current xs parts.0 parts.1.0 parts.1.1 apart_then
+      few_then room_then now known.0 known.1 place_is count_is b f k is messages faults
+      (octets_are ∙ place_is) stopped head (count ∙ count_is) sized keeps

@@ -1,6 +1,6 @@
 -- A message that takes a run of octets at once: the same lines and the same rest as octet by octet.
 use Rattle.std.proofs.Common.{◌≡◌, ℕ, suc, ◌+◌, Bool, true, false, List, [], ◌∷◌, ◌++◌, take, drop, refl, sym, ap, subst, ◌∙◌, append_assoc, append-nil, add-one, Option, Some, None, Result, Ok, arith}
-use Rattle.std.specs.Prelude.{◌||◌, if◌then◌else◌, is_some, slice_get, option_map}
+use Rattle.std.specs.Prelude.{◌||◌, if◌then◌else◌, slice_get, option_map}
 use Rattle.std.specs.List.{list_any}
 use Rattle.std.proofs.lemmas.List.{take-append-drop}
 use Rattle.giop_print.specs.Output.{OutLog, Wrote}
@@ -9,8 +9,10 @@ use Rattle.giop_message.specs.declared.message.Message.{Message}
 use Rattle.giop_message.specs.Signatures.{Signatures, Answers, signatures_of}
 use Rattle.giop_message.specs.Messages.{message, message_lines, stage_of}
 use Rattle.giop_message.specs.ReaderOfTable.{message_reader, is_over, is_wrong}
-use Rattle.giop_message.specs.MessageState.{due, due_text, Follows, TookAll, FaultedAt}
-use Rattle.giop_message.proofs.MessageLaws.{octet_over, text_both, text_none, text_over, over_where_faulted, told_more, follows_goes}
+use Rattle.giop_message.specs.DueOctets.{TakesFront}
+use Rattle.giop_message.specs.HeaderEnds.{HeaderEnd}
+use Rattle.giop_message.specs.MessageState.{due, due_text, Follows, FaultedAt}
+use Rattle.giop_message.proofs.MessageLaws.{octet_over, text_both, text_none, text_over, text_ended, over_where_faulted, told_more, follows_goes}
 use Rattle.giop_entry_table.specs.EntryTable.{with_value}
 use Rattle.giop_stream.specs.declared.slots.Slot.{Slot as Contents}
 use Rattle.giop_stream.specs.declared.slots.Slots.{Slots}
@@ -29,7 +31,20 @@ use Rattle.giop_stream.proofs.Lists.{any_append}
 use Rattle.giop_stream.proofs.Events.AfterMoreEvents.{count_append}
 use Rattle.giop_stream.proofs.SlotSteps.ReadingEffects.{over_lines, over_then, take_text, then_by, faults_by}
 use Rattle.giop_stream.proofs.SlotSteps.Performing.{text_append, performs_on}
-use Rattle.giop_stream.proofs.SlotSteps.EventsOnSlots.{Alters, IsItself, still_takes, still_alters, no_key, own_effects, slot_effects, own_has, slot_has}
+use Rattle.giop_stream.proofs.SlotSteps.EventsOnSlots.{Alters, IsItself, still_takes, still_alters, no_key, own_effects, slot_effects, own_has, slot_has, own_kept, slot_kept}
+
+-- what follows from what holds of the octets that a call took
+pub takes_weaker : {A E : Type 0} {count : A → ℕ} {before P Q : List ℕ → Type 0} {r : Result A E}
+    {octets : List ℕ} → ((xs : List ℕ) → P xs → Q xs) → TakesFront count before P r octets →
+    TakesFront count before Q r octets
+takes_weaker f t = record {
+  n = t.n;
+  counted = t.counted;
+  within = t.within;
+  some = t.some;
+  fronts = t.fronts;
+  all = f (take t.n _) t.all;
+}
 
 -- A message that is over stays so.
 pub over_stays : (S : Signatures) (header s more : List ℕ) →
@@ -180,12 +195,6 @@ module _ (C : Table) (l : Answers) where
 
   -- ---- A message of which the code keeps a value.
 
-  -- what a message took of these octets, whatever it follows
-  abbrev pub TellsAll : Message → Message → MessageKey → Option (List ℕ) → List ℕ → Option ℕ →
-      Type 0
-  TellsAll m m' w o octets found = (s : List ℕ) → o ≡ Some s → Follows C l w.number w.header m s →
-      TookAll C l w.number w.header m' s octets found
-
   -- P holds of the text that these octets add
   abbrev pub DueOf : (List ℕ → Type 0) → Message → MessageKey → Option (List ℕ) → ℕ → List ℕ →
       Type 0
@@ -215,12 +224,13 @@ module _ (C : Table) (l : Answers) where
 
   -- where none of them faults it, and where one does
   pub given_on : {E : Type 0} (m m' : Message) (w : MessageKey) (o : Option (List ℕ)) (before : ℕ)
-      (xs : List ℕ)
-      (found : Option ℕ) (a b : OutLog) → is_some found ≡ false →
-      RepresentsMessage C l (Some m) w o → DueOf (Wrote a b) m w o before xs
-      → TellsAll m m' w o xs found
-      → DoesPart {E = E} C l one_if (Ok false) a b (Some m') w (run_part C l before w o xs)
-  given_on m m' w (Some s) before xs None a b e k writes took =
+      (xs : List ℕ) (n : ℕ) (a b : OutLog) → RepresentsMessage C l (Some m) w o →
+      DueOf (Wrote a b) m w o before xs →
+      ((s : List ℕ) → o ≡ Some s → Follows C l w.number w.header m s →
+      Follows C l w.number w.header m' (s ++ xs)) →
+      DoesPart {E = E} C l (λ (r : ℕ × Bool). one_if r.1) (Ok (n, false)) a b (Some m') w
+      (run_part C l before w o xs)
+  given_on m m' w (Some s) before xs n a b k writes took =
       let goes_before = goes m w s k in
       let k' = took s refl k in
       let still = goes m' w (s ++ xs) k' in
@@ -229,25 +239,26 @@ module _ (C : Table) (l : Answers) where
         faults = rw (run_count w xs before s goes_before, still) refl;
         kept = rw (run_then w xs before s goes_before, still) k';
       }
-  given_on m m' w (Some s) before xs (Some n) a b e k writes took = absurd cc
-  given_on m m' w None before xs found a b e k writes took = absurd k
+  given_on m m' w None before xs n a b k writes took = absurd k
 
-  pub given_over : {E : Type 0} (m m' : Message) (w : MessageKey) (o : Option (List ℕ)) (before : ℕ)
-      (xs : List ℕ)
-      (found : Option ℕ) (a b : OutLog) → is_some found ≡ true →
-      RepresentsMessage C l (Some m) w o → DueOf (Wrote a b) m w o before xs
-      → TellsAll m m' w o xs found
-      → DoesPart {E = E} C l one_if (Ok true) a b None w (run_part C l before w o xs)
-  given_over m m' w (Some s) before xs (Some n) a b e k writes took =
+  pub given_over : {E : Type 0} (m : Message) (w : MessageKey) (o : Option (List ℕ)) (before : ℕ)
+      (xs : List ℕ) (i n : ℕ) (a b : OutLog) → RepresentsMessage C l (Some m) w o →
+      DueOf (Wrote a b) m w o before (take i xs) →
+      ((s : List ℕ) → o ≡ Some s → Follows C l w.number w.header m s →
+      FaultedAt (signatures_of C (l w.number)) w.header s xs i) →
+      DoesPart {E = E} C l (λ (r : ℕ × Bool). one_if r.1) (Ok (n, true)) a b None w (run_part C l
+      before w o xs)
+  given_over m w (Some s) before xs i n a b k writes found =
       let goes_before = goes m w s k in
-      let over = faulted w s xs n (took s refl k) in
+      let over = faulted w s xs i (found s refl k) in
+      let S = signatures_of C (l w.number) in
       record {
-        text = given_text (Wrote a b) m w (Some s) before xs k writes;
+        text = given_text (Wrote a b) m w (Some s) before xs k (λ z e f.
+            rw (text_ended S w.number before w.header z xs i (found z e f).here) (writes z e f));
         faults = rw (run_count w xs before s goes_before, over) refl;
         kept = rw (run_then w xs before s goes_before, over) tt;
       }
-  given_over m m' w (Some s) before xs None a b e k writes took = absurd cc
-  given_over m m' w None before xs found a b e k writes took = absurd k
+  given_over m w None before xs i n a b k writes found = absurd k
 
   -- ---- A run's effect on what is tracked: it changes one message alone.
 
@@ -281,69 +292,63 @@ module _ (C : Table) (l : Answers) where
   nobody_run [] before c = refl
   nobody_run (x ∷ xs) before c = nobody_run xs (suc before) c
 
-  module _ {E : Type 0} (r : Result Bool E) (a b : OutLog) (s : Slots) (c : Tracked)
-      (owner_of_next : Option MessageKey) (before : ℕ)
-      (xs : List ℕ) (h : SlotsRepresent C l s c owner_of_next) where
-    -- what the run does to the message that the octets belong to
-    abbrev Makes : Option Message → MessageKey → Type 0
-    Makes message w = DoesPart C l one_if r a b message w
-        (run_part C l before w (c.known w.number) xs)
+  -- what the octets that are taken do to their owner, they do to what is tracked
+  module _ {A E : Type 0} (count faults : A → ℕ) (r : Result A E) (a b : OutLog) (s : Slots)
+      (c : Tracked) (owner_of_next : Option MessageKey) (before : ℕ) (octets : List ℕ)
+      (h : SlotsRepresent C l s c owner_of_next)
+      (Agrees : (List ℕ → List HeaderEnd) → Type 0)
+      (Before : (List ℕ → List HeaderEnd) → List ℕ → Type 0) where
+    abbrev PartTaken : Option Message → MessageKey → Option (List ℕ) → Type 0
+    PartTaken message w o = Agrees (run_header_ends w o) →
+        TakesFront count (Before (run_header_ends w o))
+        (λ xs. DoesPart C l faults r a b message w (run_part C l before w o xs)) r octets
+
+    abbrev Taken : Slots → Option MessageKey → Type 0
+    Taken new who = Agrees (owner_header_ends c who) →
+        TakesFront count (Before (owner_header_ends c who))
+        (λ xs. DoesEffect C l faults r a b new (run_effect C l before c who xs) who) r octets
 
     -- what becomes of a message that is over, or of none
-    none_runs : (of : PayloadOwner) (message own' : Option Message) → IsItself of own' →
-        message ≡ None → ((o : Option (List ℕ)) → RepresentsMessage C l message no_key o →
-        DoesPart C l one_if r a b own' no_key (run_part C l before no_key o xs))
-        → DoesEffect C l one_if r a b (record { slots = s.slots; owner = of })
+    none_runs : (of : PayloadOwner) (own' : Option Message) → IsItself of own' → (xs : List ℕ) →
+        DoesPart C l faults r a b own' no_key (run_part C l before no_key None xs) →
+        DoesEffect C l faults r a b (record { slots = s.slots; owner = of })
         (run_effect C l before c None xs) None
-    none_runs of message own' is none f =
+    none_runs of own' is xs does =
         rw (nobody_run xs before c) (performs_on r a b refl
         (λ k. record { slots = h.slots; owner = rw (is.0, is.1) (over own' k) })
-        (rw (none_run no_key None before xs tt) at (f None (rw none tt))))
+        (rw (none_run no_key None before xs tt) at does))
       where
         over : (own' : Option Message) → RepresentsMessage C l own' no_key None → own' ≡ None
         over None k = refl
         over (Some m) k = absurd k
 
-    pub own_runs : (of : PayloadOwner) (message own' : Option Message) → IsItself of own' →
-        IsItself s.owner message
-        → ((w : MessageKey) (o : Option (List ℕ)) →
-        owner_header_ends c owner_of_next xs ≡ run_header_ends w o xs →
-        RepresentsMessage C l message w o
-        → DoesPart C l one_if r a b own' w (run_part C l before w o xs))
-        → DoesEffect C l one_if r a b (record { slots = s.slots; owner = of })
-        (run_effect C l before c owner_of_next xs) owner_of_next
-    own_runs of message own' is e f =
-        own_has C l (λ who. ((w : MessageKey) (o : Option (List ℕ)) →
-        owner_header_ends c who xs ≡ run_header_ends w o xs → RepresentsMessage C l message w o
-        → DoesPart C l one_if r a b own' w (run_part C l before w o xs))
-        → DoesEffect C l one_if r a b (record { slots = s.slots; owner = of })
-        (run_effect C l before c who xs) who) s c owner_of_next message e h
-        (λ none f. none_runs of message own' is none
-        (λ o k. f no_key o (no_ends o (rw none at k)) k))
-        (λ w k f. own_effects C l r a b s of message own' c w _ _ is e k (run_alters w xs before c)
-        (f w (c.known w.number) refl)) f
-      where
-        no_ends : (o : Option (List ℕ)) → RepresentsMessage C l None no_key o →
-            [] ≡ run_header_ends no_key o xs
-        no_ends None k = refl
-        no_ends (Some zs) k = absurd k
+    pub own_takes : (of : PayloadOwner) (message own' : Option Message) → IsItself of own' →
+        IsItself s.owner message →
+        ((w : MessageKey) (o : Option (List ℕ)) → RepresentsMessage C l message w o →
+        PartTaken own' w o) → Taken (record { slots = s.slots; owner = of }) owner_of_next
+    own_takes of message own' is e f =
+        own_has C l (Taken (record { slots = s.slots; owner = of })) s c owner_of_next message e h
+        (λ none agrees. takes_weaker (none_runs of own' is) (f no_key None (rw none tt) agrees))
+        (λ w k agrees. takes_weaker
+        (λ xs does. own_effects C l r a b s of message own' c w _ _ is e k (run_alters w xs before
+        c)
+        (λ _. does))
+        (f w (c.known w.number) (own_kept C l s c w message e k) agrees))
 
-    pub slot_runs : (of : PayloadOwner) (v : Contents) (message : Option Message) (k : ℕ) →
-        index_of of ≡ Some k → index_of s.owner ≡ Some k
-        → option_map (λ e. e.value) (slice_get s.slots.entries k) ≡ Some v → Rising c.still_open
-        → ((w : MessageKey) → owner_of_next ≡ Some w →
-        RepresentsMessage C l v.message w (c.known w.number) → Makes message w)
-        → DoesEffect C l one_if r a b (record {
+    pub slot_takes : (of : PayloadOwner) (v : Contents) (message : Option Message) (k : ℕ) →
+        index_of of ≡ Some k → index_of s.owner ≡ Some k →
+        option_map (λ e. e.value) (slice_get s.slots.entries k) ≡ Some v → Rising c.still_open →
+        ((w : MessageKey) → RepresentsMessage C l v.message w (c.known w.number) →
+        PartTaken message w (c.known w.number)) → Taken (record {
           slots = with_value s.slots k (record v { message = message });
           owner = of;
-        }) (run_effect C l before c owner_of_next xs) owner_of_next
-    slot_runs of v message k is e get rising f =
-        slot_has C l (λ who. ((w : MessageKey) → who ≡ Some w →
-        RepresentsMessage C l v.message w (c.known w.number) → Makes message w)
-        → DoesEffect C l one_if r a b
-        (record {
+        }) owner_of_next
+    slot_takes of v message k is e get rising f =
+        slot_has C l (Taken (record {
           slots = with_value s.slots k (record v { message = message });
           owner = of;
-        }) (run_effect C l before c who xs) who) s c owner_of_next k e h
-        (λ w kept f. slot_effects C l r a b s of v message c w _ _ k is e get rising kept
-        (run_alters w xs before c) (λ n. f w refl)) f
+        })) s c owner_of_next k e h
+        (λ w kept agrees. takes_weaker
+        (λ xs does. slot_effects C l r a b s of v message c w _ _ k is e get rising kept
+        (run_alters w xs before c) (λ _ _. does))
+        (f w (slot_kept C l s v c w k e get kept) agrees))

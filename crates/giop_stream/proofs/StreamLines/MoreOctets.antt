@@ -1,10 +1,7 @@
 -- What runs of octets add to the text of a stream, and the state after them.
-use Rattle.std.proofs.Common.{◌≡◌, ℕ, ◌<◌, List, [], ◌∷◌, ◌++◌, length, take, drop, refl, sym, ap, subst, ◌∙◌, append_assoc, append-nil, take_all, Some, arith}
+use Rattle.std.proofs.Common.{◌≡◌, ℕ, List, [], ◌∷◌, ◌++◌, length, drop, refl, sym, ap, ◌∙◌, append_assoc, append-nil, Some}
 use Rattle.std.specs.Prelude.{slice_get}
 use Rattle.std.proofs.Math.Seq.{drop-append_seam}
-use Rattle.std.proofs.lemmas.List.{take-append-le}
-use Rattle.std.proofs.lemmas.List.Elements.{All-take}
-use Rattle.giop_cdr.specs.Numbers.{AreOctets}
 use Rattle.giop_message.specs.MessageReader.{IsCausal, IsStreamable}
 use Rattle.giop_stream.specs.Rules.{Rules}
 use Rattle.giop_stream.specs.Text.{lines_text}
@@ -72,16 +69,6 @@ pub further : (octets_taken rest q left piece : List ℕ) → piece ≡ octets_t
     ++ left → piece ≡ (octets_taken ++ q) ++ left
 further octets_taken rest q left piece e f =
     e ∙ (ap (λ (z : List ℕ). octets_taken ++ z) f ∙ sym (append_assoc octets_taken q left))
-
--- they are octets
-pub octets_come : (octets_taken left piece : List ℕ) → piece ≡ octets_taken ++ left →
-    AreOctets piece → AreOctets octets_taken
-octets_come octets_taken left piece e h =
-    let front : take (length octets_taken) piece ≡ octets_taken =
-    ap (take (length octets_taken)) e ∙ (take-append-le (length octets_taken) octets_taken left
-    (omega arith)
-    ∙ take_all (length octets_taken) octets_taken (omega arith)) in
-    subst AreOctets front (All-take (λ x. x < 256) (length octets_taken) piece h)
 
 -- the text so far is a front of the piece's text
 pub run_within : (R : Rules) (s : State) (octets_taken q left piece : List ℕ) →

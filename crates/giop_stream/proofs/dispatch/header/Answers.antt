@@ -38,5 +38,5 @@ returns-clause-does g c =
     c.starts.new.slots begun.kept in
     let ended = c.in_ok-ended.ensures.does l _ m at
     (come_is c.args.catalogue.now l c.args.slots.now c' who m c.args.now h) in
-    rw (two, ← ended_owner R c' m) (counts_as _ _ _ _ (omega (arith, c.count.ensures.value))
+    rw (two, ← ended_owner R c' m) (counts_as _ _ _ _ (omega (arith, c.fault_count.ensures.value))
     (done_then _ _ _ _ _ begun ended))

@@ -100,7 +100,7 @@ returns-clause-does g c =
     c.in_ok-ended.ensures.does l (second R c' (with_octet m x)).tracked (with_octet m x)
     (behind_id C l s c' m c.args.now x c.args.found h _ named.kept)
     (come C l s c' m c.args.now x c.args.found h) in
-    counts_as _ _ _ _ (omega (arith, c.count.ensures.value))
+    counts_as _ _ _ _ (omega (arith, c.fault_count.ensures.value))
     (line_then _ _ _ _ _ (starts_text C l s c' m c.args.now x c.args.found h) (starts_faults _ _)
     c.in_ok-start_line.ensures
     (performs_on _ _ _ (all_lines C l s c' m c.args.now x c.args.found h)

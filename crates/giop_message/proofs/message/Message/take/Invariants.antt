@@ -1,7 +1,8 @@
-use Rattle.std.proofs.Common.{◌≡◌, ℕ, ◌+◌, ◌-◌, ◌≤◌, List, ◌++◌, length, take}
+use Rattle.std.proofs.Common.{◌≡◌, false, ℕ, ◌+◌, ◌-◌, ◌≤◌, List, ◌++◌, length, take}
 use Rattle.giop_print.specs.Output.{Wrote}
 use Rattle.giop_message.specs.Signatures.{Answers, signatures_of}
 use Rattle.giop_message.specs.HeaderEnds.{AgreesAtEnds, header_ends, after_ends}
+use Rattle.giop_message.specs.DueOctets.{StaysUndue}
 use Rattle.giop_message.specs.MessageState.{AreKnown, Fits, Follows, due_text}
 use Rattle.giop_message.proofs.message.Message.take.Given as goal
 
@@ -27,6 +28,16 @@ invariant-loop-taken g l =
           Wrote (g.O.Out.log l.initial.out) (g.O.Out.log l.out)
           (due_text (signatures_of l.catalogue (answers number)) number l.place header s
           (take l.taken l.octets));
+      calm : g.Q.Correspondent.due (g.Q.Correspondent.state l.initial.correspondent) ≡ false →
+          g.Q.Correspondent.due (g.Q.Correspondent.state l.correspondent) ≡ false;
+      fronts : (answers : Answers) (number : ℕ) (header s : List ℕ) →
+          Follows l.catalogue answers number header l.initial.self s →
+          AgreesAtEnds g.Q.Correspondent.answer g.Q.Correspondent.notified l.catalogue
+          (g.Q.Correspondent.state l.initial.correspondent)
+          answers (header_ends number header s l.octets) → (k : ℕ) → k ≤ l.taken →
+          StaysUndue g.Q.Correspondent.due g.Q.Correspondent.notified l.catalogue
+          (g.Q.Correspondent.state l.initial.correspondent) (header_ends number header s)
+          (take k l.octets);
       told : (answers : Answers) (number : ℕ) (header s : List ℕ) →
           Follows l.catalogue answers number header l.initial.self s →
           AgreesAtEnds g.Q.Correspondent.answer g.Q.Correspondent.notified l.catalogue

@@ -1,18 +1,17 @@
-use Rattle.std.proofs.Common.{◌+◌, ◌∷◌, [], ◌++◌, length, take, get_or, refl, sym, ap, ◌∙◌}
-use Rattle.giop_print.proofs.Writing.{wrote-append, wrote-nil}
-use Rattle.giop_message.specs.Signatures.{signatures_of}
+use Rattle.std.proofs.Common.{◌≡◌, arith, ◌+◌, ◌∷◌, [], ◌++◌, length, take, get_or, refl, sym, ap, ◌∙◌}
+use Rattle.giop_print.proofs.Writing.{writes_failed, wrote-append, wrote-nil}
 use Rattle.giop_message.specs.HeaderEnds.{header_ends, after_ends}
 use Rattle.giop_message.proofs.Followings.{same_fields}
 use Rattle.giop_message.proofs.Rests.{no_text, rest_text, rest_follows}
-use Rattle.giop_message.proofs.SectionRuns.{run_front, run_failed, first_alone, standing, took, by_reads, ReadWith, text_broken, failed_behind, text_more, text_done, text_named, text_wrong, keeps_noted_header, went_on, went_done, went_wrong, none_ends, answered_here, told_here, padding_none, rest_none}
+use Rattle.giop_message.proofs.HeaderEndLaws.{header_ends_none}
+use Rattle.giop_message.proofs.SectionRuns.{if_err, first_alone, standing, took, by_reads, ReadWith, broken_front, took_front, failed_front, rest_front, text_more, text_done, text_named, text_wrong, keeps_noted_header, went_on, went_done, went_wrong, none_ends, answered_here, told_here, padding_none, rest_none}
 use Rattle.giop_message.proofs.message.Message.take_some.Goals as goal
 
 pub returns-in_err-taken-in-Typed-clause-writes : goal.returns-in_err-taken-in-Typed-clause-writes
 returns-in_err-taken-in-Typed-clause-writes g c answers number header s f =
     let t = standing f c.in-Typed.is c.requires.fits in
-    run_failed _ _ number c.args.place header s c.args.octets.now _ _ c.from_residual.ensures.0
-    (text_broken t c.args.octets.now c.args.place _ _
-    (by_reads t c.in_err-taken-in-Typed.ensures.writes))
+    broken_front t c.from_residual.result c.args.octets.now c.args.place c.from_residual.ensures.0
+    (by_reads t c.in_err-taken-in-Typed.ensures.writes)
 
 pub returns-in-More-clause-writes : goal.returns-in-More-clause-writes
 returns-in-More-clause-writes g c answers number header s f =
@@ -20,7 +19,7 @@ returns-in-More-clause-writes g c answers number header s f =
     let ran = c.in_ok-taken-in-Typed.ensures in
     let k = took t c.args.octets.now c.in_ok-taken-in-Typed.taken ran.within
     (ran.some c.requires.some) (by_reads t ran.takes) c.in-More.is in
-    rw (text_more k c.args.place) (by_reads t ran.writes)
+    took_front _ c.args.place _ _ refl k (rw (text_more k c.args.place) (by_reads t ran.writes))
 
 pub returns-in-More-clause-took : goal.returns-in-More-clause-took
 returns-in-More-clause-took g c answers number header s f agrees =
@@ -38,7 +37,7 @@ returns-in_err-call-in-Named-clause-writes g c answers number header s f =
     (ran.some c.requires.some) (by_reads t ran.takes) c.in-Named.is in
     let called = c.in_err-call-in-Named.ensures
     (ReadWith t (take c.in_ok-taken-in-Typed.taken c.args.octets.now)) (keeps_noted_header k) in
-    failed_behind c.from_residual-in_err-call-in-Named.result c.args.place
+    failed_front c.from_residual-in_err-call-in-Named.result c.args.place
     c.from_residual-in_err-call-in-Named.ensures.0 k (text_named k c.args.place)
     (by_reads t ran.writes) called
 
@@ -50,7 +49,8 @@ returns-in_ok-call-in-Named-clause-writes g c answers number header s f =
     (ran.some c.requires.some) (by_reads t ran.takes) c.in-Named.is in
     let called = c.in_ok-call-in-Named.ensures
     (ReadWith t (take c.in_ok-taken-in-Typed.taken c.args.octets.now)) (keeps_noted_header k) in
-    rw (text_named k c.args.place) (wrote-append _ _ _ _ _ (by_reads t ran.writes) called)
+    took_front _ c.args.place _ _ refl k (rw (text_named k c.args.place)
+    (wrote-append _ _ _ _ _ (by_reads t ran.writes) called))
 
 pub returns-in_ok-call-in-Named-clause-took : goal.returns-in_ok-call-in-Named-clause-took
 returns-in_ok-call-in-Named-clause-took g c answers number header s f agrees =
@@ -66,7 +66,7 @@ returns-in-Done-clause-writes g c answers number header s f =
     let ran = c.in_ok-taken-in-Typed.ensures in
     let k = took t c.args.octets.now c.in_ok-taken-in-Typed.taken ran.within
     (ran.some c.requires.some) (by_reads t ran.takes) c.in-Done.is in
-    rw (text_done k c.args.place) (by_reads t ran.writes)
+    took_front _ c.args.place _ _ refl k (rw (text_done k c.args.place) (by_reads t ran.writes))
 
 pub returns-in-Done-clause-took : goal.returns-in-Done-clause-took
 returns-in-Done-clause-took g c answers number header s f agrees =
@@ -92,7 +92,7 @@ returns-in_err-fault_line-in-Fault-clause-writes g c answers number header s f =
     let k = took t c.args.octets.now c.in_ok-taken-in-Typed.taken ran.within
     (ran.some c.requires.some) (by_reads t ran.takes) c.in-Fault.is in
     let emitted = rw c.fault_word.ensures at c.in_err-fault_line-in-Fault.ensures in
-    failed_behind c.from_residual-in_err-fault_line-in-Fault.result c.args.place
+    failed_front c.from_residual-in_err-fault_line-in-Fault.result c.args.place
     c.from_residual-in_err-fault_line-in-Fault.ensures.0 k
     (text_wrong c.in-Fault.kind k c.args.place) (by_reads t ran.writes) emitted
 
@@ -104,8 +104,8 @@ returns-in_ok-fault_line-in-Fault-clause-writes g c answers number header s f =
     let k = took t c.args.octets.now c.in_ok-taken-in-Typed.taken ran.within
     (ran.some c.requires.some) (by_reads t ran.takes) c.in-Fault.is in
     let emitted = rw c.fault_word.ensures at c.in_ok-fault_line-in-Fault.ensures in
-    rw (text_wrong c.in-Fault.kind k c.args.place)
-    (wrote-append _ _ _ _ _ (by_reads t ran.writes) emitted)
+    took_front _ c.args.place _ _ refl k (rw (text_wrong c.in-Fault.kind k c.args.place)
+    (wrote-append _ _ _ _ _ (by_reads t ran.writes) emitted))
 
 pub returns-in_ok-fault_line-in-Fault-clause-took :
     goal.returns-in_ok-fault_line-in-Fault-clause-took
@@ -121,10 +121,18 @@ returns-in-Padding-clause-writes g c answers number header s f =
     let octet = get_or c.args.octets.now 0 0 in
     let here = same_fields f refl refl refl refl (sym c.in-Padding.is) in
     let none = c.take_padding.ensures.told answers number header s octet here in
-    rw (
-      first_alone c.args.octets.now c.requires.some,
-      no_text _ number c.args.place header s (octet ∷ []) none,
-    ) (wrote-nil _)
+    record {
+      n = 1;
+      counted = refl;
+      within = c.requires.some;
+      some = λ _. omega arith;
+      fronts = λ k few. let first : k ≡ 0 = omega (arith, few) in
+          rw first (header_ends_none number header s);
+      all = rw (
+        first_alone c.args.octets.now c.requires.some,
+        no_text _ number c.args.place header s (octet ∷ []) none,
+      ) (wrote-nil _);
+    }
 
 pub returns-in-Padding-clause-took : goal.returns-in-Padding-clause-took
 returns-in-Padding-clause-took g c answers number header s f agrees =
@@ -134,17 +142,17 @@ returns-in-Padding-clause-took g c answers number header s f agrees =
 
 pub returns-in_err-take-in-Rest-clause-writes : goal.returns-in_err-take-in-Rest-clause-writes
 returns-in_err-take-in-Rest-clause-writes g c answers number header s f =
-    let S = signatures_of c.args.catalogue.now (answers number) in
     let octets = c.args.octets.now in
-    let n = c.min-taken.result in
-    let place = c.args.place in
-    let text = rest_text f c.in-Rest.is octets c.requires.some c.room.ensures c.min-taken.ensures
-    place in
     let At = 12 + length s in
-    run_failed c.from_residual-in_err-take-in-Rest.result S number place header s octets _ _
-    c.from_residual-in_err-take-in-Rest.ensures.0
-    (run_front S number place header s octets n _ _
-    (rw text (c.in_err-take-in-Rest.ensures.writes place At (At + length (take n octets)))))
+    let text = rest_text f c.in-Rest.is octets c.requires.some c.room.ensures c.min-taken.ensures
+    c.args.place in
+    let failed = c.from_residual-in_err-take-in-Rest.ensures.0 in
+    rest_front f c.in-Rest.is octets c.args.place c.from_residual-in_err-take-in-Rest.result
+    c.min-taken.result _ _ (if_err _ _ failed) (omega (arith, c.min-taken.ensures))
+    (λ some. omega (arith, some, c.min-taken.ensures, c.room.ensures, c.in-Rest.rest.room))
+    (writes_failed _ _ _ _ failed
+    (rw text (c.in_err-take-in-Rest.ensures.writes c.args.place At
+    (At + length (take c.min-taken.result octets)))))
 
 pub returns-in_ok-take-in-Rest-clause-writes : goal.returns-in_ok-take-in-Rest-clause-writes
 returns-in_ok-take-in-Rest-clause-writes g c answers number header s f =
@@ -152,8 +160,11 @@ returns-in_ok-take-in-Rest-clause-writes g c answers number header s f =
     let At = 12 + length s in
     let text = rest_text f c.in-Rest.is octets c.requires.some c.room.ensures c.min-taken.ensures
     c.args.place in
-    rw text (c.in_ok-take-in-Rest.ensures.writes c.args.place At
-    (At + length (take c.min-taken.result octets)))
+    rest_front f c.in-Rest.is octets c.args.place _ c.min-taken.result _ _ refl
+    (omega (arith, c.min-taken.ensures))
+    (λ some. omega (arith, some, c.min-taken.ensures, c.room.ensures, c.in-Rest.rest.room))
+    (rw text (c.in_ok-take-in-Rest.ensures.writes c.args.place At
+    (At + length (take c.min-taken.result octets))))
 
 pub returns-in_ok-take-in-Rest-clause-took : goal.returns-in_ok-take-in-Rest-clause-took
 returns-in_ok-take-in-Rest-clause-took g c answers number header s f agrees =

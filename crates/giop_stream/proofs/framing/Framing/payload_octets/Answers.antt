@@ -1,45 +1,55 @@
-use Rattle.std.proofs.Common.{◌≡◌, ℕ, ◌+◌, length, arith, refl, sym, ap, ◌∙◌}
+use Rattle.std.proofs.Common.{◌≡◌, ℕ, suc, ◌+◌, length, arith, refl, sym, ap, ◌∙◌}
+use Rattle.std.proofs.lemmas.List.{length_push, length-take-le}
 use Rattle.giop_message.specs.Headers.{size}
+use Rattle.giop_stream.specs.declared.current.Current.{Current}
+use Rattle.giop_stream.specs.Further.{further}
 use Rattle.giop_stream.specs.Rules.{rules_by}
 use Rattle.giop_stream.specs.OpenSlots.{tracked_after}
 use Rattle.giop_stream.specs.FramingView.{framing_view}
 use Rattle.giop_print.proofs.Writing.{writes_failed}
 use Rattle.giop_stream.proofs.CodeSteps.MessageOctets.{has_current}
 use Rattle.giop_stream.proofs.CodeSteps.MessageEnds.{on_err, ready_settled}
-use Rattle.giop_stream.proofs.CodeSteps.PayloadRunSteps.{octets_are, number_fits, run_fits, run_before, run_does, run_shows, run_keeps}
+use Rattle.giop_stream.proofs.CodeSteps.OwnerRuns.{if_err}
+use Rattle.giop_stream.proofs.CodeSteps.PayloadRunSteps.{octets_are, run_keeps, parts, taken_before, taken_does, taken_shows}
 use Rattle.giop_stream.proofs.framing.Framing.payload_octets.Goals as goal
 
-pub returns-in_err-faults-clause-does : goal.returns-in_err-faults-clause-does
+pub returns-in_err-count-clause-does : goal.returns-in_err-count-clause-does
 unfolding tracked_after
-returns-in_err-faults-clause-does g c a s r h agrees =
+returns-in_err-count-clause-does g c a s r h agrees =
     let C = c.args.catalogue.now in
     let most = c.args.self.now.slots.slots.most in
     let m = framing_view c.args.self.now in
-    let xs = c.args.octets.now in
+    let octets = c.args.octets.now in
     let asks = c.requires in
     let here = has_current C a most s r m h asks.running asks.full in
-    let (q, (x, e)) = octets_are xs asks.some in
-    let fits = run_fits C a most s r m h asks.running here.0 here.1 xs q x e asks.apart asks.few
-    asks.limit in
-    let all : c.unwrap_or-payload_count.result ≡ length xs =
-    c.unwrap_or-payload_count.ensures ∙ number_fits c.try_from.result (length xs) _
-    (omega (arith, fits)) c.try_from.ensures in
-    let payload_count : c.saturating_add-self.result ≡ m.payload_count + length xs =
-    omega (arith, c.saturating_add-self.ensures, all, fits) in
-    let known = c.current-now.ensures in
-    let before = run_before C a most s r m h asks.running here.0 here.1 xs q x e asks.apart asks.few
-    asks.limit
-    c.current-now.result known.number known.header known.place (known.payload_count ∙ payload_count)
-    in
+    let known = c.current-before.ensures in
+    let at : (c.current-before.result.number ≡ m.totals.messages)
+    × (c.current-before.result.header ≡ m.header)
+    × (c.current-before.result.place ≡ m.totals.octets)
+    × (c.current-before.result.payload_count ≡ m.payload_count) =
+    (known.number, known.header, known.place, known.payload_count) in
+    let whole = taken_before C a most s r m h asks.running here.0 here.1 octets asks.apart asks.few
+    asks.limit (length octets) asks.some (omega arith) c.current-before.result at in
+    let t = c.in_err-count.ensures.does a (tracked_after (rules_by C a most) r.stream) here.0
+    whole.keeps whole.rising (rw here.1 at agrees) in
     let failed = c.from_residual.ensures.0 in
-    run_does C a most s r m h asks.running here.0 here.1 xs q x e asks.apart asks.few asks.limit
-    c.current-now.result known.number known.header known.place (known.payload_count ∙ payload_count)
-    _ _ _ _
-    (writes_failed c.from_residual.result (g.O.Out.log c.args.out.now)
-    (g.O.Out.log c.octets.new.out) _ failed
-    (c.in_err-faults.ensures.does a (tracked_after (rules_by C a most) r.stream) here.0 q x e before
-    (rw here.1 at agrees)).text)
-    (on_err _ c.from_residual.result failed)
+    let some = t.some asks.some in
+    let p = parts C a most s r m h asks.running here.0 here.1 octets asks.apart asks.few
+    asks.limit t.n some t.within c.current-before.result at in
+    let before = taken_before C a most s r m h asks.running here.0 here.1 octets asks.apart asks.few
+    asks.limit t.n some t.within c.current-before.result at in
+    record {
+      n = t.n;
+      counted = if_err _ c.from_residual.result failed;
+      within = t.within;
+      some = t.some;
+      fronts = λ k few. rw here.1 (t.fronts k few);
+      all = taken_does C a most s r m h asks.running here.0 here.1 octets asks.apart asks.few
+          asks.limit t.n some t.within c.current-before.result at _ _ _ _
+          (writes_failed c.from_residual.result (g.O.Out.log c.args.out.now)
+          (g.O.Out.log c.octets.new.out) _ failed (t.all p.0 p.1.0 p.1.1 before).text)
+          (on_err _ c.from_residual.result failed);
+    }
 
 pub returns-clause-does : goal.returns-clause-does
 unfolding tracked_after
@@ -47,41 +57,59 @@ returns-clause-does g c a s r h agrees =
     let C = c.args.catalogue.now in
     let most = c.args.self.now.slots.slots.most in
     let m = framing_view c.args.self.now in
-    let xs = c.args.octets.now in
+    let octets = c.args.octets.now in
     let asks = c.requires in
     let here = has_current C a most s r m h asks.running asks.full in
-    let (q, (x, e)) = octets_are xs asks.some in
-    let fits = run_fits C a most s r m h asks.running here.0 here.1 xs q x e asks.apart asks.few
-    asks.limit in
-    let all : c.unwrap_or-payload_count.result ≡ length xs =
-    c.unwrap_or-payload_count.ensures ∙ number_fits c.try_from.result (length xs) _
-    (omega (arith, fits)) c.try_from.ensures in
-    let payload_count : c.saturating_add-self.result ≡ m.payload_count + length xs =
-    omega (arith, c.saturating_add-self.ensures, all, fits) in
-    let known = c.current-now.ensures in
-    let before = run_before C a most s r m h asks.running here.0 here.1 xs q x e asks.apart asks.few
-    asks.limit
-    c.current-now.result known.number known.header known.place (known.payload_count ∙ payload_count)
-    in
-    let does = c.in_ok-faults.ensures.does a (tracked_after (rules_by C a most) r.stream) here.0 q x
-    e before (rw here.1 at agrees) in
+    let known = c.current-before.ensures in
+    let at : (c.current-before.result.number ≡ m.totals.messages)
+    × (c.current-before.result.header ≡ m.header)
+    × (c.current-before.result.place ≡ m.totals.octets)
+    × (c.current-before.result.payload_count ≡ m.payload_count) =
+    (known.number, known.header, known.place, known.payload_count) in
+    let whole = taken_before C a most s r m h asks.running here.0 here.1 octets asks.apart asks.few
+    asks.limit (length octets) asks.some (omega arith) c.current-before.result at in
+    let t = c.in_ok-count.ensures.does a (tracked_after (rules_by C a most) r.stream) here.0
+    whole.keeps whole.rising (rw here.1 at agrees) in
+    let some = t.some asks.some in
+    let p = parts C a most s r m h asks.running here.0 here.1 octets asks.apart asks.few
+    asks.limit t.n some t.within c.current-before.result at in
+    let before = taken_before C a most s r m h asks.running here.0 here.1 octets asks.apart asks.few
+    asks.limit t.n some t.within c.current-before.result at in
+    let does = t.all p.0 p.1.0 p.1.1 before in
     let faults = ap (λ (n : ℕ). m.totals.faults + n) (c.from.ensures ∙ sym does.faults) in
-    run_does C a most s r m h asks.running here.0 here.1 xs q x e asks.apart asks.few asks.limit
-    c.current-now.result known.number known.header known.place (known.payload_count ∙ payload_count)
-    _ _ _ _ does.text
-    (run_shows C a most s r m h asks.running here.0 here.1 xs q x e asks.apart asks.few asks.limit
-    c.current-now.result known.number known.header known.place (known.payload_count ∙ payload_count)
-    _
-    (framing_view c.end_message.new.self) c.size_of.result c.end_message.ensures.state refl faults
-    refl refl refl payload_count
-    (c.size_of.ensures ∙ ap size known.header) does.kept)
+    let place = ap (λ (d : Current). d.place) c.further-now.ensures in
+    let count = ap (λ (d : Current). d.payload_count) c.further-now.ensures in
+    let head = ap (λ (d : Current). d.header) c.further-now.ensures in
+    let long : c.in_ok-count.count ≡ suc (length p.0) = omega (
+      arith,
+      t.counted,
+      ap length p.1.1,
+      length_push p.0 p.1.0,
+      length-take-le t.n octets t.within,
+    ) in
+    let same_place = ap (λ (n : ℕ). c.current-before.result.place + n) long in
+    let same_count = ap (λ (n : ℕ). (further c.current-before.result n).payload_count) long in
+    record {
+      n = t.n;
+      counted = t.counted;
+      within = t.within;
+      some = t.some;
+      fronts = λ k few. rw here.1 (t.fronts k few);
+      all = taken_does C a most s r m h asks.running here.0 here.1 octets asks.apart asks.few
+          asks.limit t.n some t.within c.current-before.result at _ _ _ _ does.text
+          (taken_shows C a most s r m h asks.running here.0 here.1 octets asks.apart asks.few
+          asks.limit t.n some t.within c.current-before.result at
+          _ (framing_view c.end_message.new.self) c.size_of.result c.end_message.ensures.state refl
+          faults (place ∙ same_place) refl refl (count ∙ same_count)
+          (c.size_of.ensures ∙ ap size (head ∙ known.header)) does.kept);
+    }
 
 pub returns-clause-ready : goal.returns-clause-ready
 returns-clause-ready g c =
     ready_settled c.args.catalogue.now _
-    (framing_view c.end_message.new.self) c.size_of.result c.current-now.result.place
-    c.end_message.ensures.state c.current-now.ensures.place
-    c.in_ok-faults.ensures.ready
+    (framing_view c.end_message.new.self) c.size_of.result c.further-now.result.place
+    c.end_message.ensures.state refl
+    (rw c.further-now.ensures c.in_ok-count.ensures.ready)
 
 pub returns-clause-told : goal.returns-clause-told
 unfolding tracked_after
@@ -89,11 +117,11 @@ returns-clause-told g c a s r h agrees =
     let C = c.args.catalogue.now in
     let most = c.args.self.now.slots.slots.most in
     let m = framing_view c.args.self.now in
-    let xs = c.args.octets.now in
+    let octets = c.args.octets.now in
     let asks = c.requires in
     let here = has_current C a most s r m h asks.running asks.full in
-    let (q, (x, e)) = octets_are xs asks.some in
-    let keeps = run_keeps C a most s r m h asks.running here.0 here.1 xs q x e asks.apart asks.few
-    asks.limit in
-    rw here.1 (c.in_ok-faults.ensures.told a (tracked_after (rules_by C a most) r.stream) here.0
+    let (q, (x, e)) = octets_are octets asks.some in
+    let keeps = run_keeps C a most s r m h asks.running here.0 here.1 octets q x e asks.apart
+    asks.few asks.limit in
+    rw here.1 (c.in_ok-count.ensures.told a (tracked_after (rules_by C a most) r.stream) here.0
     keeps (rw here.1 at agrees))

@@ -1,15 +1,15 @@
-use Rattle.std.proofs.Common.{arith, refl, sym, ap, subst, ◌∙◌}
+use Rattle.std.proofs.Common.{◌≡◌, arith, refl, sym, ap, subst, ◌∙◌}
 use Rattle.std.proofs.lemmas.Result.{on_ok_weaker}
+use Rattle.giop_print.proofs.Writing.{writes_failed}
 use Rattle.giop_checkpoint.specs.declared.fault.StreamFault.TheVariants.{StreamLimit}
 use Rattle.giop_message.specs.HeaderEnds.{AgreesAtEnds, after_ends}
 use Rattle.giop_stream.specs.Rules.{rules_by}
 use Rattle.giop_stream.specs.FramingView.{framing_view}
-use Rattle.giop_stream.specs.EngineStep.{Step}
-use Rattle.giop_stream.specs.ViewOfState.{Does}
 use Rattle.giop_stream.proofs.SlotSteps.AtHeader.{ready_later}
 use Rattle.giop_stream.proofs.SlotSteps.Performing.{nothing_text}
+use Rattle.giop_stream.proofs.CodeSteps.MessageEnds.{on_err}
 use Rattle.giop_stream.proofs.CodeSteps.OutsideMessages.{none_by, ready_stopped, behind_step, limit_step, ended_text, ended_shows}
-use Rattle.giop_stream.proofs.CodeSteps.HeaderEndSteps.{told_stopped, told_limit, told_heads, at_payload, any_ok, if_ok_weaker}
+use Rattle.giop_stream.proofs.CodeSteps.HeaderEndSteps.{told_stopped, told_limit, told_heads, at_payload, any_ok}
 use Rattle.giop_stream.proofs.StreamLines.MoreOctets.{one_run}
 use Rattle.giop_stream.proofs.framing.Framing.step.Goals as goal
 
@@ -63,37 +63,57 @@ returns-then-len-lt12-clause-told g c =
     (none_by c.args.self.now.stopped (sym c.is_some.ensures ∙ c.if-is_some.false))
     (omega (arith, c.len.ensures.value, c.if-len-lt12.true)))
 
-pub returns-else-len-lt12-clause-does : goal.returns-else-len-lt12-clause-does
-returns-else-len-lt12-clause-does g c a s r h agrees =
-    subst (λ (done : Step). Does c.args.catalogue.now a c.payload_octets.result
-    (g.O.Out.log c.args.out.now) (g.O.Out.log c.payload_octets.new.out)
-    (framing_view c.payload_octets.new.self) done)
-    (one_run (rules_by c.args.catalogue.now a c.args.self.now.slots.slots.most) s c.args.octet)
-    (c.payload_octets.ensures.does a s r h
-    (subst (AgreesAtEnds g.Q.Correspondent.answer g.Q.Correspondent.notified c.args.catalogue.now
-    (g.Q.Correspondent.state c.args.correspondent.now) a)
-    (at_payload g.Q.Correspondent.notified c.args.catalogue.now a
+pub returns-in_err-payload_octets-clause-does : goal.returns-in_err-payload_octets-clause-does
+returns-in_err-payload_octets-clause-does g c a s r h agrees =
+    let at = at_payload g.Q.Correspondent.notified c.args.catalogue.now a
     c.args.self.now.slots.slots.most s r (framing_view c.args.self.now) h
     (g.Q.Correspondent.state c.args.correspondent.now) c.args.octet
     (none_by c.args.self.now.stopped (sym c.is_some.ensures ∙ c.if-is_some.false))
-    (omega (arith, c.if-self-ge-LIMIT.false))) agrees))
+    (omega (arith, c.if-self-ge-LIMIT.false)) in
+    let agrees_here = subst (AgreesAtEnds g.Q.Correspondent.answer g.Q.Correspondent.notified
+    c.args.catalogue.now (g.Q.Correspondent.state c.args.correspondent.now) a) at agrees in
+    let t = c.in_err-payload_octets.ensures.does a s r h agrees_here in
+    let one : t.n ≡ 1 = omega (arith, t.within, t.some) in
+    let does = rw (
+      one,
+      one_run (rules_by c.args.catalogue.now a
+          c.args.self.now.slots.slots.most) s c.args.octet,
+    ) at t.all in
+    let failed = c.from_residual.ensures.0 in
+    record {
+      text = writes_failed c.from_residual.result _ _ _ failed does.text;
+      shows = on_err _ c.from_residual.result failed;
+    }
 
-pub returns-else-len-lt12-clause-told : goal.returns-else-len-lt12-clause-told
-returns-else-len-lt12-clause-told g c =
-    if_ok_weaker c.payload_octets.result (λ _ told a s r h agrees.
-    told a s r h
-    (subst (AgreesAtEnds g.Q.Correspondent.answer g.Q.Correspondent.notified c.args.catalogue.now
-    (g.Q.Correspondent.state c.args.correspondent.now) a)
-    (at_payload g.Q.Correspondent.notified c.args.catalogue.now a
+pub returns-in_ok-payload_octets-clause-does : goal.returns-in_ok-payload_octets-clause-does
+returns-in_ok-payload_octets-clause-does g c a s r h agrees =
+    let at = at_payload g.Q.Correspondent.notified c.args.catalogue.now a
     c.args.self.now.slots.slots.most s r (framing_view c.args.self.now) h
     (g.Q.Correspondent.state c.args.correspondent.now) c.args.octet
     (none_by c.args.self.now.stopped (sym c.is_some.ensures ∙ c.if-is_some.false))
-    (omega (arith, c.if-self-ge-LIMIT.false))) agrees)
+    (omega (arith, c.if-self-ge-LIMIT.false)) in
+    let agrees_here = subst (AgreesAtEnds g.Q.Correspondent.answer g.Q.Correspondent.notified
+    c.args.catalogue.now (g.Q.Correspondent.state c.args.correspondent.now) a) at agrees in
+    let t = c.in_ok-payload_octets.ensures.does a s r h agrees_here in
+    let one : t.n ≡ 1 = omega (arith, t.within, t.some) in
+    let does = rw (
+      one,
+      one_run (rules_by c.args.catalogue.now a
+          c.args.self.now.slots.slots.most) s c.args.octet,
+    ) at t.all in
+    record { text = does.text; shows = does.shows }
+
+pub returns-in_ok-payload_octets-clause-told : goal.returns-in_ok-payload_octets-clause-told
+returns-in_ok-payload_octets-clause-told g c a s r h agrees =
+    let at = at_payload g.Q.Correspondent.notified c.args.catalogue.now a
+    c.args.self.now.slots.slots.most s r (framing_view c.args.self.now) h
+    (g.Q.Correspondent.state c.args.correspondent.now) c.args.octet
+    (none_by c.args.self.now.stopped (sym c.is_some.ensures ∙ c.if-is_some.false))
+    (omega (arith, c.if-self-ge-LIMIT.false)) in
+    let agrees_here = subst (AgreesAtEnds g.Q.Correspondent.answer g.Q.Correspondent.notified
+    c.args.catalogue.now (g.Q.Correspondent.state c.args.correspondent.now) a) at agrees in
+    let ok = c.in_ok-payload_octets.ensures in
+    let one : c.in_ok-payload_octets.field-0 ≡ 1 = omega (arith, ok.some, ok.within) in
+    rw one at (ok.told a s r h agrees_here)
     ∙ sym (ap (after_ends g.Q.Correspondent.notified c.args.catalogue.now
-    (g.Q.Correspondent.state c.args.correspondent.now))
-    (at_payload g.Q.Correspondent.notified c.args.catalogue.now a
-    c.args.self.now.slots.slots.most s r (framing_view c.args.self.now) h
-    (g.Q.Correspondent.state c.args.correspondent.now) c.args.octet
-    (none_by c.args.self.now.stopped (sym c.is_some.ensures ∙ c.if-is_some.false))
-    (omega (arith, c.if-self-ge-LIMIT.false)))))
-    c.payload_octets.ensures.told
+    (g.Q.Correspondent.state c.args.correspondent.now)) at)

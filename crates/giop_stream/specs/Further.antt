@@ -1,0 +1,10 @@
+-- The current message after more octets of its payload (steps).
+use Rattle.std.specs.Prelude.{ℕ, ◌+◌, ◌-◌, ◌^◌, min}
+use Rattle.giop_stream.specs.declared.current.Current.{Current}
+
+-- after n more; their count stays at what a field of 32 bits holds
+abbrev pub further : Current → ℕ → Current
+further now n = record now {
+  place = now.place + n;
+  payload_count = min (now.payload_count + n) (2 ^ 32 - 1);
+}
