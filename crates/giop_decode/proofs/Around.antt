@@ -1,6 +1,6 @@
 -- The step of an octet in the parts around the innermost one: before the first octet, and where a
 -- part ends.
-use Rattle.std.proofs.Common.{◌≡◌, ℕ, zero, suc, ◌-◌, ◌<◌, ◌≤◌, List, [], ◌∷◌, ◌++◌, refl, ◌∙◌, ap, arith, add-zero, lit<, lt-ltb}
+use Rattle.std.proofs.Common.{◌≡◌, ℕ, zero, suc, ◌-◌, ◌<◌, ◌≤◌, List, [], ◌∷◌, ◌++◌, refl, ap, arith, add-zero, lit<, lt-ltb}
 use Rattle.giop_decode.specs.Begins.{start_leaf, start_outer}
 use Rattle.giop_decode.specs.Fits.{HasParts, Surrounds}
 use Rattle.giop_decode.specs.Pieces.{Partial, block}
@@ -9,7 +9,7 @@ use Rattle.giop_decode.specs.ReadResult.{Coding, Done, Fault, Index, Leaf, Line,
 use Rattle.giop_decode.specs.ReadingSteps.{inner_path, around, part_at, path_in, resumed, segment_in, segment_of, coding_at, coding_in}
 use Rattle.giop_decode.specs.declared.progress.Kind.{Kind}
 use Rattle.giop_sig.specs.Fits.{IsFit}
-use Rattle.giop_sig.specs.Types.{Array, Sequence, Single, Struct, Ty, Union, part_of, width}
+use Rattle.giop_sig.specs.Types.{Array, Sequence, Single, Struct, Ty, Union, part_of}
 use Rattle.giop_decode.proofs.OctetResults.{number_none}
 use Rattle.giop_decode.proofs.Law.{with_front-followed, with_front-within, block_waits, width_pos}
 use Rattle.giop_decode.proofs.Enclosing.{with_front-enclosed}
@@ -37,8 +37,11 @@ around-short coding path (Part T i count ∷ outer) lines at inner leaf h =
     rw (around-short coding (path ++ segment_of T i ∷ []) outer lines at inner leaf h.1) refl
 around-short coding path (Member T i ∷ outer) lines at inner leaf h =
     rw (around-short coding (path ++ segment_of T i ∷ []) outer lines at inner leaf h.1) refl
-around-short coding path (Inside T c end ∷ outer) lines at inner leaf h =
-    rw (around-short c (path ++ Held ∷ []) outer lines at inner leaf h.1, lt-ltb at end h.0.0) refl
+around-short coding path (Inside T c end ∷ outer) lines at inner leaf h = search (
+  arith,
+  lt-ltb,
+  around-short c (path ++ Held ∷ []) outer lines at inner leaf h.1,
+)
 
 pub around-fault : (coding : Coding) (path : List PathSegment) (outer : List OpenPart)
     (lines : List Line)
@@ -74,7 +77,7 @@ around-front coding path (Inside T c end ∷ outer) front r =
 
 -- Before the first octet.
 pub block_none : (n at : ℕ) → 0 < n → block n at [] ≡ Partial [] at
-block_none n at pos = block_waits n at [] pos ∙ ap (Partial []) (add-zero at)
+block_none n at pos = search (arith, block_waits, add-zero)
 
 -- the first of several parts, and what follows it
 pub first_part : (coding : Coding) (path : List PathSegment) (T : Ty) (count more i : ℕ) (at : ℕ) →
@@ -88,19 +91,26 @@ pub read_none : (coding : Coding) (path : List PathSegment) (d : ℕ) (T : Ty) (
     read coding path T at [] ≡ Short [] at (start_outer T) (start_leaf T)
 unfolding IsFit
 read_none coding path zero T at h = absurd h
-read_none coding path (suc d) (Single scalar) at h =
-    rw (number_none coding.origin (width scalar) at (width_pos scalar)) refl
-read_none coding path (suc d) (Union choice scalar select names cases) at h =
-    rw (number_none coding.origin (width scalar) at (width_pos scalar)) refl
+read_none coding path (suc d) (Single scalar) at h = search (arith, number_none, width_pos)
+read_none coding path (suc d) (Union choice scalar select names cases) at h = search (
+  arith,
+  number_none,
+  width_pos,
+)
 read_none coding path (suc d) (Struct zero names parts) at h = absurd (omega (arith, h.0))
-read_none coding path (suc d) (Struct (suc more) names parts) at h =
-    first_part coding path (Struct (suc more) names parts) (suc more) more 0 at
-    (read_none coding (path ++ Name (names 0) ∷ []) d (parts 0) at (h.1 0 h.0))
+read_none coding path (suc d) (Struct (suc more) names parts) at h = search (
+  arith,
+  first_part,
+  read_none coding (path ++ Name (names 0) ∷ []) d (parts 0) at (h.1 0 h.0),
+)
 read_none coding path (suc d) (Array zero T) at h = absurd (omega (arith, h.0))
-read_none coding path (suc d) (Array (suc more) T) at h =
-    first_part coding path (Array (suc more) T) (suc more) more 0 at
-    (read_none coding (path ++ Index 0 ∷ []) d T at h.1)
-read_none coding path (suc d) T at h = rw (number_none coding.origin 4 at (lit< tt)) refl
+read_none coding path (suc d) (Array (suc more) T) at h = search (
+  arith,
+  first_part,
+  read_none
+      coding (path ++ Index 0 ∷ []) d T at h.1,
+)
+read_none coding path (suc d) T at h = search (arith, number_none, lit<)
 
 -- A part that has ended: its whole goes on with the next, or ends too.
 pub fit_part : (d : ℕ) (T : Ty) (i count : ℕ) → IsFit (suc d) T → HasParts T count → i < count →
@@ -131,9 +141,7 @@ next_part coding path d T i count at fit kind below = go (count - suc i) refl
 pub last_part : (coding : Coding) (path : List PathSegment) (T : Ty) (i count at : ℕ) →
     count ≤ suc i →
     resumed coding path (Part T i count) (Done [] at []) ≡ Done [] at []
-last_part coding path T i count at h =
-    let e : count - suc i ≡ 0 = omega arith in
-    rw e refl
+last_part coding path T i count at h = search (arith)
 
 -- no type fits in no depth
 pub fit_none : (T : Ty) → IsFit zero T → ⊥

@@ -1,7 +1,7 @@
 -- The frames and the leaf with which a type begins, in a decoder's fields.
-use Rattle.std.proofs.Common.{◌≡◌, ℕ, zero, suc, pred, ◌<◌, List, [], ◌∷◌, ◌++◌, map, refl, sym, ◌∙◌, ap, arith, append_assoc}
+use Rattle.std.proofs.Common.{◌≡◌, ℕ, zero, suc, pred, ◌<◌, List, [], ◌∷◌, ◌++◌, map, refl, arith, append_assoc}
 use Rattle.std.specs.List.{AllByRecursion}
-use Rattle.giop_decode.specs.ReadResult.{OpenPart, Part}
+use Rattle.giop_decode.specs.ReadResult.{OpenPart}
 use Rattle.giop_decode.specs.Fits.{HasParts, IsEncapsulation}
 use Rattle.giop_decode.specs.Begins.{start_outer, start_leaf}
 use Rattle.giop_decode.specs.Transitions.{IsWhole, part_in}
@@ -22,30 +22,8 @@ pub record Begins (d : ℕ) (T : Ty) (count : ℕ) : Type 0 where
 pub begins : (d : ℕ) (T : Ty) (count : ℕ) → IsFit d T → IsWhole T count → Begins d T count
 unfolding IsFit
 begins zero T count fit is = absurd fit
-begins (suc d) (Struct n names parts) count fit is =
-    record {
-      room = omega arith;
-      some = rw is fit.0;
-      parts = is;
-      outer = ap (λ k. Part (Struct n names parts) 0 k ∷ start_outer (parts 0)) (sym is);
-      leaf = refl;
-      fit = fit.1 0 fit.0;
-      placed = fit.0;
-      uncounted = λ h. absurd h;
-      bare = λ h. h;
-    }
-begins (suc d) (Array n E) count fit is =
-    record {
-      room = omega arith;
-      some = rw is fit.0;
-      parts = is;
-      outer = ap (λ k. Part (Array n E) 0 k ∷ start_outer E) (sym is);
-      leaf = refl;
-      fit = fit.1;
-      placed = tt;
-      uncounted = λ h. absurd h;
-      bare = λ h. h;
-    }
+begins (suc d) (Struct n names parts) count fit is = search (arith)
+begins (suc d) (Array n E) count fit is = search (arith)
 begins (suc d) T count fit is = absurd is
 
 pub all_push : {X : Type 0} (P : X → Type 0) (xs : List X) (x : X) → AllByRecursion P xs → P x →
@@ -56,9 +34,8 @@ all_push P (y ∷ xs) x h p = (h.0, all_push P xs x h.1 p)
 pub map_push : {X Y : Type 0} (f : X → Y) (xs : List X) (x : X) →
     map f (xs ++ x ∷ []) ≡ map f xs ++ f x ∷ []
 map_push f [] x = refl
-map_push f (y ∷ xs) x = ap (λ ys. f y ∷ ys) (map_push f xs x)
+map_push f (y ∷ xs) x = search (arith, map_push f xs x)
 
 pub begins_places : (d : ℕ) (ps : List OpenPart) (T : Ty) (count : ℕ) → Begins d T count →
     (ps ++ part_in T 0 count ∷ []) ++ start_outer (part_of T 0) ≡ ps ++ start_outer T
-begins_places d ps T count b = append_assoc ps (part_in T 0 count ∷ []) (start_outer (part_of T 0))
-    ∙ ap (λ qs. ps ++ qs) (sym b.outer)
+begins_places d ps T count b = search (arith, append_assoc)

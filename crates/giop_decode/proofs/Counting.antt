@@ -1,5 +1,5 @@
 -- Octets counted together in the encapsulations among a decoder's frames.
-use Rattle.std.proofs.Common.{◌≡◌, ℕ, suc, ◌+◌, ◌%◌, ◌<◌, ◌≤◌, false, List, [], ◌∷◌, ◌++◌, length, take, get_or, Option, Some, None, refl, ◌∙◌, ap, subst, arith}
+use Rattle.std.proofs.Common.{◌≡◌, ℕ, suc, ◌+◌, ◌%◌, ◌<◌, ◌≤◌, false, List, [], ◌∷◌, ◌++◌, length, take, get_or, Option, Some, None, refl, ◌∙◌, ap, arith}
 use Rattle.std.specs.Prelude.{IfSome}
 use Rattle.std.proofs.lemmas.List.{map-append, take_more}
 use Rattle.giop_cdr.specs.declared.order.Order.{Order}
@@ -12,7 +12,7 @@ none_at None i = refl
 none_at (Some order) i = omega arith
 
 one_none : (f : Frame) → tick_by_of 0 f ≡ f
-one_none f = rw (none_at f.inside f.index) refl
+one_none f = search (arith, none_at)
 
 pub ticked_none : (frames : List Frame) → ticked_by 0 frames ≡ frames
 ticked_none [] = refl
@@ -24,7 +24,7 @@ more_at n None i = refl
 more_at n (Some order) i = omega arith
 
 one_more : (n : ℕ) (f : Frame) → tick_by_of n (tick_of f) ≡ tick_by_of (suc n) f
-one_more n f = rw (more_at n f.inside f.index) refl
+one_more n f = search (arith, more_at)
 
 -- one octet and then others
 pub ticked_more : (n : ℕ) (frames : List Frame) →
@@ -42,10 +42,7 @@ fewer_at m n (Some order) i count le h = omega (arith, le, h)
 pub ahead_fewer : (m n : ℕ) (frames : List Frame) → m ≤ n → HaveOctetsLeft (ticked_by n frames) →
     HaveOctetsLeft (ticked_by m frames)
 ahead_fewer m n [] le h = tt
-ahead_fewer m n (f ∷ frames) le h = (
-  fewer_at m n f.inside f.index f.count le h.0,
-  ahead_fewer m n frames le h.1,
-)
+ahead_fewer m n (f ∷ frames) le h = search (arith, fewer_at, ahead_fewer m n frames le h.1)
 
 first_at : (n : ℕ) (inside : Option Order) (i count : ℕ) →
     IfSome inside (λ order. ticked_by_at (suc n) inside i < count) →
@@ -57,7 +54,7 @@ first_at n (Some order) i count h = omega (arith, h)
 pub ahead_first : (n : ℕ) (frames : List Frame) → HaveOctetsLeft (ticked_by (suc n) frames) →
     HaveOctetsLeft (ticked frames)
 ahead_first n [] h = tt
-ahead_first n (f ∷ frames) h = (first_at n f.inside f.index f.count h.0, ahead_first n frames h.1)
+ahead_first n (f ∷ frames) h = search (arith, first_at, ahead_first n frames h.1)
 
 free_at : (n : ℕ) (inside : Option Order) (i : ℕ) → inside ≡ None → ticked_by_at n inside i ≡ i
 free_at n inside i h = rw h refl
@@ -73,7 +70,7 @@ free_ticked_by n (f ∷ frames) h =
 -- in no encapsulation
 pub ahead_free : (n : ℕ) (frames : List Frame) → is_inside frames ≡ false → HaveOctetsLeft frames →
     HaveOctetsLeft (ticked_by n frames)
-ahead_free n frames h ahead = subst HaveOctetsLeft (free_ticked_by n frames h) ahead
+ahead_free n frames h ahead = search (arith, free_ticked_by)
 
 -- the frames before an index leave room for these octets, and the one at it for fewer
 pub before_more : (outer : List Frame) (i before now : ℕ) (d : Frame) → i < length outer →
@@ -97,9 +94,7 @@ coding_next : (order : Order) (at : ℕ) (inside : Option Order) (i : ℕ) →
     coding_of (order, (at + 1) % 8) inside (ticked_at inside i)
     ≡ ((coding_of (order, at) inside i).0, ((coding_of (order, at) inside i).1 + 1) % 8)
 coding_next order at None i = refl
-coding_next order at (Some inner) i =
-    let e : (i + 1) % 8 ≡ (i % 8 + 1) % 8 = omega arith in
-    ap (λ n. (inner, n)) e
+coding_next order at (Some inner) i = search (arith)
 
 -- an octet further on
 pub coding_ticked : (order : Order) (at : ℕ) (frames : List Frame) →
@@ -115,9 +110,7 @@ coding_later : (n : ℕ) (order : Order) (at : ℕ) (inside : Option Order) (i :
     coding_of (order, (at + n) % 8) inside (ticked_by_at n inside i)
     ≡ ((coding_of (order, at) inside i).0, ((coding_of (order, at) inside i).1 + n) % 8)
 coding_later n order at None i = refl
-coding_later n order at (Some inner) i =
-    let e : (i + n) % 8 ≡ (i % 8 + n) % 8 = omega arith in
-    ap (λ k. (inner, k)) e
+coding_later n order at (Some inner) i = search (arith)
 
 -- so many octets further on
 pub coding_ticked_by : (n : ℕ) (order : Order) (at : ℕ) (frames : List Frame) →

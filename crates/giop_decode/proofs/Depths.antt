@@ -1,15 +1,14 @@
 -- How many parts that are begun and not ended fit in a type, one in the other.
-use Rattle.std.proofs.Common.{◌≡◌, ℕ, zero, suc, ◌<◌, ◌≤◌, max, List, [], ◌∷◌, length, ap, arith, ◌⊎◌, inl, inr}
+use Rattle.std.proofs.Common.{ℕ, zero, suc, ◌<◌, ◌≤◌, max, List, [], ◌∷◌, length, arith, ◌⊎◌, inl, inr}
 use Rattle.std.proofs.lemmas.Bool.{cases_lt}
 use Rattle.giop_decode.specs.declared.decoder.Decoder.{Decoder}
 use Rattle.giop_decode.specs.Fits.{FitsIn, HasParts, HasCase, IsEncapsulation}
 use Rattle.giop_decode.specs.DecoderState.{Fits}
 use Rattle.giop_decode.specs.ReadResult.{OpenPart, Part, Member, Inside, Leaf}
-use Rattle.giop_decode.specs.Transitions.{open_parts}
 use Rattle.giop_decode.proofs.Going.{length_places}
 use Rattle.giop_sig.proofs.PartLaws.{depth_is}
 use Rattle.giop_sig.specs.Table.{Table}
-use Rattle.giop_sig.specs.Trees.{tree, depth_of}
+use Rattle.giop_sig.specs.Trees.{depth_of}
 use Rattle.giop_sig.specs.Types.{Encapsulation, places_of, Ty, Struct, Union, Sequence, Array, part_of, depth, most}
 
 most_at : (n i : ℕ) (f : ℕ → ℕ) → i < n → f i ≤ most n f
@@ -18,7 +17,7 @@ most_at (suc n) i f lt = by_place (cases_lt i n) (λ h. most_at n i f h)
   where
     by_place : (i < n) ⊎ (n ≤ i) → (i < n → f i ≤ most n f) → f i ≤ max (most n f) (f n)
     by_place (inl h) below = omega (arith, below h)
-    by_place (inr h) below = let e : i ≡ n = omega arith in omega (arith, ap f e)
+    by_place (inr h) below = search (arith)
 
 depth_some : (T : Ty) → 0 < depth T
 unfolding depth
@@ -60,10 +59,4 @@ fits_shallow (Inside U coding end ∷ ps) T leaf fits =
 
 -- They are fewer than the types of a table are deep.
 pub fits_depth : (C : Table) (d : Decoder) → Fits C d → length d.outer.items < depth_of C.types
-fits_depth C d h =
-    omega (
-      arith,
-      length_places C h.here d.outer.items,
-      fits_shallow (open_parts C h.here d.outer.items) (tree C h.root) _ h.fits,
-      depth_is C h.root h.known_root,
-    )
+fits_depth C d h = search (arith, length_places, fits_shallow, depth_is)

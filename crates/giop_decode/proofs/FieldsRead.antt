@@ -7,7 +7,7 @@ use Rattle.giop_decode.specs.Segments.{end_segments, end_text, frames_text}
 use Rattle.giop_decode.specs.ReadResult.{PathSegment}
 use Rattle.giop_decode.specs.Spelling.{segment_text, segments_text, path_text}
 use Rattle.giop_decode.specs.ReadingSteps.{segment_in, path_in}
-use Rattle.giop_decode.specs.Transitions.{open_part_in, open_part, open_parts, switch_segment}
+use Rattle.giop_decode.specs.Transitions.{open_part_in, open_part, open_parts}
 use Rattle.giop_decode.specs.declared.frame.Frame.{Frame}
 use Rattle.giop_decode.proofs.Segments.{segments_text-append}
 use Rattle.giop_print.specs.declared.line.Line.{Line}
@@ -37,19 +37,17 @@ path_anywhere C here path (f ∷ outer) =
 pub stands_at : (C : Table) (here : ℕ) (root : Root) (outer : List Frame) →
     path_text root (path_in [] (open_parts C 0 outer) ++ [])
     ≡ path_text root (path_in [] (open_parts C here outer))
-stands_at C here root outer = ap (path_text root) (append-nil (path_in [] (open_parts C 0 outer))
-    ∙ path_anywhere C here [] outer)
+stands_at C here root outer = search (arith, append-nil, path_anywhere)
 
 pub switch_at : (C : Table) (here : ℕ) (root : Root) (outer : List Frame) (seg : PathSegment) →
     path_text root (path_in [] (open_parts C 0 outer) ++ seg ∷ [])
     ≡ path_text root (path_in [] (open_parts C here outer) ++ seg ∷ [])
-switch_at C here root outer seg = ap (λ path. path_text root (path ++ seg ∷ []))
-    (path_anywhere C here [] outer)
+switch_at C here root outer seg = search (arith, path_anywhere)
 
 -- its text
 frames_spelled : (C : Table) (path : List PathSegment) (outer : List Frame) →
     segments_text (path_in path (open_parts C 0 outer)) ≡ segments_text path ++ frames_text C outer
-frames_spelled C path [] = sym (append-nil (segments_text path))
+frames_spelled C path [] = search (arith, append-nil)
 frames_spelled C path (f ∷ outer) =
     let seg = segment_in (open_part C 0 f) in
     frames_spelled C (path ++ seg ∷ []) outer
@@ -58,18 +56,14 @@ frames_spelled C path (f ∷ outer) =
 
 ends_spelled : (C : Table) (path : List PathSegment) (switch : Option TypeId) →
     segments_text (path ++ end_segments C switch) ≡ segments_text path ++ end_text C switch
-ends_spelled C path None = ap segments_text (append-nil path)
-    ∙ sym (append-nil (segments_text path))
-ends_spelled C path (Some of) = segments_text-append path (switch_segment (tree C of.0))
+ends_spelled C path None = search (arith, append-nil)
+ends_spelled C path (Some of) = search (arith, segments_text-append)
 
 pub here_spelled : (C : Table) (root : Root) (outer : List Frame) (switch : Option TypeId) →
     root_word root ++ (frames_text C outer ++ end_text C switch)
     ≡ path_text root (path_in [] (open_parts C 0 outer) ++ end_segments C switch)
 unfolding path_text
-here_spelled C root outer switch =
-    ap (λ text. root_word root ++ text) (sym (ends_spelled C (path_in []
-    (open_parts C 0 outer)) switch
-    ∙ ap (λ text. text ++ end_text C switch) (frames_spelled C [] outer)))
+here_spelled C root outer switch = search (arith, ends_spelled, frames_spelled)
 
 -- the same of the innermost part, at any offset
 pub path_spelled : (C : Table) (here : ℕ) (root : Root) (outer : List Frame) →
@@ -81,20 +75,12 @@ path_spelled C here root outer =
 -- what a line begins with, and what follows that
 pub headed_is : (message : ℕ) (place rest : List ℕ) →
     headed message place [] ++ rest ≡ headed message place rest
-headed_is message place rest =
-    ap (λ t. codes "m" ++ t) (append_assoc (decimal message) (codes " " ++ (place ++ [])) rest
-    ∙ ap (λ t. decimal message ++ (codes " " ++ (t ++ rest))) (append-nil place))
+headed_is message place rest = search (arith, codes, append_assoc, decimal, append-nil)
 
 -- no room for what is left of a path
 pub spells_end : (a b : Line) (end text : List ℕ) → line_text b ≡ end ++ line_text a →
     line_room b + length end ≡ line_room a → Spells false a b text
-spells_end a b end text e r = record {
-  front = end;
-  spelled = e;
-  room = r;
-  all = λ no. absurd
-      (false≢true no);
-}
+spells_end a b end text e r = search (arith, false≢true)
 
 pub spells_more : (w : Bool) (a b c : Line) (end more text : List ℕ) →
     line_text b ≡ end ++ line_text a → line_room b + length end ≡ line_room a → Spells w b c more →
@@ -144,14 +130,13 @@ spells_here message C root outer switch w a b c d be br s whole de dr =
 -- the segments of frames, the innermost first
 from_end : {X : Type 0} (xs : List X) (i : ℕ) (d : X) → 0 < i → i ≤ length xs →
     drop (i - 1) xs ≡ get_or xs (i - 1) d ∷ drop i xs
-from_end xs i d p h = let e : i - 1 + 1 ≡ i = omega arith in rw e at (drop_more xs (i - 1) d
-    (omega arith))
+from_end xs i d p h = search (arith, drop_more)
 
 pub frames_more : (C : Table) (outer : List Frame) (i : ℕ) (d : Frame) → 0 < i → i ≤ length outer →
     frames_text C (drop (i - 1) outer)
     ≡ segment_text (segment_in (open_part C 0 (get_or outer (i - 1) d)))
     ++ frames_text C (drop i outer)
-frames_more C outer i d p h = rw (from_end outer i d p h) refl
+frames_more C outer i d p h = search (arith, from_end)
 
 pub text_more : (C : Table) (outer : List Frame) (i : ℕ) (d : Frame) (a b : List ℕ)
     (text : List ℕ) → 0 < i → i ≤ length outer → a ≡ frames_text C (drop i outer) ++ text →

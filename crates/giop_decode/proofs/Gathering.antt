@@ -8,8 +8,8 @@ use Rattle.giop_decode.specs.declared.frame.Frame.{Frame}
 use Rattle.giop_decode.specs.declared.leaf.Leaf.{Leaf as Innermost}
 use Rattle.giop_decode.specs.declared.leaf.Leaf.TheVariants as innermost
 use Rattle.giop_decode.specs.declared.progress.Progress.TheVariants as progress
-use Rattle.giop_decode.specs.DecoderState.{Fits, CanStandAt, KeepsNoted, read_by_leaf}
-use Rattle.giop_decode.specs.Reading.{after_leading_number, read}
+use Rattle.giop_decode.specs.DecoderState.{Fits, CanStandAt}
+use Rattle.giop_decode.specs.Reading.{after_leading_number}
 use Rattle.giop_decode.specs.Runs.{added_lines_of_run, AllGathered}
 use Rattle.giop_decode.specs.Pieces.{tail}
 use Rattle.giop_decode.specs.ReadResult.{plain, lines_of}
@@ -45,57 +45,13 @@ IsCountedBy d new count =
 module _ (C : Table) (d new : Decoder) where
   still_here : (here : ℕ) → IsFurther d new 0 d.outer.items → d.at < 8 → CanStandAt d here →
       CanStandAt new here
-  still_here here on small h = (omega (arith, on.at, h.0, small), rw on.outer h.1)
+  still_here here on small h = search (arith)
 
   -- no octet
   pub none_gathered : IsFurther d new 0 d.outer.items → new.carry ≡ d.carry →
       new.piece.items ≡ d.piece.items →
       Fits C d → Fits C new × AllGathered C d new []
-  none_gathered on carry piece f = (
-    record {
-      leaf = f.leaf;
-      goes_on = on.leaf ∙ f.goes_on;
-      root = f.root;
-      known_root = f.known_root;
-      link = rw on.outer f.link;
-      fit = f.fit;
-      here = f.here;
-      stands = still_here f.here on f.at f.stands;
-      fits = rw (on.outer, carry, piece) f.fits;
-      ahead = rw on.outer f.ahead;
-      inside = rw (on.inside, on.outer) f.inside;
-      known_outer = rw on.outer f.known_outer;
-      known = f.known;
-      clean = rw (carry, piece) f.clean;
-      at = omega (arith, on.at);
-      id_in_header_only = rw (on.head, on.notes) f.id_in_header_only;
-      name = rw (on.head, on.notes) f.name;
-    },
-    λ T order at message root s r.
-        let same : read_by_leaf C d d.leaf r.lines (at + length s)
-        ≡ read_by_leaf C new new.leaf r.lines (at + length s) =
-        ap (λ l. read_by_leaf C d l r.lines (at + length s)) f.goes_on
-        ∙ (sym (rw (on.outer, carry, piece) refl)
-        ∙ ap (λ l. read_by_leaf C new l r.lines (at + length s)) (sym (on.leaf ∙ f.goes_on))) in
-        let keeps_noted : KeepsNoted root new (read (plain order) [] T at s) =
-        rw on.notes r.keeps_noted in
-        record {
-          takes = record {
-            answers = refl;
-            reads = λ unfaulty. rw (append-nil s) (record {
-              lines = r.lines;
-              is = r.is ∙ same;
-              keeps_noted = keeps_noted;
-              same_order = on.order ∙ r.same_order;
-              same_message = ap (λ h. h.message) on.head ∙ r.same_message;
-              same_root = ap (λ h. h.root) on.head ∙ r.same_root;
-              offset = still_here (at + length s) on f.at r.offset;
-            });
-            keeps_noted = rw (append-nil s) keeps_noted;
-          };
-          quiet = dues_none order T at s;
-        },
-  )
+  none_gathered on carry piece f = search (arith, still_here, append-nil, dues_none)
 
   -- none counted
   none_counted : IsCountedBy d new 0 → new.carry ≡ d.carry → new.piece.items ≡ d.piece.items →
@@ -156,31 +112,11 @@ next_in d carry piece = record {
 
 next_on : (d : Decoder) (carry piece : List ℕ) →
     IsFurther d (next_in d carry piece) 1 (ticked d.outer.items)
-next_on d carry piece = record {
-  order = refl;
-  head = refl;
-  at = refl;
-  outer = refl;
-  inside = refl;
-  leaf = refl;
-  notes = refl;
-}
+next_on d carry piece = search (arith)
 
 others_on : (d new : Decoder) (carry piece : List ℕ) (count : ℕ) →
     IsCountedBy d new (suc count) → IsCountedBy (next_in d carry piece) new count
-others_on d new carry piece count on =
-    let same = ticked_more count d.outer.items in (
-      record {
-        order = on.0.order;
-        head = on.0.head;
-        at = omega (arith, on.0.at);
-        outer = on.0.outer ∙ sym same;
-        inside = on.0.inside;
-        leaf = on.0.leaf;
-        notes = on.0.notes;
-      },
-      subst HaveOctetsLeft (sym same) on.1,
-    )
+others_on d new carry piece count on = search (arith, ticked_more)
 
 -- ---- of a content
 

@@ -1,15 +1,14 @@
 -- What comes next after a part that has ended: the next of several parts, or the rest of an
 -- encapsulation.
-use Rattle.std.proofs.Common.{◌≡◌, ℕ, zero, suc, ◌+◌, ◌-◌, ◌<◌, ◌≤◌, List, [], ◌∷◌, ◌++◌, length, Some, None, refl, sym, ◌∙◌, ap, subst, arith}
+use Rattle.std.proofs.Common.{◌≡◌, ℕ, zero, suc, ◌+◌, ◌-◌, ◌<◌, ◌≤◌, List, [], ◌∷◌, ◌++◌, length, Some, None, refl, ap, subst, arith}
 use Rattle.std.specs.List.{AllByRecursion}
 use Rattle.giop_decode.specs.ReadResult.{Coding, PathSegment, OpenPart, Part, Member, Done, Short, coded, Inside, Content}
-use Rattle.giop_decode.specs.ReadingSteps.{around, path_in, coding_in}
+use Rattle.giop_decode.specs.ReadingSteps.{around}
 use Rattle.giop_decode.specs.Fits.{HasParts, HasCase, IsOpen, OpenFrom, IsEncapsulation}
 use Rattle.giop_decode.specs.Begins.{start_outer, start_leaf}
 use Rattle.giop_decode.specs.Transitions.{IsWithin, part_in, open_part_in, open_part, open_parts, IsKnown, AreKnown}
 use Rattle.giop_decode.specs.declared.frame.Frame.{Frame}
 use Rattle.giop_decode.specs.NextParts.{frames_above}
-use Rattle.giop_decode.specs.Pieces.{full_pieces}
 use Rattle.giop_decode.proofs.TransitionLaws.{content_none}
 use Rattle.giop_decode.proofs.Beginning.{map_push}
 use Rattle.giop_decode.proofs.Around.{around-append, next_part, last_part}
@@ -28,19 +27,13 @@ pub record Innermost (d : ℕ) (ps : List OpenPart) (p : OpenPart) : Type 0 wher
 
 innermost_deeper : (d : ℕ) (q : OpenPart) (ps : List OpenPart) (p : OpenPart) → IsOpen (suc d) q →
     Innermost d ps p → Innermost (suc d) (q ∷ ps) p
-innermost_deeper d q ps p is i = record {
-  front = (is, i.front);
-  left = i.left;
-  depth =
-      omega (arith, i.depth);
-  «open» = i.«open»;
-}
+innermost_deeper d q ps p is i = search (arith)
 
 pub innermost : (d : ℕ) (ps : List OpenPart) (p : OpenPart) → OpenFrom d (ps ++ p ∷ []) →
     Innermost d ps p
 innermost zero [] p h = absurd h
 innermost zero (q ∷ ps) p h = absurd h
-innermost (suc d) [] p h = record { front = tt; left = d; depth = omega arith; «open» = h.0 }
+innermost (suc d) [] p h = search (arith)
 innermost (suc d) (q ∷ ps) p h = innermost_deeper d q ps p h.0 (innermost d ps p h.1)
 
 -- an open part that more parts follow is one of several
@@ -53,16 +46,11 @@ pub record Next (d : ℕ) (T : Ty) (i count : ℕ) : Type 0 where
 
 pub next_in : (d : ℕ) (T : Ty) (i count : ℕ) → IsOpen d (part_in T i count) →
     (IsUnion (shape_in T) → count ≡ 0) → suc i < count → Next d T i count
-next_in d (Struct n names parts) i count h none below =
-    record { is = refl; then = refl; parts = h.0; fit = h.2; placed = rw h.0 at below }
-next_in d (Array n E) i count h none below =
-    record { is = refl; then = refl; parts = h.0; fit = h.2; placed = tt }
-next_in d (Sequence bound E) i count h none below =
-    record { is = refl; then = refl; parts = h.0; fit = h.2; placed = tt }
-next_in d (Union (Cases n) scalar select names cases) i count h none below =
-    absurd (let e : count ≡ 0 = none tt in omega arith)
-next_in d (Union Tag scalar select names cases) i count h none below =
-    absurd (let e : count ≡ 0 = none tt in omega arith)
+next_in d (Struct n names parts) i count h none below = search (arith)
+next_in d (Array n E) i count h none below = search (arith)
+next_in d (Sequence bound E) i count h none below = search (arith)
+next_in d (Union (Cases n) scalar select names cases) i count h none below = search (arith)
+next_in d (Union Tag scalar select names cases) i count h none below = search (arith)
 next_in d T i count h none below = absurd h.0
 
 pub goes_next : (coding : Coding) (path : List PathSegment) (ps : List OpenPart) (T : Ty)
@@ -71,10 +59,7 @@ pub goes_next : (coding : Coding) (path : List PathSegment) (ps : List OpenPart)
     around coding path (ps ++ part_in T i count ∷ []) (Done [] at [])
     ≡ around coding path ps (Short [] at (part_in T (suc i) count ∷ start_outer (part_of T (suc i)))
     (start_leaf (part_of T (suc i))))
-goes_next coding path ps T i count at e next below = rw (next.is, next.then)
-    (around-append coding path ps (Part T i count) (Done [] at [])
-    ∙ ap (around coding path ps) (next_part (coding_in coding ps) (path_in path ps) e T i count at
-    next.fit next.parts below))
+goes_next coding path ps T i count at e next below = search (arith, around-append, next_part)
 
 -- after the value in an encapsulation
 pub goes_rest : (coding : Coding) (path : List PathSegment) (ps : List OpenPart) (T : Ty)
@@ -83,50 +68,42 @@ pub goes_rest : (coding : Coding) (path : List PathSegment) (ps : List OpenPart)
     around coding path (ps ++ Inside T inner end ∷ []) (Done [] at [])
     ≡ around coding path ps (Short [] at [] (Content T left 0 []))
 goes_rest coding path ps T inner end at zero some e = absurd (omega arith)
-goes_rest coding path ps T inner end at (suc left) some e =
-    around-append coding path ps (Inside T inner end) (Done [] at [])
-    ∙ ap (around coding path ps) (rw (
-      e,
-      content_none (path_in path ps) T (suc left)
-          (full_pieces (suc left)) 0 at (omega arith),
-    ) refl)
+goes_rest coding path ps T inner end at (suc left) some e = search (
+  arith,
+  around-append,
+  content_none,
+)
 
 pub part_is : (C : Table) (at : ℕ) (f : Frame) → f.inside ≡ None →
     open_part C at f ≡ part_in (tree C f.of.0) f.index f.count
-part_is C at f none = ap (λ x. open_part_in at x (tree C f.of.0) f.index f.count) none
+part_is C at f none = search (arith)
 
 pub held_is : (C : Table) (at : ℕ) (f : Frame) (order : Order) → f.inside ≡ Some order →
     open_part C at f ≡ Inside (tree C f.of.0) (coded order (at - f.index))
     (at + (f.count - f.index))
-held_is C at f order some = ap (λ x. open_part_in at x (tree C f.of.0) f.index f.count) some
+held_is C at f order some = search (arith)
 
 module _ (coding : Coding) (path : List PathSegment) (ps : List OpenPart) where
   pub goes_past : (T : Ty) (inner : Coding) (end at : ℕ) → end - at ≡ 0 →
       around coding path (ps ++ Inside T inner end ∷ []) (Done [] at [])
       ≡ around coding path ps (Done [] at [])
-  goes_past T inner end at e =
-      around-append coding path ps (Inside T inner end) (Done [] at [])
-      ∙ ap (around coding path ps) (rw e refl)
+  goes_past T inner end at e = search (arith, around-append)
 
   part_out : (T : Ty) (i count at : ℕ) → count ≤ suc i →
       around coding path (ps ++ Part T i count ∷ []) (Done [] at [])
       ≡ around coding path ps (Done [] at [])
-  part_out T i count at h =
-      around-append coding path ps (Part T i count) (Done [] at [])
-      ∙ ap (around coding path ps) (last_part (coding_in coding ps) (path_in path ps) T i count at
-      h)
+  part_out T i count at h = search (arith, around-append, last_part)
 
   pub goes_out : (T : Ty) (i count at : ℕ) → count ≤ suc i →
       around coding path (ps ++ part_in T i count ∷ []) (Done [] at [])
       ≡ around coding path ps (Done [] at [])
-  goes_out (Union n scalar select names cases) i count at h =
-      around-append coding path ps (Member (Union n scalar select names cases) i) (Done [] at [])
+  goes_out (Union n scalar select names cases) i count at h = search (arith, around-append)
   goes_out T i count at h = part_out T i count at h
 
 pub all_pop : {X : Type 0} (P : X → Type 0) (xs : List X) (x : X) →
     AllByRecursion P (xs ++ x ∷ []) → AllByRecursion P xs × P x
 all_pop P [] x h = (tt, h.0)
-all_pop P (y ∷ xs) x h = let r = all_pop P xs x h.1 in ((h.0, r.0), r.1)
+all_pop P (y ∷ xs) x h = search (arith, all_pop P xs x h.1)
 
 pub record Popped (C : Table) (at : ℕ) (rest : List Frame) (f : Frame) : Type 0 where
   pub known_rest : AreKnown C rest
@@ -135,15 +112,7 @@ pub record Popped (C : Table) (at : ℕ) (rest : List Frame) (f : Frame) : Type 
 
 pub popped : (C : Table) (at : ℕ) (items rest : List Frame) (f : Frame) → AreKnown C items →
     OpenFrom 24 (open_parts C at items) → items ≡ rest ++ f ∷ [] → Popped C at rest f
-popped C at items rest f known are_open e =
-    let k = all_pop (IsKnown C) rest f (subst (AreKnown C) e known) in
-    record {
-      known_rest = k.0;
-      known = k.1;
-      inner = innermost 24 (open_parts C at rest) (open_part C at f)
-          (subst (OpenFrom 24) (ap (open_parts C at) e ∙ map_push (open_part C at) rest f)
-          are_open);
-    }
+popped C at items rest f known are_open e = search (arith, all_pop, innermost, map_push)
 
 -- what holds where a frame is removed that is no encapsulation's
 pub record PartPopped (C : Table) (at : ℕ) (rest : List Frame) (f : Frame) : Type 0 where
@@ -208,7 +177,7 @@ held_popped C at items rest f order known are_open e some =
 -- what is left where the innermost frame is removed
 pub popped_is : (old new : List Frame) (f : Frame) → new ≡ frames_above old →
     old ≡ frames_above old ++ f ∷ [] → old ≡ new ++ f ∷ []
-popped_is old new f e is = is ∙ ap (λ fs. fs ++ f ∷ []) (sym e)
+popped_is old new f e is = search (arith)
 
 pub length_places : (C : Table) (at : ℕ) (frames : List Frame) →
     length (open_parts C at frames) ≡ length frames

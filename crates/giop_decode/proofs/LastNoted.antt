@@ -1,13 +1,12 @@
 -- What is noted of a reading, line by line, is what all of its lines give at once: the first
 -- request id, and the last of enums and strings.
-use Rattle.std.proofs.Common.{◌≡◌, ℕ, zero, suc, ◌+◌, ◌&&◌, Bool, true, false, List, [], ◌∷◌, ◌++◌, length, take, drop, Option, Some, None, refl, sym, ◌∙◌, ap, append_assoc, append-nil}
-use Rattle.std.specs.Prelude.{cond, flat_map, codes, ◌%◌, ◌==◌}
+use Rattle.std.proofs.Common.{arith, ◌≡◌, ℕ, zero, suc, ◌+◌, ◌&&◌, Bool, true, false, List, [], ◌∷◌, ◌++◌, take, drop, Option, Some, None, refl, sym, ◌∙◌, ap, append_assoc, append-nil}
+use Rattle.std.specs.Prelude.{cond, flat_map, codes}
 use Rattle.std.specs.List.{cons_option, last_or}
 use Rattle.std.proofs.lemmas.List.{take-append-drop}
 use Rattle.giop_cdr.specs.declared.prim.Primitive.TheVariants as prims
 use Rattle.giop_decode.specs.Noted.{Noted, expects_after, first_of, note, note_value, noted, noted_of, without_name_if, ends_in_string, is_member, name_if, nothing_noted}
 use Rattle.giop_decode.specs.NotedFromLines.{TextPiece, first_in, enum_of, enums, ulong_of, id_of, request_ids, expected_by, expectations, text_of, text_pieces, cut_from, pieces_of, Strings, name_of, IsLeft}
-use Rattle.giop_decode.specs.Pieces.{full_pieces}
 use Rattle.giop_decode.specs.Reading.{read}
 use Rattle.giop_decode.specs.ReadResult.{Coding, PathSegment, Value, Number, Piece, Line, Read, lines_of}
 use Rattle.giop_sig.specs.Types.{Plain, Enum, Ty, Text}
@@ -23,11 +22,7 @@ last_cons o (Some n) xs = refl
 
 value_status : (is_id : Bool) (h : Noted) (value : Value) →
     (note_value is_id h value).status ≡ last_or h.status (cons_option (enum_of value) [])
-value_status is_id h (Number (Plain p) n) = plain p
-  where
-    plain : (p : _) → (note_value is_id h (Number (Plain p) n)).status ≡ h.status
-    plain prims.ULong = refl
-    plain p = refl
+value_status is_id h (Number (Plain p) n) = search (arith)
 value_status is_id h (Number (Enum count names) n) = refl
 value_status is_id h (Piece (Text bound) offset octets true) = refl
 value_status is_id h (Piece (Text bound) offset octets false) = refl
@@ -48,20 +43,8 @@ left_status is_header h (l ∷ ls) =
 expects_one : (is_header : Bool) (path : List PathSegment) (value : Value) (before : Option Bool) →
     expects_after is_header path value before
     ≡ last_or before (cons_option (expects_after is_header path value None) [])
-expects_one is_header path (Number (Plain prims.Boolean) n) before =
-    go (is_header && is_member (codes "response_expected") path)
-  where
-    go : (b : Bool) → cond b (Some (n % 2 == 1)) before
-        ≡ last_or before (cons_option (cond b (Some (n % 2 == 1)) None) [])
-    go true = refl
-    go false = refl
-expects_one is_header path (Number (Plain prims.Octet) n) before =
-    go (is_header && is_member (codes "response_flags") path)
-  where
-    go : (b : Bool) → cond b (Some (n % 2 == 1)) before
-        ≡ last_or before (cons_option (cond b (Some (n % 2 == 1)) None) [])
-    go true = refl
-    go false = refl
+expects_one is_header path (Number (Plain prims.Boolean) n) before = search (arith)
+expects_one is_header path (Number (Plain prims.Octet) n) before = search (arith)
 expects_one is_header path value before = refl
 
 last_expected : (o x : Option Bool) (xs : List Bool) →
@@ -137,18 +120,20 @@ said_cut : (full offset : ℕ) (content : List ℕ) (name : Option (List ℕ)) (
     (ps : List TextPiece) → said name so_far (cut_from full offset content ++ ps)
     ≡ said (name_if (so_far ++ content)) [] ps
 said_cut zero offset content name so_far ps = refl
-said_cut (suc full) offset content name so_far ps =
-    said_cut full (offset + 32) (drop 32 content) None (so_far ++ take 32 content) ps
-    ∙ ap (λ octets. said (name_if octets) [] ps)
-    (append_assoc so_far (take 32 content) (drop 32 content)
-    ∙ ap (λ octets. so_far ++ octets) (take-append-drop 32 content))
+said_cut (suc full) offset content name so_far ps = search (
+  arith,
+  drop,
+  take,
+  append_assoc,
+  take-append-drop,
+  said_cut full (offset + 32) (drop 32 content) None (so_far ++ take 32
+      content) ps,
+)
 
 said_all : (before : Option (List ℕ)) (contents : List (List ℕ)) →
     said (name_of before) [] (flat_map pieces_of contents) ≡ name_of (last_or before contents)
 said_all before [] = refl
-said_all before (c ∷ contents) =
-    said_cut (full_pieces (length c)) 0 c (name_of before) [] (flat_map pieces_of contents)
-    ∙ said_all (Some c) contents
+said_all before (c ∷ contents) = search (arith, said_cut, said_all (Some c) contents)
 
 outside_name : (is_header : Bool) (r : Read) (strings : Strings r) → ends_in_string r ≡ false →
     (noted is_header nothing_noted (lines_of r)).name ≡ name_of (last_or None strings.contents)
@@ -175,27 +160,19 @@ without_name_expects true h = refl
 without_name_expects false h = refl
 
 is_left : (is_header : Bool) (r : Read) → Strings r → IsLeft is_header r (noted_of is_header r)
-is_left is_header r strings = record {
-  request_id = without_name_id (ends_in_string r) (noted is_header nothing_noted (lines_of r))
-      ∙ left_id is_header nothing_noted (lines_of r);
-  status = without_name_status (ends_in_string r) (noted is_header nothing_noted (lines_of r))
-      ∙ left_status is_header nothing_noted (lines_of r);
-  expects_reply = without_name_expects (ends_in_string r)
-      (noted is_header nothing_noted (lines_of r))
-      ∙ left_expects is_header nothing_noted (lines_of r);
-  strings = strings;
-  name = name (ends_in_string r) refl;
-}
-  where
-    name : (inside : Bool) → ends_in_string r ≡ inside →
-        (without_name_if inside (noted is_header nothing_noted (lines_of r))).name
-        ≡ cond inside None (name_of (last_or None strings.contents))
-    name true e = refl
-    name false e = outside_name is_header r strings e
+is_left is_header r strings = search (
+  arith,
+  without_name_id,
+  left_id,
+  without_name_status,
+  left_status,
+  without_name_expects,
+  left_expects,
+  outside_name,
+)
 
 -- What is noted of any reading.
 pub read_left : (is_header : Bool) (coding : Coding) (path : List PathSegment) (T : Ty) (at : ℕ)
     (s : List ℕ) → IsLeft is_header (read coding path T at s)
     (noted_of is_header (read coding path T at s))
-read_left is_header coding path T at s =
-    is_left is_header (read coding path T at s) (read_strings coding path T at s)
+read_left is_header coding path T at s = search (arith, is_left, read_strings)

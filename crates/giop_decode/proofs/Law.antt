@@ -1,5 +1,5 @@
 -- Reading a list with one octet more is one step on the parts that reading the list has begun.
-use Rattle.std.proofs.Common.{◌≡◌, ℕ, zero, suc, ◌+◌, ◌-◌, ◌/◌, ◌%◌, ◌<◌, ◌≤◌, true, false, List, [], ◌∷◌, ◌++◌, length, take, drop, Option, Some, None, refl, sym, ◌∙◌, ap, append_assoc, arith, length-append, ◌⊎◌, inl, inr, ◌*◌, add_assoc, add-zero, div-add-mod', mod-lt, mod-eq_of_lt, lt-ltb, le-ltb, le_of_eq, lit<, subst}
+use Rattle.std.proofs.Common.{◌≡◌, ℕ, zero, suc, ◌+◌, ◌-◌, ◌/◌, ◌%◌, ◌<◌, ◌≤◌, List, [], ◌∷◌, ◌++◌, length, take, drop, Option, Some, None, refl, sym, ◌∙◌, ap, append_assoc, arith, length-append, ◌⊎◌, inl, inr, ◌*◌, add_assoc, add-zero, div-add-mod', mod-lt, mod-eq_of_lt, lt-ltb, le-ltb, le_of_eq, lit<, subst}
 use Rattle.std.proofs.lemmas.Nat.{mod-mul-add}
 use Rattle.std.proofs.Math.Nat.{mul-mod_left, mod_self, sub-zero}
 use Rattle.std.proofs.Math.Seq.{take-length, drop-length}
@@ -9,16 +9,15 @@ use Rattle.giop_cdr.specs.Alignment.{padding}
 use Rattle.giop_cdr.specs.Numbers.{num}
 use Rattle.giop_cdr.specs.Primitives.{size_of}
 use Rattle.giop_cdr.specs.declared.prim.Primitive.{Primitive}
-use Rattle.giop_decode.specs.Pieces.{Complete, Block, Partial, block, content, ends, full_piece, full_pieces, last_piece, number, octets, over, tail, text, unless}
-use Rattle.giop_decode.specs.Reading.{after_leading_number, member, parts_from, read, refused, single, wrong}
-use Rattle.giop_decode.specs.ReadResult.{Coding, Count, Done, Fault, Line, Member, Name, Part, Piece, OpenPart, Read, PathSegment, Short, Switch, followed, line, with_front, within}
-use Rattle.giop_decode.specs.ReadingSteps.{advance, after, block_step, leading_width, inner_path, number_step, part_at, step}
+use Rattle.giop_decode.specs.Pieces.{Complete, Block, Partial, block, content, full_piece, full_pieces, last_piece, number, octets, tail, text, unless}
+use Rattle.giop_decode.specs.Reading.{after_leading_number, member, parts_from, read, single}
+use Rattle.giop_decode.specs.ReadResult.{Coding, Done, Fault, Line, Member, Name, Part, OpenPart, Read, PathSegment, Short, followed, with_front, within}
+use Rattle.giop_decode.specs.ReadingSteps.{advance, after, block_step, leading_width, inner_path, number_step, part_at}
 use Rattle.giop_decode.specs.declared.progress.Kind.{Kind}
-use Rattle.giop_sig.specs.Types.{Choice, Enum, Octets, Plain, Scalar, Sequence, Single, Text, Ty, Union, part_of, width, tag_of}
+use Rattle.giop_sig.specs.Types.{Choice, Enum, Plain, Scalar, Sequence, Ty, Union, part_of, width}
 use Rattle.giop_sig.specs.declared.types.Selected.{Selected}
 use Rattle.giop_sig.specs.declared.types.Selected.TheVariants.{Case}
 use Rattle.giop_cdr.specs.declared.prim.Primitive.TheVariants as prims
-use Rattle.giop_decode.specs.ReadResult
 
 -- a reader for which one octet more is one step
 abbrev pub Goes : Coding → List PathSegment → (ℕ → List ℕ → Read) → Type 0
@@ -29,12 +28,9 @@ Goes coding path reader = (at : ℕ) (s : List ℕ) (b : ℕ) →
 
 pub with_front_twice : (front mid : List Line) (r : Read) →
     with_front front (with_front mid r) ≡ with_front (front ++ mid) r
-with_front_twice front mid (Done lines at rest) =
-    ap (λ ls. Done ls at rest) (sym (append_assoc front mid lines))
-with_front_twice front mid (Short lines at outer leaf) =
-    ap (λ ls. Short ls at outer leaf) (sym (append_assoc front mid lines))
-with_front_twice front mid (Fault lines at kind S) =
-    ap (λ ls. Fault ls at kind S) (sym (append_assoc front mid lines))
+with_front_twice front mid (Done lines at rest) = search (arith, append_assoc)
+with_front_twice front mid (Short lines at outer leaf) = search (arith, append_assoc)
+with_front_twice front mid (Fault lines at kind S) = search (arith, append_assoc)
 
 pub with_front_none : (r : Read) → with_front [] r ≡ r
 with_front_none (Done lines at rest) = refl
@@ -43,14 +39,15 @@ with_front_none r = refl
 pub with_front-advance : (coding : Coding) (path : List PathSegment) (front : List Line) (r : Read)
     (b : ℕ) → with_front front (advance coding path r b)
     ≡ advance coding path (with_front front r) b
-with_front-advance coding path front (Short lines at outer leaf) b =
-    with_front_twice front lines (step coding path outer leaf at b)
+with_front-advance coding path front (Short lines at outer leaf) b = search (
+  arith,
+  with_front_twice,
+)
 with_front-advance coding path front r b = refl
 
 pub with_front-followed : (front : List Line) (r : Read) (next : ℕ → List ℕ → Read) →
     followed (with_front front r) next ≡ with_front front (followed r next)
-with_front-followed front (Done lines at rest) next =
-    sym (with_front_twice front lines (next at rest))
+with_front-followed front (Done lines at rest) next = search (arith, with_front_twice)
 with_front-followed front r next = refl
 
 pub with_front-within : (front : List Line) (place : OpenPart) (r : Read) →
@@ -68,16 +65,12 @@ module _ (coding : Coding) (path : List PathSegment) (T : Ty) (count : ℕ) wher
       (r : Read) (b : ℕ) → followed (within (Part T i count)
       (advance coding (inner_path path T i) r b)) (parts more (suc i))
       ≡ advance coding path (followed (within (Part T i count) r) (parts more (suc i))) b
-  part_goes i more is goes (Done lines at rest) b =
-      ap (with_front lines) (goes at rest b)
-      ∙ with_front-advance coding path lines (parts more (suc i) at rest) b
-  part_goes i more is goes (Short lines at outer leaf) b =
-      let r = within (Part T i count) (step coding (inner_path path T i) outer leaf at b) in
-      let next = parts more (suc i) in
-      ap (λ x. followed x next) (with_front-within lines (Part T i count)
-      (step coding (inner_path path T i) outer leaf at b))
-      ∙ (with_front-followed lines r next ∙
-      ap (λ m. with_front lines (followed r (parts m (suc i)))) is)
+  part_goes i more is goes (Done lines at rest) b = search (arith, with_front-advance)
+  part_goes i more is goes (Short lines at outer leaf) b = search (
+    arith,
+    with_front-within,
+    with_front-followed,
+  )
   part_goes i more is goes (Fault lines at kind S) b = refl
 
   -- parts, one from where the other ended
@@ -95,8 +88,7 @@ module _ (coding : Coding) (path : List PathSegment) (T : Ty) (count : ℕ) wher
 pub member_goes : (coding : Coding) (path : List PathSegment) (T : Ty) (i : ℕ) (r : Read) (b : ℕ) →
     within (Member T i) (advance coding (inner_path path T i) r b)
     ≡ advance coding path (within (Member T i) r) b
-member_goes coding path T i (Short lines at outer leaf) b =
-    with_front-within lines (Member T i) (step coding (inner_path path T i) outer leaf at b)
+member_goes coding path T i (Short lines at outer leaf) b = search (arith, with_front-within)
 member_goes coding path T i r b = refl
 
 -- octets
@@ -134,27 +126,19 @@ block_goes n at s b = go (cases_lt (length s) n) (cases_lt (length s + 1) n)
   where
     go : (length s < n) ⊎ (n ≤ length s) → (length s + 1 < n) ⊎ (n ≤ length s + 1) →
         block n at (s ++ b ∷ []) ≡ more_of (block_step n) (block n at s) b
-    go (inl h) (inl k) =
-        let l : length (s ++ b ∷ []) < n = rw length_one_more k in
-        block_waits n at (s ++ b ∷ []) l ∙ (ap (Partial (s ++ b ∷ []))
-        (omega (arith, length_one_more s b))
-        ∙ (sym (block_step_waits n (at + length s) s b k)
-        ∙ ap (λ g. more_of (block_step n) g b) (sym (block_waits n at s h))))
+    go (inl h) (inl k) = search (arith, length_one_more, block_waits, block_step_waits)
     go (inl h) (inr k) =
         let l : n ≡ length (s ++ b ∷ []) = omega (arith, length_one_more s b) in
         block_got n at (s ++ b ∷ []) (le_of_eq l)
         ∙ (rw (l, take-length, drop-length, length_one_more, ← add_assoc) refl
         ∙ (sym (block_step_got n (at + length s) s b k)
         ∙ ap (λ g. more_of (block_step n) g b) (sym (block_waits n at s h))))
-    go (inr h) _ =
-        let l : n ≤ length (s ++ b ∷ []) = omega (arith, length_one_more s b) in
-        block_got n at (s ++ b ∷ []) l ∙ (rw (take-append-le, drop-append-le) refl
-        ∙ ap (λ g. more_of (block_step n) g b) (sym (block_got n at s h)))
+    go (inr h) _ = search (arith, length_one_more, block_got, take-append-le, drop-append-le)
 
 -- padding is what is left up to the next multiple
 pad_at : (q r n : ℕ) → 0 < r → r < n → padding (q * n + r) n ≡ n - r
 unfolding padding
-pad_at q r n l h = rw mod-mul-add (mod-eq_of_lt (omega arith))
+pad_at q r n l h = search (arith, mod-mul-add, mod-eq_of_lt)
 
 pad_at_multiple : (q n : ℕ) → 0 < n → padding (q * n) n ≡ 0
 unfolding padding
@@ -199,9 +183,7 @@ pub pad_more_from : (o at k n : ℕ) → 0 < n → k < padding (at - o) n → 0 
 pad_more_from o at k n h l = go (cases_lt at o)
   where
     go : (at < o) ⊎ (o ≤ at) → 0 < padding ((at + k) - o) n
-    go (inl below) =
-        let e : at - o ≡ 0 = omega arith in
-        absurd (omega (arith, pad_none n h, rw e at l))
+    go (inl below) = search (arith, pad_none)
     go (inr above) =
         let e : (at + k) - o ≡ (at - o) + k = omega arith in
         rw e (pad_more (at - o) k n h l)
@@ -210,10 +192,7 @@ pub pad_end_from : (o at n : ℕ) → 0 < n → padding ((at + padding (at - o) 
 pad_end_from o at n h = go (cases_lt at o)
   where
     go : (at < o) ⊎ (o ≤ at) → padding ((at + padding (at - o) n) - o) n ≡ 0
-    go (inl below) =
-        let e : at - o ≡ 0 = omega arith in
-        let none : (at + padding (at - o) n) - o ≡ 0 = rw (e, pad_none n h) (omega arith) in
-        rw none (pad_none n h)
+    go (inl below) = search (arith, pad_none)
     go (inr above) =
         let e : (at + padding (at - o) n) - o ≡ (at - o) + padding (at - o) n = omega arith in
         rw e (pad_end (at - o) n h)
@@ -244,47 +223,26 @@ number_step_blocks o n at (x ∷ xs) b (inr h) = refl
 
 pub number_goes : (o n at : ℕ) (s : List ℕ) (b : ℕ) → 0 < n →
     number o n at (s ++ b ∷ []) ≡ more_of (number_step o n) (number o n at s) b
-number_goes o n at s b pos = go (cases_lt (length s) (padding (at - o) n))
-    (cases_lt (length s + 1) (padding (at - o) n))
-  where
-    -- past the padding, a block's step is the number's
-    same : (t : List ℕ) → (length t < n) ⊎ (n ≤ length t) →
-        more_of (block_step n) (block n (at + padding (at - o) n) t) b
-        ≡ more_of (number_step o n) (block n (at + padding (at - o) n) t) b
-    same [] (inl h) =
-        rw (block_waits n (at + padding (at - o) n) [] h, add-zero)
-        (sym (number_step_blocks o n (at + padding (at - o) n) [] b
-        (inr (pad_end_from o at n pos))))
-    same (x ∷ t) (inl h) = rw (block_waits n (at + padding (at - o) n) (x ∷ t) h)
-        (sym (number_step_blocks o n _ (x ∷ t) b (inl (omega arith))))
-    same t (inr h) = rw (block_got n (at + padding (at - o) n) t h) refl
-
-    go : (length s < padding (at - o) n) ⊎ (padding (at - o) n ≤ length s) →
-        (length s + 1 < padding (at - o) n) ⊎ (padding (at - o) n ≤ length s + 1) →
-        number o n at (s ++ b ∷ []) ≡ more_of (number_step o n) (number o n at s) b
-    go (inl h) (inl k) =
-        let l : length (s ++ b ∷ []) < padding (at - o) n = rw length_one_more k in
-        rw (number_waits o n at s h, number_waits o n at (s ++ b ∷ []) l)
-        (rw (
-          number_step_pads o n (at + length s) b (pad_more_from o at (length s) n pos h),
-          length_one_more,
-          add_assoc,
-        ) refl)
-    go (inl h) (inr k) =
-        let l : padding (at - o) n ≡ length (s ++ b ∷ []) = omega (arith, length_one_more s b) in
-        rw (number_waits o n at s h, number_blocks o n at (s ++ b ∷ []) (le_of_eq l))
-        (rw (number_step_pads o n (at + length s) b (pad_more_from o at (length s) n pos h))
-        (rw (
-          drop_all (padding (at - o) n) (s ++ b ∷ []) (le_of_eq (sym l)),
-          block_waits n (at + padding (at - o) n) [] pos,
-        )
-        (ap (Partial []) (omega (arith, length_one_more s b)))))
-    go (inr h) _ =
-        let l : padding (at - o) n ≤ length (s ++ b ∷ []) = omega (arith, length_one_more s b) in
-        rw (number_blocks o n at s h, number_blocks o n at (s ++ b ∷ []) l, drop-append-le)
-        (block_goes n (at + padding (at - o) n) (drop (padding (at - o) n) s) b
-        ∙ same (drop (padding (at - o) n) s)
-        (cases_lt (length (drop (padding (at - o) n) s)) n))
+number_goes o n at s b pos = search (
+  arith,
+  cases_lt,
+  block_waits,
+  add-zero,
+  number_step_blocks,
+  pad_end_from,
+  block_got,
+  length_one_more,
+  number_waits,
+  number_step_pads,
+  pad_more_from,
+  add_assoc,
+  number_blocks,
+  le_of_eq,
+  drop_all,
+  drop-append-le,
+  block_goes,
+  drop,
+)
 
 -- content
 
@@ -297,40 +255,27 @@ module _ (coding : Coding) (path : List PathSegment) where
   last_piece_goes : (T : Ty) (total offset : ℕ) → total - offset ≤ 32 → (g : Block) (b : ℕ) →
       last_piece T path total offset (more_of (block_step (total - offset + tail T)) g b)
       ≡ advance coding path (last_piece T path total offset g) b
-  last_piece_goes T total offset h (Partial piece at) b =
-      rw (
-        le-ltb,
-        with_front_none (last_piece T path total offset
-            (block_step (total - offset + tail T) at piece b)),
-      ) refl
-  last_piece_goes T total offset h (Complete xs at rest) b =
-      unless_goes T (ends T (total - offset) xs) at
-      (Done (line at path (Piece T offset (take (total - offset) xs) false) ∷ []) at rest) b
+  last_piece_goes T total offset h (Partial piece at) b = search (arith, le-ltb, with_front_none)
+  last_piece_goes T total offset h (Complete xs at rest) b = search (arith, unless_goes, take)
 
   full_piece_goes : (T : Ty) (total offset full : ℕ) → suc full ≡ full_pieces (total - offset) →
       Goes coding path (content T path total full (offset + 32)) → (g : Block) (b : ℕ) →
       full_piece T path total offset (content T path total full (offset + 32))
       (more_of (block_step 32) g b) ≡ advance coding path (full_piece T path total offset
       (content T path total full (offset + 32)) g) b
-  full_piece_goes T total offset full is goes (Partial piece at) b =
-      let more : 32 < total - offset = omega arith in
-      let rest : full_pieces (total - (offset + 32)) ≡ full = omega arith in
-      rw (
-        lt-ltb,
-        rest,
-        with_front_none (full_piece T path total offset
-            (content T path total full (offset + 32)) (block_step 32 at piece b)),
-      ) refl
-  full_piece_goes T total offset full is goes (Complete xs at rest) b =
-      let front = line at path (Piece T offset xs true) ∷ [] in
-      ap (with_front front) (goes at rest b)
-      ∙ with_front-advance coding path front (content T path total full (offset + 32) at rest) b
+  full_piece_goes T total offset full is goes (Partial piece at) b = search (
+    arith,
+    lt-ltb,
+    with_front_none,
+  )
+  full_piece_goes T total offset full is goes (Complete xs at rest) b = search (
+    arith,
+    with_front-advance,
+  )
 
   pub content_goes : (T : Ty) (total full offset : ℕ) → full ≡ full_pieces (total - offset) →
       Goes coding path (content T path total full offset)
-  content_goes T total zero offset is at s b =
-      ap (last_piece T path total offset) (block_goes (total - offset + tail T) at s b)
-      ∙ last_piece_goes T total offset (omega arith) (block (total - offset + tail T) at s) b
+  content_goes T total zero offset is at s b = search (arith, block_goes, last_piece_goes)
   content_goes T total (suc full) offset is at s b =
       ap (full_piece T path total offset (content T path total full (offset + 32)))
       (block_goes 32 at s b)
@@ -339,18 +284,10 @@ module _ (coding : Coding) (path : List PathSegment) where
 
   pub text_goes : (bound : Option ℕ) (n : ℕ) → Goes coding path (text bound path n)
   text_goes bound zero at s b = refl
-  text_goes bound (suc n) at s b =
-      ap (unless (Text bound) (over bound n) at)
-      (content_goes (Text bound) n (full_pieces n) 0 (omega arith) at s b)
-      ∙ unless_goes (Text bound) (over bound n) at
-      (content (Text bound) path n (full_pieces n) 0 at s) b
+  text_goes bound (suc n) at s b = search (arith, content_goes, unless_goes)
 
   pub octets_goes : (bound : Option ℕ) (n : ℕ) → Goes coding path (octets bound path n)
-  octets_goes bound n at s b =
-      ap (unless (Octets bound) (over bound n) at)
-      (content_goes (Octets bound) n (full_pieces n) 0 (omega arith) at s b)
-      ∙ unless_goes (Octets bound) (over bound n) at
-      (content (Octets bound) path n (full_pieces n) 0 at s) b
+  octets_goes bound n at s b = search (arith, content_goes, unless_goes)
 
 -- what begins with a number
 
@@ -362,23 +299,11 @@ headed_by coding path T g =
 pub headed_goes : (coding : Coding) (path : List PathSegment) (T : Ty) → 0 < leading_width T →
     ((n : ℕ) → Goes coding path (after coding path T n)) →
     Goes coding path (λ at s. headed_by coding path T (number coding.origin (leading_width T) at s))
-headed_goes coding path T pos goes at s b =
-    ap (headed_by coding path T) (number_goes coding.origin (leading_width T) at s b pos)
-    ∙ go (number coding.origin (leading_width T) at s)
-  where
-    go : (g : Block) → headed_by coding path T
-        (more_of (number_step coding.origin (leading_width T)) g
-        b) ≡ advance coding path (headed_by coding path T g) b
-    go (Partial carry at) =
-        sym (with_front_none (headed_by coding path T
-        (number_step coding.origin (leading_width T) at carry b)))
-    go (Complete xs at rest) = goes (num coding.order xs) at rest b
+headed_goes coding path T pos goes at s b = search (arith, number_goes, with_front_none)
 
 pub single_goes : (coding : Coding) (path inner : List PathSegment) (scalar : Scalar) (n : ℕ) →
     Goes coding path (single inner scalar n)
-single_goes coding path inner scalar n at s b =
-    unless_goes coding path (Single scalar) (wrong scalar n) at
-    (Done (line at inner (ReadResult.Number scalar n) ∷ []) at s) b
+single_goes coding path inner scalar n at s b = search (arith)
 
 pub size_pos : (p : Primitive) → 0 < size_of p
 size_pos prims.Octet = lit< tt
@@ -391,40 +316,21 @@ width_pos (Enum count names) = lit< tt
 pub counted_goes : (coding : Coding) (path : List PathSegment) (bound : Option ℕ) (T : Ty) (n : ℕ) →
     Goes coding path (parts_from (part_at coding path (Sequence bound T) n) n 0) →
     Goes coding path (after coding path (Sequence bound T) n)
-counted_goes coding path bound T n goes at s b =
-    let front = line at path (Count n) ∷ [] in
-    let elements = parts_from (part_at coding path (Sequence bound T) n) n 0 in
-    ap (λ r. unless (Sequence bound T) (over bound n) at (with_front front r)) (goes at s b)
-    ∙ (ap (unless (Sequence bound T) (over bound n) at)
-    (with_front-advance coding path front (elements at s) b)
-    ∙ unless_goes coding path (Sequence bound T) (over bound n) at
-    (with_front front (elements at s)) b)
+counted_goes coding path bound T n goes at s b = search (arith, with_front-advance)
 
 pub selected_goes : (coding : Coding) (path : List PathSegment) (T : Ty) (selected : Selected) →
     ((i : ℕ) → Goes coding (inner_path path T i) (read coding (inner_path path T i) (part_of T i)))
     → Goes coding path (member selected (λ i at s. within (Member T i)
     (read coding (inner_path path T i) (part_of T i) at s)))
-selected_goes coding path T (Case i) each at s b =
-    ap (within (Member T i)) (each i at s b)
-    ∙ member_goes coding path T i (read coding (inner_path path T i) (part_of T i) at s) b
+selected_goes coding path T (Case i) each at s b = search (arith, member_goes)
 selected_goes coding path T _ each at s b = refl
 
 pub union_goes : (coding : Coding) (path : List PathSegment) (choice : Choice) (scalar : Scalar)
     (select : ℕ → Selected) (names : ℕ → List ℕ) (cases : ℕ → Ty) (n : ℕ) →
     ((i : ℕ) → Goes coding (path ++ Name (names i) ∷ []) (read coding (path ++ Name (names i) ∷ [])
     (cases i))) → Goes coding path (after coding path (Union choice scalar select names cases) n)
-union_goes coding path choice scalar select names cases n each at s b =
-    let T = Union choice scalar select names cases in
-    let next : ℕ → List ℕ → Read = member (select n)
-    (λ i at' s'. within (Member T i) (read coding (inner_path path T i) (part_of T i) at' s'))
-    in
-    let front : List Line = line at (path ++ Switch (tag_of choice names) ∷ [])
-    (ReadResult.Number scalar n) ∷ [] in
-    ap (λ r. unless T (wrong scalar n) at (unless T (refused (select n)) at (with_front front r)))
-    (selected_goes coding path T (select n) each at s b)
-    ∙ (ap (λ r. unless T (wrong scalar n) at (unless T (refused (select n)) at r))
-    (with_front-advance coding path front (next at s) b)
-    ∙ (ap (unless T (wrong scalar n) at) (unless_goes coding path T (refused (select n)) at
-    (with_front front (next at s)) b)
-    ∙ unless_goes coding path T (wrong scalar n) at
-    (unless T (refused (select n)) at (with_front front (next at s))) b))
+union_goes coding path choice scalar select names cases n each at s b = search (
+  arith,
+  selected_goes,
+  with_front-advance,
+)

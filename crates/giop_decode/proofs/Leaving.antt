@@ -1,13 +1,11 @@
 -- What fits inside a type, and what one octet more leaves of it.
-use Rattle.std.proofs.Common.{◌≡◌, ℕ, zero, suc, ◌+◌, ◌-◌, ◌<◌, ◌≤◌, List, [], ◌∷◌, ◌++◌, length, refl, sym, subst, arith, add-zero, ◌⊎◌, inl, inr, lt-ltb, le-ltb}
+use Rattle.std.proofs.Common.{◌≡◌, ℕ, zero, suc, ◌+◌, ◌-◌, ◌<◌, ◌≤◌, List, [], ◌∷◌, ◌++◌, length, refl, subst, arith, add-zero, lt-ltb, le-ltb}
 use Rattle.std.proofs.lemmas.Bool.{cases_lt}
-use Rattle.giop_cdr.specs.Alignment.{padding}
-use Rattle.giop_cdr.specs.Numbers.{num}
 use Rattle.giop_decode.specs.Fits.{leaf_ty, Sound, FitsIn, HasCase, HasContent, HasLeadingNumber, IsOpen, OpenFrom, IsEncapsulation, Surrounds}
-use Rattle.giop_decode.specs.Pieces.{Complete, Block, Partial, content, full_pieces, tail}
+use Rattle.giop_decode.specs.Pieces.{Complete, Block, Partial, tail}
 use Rattle.giop_decode.specs.Reading.{parts_from, enclosed, order_of, ordered}
 use Rattle.giop_decode.specs.ReadResult.{Coding, Content, LeadingNumber, Leaf, Member, Part, OpenPart, PathSegment, Held, Inside, Opening}
-use Rattle.giop_decode.specs.ReadingSteps.{after, block_step, content_step, leading_width, leaf_step, number_step, part_at, segment_of, step, held}
+use Rattle.giop_decode.specs.ReadingSteps.{block_step, content_step, leading_width, leaf_step, number_step, part_at, segment_of, step, held}
 use Rattle.giop_sig.specs.Fits.{IsFit}
 use Rattle.giop_sig.specs.Types.{Encapsulation, Ty, Union, part_of}
 use Rattle.giop_decode.proofs.Law.{headed_by, block_step_waits, block_step_got, number_step_pads, number_step_blocks, length_one_more}
@@ -34,14 +32,7 @@ fit_held d T fit kind = absurd kind
 
 deeper : (d : ℕ) (place : OpenPart) (outer : List OpenPart) (leaf : Leaf) → IsOpen (suc d) place →
     LeafAt d outer leaf → LeafAt (suc d) (place ∷ outer) leaf
-deeper d place outer leaf is l = record {
-  are_open = (is, l.are_open);
-  left = l.left;
-  depth =
-      omega (arith, l.depth);
-  fit = l.fit;
-  fits = l.fits;
-}
+deeper d place outer leaf is l = search (arith)
 
 leaf_same : (T : Ty) (leaf : Leaf) → FitsIn T [] leaf → leaf_ty leaf ≡ T
 leaf_same T (LeadingNumber U carry) fits = fits.same
@@ -50,10 +41,7 @@ leaf_same T leaf fits = fits.same
 pub leaf_at : (d : ℕ) (T : Ty) (outer : List OpenPart) (leaf : Leaf) → FitsIn T outer leaf →
     IsFit d T → LeafAt d outer leaf
 unfolding IsFit
-leaf_at d T [] leaf fits fit =
-    let e : leaf_ty leaf ≡ T = leaf_same T leaf fits in
-    let there : FitsIn (leaf_ty leaf) [] leaf = subst (λ S. FitsIn S [] leaf) (sym e) fits in
-    record { are_open = tt; left = d; depth = omega arith; fit = rw e fit; fits = there }
+leaf_at d T [] leaf fits fit = search (arith, leaf_same)
 leaf_at zero T (Part U i count ∷ outer) leaf fits fit = absurd fit
 leaf_at (suc d) T (Part U i count ∷ outer) leaf fits fit =
     deeper d (Part U i count) outer leaf (rw fits.0.same (fits.0.kind, fits.0.below, fit))
@@ -71,61 +59,55 @@ leaf_at (suc d) T (Inside U c end ∷ outer) leaf fits fit =
 
 block_step_takes : (n at : ℕ) (held : List ℕ) (b : ℕ) → length held < n →
     Takes n (at + 1) (block_step n at held b)
-block_step_takes n at held b room = go (cases_lt (length held + 1) n)
-  where
-    go : (length held + 1 < n) ⊎ (n ≤ length held + 1) → Takes n (at + 1) (block_step n at held b)
-    go (inl h) = rw (block_step_waits n at held b h) (refl, omega (arith, length_one_more held b))
-    go (inr h) = rw (block_step_got n at held b h)
-        (omega arith, omega (arith, length_one_more held b))
+block_step_takes n at held b room = search (
+  arith,
+  cases_lt,
+  block_step_waits,
+  length_one_more,
+  block_step_got,
+)
 
 number_step_takes : (o n at : ℕ) (carry : List ℕ) (b : ℕ) → length carry < n →
     Takes n (at + 1) (number_step o n at carry b)
-number_step_takes o n at [] b room = go (cases_lt 0 (padding (at - o) n))
-  where
-    go : (0 < padding (at - o) n) ⊎ (padding (at - o) n ≤ 0) →
-        Takes n (at + 1) (number_step o n at [] b)
-    go (inl h) = rw (number_step_pads o n at b h) (refl, room)
-    go (inr h) = rw (number_step_blocks o n at [] b (inr (omega arith)))
-        (block_step_takes n at [] b room)
-number_step_takes o n at (x ∷ xs) b room =
-    rw (number_step_blocks o n at (x ∷ xs) b (inl (omega arith)))
-    (block_step_takes n at (x ∷ xs) b room)
+number_step_takes o n at [] b room = search (
+  arith,
+  cases_lt,
+  number_step_pads,
+  number_step_blocks,
+  block_step_takes,
+)
+number_step_takes o n at (x ∷ xs) b room = search (arith, number_step_blocks, block_step_takes)
 
 headed_sound : (d : ℕ) (coding : Coding) (path : List PathSegment) (T : Ty) (end : ℕ) → IsFit d T →
     HasLeadingNumber T → (g : Block) → Takes (leading_width T) end g →
     Sound T end (headed_by coding path T g)
-headed_sound d coding path T end fit kind (Partial carry at) h =
-    (h.0, record { same = refl; kind = kind; room = h.1 }, tt)
-headed_sound d coding path T end fit kind (Complete xs at rest) h =
-    subst (λ e. Sound T e (after coding path T (num coding.order xs) at rest)) h.0
-    (after_keeps d coding path T (num coding.order xs) fit at rest)
+headed_sound d coding path T end fit kind (Partial carry at) h = search (arith)
+headed_sound d coding path T end fit kind (Complete xs at rest) h = search (arith, after_keeps)
 
 content_step_sound : (T : Ty) (path : List PathSegment) (total offset at : ℕ) (piece : List ℕ)
     (b : ℕ) →
     HasContent T → offset ≤ total → (32 < total - offset → length piece < 32) →
     (total - offset ≤ 32 → length piece < total - offset + tail T) →
     Sound T (at + 1) (content_step T path total offset at piece b)
-content_step_sound T path total offset at piece b kind ahead room_full room_last =
-    go (cases_lt 32 (total - offset))
-  where
-    go : (32 < total - offset) ⊎ (total - offset ≤ 32) →
-        Sound T (at + 1) (content_step T path total offset at piece b)
-    go (inl h) = rw lt-ltb (full_piece_sound T path total offset (at + 1) kind h
-        (content T path total (full_pieces (total - (offset + 32))) (offset + 32))
-        (content_keeps T path total kind (full_pieces (total - (offset + 32))) (offset + 32) refl
-        (omega arith)) (block_step 32 at piece b)
-        (block_step_takes 32 at piece b (room_full h)))
-    go (inr h) = rw le-ltb (last_piece_sound T path total offset (at + 1) kind h ahead
-        (block_step (total - offset + tail T) at piece b)
-        (block_step_takes (total - offset + tail T) at piece b (room_last h)))
+content_step_sound T path total offset at piece b kind ahead room_full room_last = search (
+  arith,
+  cases_lt,
+  lt-ltb,
+  full_piece_sound,
+  content_keeps,
+  block_step_takes,
+  le-ltb,
+  last_piece_sound,
+)
 
 leaf_step_sound : (d : ℕ) (coding : Coding) (path : List PathSegment) (T : Ty) (leaf : Leaf)
     (at b : ℕ) →
     IsFit d T → FitsIn T [] leaf → Sound T (at + 1) (leaf_step coding path leaf at b)
-leaf_step_sound d coding path T (LeadingNumber U carry) at b fit fits =
-    rw fits.same (headed_sound d coding path T (at + 1) fit fits.kind
-    (number_step coding.origin (leading_width T) at carry b)
-    (number_step_takes coding.origin (leading_width T) at carry b fits.room))
+leaf_step_sound d coding path T (LeadingNumber U carry) at b fit fits = search (
+  arith,
+  headed_sound,
+  number_step_takes,
+)
 leaf_step_sound zero coding path T (Opening U n) at b fit fits = absurd (fit_none T fit)
 leaf_step_sound (suc d) coding path T (Opening U n) at b fit fits =
     rw (fits.same, block_step_got 1 at [] b (omega arith))
@@ -134,9 +116,10 @@ leaf_step_sound (suc d) coding path T (Opening U n) at b fit fits =
     (ordered_sound T path at n (order_of b) (at + 1) [] fits.kind (omega arith)
     (λ inner. read_keeps d inner (path ++ Held ∷ []) (part_of T 0)
     (fit_held d T fit fits.kind))))
-leaf_step_sound d coding path T (Content U total offset piece) at b fit fits =
-    rw fits.same (content_step_sound T path total offset at piece b fits.kind fits.ahead
-    fits.room_full fits.room_last)
+leaf_step_sound d coding path T (Content U total offset piece) at b fit fits = search (
+  arith,
+  content_step_sound,
+)
 
 -- What one octet more leaves fits as well.
 pub step_keeps : (d : ℕ) (coding : Coding) (path : List PathSegment) (T : Ty)

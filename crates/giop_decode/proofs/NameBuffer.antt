@@ -1,8 +1,7 @@
 -- What the name buffer can have is kept at each octet.
-use Rattle.std.proofs.Common.{◌≡◌, ℕ, ◌+◌, ◌<◌, ◌≤◌, ◌&&◌, Bool, true, false, List, [], ◌++◌, length, Option, Some, None, refl, sym, ap, ◌∙◌, subst, arith, length-append}
+use Rattle.std.proofs.Common.{◌≡◌, ℕ, ◌≤◌, ◌&&◌, Bool, true, false, List, [], length, Option, Some, None, refl, sym, ◌∙◌, arith, length-append}
 use Rattle.std.specs.Prelude.{cond, replicate, codes}
 use Rattle.std.proofs.lemmas.List.{length-replicate}
-use Rattle.giop_cdr.specs.declared.prim.Primitive.TheVariants as prims
 use Rattle.giop_decode.specs.declared.leaf.Transition.{Transition}
 use Rattle.giop_decode.specs.declared.leaf.Transition.TheVariants as transitions
 use Rattle.giop_decode.specs.declared.leaf.Output.{Output}
@@ -40,19 +39,10 @@ all_noted root offset = refl
 
 stands : (root : Root) (at : Option ℕ) (buffer : Buffer) (octets : List ℕ) →
     FitsName root at buffer octets → Stands root at buffer octets
-stands root None buffers.Begun octets fits =
-    record {
-      name = None;
-      so_far = octets;
-      held = (refl, refl, rw fits (omega arith));
-      noted =
-          fits;
-    }
-stands root None buffers.Whole octets fits =
-    record { name = Some octets; so_far = []; held = (refl, refl); noted = refl }
+stands root None buffers.Begun octets fits = search (arith)
+stands root None buffers.Whole octets fits = search (arith)
 stands root None buffers.TooLong octets fits = absurd fits
-stands root (Some offset) buffers.Begun octets fits =
-    record { name = None; so_far = octets; held = (refl, refl, fits.0); noted = (refl, fits.1) }
+stands root (Some offset) buffers.Begun octets fits = search (arith)
 stands root (Some offset) buffers.Whole octets fits = absurd fits
 stands root (Some offset) buffers.TooLong octets fits =
     let zero : ℕ = 0 in
@@ -73,26 +63,16 @@ fits_name : (root : Root) (at : Option ℕ) (buffer : Buffer) (octets so_far : L
     IsHeld buffer octets name so_far → AreNoted root at name so_far → FitsName root at buffer octets
 fits_name root None buffers.Begun octets so_far name held is = sym held.1 ∙ is
 fits_name root None buffers.Whole octets so_far name held is = tt
-fits_name root None buffers.TooLong octets so_far name held is =
-    let long : 128 < length so_far = held.2 in
-    absurd (omega (arith, long, ap length is))
-fits_name root (Some offset) buffers.Begun octets so_far name held is =
-    (held.2, subst (λ xs. IsNotedOf root offset (length xs)) held.1 is.1)
-fits_name root (Some offset) buffers.Whole octets so_far name held is =
-    let e : Some octets ≡ None = sym held.0 ∙ is.0 in cc
-fits_name root (Some offset) buffers.TooLong octets so_far name held is =
-    let long : 128 < length so_far = held.2 in
-    (omega (arith, long, most_noted root offset (length so_far) is.1), held.1)
+fits_name root None buffers.TooLong octets so_far name held is = search (arith)
+fits_name root (Some offset) buffers.Begun octets so_far name held is = search (arith)
+fits_name root (Some offset) buffers.Whole octets so_far name held is = search (arith)
+fits_name root (Some offset) buffers.TooLong octets so_far name held is = search (arith, most_noted)
 
 -- ---- one octet
 
 number_noted : (is_id : Bool) (h : Noted) (scalar : Scalar) (n : ℕ) →
     (note_value is_id h (Number scalar n)).so_far ≡ h.so_far
-number_noted is_id h (Plain p) n = plain p
-  where
-    plain : (p : _) → (note_value is_id h (Number (Plain p) n)).so_far ≡ h.so_far
-    plain prims.ULong = refl
-    plain p = refl
+number_noted is_id h (Plain p) n = search (arith)
 number_noted is_id h (Enum count names) n = refl
 
 piece_more : (is_id : Bool) (root : Root) (T : Ty) (was next : Option ℕ) (offset at : ℕ)
@@ -100,13 +80,10 @@ piece_more : (is_id : Bool) (root : Root) (T : Ty) (was next : Option ℕ) (offs
     OffsetMoves T was next (outputs.Piece offset true) (length piece) →
     AreNoted root was h.name h.so_far →
     (let k = note_value is_id h (Piece T offset piece true) in AreNoted root next k.name k.so_far)
-piece_more is_id root (Text bound) was next offset at piece h moves is =
-    rw moves.1 (refl, further root (rw moves.0 at is))
-  where
-    further : (root : Root) → (h.name ≡ None) × IsNotedOf root offset (length h.so_far) →
-        IsNotedOf root (offset + 32) (length (h.so_far ++ piece))
-    further roots.Body is = omega (arith, is.1, length-append h.so_far piece, moves.2)
-    further root is = omega (arith, is.1, length-append h.so_far piece, moves.2)
+piece_more is_id root (Text bound) was next offset at piece h moves is = search (
+  arith,
+  length-append,
+)
 piece_more is_id root _ was next offset at piece h moves is = rw moves.1 (rw moves.0 at is)
 
 piece_last : (is_id : Bool) (root : Root) (T : Ty) (was next : Option ℕ) (offset : ℕ)
@@ -133,27 +110,19 @@ output_noted : (header : Bool) (root : Root) (T : Ty) (was next : Option ℕ) (o
     AreNoted root next k.name k.so_far)
 output_noted header root T was next outputs.Nothing path at piece lines h moves says is =
     rw (says, moves) is
-output_noted header root T was next outputs.Length path at piece lines h moves says is =
-    let none : h.so_far ≡ [] = rw moves.0 at is in
-    rw (says, moves.1) (refl, rw none (all_noted root 0))
+output_noted header root T was next outputs.Length path at piece lines h moves says is = search
+    (arith, all_noted)
 output_noted header root T was next (outputs.Number number) path at piece lines h moves says is =
-    let none : h.so_far ≡ [] = rw moves.0 at is in
-    rw (says.1, moves.1) (number_noted (header && is_member (codes "request_id") path) h
-    says.0.scalar says.0.n ∙ none)
+    search (arith, number_noted)
 output_noted header root T was next (outputs.Switch number) path at piece lines h moves says is =
-    let none : h.so_far ≡ [] = rw moves.0 at is in
-    rw (says.1, moves.1) (number_noted _ h says.0.scalar says.0.n ∙ none)
+    search (arith, number_noted)
 output_noted header root T was next (outputs.Piece offset true) path at piece lines h moves says
     is =
     rw says (piece_more (header && is_member (codes "request_id") path) root T was next offset at
     piece h moves is)
 output_noted header root T was next (outputs.Piece offset false) path at piece lines h moves says
-    is =
-    rw says (piece_last (header && is_member (codes "request_id") path) root T was next offset piece
-    h moves is)
-output_noted header root T was next output path at piece lines h moves says is =
-    let none : h.so_far ≡ [] = rw moves.0 at is in
-    rw (says, moves.1) none
+    is = search (arith, piece_last)
+output_noted header root T was next output path at piece lines h moves says is = search (arith)
 
 -- What the name buffer can have, it can have after an octet.
 pub name_kept : (header : Bool) (root : Root) (T : Ty) (was next : Option ℕ)
@@ -192,7 +161,7 @@ name_kept header root T was next transition output path at piece lines old new g
 -- before the first octet
 pub nothing_fits : (root : Root) (m : Notes) → HoldsNoted m nothing_noted →
     FitsName root None m.buffer m.name.items
-nothing_fits root m held = fits_name root None m.buffer m.name.items [] None held.name refl
+nothing_fits root m held = search (arith, fits_name)
 
 pub none_either : (b : Bool) (o : Option ℕ) → cond b None (cond b o None) ≡ None
 none_either true o = refl

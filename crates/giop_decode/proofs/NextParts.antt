@@ -63,18 +63,8 @@ first_none (Some n) = refl
 -- nothing is noted of a primitive in no header
 plain_noted : (m : Notes) (h : Noted) (p : Primitive) (n at : ℕ) (path : List PathSegment) →
     HoldsNoted m h → HoldsNoted m (noted false h (line at path (Number (Plain p) n) ∷ []))
-plain_noted m h prims.ULong n at path r = record {
-  request_id = r.request_id ∙ sym (first_none h.request_id);
-  status = r.status;
-  expects_reply = r.expects_reply;
-  name = r.name;
-}
-plain_noted m h p n at path r = record {
-  request_id = r.request_id;
-  status = r.status;
-  expects_reply = r.expects_reply;
-  name = r.name;
-}
+plain_noted m h prims.ULong n at path r = search (arith, first_none)
+plain_noted m h p n at path r = search (arith)
 
 -- the frames around the innermost one, and that one
 above_push : (frames : List Frame) (f : Frame) → frames_above (frames ++ f ∷ []) ≡ frames
@@ -85,29 +75,21 @@ above_push frames f =
 
 pub last_frame : (frames : List Frame) (i : ℕ) (x : Frame) → i + 1 ≡ length frames →
     frames ≡ frames_above frames ++ get_or frames i x ∷ []
-last_frame frames i x e =
-    let k : length frames - 1 ≡ i = omega (arith, e) in
-    sym (take_all (i + 1) frames (omega (arith, e)))
-    ∙ (take_more frames i x (omega (arith, e))
-    ∙ ap (λ n. take n frames ++ get_or frames i x ∷ []) (sym k))
+last_frame frames i x e = search (arith, take_all, take_more, take, get_or)
 
 pub front_kept : (C : Table) (d new : Decoder) (part : PartAhead) (next : TypeId) →
     IsAtNext C d new part next → front_text C new ≡ front_text C d
-front_kept C d new part next n = rw (
-  n.head,
-  n.outer,
-  above_push (frames_above d.outer.items) (next_of part.frame),
-) refl
+front_kept C d new part next n = search (arith, above_push)
 
 last_free : (frames : List Frame) (f : Frame) → is_inside (frames ++ f ∷ []) ≡ false →
     f.inside ≡ None
-last_free [] f h = (free_first f.inside false h).0
+last_free [] f h = search (arith, free_first)
 last_free (g ∷ frames) f h = last_free frames f
     (free_first g.inside (is_inside (frames ++ f ∷ [])) h).1
 
 push_free : (frames : List Frame) (f : Frame) → is_inside frames ≡ false → f.inside ≡ None →
     is_inside (frames ++ f ∷ []) ≡ false
-push_free frames f h none = inside_push frames f ∙ rw (h, none) refl
+push_free frames f h none = search (arith, inside_push)
 
 pub stand_free : (at : ℕ) (frames : List Frame) → is_inside frames ≡ false → StandAt at frames
 stand_free at [] h = tt
@@ -124,12 +106,8 @@ places_free C here frames h ahead =
 frames_text-push : (C : Table) (frames : List Frame) (f : Frame) →
     frames_text C (frames ++ f ∷ []) ≡ frames_text C frames
     ++ segment_text (segment_in (open_part C 0 f))
-frames_text-push C [] f = append-nil (segment_text (segment_in (open_part C 0 f)))
-frames_text-push C (g ∷ frames) f =
-    let first = segment_text (segment_in (open_part C 0 g)) in
-    ap (λ t. first ++ t) (frames_text-push C frames f)
-    ∙ sym (append_assoc first (frames_text C frames)
-    (segment_text (segment_in (open_part C 0 f))))
+frames_text-push C [] f = search (arith, append-nil)
+frames_text-push C (g ∷ frames) f = search (arith, append_assoc, frames_text-push C frames f)
 
 same_plain : (T : Ty) (p : Primitive) (scalar : Scalar) → T ≡ Single (Plain p) → T ≡ Single scalar →
     scalar ≡ Plain p
@@ -148,11 +126,7 @@ pub line_is : (message : ℕ) (place segment kind text : List ℕ) →
     headed message place [] ++ (segment ++ (kind ++ (text ++ codes "\n")))
     ≡ kind_line message (place ++ segment) kind text
 unfolding kind_line
-line_is message place segment kind text =
-    let rest = kind ++ (text ++ codes "\n") in
-    headed_is message place (segment ++ rest)
-    ∙ ap (λ t. codes "m" ++ (decimal message ++ (codes " " ++ t)))
-    (sym (append_assoc place segment rest))
+line_is message place segment kind text = search (arith, codes, headed_is, decimal, append_assoc)
 
 -- the innermost frame, in no encapsulation
 module _ (C : Table) (d : Decoder) (of : TypeId) (frame : Frame) (f : Fits C d)
@@ -163,12 +137,10 @@ module _ (C : Table) (d : Decoder) (of : TypeId) (frame : Frame) (f : Fits C d)
     free_outer = sym f.inside ∙ outside
 
     free_above : is_inside (frames_above d.outer.items) ≡ false
-    free_above = outside_pop (frames_above d.outer.items) frame
-        (subst (λ fs. is_inside fs ≡ false) outer free_outer)
+    free_above = search (arith, outside_pop, free_outer)
 
     free_frame : frame.inside ≡ None
-    free_frame = last_free (frames_above d.outer.items) frame
-        (subst (λ fs. is_inside fs ≡ false) outer free_outer)
+    free_frame = search (arith, last_free, free_outer)
 
     abbrev popped_frame : PartPopped C (stands_at C d f (innermost.Number of) leaf).are_open.0
         (frames_above d.outer.items) frame
@@ -184,7 +156,7 @@ module _ (C : Table) (d : Decoder) (of : TypeId) (frame : Frame) (f : Fits C d)
 
     pub place_next : frame.index + 1 < frame.count →
         HasPlace (shape_in (tree C frame.of.0)) (frame.index + 1)
-    place_next below = rw add-one (follows below).placed
+    place_next below = search (arith, add-one, follows)
 
 module _ (C : Table) (d : Decoder) (part : PartAhead) (f : Fits C d)
     (h : IsPartAhead C d part) where
@@ -198,19 +170,15 @@ module _ (C : Table) (d : Decoder) (part : PartAhead) (f : Fits C d)
   above = frames_above d.outer.items
 
   free : is_inside d.outer.items ≡ false
-  free = free_outer C d part.of part.frame f h.leaf h.outside h.outer
+  free = search (arith)
 
   pub taken_together : TakenTogether C d octets part.of part.count ended []
-  taken_together =
-      comes_number C d part.of octets part.count f h.leaf h.empty d.order d.at
-      (free_coding_by d.order d.at d.outer.items free) part.number h.whole
-      (ahead_free (length octets - 1) d.outer.items free f.ahead)
+  taken_together = search (arith, comes_number, free_coding_by, free, ahead_free)
 
   -- the decoder at the last of the number's octets: none was counted
   pub part_at_last : (at : ℕ) → at ≡ (d.at + (part.count - 1)) % 8 →
       IsAtLast d (at_last d at d.outer) part.count
-  part_at_last at e = is_at_last d part.count at d.outer e
-      (free_ticked_by (part.count - 1) d.outer.items free)
+  part_at_last at e = search (arith, is_at_last, free_ticked_by, free)
 
   -- how many octets come before the last of the number's, and where the decoder is then
   abbrev last : ℕ
@@ -220,7 +188,7 @@ module _ (C : Table) (d : Decoder) (part : PartAhead) (f : Fits C d)
   there = at_last d ((d.at + last) % 8) d.outer
 
   on : IsAtLast d there part.count
-  on = part_at_last ((d.at + last) % 8) refl
+  on = search (arith, part_at_last)
 
   -- its path, and its line
   abbrev place : List ℕ
@@ -250,12 +218,7 @@ module _ (C : Table) (d : Decoder) (part : PartAhead) (f : Fits C d)
     where
       path_is : (here : ℕ) →
           place ≡ path_text d.head.root (path_in [] (open_parts C here d.outer.items))
-      path_is here =
-          let seg = segment_text (segment_in (open_part C 0 part.frame)) in
-          append_assoc (root_word d.head.root) (frames_text C above) seg
-          ∙ (ap (λ t. root_word d.head.root ++ t)
-          (sym (ap (frames_text C) h.outer ∙ frames_text-push C above part.frame))
-          ∙ path_spelled C here d.head.root d.outer.items)
+      path_is here = search (arith, append_assoc, frames_text-push, path_spelled)
 
   above_free : is_inside above ≡ false
   above_free = free_above C d part.of part.frame f h.leaf h.outside h.outer
@@ -271,7 +234,7 @@ module _ (C : Table) (d : Decoder) (part : PartAhead) (f : Fits C d)
       (n : IsAtNext C d new part next)
       (body : is_header_root d.head.root ≡ false) where
     new_free : is_inside new.outer.items ≡ false
-    new_free = rw n.outer (push_free above (next_of part.frame) above_free none)
+    new_free = search (arith, push_free, above_free, none)
 
     known_new : AreKnown C new.outer.items
     known_new = rw n.outer (all_push (IsKnown C) above (next_of part.frame) popped_part.known_rest
@@ -339,13 +302,7 @@ module _ (C : Table) (d : Decoder) (part : PartAhead) (f : Fits C d)
         (scalar : Scalar) × (n : ℕ) × (scalar ≡ Plain part.prim)
         × (interpreted_by scalar n ≡ Some part.number)
         × (lines ≡ line at (path_in [] (open_parts C here d.outer.items)) (Number scalar n) ∷ [])
-    plain_says here at lines k = (
-      k.0.scalar,
-      k.0.n,
-      same_plain (tree C part.of.0) part.prim k.0.scalar h.prim k.0.is,
-      k.0.taken,
-      k.1,
-    )
+    plain_says here at lines k = search (arith, same_plain)
 
     body_new : is_header_root new.head.root ≡ false
     body_new = rw n.head body
@@ -398,18 +355,13 @@ module _ (C : Table) (d : Decoder) (part : PartAhead) (f : Fits C d)
         }
       where
         at_next : (leaf : Innermost) → new.leaf ≡ Some leaf → innermost.Number next ≡ leaf
-        at_next leaf is = same_some (innermost.Number next) leaf (sym n.leaf ∙ is)
+        at_next leaf is = search (arith, same_some)
 
     pub part_some : {E : Type 0} (a c : OutLog) → Wrote a c text →
         TakesSome {E = E} C d new octets a c (Ok (part.count, progress.More))
-    part_some a c said =
-        passed_some C d octets part.of part.count ended [] f taken_together there on new
-        progress.More part_passes a c
-        (part_says (Wrote a c) said)
+    part_some a c said = search (arith, passed_some, taken_together, on, part_passes, part_says)
 
   pub part_broken : {E : Type 0} (r : Result (ℕ × Progress) E) (new : Decoder) (a c : OutLog) →
       IsErr r → WroteFront a c text →
       TakesSome C d new octets a c r
-  part_broken r new a c is said =
-      passed_broken C d octets part.of part.count ended [] f taken_together there on r new a c is
-      (part_says (WroteFront a c) said)
+  part_broken r new a c is said = search (arith, passed_broken, taken_together, on, part_says)

@@ -14,15 +14,15 @@ use Rattle.giop_decode.specs.DecoderState.{Fits, HoldsNoted}
 use Rattle.giop_decode.specs.DecoderSteps.{emitted, transition_result}
 use Rattle.giop_decode.specs.NameBuffer.{string_offset}
 use Rattle.giop_decode.specs.NextPieces.{IsPieceAhead, behind_piece}
-use Rattle.giop_decode.specs.Noted.{Noted, ends_in_string, is_header_root, is_member, names_operation, noted}
+use Rattle.giop_decode.specs.Noted.{Noted, ends_in_string, is_header_root, names_operation, noted}
 use Rattle.giop_decode.specs.NotingSteps.{transition_in_string, transition_offset}
 use Rattle.giop_decode.specs.Passes.{Gives, Passes}
-use Rattle.giop_decode.specs.ReadResult.{Line, Piece, Short, line, plain}
-use Rattle.giop_decode.specs.ReadingSteps.{around, path_in}
+use Rattle.giop_decode.specs.ReadResult.{Line, Piece, line}
+use Rattle.giop_decode.specs.ReadingSteps.{path_in}
 use Rattle.giop_decode.specs.Runs.{TakenTogether, TakesSome}
 use Rattle.giop_decode.specs.Segments.{frames_text}
 use Rattle.giop_decode.specs.Spelling.{value_text}
-use Rattle.giop_decode.specs.Transitions.{IsClean, Link, is_inside, leaf_of, leaf_type, open_parts}
+use Rattle.giop_decode.specs.Transitions.{IsClean, Link, is_inside, leaf_type, open_parts}
 use Rattle.giop_decode.proofs.Advancing.{comes_by, same_some}
 use Rattle.giop_decode.proofs.Counting.{ahead_free, free_ticked_by}
 use Rattle.giop_decode.proofs.FieldsRead.{path_spelled}
@@ -49,9 +49,7 @@ pub line_is : (message offset : ℕ) (place octets rest : List ℕ) →
     headed message place [] ++ rest
     ≡ content_line message place (codes " octets @") offset (spaced_hex octets) (more_word true)
 unfolding content_line
-line_is message offset place octets rest e = rw (e, append-nil octets)
-    (headed_is message place (codes " octets @" ++ (decimal offset ++ (spaced_hex octets
-    ++ (more_word true ++ codes "\n")))))
+line_is message offset place octets rest e = search (arith, append-nil, headed_is, codes, decimal)
 
 -- the same line, as that of a value
 piece_text_is : (message offset : ℕ) (place octets : List ℕ) (bound : _) →
@@ -91,7 +89,7 @@ module _ (C : Table) (d : Decoder) (ahead : PieceAhead) (f : Fits C d)
   there = at_last d ((d.at + 31) % 8) d.outer
 
   on : IsAtLast d there 32
-  on = is_at_last d 32 ((d.at + 31) % 8) d.outer refl (free_ticked_by 31 d.outer.items free)
+  on = search (arith, is_at_last, free_ticked_by, free)
 
   -- its path, and its line
   abbrev place : List ℕ
@@ -104,7 +102,7 @@ module _ (C : Table) (d : Decoder) (ahead : PieceAhead) (f : Fits C d)
   given : (here at : ℕ) (lines : List Line) → Gives C there ahead.of.0 step rest here at lines →
       lines ≡ line at (path_in [] (open_parts C here d.outer.items))
       (Piece (Octets h.bound) ahead.offset rest true) ∷ []
-  given here at lines says = rw (h.is, h.none_held) at says
+  given here at lines says = search (arith)
 
   piece_says : (Says : List ℕ → Type 0) → Says text → AllSay C d octets 31 Says
   piece_says Says w =
@@ -121,44 +119,23 @@ module _ (C : Table) (d : Decoder) (ahead : PieceAhead) (f : Fits C d)
   come : (here : ℕ) (lines : List Line) →
       emitted C there ahead.of.0 step.transition step.output lines here
       ≡ transition_result C (tree C ahead.of.0) new step.transition lines (here + 1)
-  come here lines =
-      ap (λ ps. around (plain d.order) [] ps
-      (Short lines (here + 1) [] (leaf_of C next d.carry [])))
-      (places_free C here d.outer.items free f.ahead)
-      ∙ rw h.none_held (around_gone C (plain d.order) [] (here + 1) d.outer.items lines
-      (leaf_of C next d.carry []) f.known_outer)
+  come here lines = search (arith, places_free, free, around_gone)
 
   -- a piece that isn't the last names no operation
   unnamed : (here at : ℕ) (lines : List Line) → Gives C there ahead.of.0 step rest here at lines →
       false ≡ names_operation (is_header_root d.head.root) lines
-  unnamed here at lines says =
-      let path = path_in [] (open_parts C here d.outer.items) in
-      rw (
-        given here at lines says,
-        and-false (is_member (codes "operation") path),
-        and-false (is_header_root d.head.root),
-      ) refl
+  unnamed here at lines says = search (arith, given, and-false, codes)
 
   -- nothing is noted of an octet sequence
   kept : (o : Noted) (here at : ℕ) (lines : List Line) → HoldsNoted d.notes o →
       Gives C there ahead.of.0 step rest here at lines →
       HoldsNoted d.notes (noted (is_header_root d.head.root) o lines)
-  kept o here at lines held says =
-      rw (given here at lines says) (record {
-        request_id = held.request_id;
-        status = held.status;
-        expects_reply = held.expects_reply;
-        name = held.name;
-      })
+  kept o here at lines held says = search (arith, given)
 
   silent : (here : ℕ) (lines : List Line) →
       ends_in_string (emitted C there ahead.of.0 step.transition step.output lines here)
       ≡ transition_in_string (tree C ahead.of.0) step.transition
-  silent here lines =
-      ap ends_in_string (come here lines)
-      ∙ (stopped_silent C d.outer.items d.carry d.piece.items (Some next) lines (here + 1)
-      (rw h.is refl)
-      ∙ rw h.is refl)
+  silent here lines = search (arith, come, stopped_silent)
 
   piece_passes : Passes C there new ahead.of.0 step rest progress.More
   piece_passes =
@@ -199,18 +176,12 @@ module _ (C : Table) (d : Decoder) (ahead : PieceAhead) (f : Fits C d)
       at_next leaf is = same_some next leaf is
 
       known : ahead.of.0 < length C.types
-      known = subst (λ l. leaf_type l < length C.types)
-          (same_some f.leaf (innermost.Content ahead.of ahead.total ahead.offset)
-          (sym f.goes_on ∙ h.leaf)) f.known
+      known = search (arith, same_some)
 
   pub piece_some : {E : Type 0} (a c : OutLog) → Wrote a c text →
       TakesSome {E = E} C d new octets a c (Ok (32, progress.More))
-  piece_some a c said =
-      passed_some C d octets ahead.of 32 step rest f taken_together there on new
-      progress.More piece_passes a c (piece_says (Wrote a c) said)
+  piece_some a c said = search (arith, passed_some, taken_together, on, piece_passes, piece_says)
 
   pub piece_broken : {E : Type 0} (r : Result (ℕ × Progress) E) (after : Decoder)
       (a c : OutLog) → IsErr r → WroteFront a c text → TakesSome C d after octets a c r
-  piece_broken r after a c is said =
-      passed_broken C d octets ahead.of 32 step rest f taken_together there on r after a c is
-      (piece_says (WroteFront a c) said)
+  piece_broken r after a c is said = search (arith, passed_broken, taken_together, on, piece_says)

@@ -14,7 +14,7 @@ use Rattle.giop_decode.specs.NotingSteps.{OutputFitsString, clears_name, leaf_in
 use Rattle.giop_decode.specs.ReadResult.{Number, Leaf, Held, PathSegment, Name, Index, Switch, Line, line, Value, Piece, OpenPart, Content, Read, Done, lines_of, with_front}
 use Rattle.giop_decode.specs.declared.frame.Frame.{Frame}
 use Rattle.giop_decode.specs.ReadingSteps.{path_in, segment_in}
-use Rattle.giop_decode.specs.Transitions.{has_ended, leaf_of, leaf_type, open_part, part_in, open_parts, IsOutput}
+use Rattle.giop_decode.specs.Transitions.{leaf_of, leaf_type, open_part, part_in, open_parts, IsOutput}
 use Rattle.giop_decode.proofs.Resuming.{noted-append, lines_front}
 use Rattle.std.specs.Prelude.{IfSome}
 use Rattle.giop_decode.specs.Fits.{IsEncapsulation}
@@ -32,13 +32,12 @@ content_in _ total offset piece = refl
 
 pub leaf_inside : (C : Table) (leaf : Innermost) (carry piece : List ℕ) →
     in_content (leaf_of C leaf carry piece) ≡ leaf_in_string (tree C (leaf_type leaf)) leaf
-leaf_inside C (innermost.Content of total offset) carry piece =
-    content_in (tree C of.0) total offset piece
+leaf_inside C (innermost.Content of total offset) carry piece = search (arith, content_in)
 leaf_inside C _ carry piece = refl
 
 -- an encapsulation's end in a string cuts it off
 pub cut_inside : (leaf : Leaf) → is_text (cut_off leaf) ≡ in_content leaf
-cut_inside (Content T total offset piece) = sym (content_in T total offset piece)
+cut_inside (Content T total offset piece) = search (arith, content_in)
 cut_inside _ = refl
 
 pub unless_ended_inside : (ended : Bool) (lines : List Line) (at : ℕ) (outer : List OpenPart)
@@ -56,9 +55,11 @@ pub stopped_silent : (C : Table) (frames : List Frame) (carry piece : List ℕ)
     IfSome leaf (λ l. leaf_in_string (tree C (leaf_type l)) l ≡ false) →
     ends_in_string (stopped_with C frames carry piece leaf lines at) ≡ false
 stopped_silent C frames carry piece None lines at h = refl
-stopped_silent C frames carry piece (Some leaf) lines at h =
-    unless_ended_inside (has_ended frames) lines at (open_parts C at frames)
-    (leaf_of C leaf carry piece) ∙ (leaf_inside C leaf carry piece ∙ h)
+stopped_silent C frames carry piece (Some leaf) lines at h = search (
+  arith,
+  unless_ended_inside,
+  leaf_inside,
+)
 
 text_inside : (T : Ty) (leaf : Innermost) → leaf_in_string T leaf ≡ true → is_text T ≡ true
 text_inside T (innermost.Content of total offset) h = h
@@ -109,14 +110,16 @@ output_noted : (header : Bool) (T : Ty) (was : Bool) (transition : Transition) (
     ≡ without_name_if (transition_in_string T transition) (noted header h lines)
 output_noted header T was transition outputs.Nothing path at piece lines h v says k =
     rw (says, v) refl
-output_noted header T was transition outputs.Length path at piece lines h v says k =
-    rw (says, v) (without_name_twice was h)
+output_noted header T was transition outputs.Length path at piece lines h v says k = search (
+  arith,
+  without_name_twice,
+)
 output_noted header T was transition (outputs.Size size) path at piece lines h v says k =
     rw (v.0, v.1, says) refl
 output_noted header T was transition (outputs.Ordered order) path at piece lines h v says k =
     rw (v.0, v.1, says) refl
 output_noted header T was transition (outputs.Piece offset more) path at piece lines h v says k =
-    rw (says, v) (piece_noted header T was more h path at offset piece k)
+    search (arith, piece_noted)
 output_noted header T was transition _ path at piece lines h v says k = rw (v.0, v.1) refl
 
 -- What is noted of a reading, after the lines of its front and of one octet.
@@ -130,11 +133,8 @@ pub noted_on : (header : Bool) (C : Table) (leaf : Innermost) (transition : Tran
     without_name_if (clears_name output) (noted header
     (without_name_if (leaf_in_string (tree C (leaf_type leaf)) leaf)
     (noted header nothing_noted front)) lines) ≡ noted_of header (with_front front r)
-noted_on header C leaf transition output path at piece front lines r v says inside are =
-    let T = tree C (leaf_type leaf) in
-    output_noted header T (leaf_in_string T leaf) transition output path at piece lines
-    (noted header nothing_noted front) v says (text_inside T leaf)
-    ∙ rw (front_inside front r, inside, lines_front front r, are, noted-append) refl
+noted_on header C leaf transition output path at piece front lines r v says inside are = search
+    (arith, output_noted, text_inside, front_inside, lines_front, noted-append)
 
 -- ---- pieces and members
 
@@ -146,7 +146,7 @@ piece_last h octets more last = rw last refl
 -- a piece in two parts is one piece
 pub piece_both : (h : Noted) (held rest : List ℕ) →
     with_piece (with_piece h held) rest ≡ with_piece h (held ++ rest)
-piece_both h held rest = rw (append_assoc h.so_far held rest) refl
+piece_both h held rest = search (arith, append_assoc)
 
 pub piece_more : (h : Noted) (octets : List ℕ) (more : Bool) → more ≡ true →
     with_piece h octets ≡ noted_piece h octets more
@@ -165,9 +165,7 @@ pub no_member : (name : List ℕ) (C : Table) (here : ℕ) (outer : List Frame) 
     false ≡ is_member name (path_in [] (open_parts C here outer))
 no_member name C here [] h = refl
 no_member name C here (f ∷ []) h = absurd (h refl)
-no_member name C here (f ∷ g ∷ outer) h =
-    deep name (segment_in (open_part C here f)) (segment_in (open_part C here g)) []
-    (open_parts C here outer)
+no_member name C here (f ∷ g ∷ outer) h = search (arith, deep)
 
 -- the one part around it
 only : (C : Table) (here : ℕ) (outer : List Frame) (d : Frame) → length outer ≡ 1 →
@@ -221,10 +219,8 @@ switch_member name (Held ∷ y ∷ path) tag = refl
 switch_expects : (header : Bool) (path : List PathSegment) (tag : Option (List ℕ)) (scalar : Scalar)
     (n : ℕ) (before : Option Bool) →
     expects_after header (path ++ Switch tag ∷ []) (Number scalar n) before ≡ before
-switch_expects true path tag (Plain prims.Boolean) n before =
-    rw (switch_member (codes "response_expected") path tag) refl
-switch_expects true path tag (Plain prims.Octet) n before =
-    rw (switch_member (codes "response_flags") path tag) refl
+switch_expects true path tag (Plain prims.Boolean) n before = search (arith, switch_member)
+switch_expects true path tag (Plain prims.Octet) n before = search (arith, switch_member)
 switch_expects false path tag (Plain prims.Boolean) n before = refl
 switch_expects false path tag (Plain prims.Octet) n before = refl
 switch_expects header path tag scalar n before = refl
@@ -239,7 +235,7 @@ same_id : (header : Bool) (path : List PathSegment) (tag : Option (List ℕ)) (h
     (value : Value) →
     note_value false h value ≡ note_value (header
     && is_member (codes "request_id") (path ++ Switch tag ∷ [])) h value
-same_id true path tag h value = rw (switch_member (codes "request_id") path tag) refl
+same_id true path tag h value = search (arith, switch_member)
 same_id false path tag h value = refl
 
 pub switch_noted : (header : Bool) (path : List PathSegment) (tag : Option (List ℕ)) (h : Noted)

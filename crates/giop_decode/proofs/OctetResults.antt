@@ -1,19 +1,17 @@
 -- A step has at most one line, which is at its octet, and the reading of no octets has none.
-use Rattle.std.proofs.Common.{◌≡◌, ℕ, zero, suc, ◌+◌, ◌-◌, ◌<◌, ◌≤◌, Bool, true, false, List, [], ◌∷◌, ◌++◌, length, take, drop, get_or, Option, Some, None, refl, append-nil, arith, add-zero, ◌⊎◌, inl, inr, lit<}
-use Rattle.std.specs.Prelude.{cond, ltb}
+use Rattle.std.proofs.Common.{◌≡◌, ℕ, zero, suc, ◌+◌, ◌-◌, ◌<◌, Bool, true, false, List, [], ◌∷◌, ◌++◌, take, drop, get_or, Option, Some, None, refl, append-nil, arith, add-zero, lit<}
+use Rattle.std.specs.Prelude.{cond}
 use Rattle.std.specs.List.{AllByRecursion as Each}
 use Rattle.std.proofs.Math.Seq.{take-nil, drop-nil}
 use Rattle.std.proofs.lemmas.Bool.{cases_lt, lt-ltb, le-ltb}
-use Rattle.giop_cdr.specs.Alignment.{padding}
-use Rattle.giop_cdr.specs.Numbers.{num}
-use Rattle.giop_decode.specs.Pieces.{Complete, Block, Partial, block, content, ends, full_piece, full_pieces, last_piece, number, over, tail, unless}
-use Rattle.giop_decode.specs.Reading.{member, parts_from, read, refused, single, wrong, cut_off, enclosed, opening, order_of, ordered, rest_of, sized}
-use Rattle.giop_decode.specs.ReadResult.{Coding, Content, Count, Done, Fault, LeadingNumber, Index, Leaf, Line, Member, Name, Part, Piece, OpenPart, Read, PathSegment, Short, Switch, followed, line, with_front, within, lines_of, coded, Held, Inside, Opening, Ordered, Size}
-use Rattle.giop_decode.specs.ReadingSteps.{OneAt, IsOctetResult, IsEmptyResult, inner_path, after, around, block_step, leading_width, leaf_step, number_step, part_at, path_in, segment_of, step, Faulted, coding_in, held}
+use Rattle.giop_decode.specs.Pieces.{Complete, Block, Partial, block, content, full_piece, last_piece, number, unless}
+use Rattle.giop_decode.specs.Reading.{member, parts_from, read, refused, single, wrong, enclosed, opening, ordered, rest_of, sized}
+use Rattle.giop_decode.specs.ReadResult.{Coding, Content, Done, Fault, LeadingNumber, Index, Leaf, Line, Member, Name, Part, OpenPart, Read, PathSegment, Short, Switch, followed, line, with_front, within, lines_of, Held, Inside, Opening, Size}
+use Rattle.giop_decode.specs.ReadingSteps.{OneAt, IsOctetResult, IsEmptyResult, inner_path, after, around, block_step, leaf_step, number_step, part_at, segment_of, step, Faulted, held}
 use Rattle.giop_decode.specs.declared.progress.Kind.{Kind}
 use Rattle.giop_decode.specs.declared.progress.Kind.TheVariants as kinds
 use Rattle.giop_cdr.specs.declared.order.Order.{Order}
-use Rattle.giop_sig.specs.Types.{tag_of, Array, Encapsulation, Octets, Scalar, Sequence, Single, Struct, Text, Ty, Union, part_of, width}
+use Rattle.giop_sig.specs.Types.{tag_of, Array, Encapsulation, Octets, Scalar, Sequence, Single, Struct, Text, Ty, Union, part_of}
 use Rattle.giop_sig.specs.declared.types.Selected.{Selected}
 use Rattle.giop_sig.specs.declared.types.Selected.TheVariants.{Case}
 use Rattle.giop_decode.specs.ReadResult
@@ -37,9 +35,9 @@ Mute n (Fault lines at why S) = (lines ≡ []) × (at ≡ n) × (why ≡ kinds.E
 
 mute_front : (n : ℕ) (front : List Line) (r : Read) → OneAt n front → Mute n r →
     IsOctetResult n (with_front front r)
-mute_front n front (Done lines at rest) h k = rw (k.0, append-nil front) (h, k.1, k.2)
-mute_front n front (Short lines at outer leaf) h k = rw (k.0, append-nil front) (h, k.1)
-mute_front n front (Fault lines at why S) h k = rw (k.0, append-nil front, k.2) (h, k.1)
+mute_front n front (Done lines at rest) h k = search (arith, append-nil)
+mute_front n front (Short lines at outer leaf) h k = search (arith, append-nil)
+mute_front n front (Fault lines at why S) h k = search (arith, append-nil)
 
 pub quiet_mute : (n : ℕ) (r : Read) → IsEmptyResult n r → Mute n r
 quiet_mute n (Fault lines at why S) h = absurd h
@@ -47,7 +45,7 @@ quiet_mute n r h = h
 
 now_front : (n : ℕ) (front : List Line) (r : Read) → OneAt n front → IsEmptyResult n r →
     IsOctetResult n (with_front front r)
-now_front n front r h k = mute_front n front r h (quiet_mute n r k)
+now_front n front r h k = search (arith, mute_front, quiet_mute)
 
 quiet_front : (n : ℕ) (r : Read) → IsEmptyResult n r → IsEmptyResult n (with_front [] r)
 quiet_front n (Done lines at rest) h = h
@@ -56,12 +54,12 @@ quiet_front n r h = h
 now_followed : (n : ℕ) (r : Read) (next : ℕ → List ℕ → Read) → IsOctetResult n r →
     IsEmptyResult n (next n []) →
     IsOctetResult n (followed r next)
-now_followed n (Done lines at rest) next h k = now_front n lines _ h.0 (rw (h.1, h.2) k)
+now_followed n (Done lines at rest) next h k = search (arith, now_front)
 now_followed n r next h k = h
 
 pub quiet_followed : (n : ℕ) (r : Read) (next : ℕ → List ℕ → Read) → IsEmptyResult n r →
     IsEmptyResult n (next n []) → IsEmptyResult n (followed r next)
-quiet_followed n (Done lines at rest) next h k = rw (h.0, h.1, h.2) (quiet_front n _ k)
+quiet_followed n (Done lines at rest) next h k = search (arith, quiet_front)
 quiet_followed n r next h k = h
 
 pub now_within : (n : ℕ) (place : OpenPart) (r : Read) → IsOctetResult n r →
@@ -82,24 +80,22 @@ now_unless n T (Some kind) r h = (faulted_none n kind, refl)
 -- no octets
 
 pub number_none : (o w n : ℕ) → 0 < w → number o w n [] ≡ Partial [] n
-number_none o w n pos = go (cases_lt 0 (padding (n - o) w))
-  where
-    go : (0 < padding (n - o) w) ⊎ (padding (n - o) w ≤ 0) → number o w n [] ≡ Partial [] n
-    go (inl h) = rw (number_waits o w n [] h, add-zero) refl
-    go (inr h) = let e : padding (n - o) w ≡ 0 = omega arith in
-        rw (number_blocks o w n [] h, e, block_waits w (n + 0) [] pos, add-zero, add-zero) refl
+number_none o w n pos = search (arith, cases_lt, number_waits, add-zero, number_blocks, block_waits)
 
 pub quiet_parts : (n : ℕ) (part : ℕ → ℕ → List ℕ → Read) →
     ((i : ℕ) → IsEmptyResult n (part i n [])) →
     (more i : ℕ) → IsEmptyResult n (parts_from part more i n [])
 quiet_parts n part h zero i = (refl, refl, refl)
-quiet_parts n part h (suc more) i = quiet_followed n (part i n []) (parts_from part more (suc i))
-    (h i) (quiet_parts n part h more (suc i))
+quiet_parts n part h (suc more) i = search (
+  arith,
+  quiet_followed,
+  quiet_parts n part h more (suc
+      i),
+)
 
 pub read_quiet : (coding : Coding) (path : List PathSegment) (T : Ty) (n : ℕ) →
     IsEmptyResult n (read coding path T n [])
-read_quiet coding path (Single scalar) n =
-    rw (number_none coding.origin (width scalar) n (width_pos scalar)) (refl, refl)
+read_quiet coding path (Single scalar) n = search (arith, number_none, width_pos)
 read_quiet coding path (Struct count names parts) n =
     quiet_parts n (part_at coding path (Struct count names parts) count)
     (λ i. quiet_within n (Part (Struct count names parts) i count) _
@@ -108,19 +104,20 @@ read_quiet coding path (Array count T) n =
     quiet_parts n (part_at coding path (Array count T) count)
     (λ i. quiet_within n (Part (Array count T) i count) _
     (read_quiet coding (path ++ Index i ∷ []) T n)) count 0
-read_quiet coding path (Union choice scalar select names cases) n =
-    rw (number_none coding.origin (width scalar) n (width_pos scalar)) (refl, refl)
-read_quiet coding path T n = rw (number_none coding.origin 4 n (lit< tt)) (refl, refl)
+read_quiet coding path (Union choice scalar select names cases) n = search (
+  arith,
+  number_none,
+  width_pos,
+)
+read_quiet coding path T n = search (arith, number_none, lit<)
 
 pub part_quiet : (coding : Coding) (path : List PathSegment) (T : Ty) (count n i : ℕ) →
     IsEmptyResult n (part_at coding path T count i n [])
-part_quiet coding path T count n i = quiet_within n (Part T i count) _
-    (read_quiet coding (inner_path path T i) (part_of T i) n)
+part_quiet coding path T count n i = search (arith, quiet_within, read_quiet)
 
 pub parts_quiet : (coding : Coding) (path : List PathSegment) (T : Ty) (count n more i : ℕ) →
     IsEmptyResult n (parts_from (part_at coding path T count) more i n [])
-parts_quiet coding path T count n more i =
-    quiet_parts n (part_at coding path T count) (part_quiet coding path T count n) more i
+parts_quiet coding path T count n more i = search (arith, quiet_parts, part_quiet)
 
 -- one octet
 
@@ -135,16 +132,11 @@ block_by n false xs = (refl, refl)
 
 block_none_now : (w n : ℕ) → BlockNow n (block w n [])
 unfolding block
-block_none_now w n = go (cases_lt 0 w)
-  where
-    go : (0 < w) ⊎ (w ≤ 0) → BlockNow n (cond (ltb 0 w) (Partial [] (n + 0))
-        (Complete (take w []) (n + w) (drop w [])))
-    go (inl h) = rw (lt-ltb 0 w h) (add-zero n)
-    go (inr h) = let e : w ≡ 0 = omega arith in rw e (add-zero n, refl)
+block_none_now w n = search (arith, cases_lt, take, drop, lt-ltb, add-zero)
 
 block_now : (w at : ℕ) (held : List ℕ) (b : ℕ) → BlockNow (at + 1) (block_step w at held b)
 unfolding block_step
-block_now w at held b = block_by (at + 1) (ltb (length held + 1) w) (held ++ b ∷ [])
+block_now w at held b = search (arith, block_by)
 
 number_by : (w at : ℕ) (test : Bool) (b : ℕ) →
     BlockNow (at + 1) (cond test (Partial [] (at + 1)) (block_step w at [] b))
@@ -153,48 +145,41 @@ number_by w at false b = block_now w at [] b
 
 number_now : (o w at : ℕ) (carry : List ℕ) (b : ℕ) → BlockNow (at + 1) (number_step o w at carry b)
 unfolding number_step
-number_now o w at [] b = number_by w at (ltb 0 (padding (at - o) w)) b
+number_now o w at [] b = search (arith, number_by)
 number_now o w at (x ∷ carry) b = block_now w at (x ∷ carry) b
 
 last_now : (n : ℕ) (T : Ty) (path : List PathSegment) (total offset : ℕ) (g : Block) →
     BlockNow n g →
     IsOctetResult n (last_piece T path total offset g)
 last_now n T path total offset (Partial piece at) h = (tt, h)
-last_now n T path total offset (Complete xs at rest) h =
-    rw (h.0, h.1) (now_unless n T (ends T (total - offset) xs) _ (refl, refl, refl))
+last_now n T path total offset (Complete xs at rest) h = search (arith, now_unless)
 
 full_now : (n : ℕ) (T : Ty) (path : List PathSegment) (total offset : ℕ) (next : ℕ → List ℕ → Read)
     (g : Block) → BlockNow n g → IsEmptyResult n (next n []) →
     IsOctetResult n (full_piece T path total offset next g)
 full_now n T path total offset next (Partial piece at) h k = (tt, h)
-full_now n T path total offset next (Complete xs at rest) h k =
-    rw (h.0, h.1) (now_front n (line n path (Piece T offset xs true) ∷ []) _ refl k)
+full_now n T path total offset next (Complete xs at rest) h k = search (arith, now_front)
 
 -- a content of which some octet is to come
 content_quiet : (n : ℕ) (T : Ty) (path : List PathSegment) (total full offset : ℕ) →
     offset < total →
     IsEmptyResult n (content T path total full offset n [])
-content_quiet n T path total zero offset h =
-    rw (block_waits (total - offset + tail T) n [] (omega arith)) (refl, add-zero n)
-content_quiet n T path total (suc full) offset h =
-    rw (block_waits 32 n [] (lit< tt)) (refl, add-zero n)
+content_quiet n T path total zero offset h = search (arith, block_waits, add-zero)
+content_quiet n T path total (suc full) offset h = search (arith, block_waits, lit<, add-zero)
 
 content_now : (n : ℕ) (T : Ty) (path : List PathSegment) (total full offset : ℕ) →
     IsOctetResult n (content T path total full offset n [])
-content_now n T path total zero offset =
-    last_now n T path total offset (block (total - offset + tail T) n [])
-    (block_none_now (total - offset + tail T) n)
-content_now n T path total (suc full) offset = rw (block_waits 32 n [] (lit< tt)) (tt, add-zero n)
+content_now n T path total zero offset = search (arith, last_now, block_none_now)
+content_now n T path total (suc full) offset = search (arith, block_waits, lit<, add-zero)
 
 single_now : (n : ℕ) (path : List PathSegment) (scalar : Scalar) (k : ℕ) →
     IsOctetResult n (single path scalar k n [])
-single_now n path scalar k = now_unless n (Single scalar) (wrong scalar k) _ (refl, refl, refl)
+single_now n path scalar k = search (arith, now_unless)
 
 member_quiet : (n : ℕ) (coding : Coding) (path : List PathSegment) (T : Ty) (selected : Selected) →
     IsEmptyResult n (member selected (λ i at s. within (Member T i)
     (read coding (inner_path path T i) (part_of T i) at s)) n [])
-member_quiet n coding path T (Case i) = quiet_within n (Member T i) _
-    (read_quiet coding (inner_path path T i) (part_of T i) n)
+member_quiet n coding path T (Case i) = search (arith, quiet_within, read_quiet)
 member_quiet n coding path T _ = (refl, refl, refl)
 
 -- ---- encapsulations
@@ -202,7 +187,7 @@ member_quiet n coding path T _ = (refl, refl, refl)
 pub rest_quiet : (n : ℕ) (path : List PathSegment) (T : Ty) (k : ℕ) →
     IsEmptyResult n (rest_of path T k n [])
 rest_quiet n path T zero = (refl, refl, refl)
-rest_quiet n path T (suc k) = content_quiet n T path (suc k) (full_pieces (suc k)) 0 (omega arith)
+rest_quiet n path T (suc k) = search (arith, content_quiet)
 
 enclosed_by : (n : ℕ) (test : Bool) (lines : List Line) (at : ℕ) (outer : List OpenPart)
     (leaf : Leaf)
@@ -214,10 +199,8 @@ enclosed_by n false lines at outer leaf S one is = (one, is)
 pub enclosed_now : (n : ℕ) (path : List PathSegment) (T : Ty) (inner : Coding) (end : ℕ)
     (r : Read) →
     IsOctetResult n r → IsOctetResult n (enclosed path T inner end r [])
-enclosed_now n path T inner end (Done lines at rest) h =
-    rw (h.1, h.2) (now_front n lines _ h.0 (rest_quiet n path T (end - n)))
-enclosed_now n path T inner end (Short lines at outer leaf) h =
-    enclosed_by n (ltb at end) lines at (Inside T inner end ∷ outer) leaf (cut_off leaf) h.0 h.1
+enclosed_now n path T inner end (Done lines at rest) h = search (arith, now_front, rest_quiet)
+enclosed_now n path T inner end (Short lines at outer leaf) h = search (arith, enclosed_by)
 enclosed_now n path T inner end (Fault lines at why S) h = h
 
 mute_by : (n : ℕ) (test : Bool) (lines : List Line) (at : ℕ) (outer : List OpenPart) (leaf : Leaf)
@@ -229,8 +212,7 @@ mute_by n false lines at outer leaf S none is = (none, is, refl)
 mute_followed : (n : ℕ) (r : Read) (next : ℕ → List ℕ → Read) → Mute n r →
     IsEmptyResult n (next n []) →
     Mute n (followed r next)
-mute_followed n (Done lines at rest) next h k =
-    rw (h.0, h.1, h.2) (quiet_mute n (with_front [] (next n [])) (quiet_front n _ k))
+mute_followed n (Done lines at rest) next h k = search (arith, quiet_mute, quiet_front)
 mute_followed n r next h k = h
 
 mute_within : (n : ℕ) (place : OpenPart) (r : Read) → Mute n r → Mute n (within place r)
@@ -239,11 +221,13 @@ mute_within n place r h = h
 
 mute_enclosed : (n : ℕ) (path : List PathSegment) (T : Ty) (inner : Coding) (end : ℕ) (r : Read) →
     Mute n r → Mute n (enclosed path T inner end r [])
-mute_enclosed n path T inner end (Done lines at rest) h =
-    rw (h.0, h.1, h.2) (quiet_mute n (with_front [] (rest_of path T (end - n) n []))
-    (quiet_front n _ (rest_quiet n path T (end - n))))
-mute_enclosed n path T inner end (Short lines at outer leaf) h =
-    mute_by n (ltb at end) lines at (Inside T inner end ∷ outer) leaf (cut_off leaf) h.0 h.1
+mute_enclosed n path T inner end (Done lines at rest) h = search (
+  arith,
+  quiet_mute,
+  quiet_front,
+  rest_quiet,
+)
+mute_enclosed n path T inner end (Short lines at outer leaf) h = search (arith, mute_by)
 mute_enclosed n path T inner end (Fault lines at why S) h = h
 
 pub around_mute : (n : ℕ) (coding : Coding) (path : List PathSegment) (outer : List OpenPart)
@@ -271,39 +255,34 @@ mute_lines n r h = h.0
 ordered_now : (n : ℕ) (path : List PathSegment) (T : Ty) (origin k : ℕ) (order : Option Order) →
     IsOctetResult n (ordered path T (held path T) origin k order n [])
 ordered_now n path T origin k None = (refl, refl)
-ordered_now n path T origin k (Some order) =
-    let inner = coded order origin in
-    rw (take-nil, drop-nil) (mute_front n (line n path (Ordered order) ∷ [])
-    (enclosed path T inner (n + k) (held path T inner n []) []) refl
-    (mute_enclosed n path T inner (n + k) _
-    (quiet_mute n _ (read_quiet inner (path ++ Held ∷ []) (part_of T 0) n))))
+ordered_now n path T origin k (Some order) = search (
+  arith,
+  take-nil,
+  drop-nil,
+  mute_front,
+  mute_enclosed,
+  quiet_mute,
+  read_quiet,
+)
 
 opening_now : (n : ℕ) (path : List PathSegment) (T : Ty) (origin k : ℕ) (g : Block) → BlockNow n g →
     IsOctetResult n (opening path T (held path T) origin k g)
 opening_now n path T origin k (Partial none at) h = (tt, h)
-opening_now n path T origin k (Complete xs at rest) h =
-    rw (h.0, h.1) (ordered_now n path T origin k (order_of (get_or xs 0 0)))
+opening_now n path T origin k (Complete xs at rest) h = search (arith, ordered_now, get_or)
 
 sized_now : (n : ℕ) (path : List PathSegment) (T : Ty) (k m : ℕ) →
     IsOctetResult n (with_front (line n path (Size m) ∷ []) (sized path T (held path T) k n []))
 sized_now n path T zero m = (refl, refl)
-sized_now n path T (suc k) m = rw (block_waits 1 n [] (lit< tt), add-zero) (refl, refl)
+sized_now n path T (suc k) m = search (arith, block_waits, lit<, add-zero)
 
 after_now : (n : ℕ) (coding : Coding) (path : List PathSegment) (T : Ty) (k : ℕ) →
     IsOctetResult n (after coding path T k n [])
 after_now n coding path (Single scalar) k = single_now n path scalar k
 after_now n coding path (Text bound) zero = (refl, refl, refl)
-after_now n coding path (Text bound) (suc k) =
-    now_unless n (Text bound) (over bound k) _ (content_now n (Text bound) path k (full_pieces k) 0)
-after_now n coding path (Octets bound) k =
-    now_unless n (Octets bound) (over bound k) _
-    (content_now n (Octets bound) path k (full_pieces k) 0)
-after_now n coding path (Encapsulation T) k = sized_now n path (Encapsulation T) k k
-after_now n coding path (Sequence bound T) k =
-    let elements = parts_from (part_at coding path (Sequence bound T) k) k 0 n [] in
-    now_unless n (Sequence bound T) (over bound k) _
-    (now_front n (line n path (Count k) ∷ []) _ refl
-    (parts_quiet coding path (Sequence bound T) k n k 0))
+after_now n coding path (Text bound) (suc k) = search (arith, now_unless, content_now)
+after_now n coding path (Octets bound) k = search (arith, now_unless, content_now)
+after_now n coding path (Encapsulation T) k = search (arith, sized_now)
+after_now n coding path (Sequence bound T) k = search (arith, now_unless, now_front, parts_quiet)
 after_now n coding path (Union choice scalar select names cases) k =
     let T = Union choice scalar select names cases in
     let next : ℕ → List ℕ → Read = member (select k)
@@ -319,37 +298,22 @@ headed_now : (n : ℕ) (coding : Coding) (path : List PathSegment) (T : Ty) (g :
     BlockNow n g →
     IsOctetResult n (headed_by coding path T g)
 headed_now n coding path T (Partial carry at) h = (tt, h)
-headed_now n coding path T (Complete xs at rest) h =
-    rw (h.0, h.1) (after_now n coding path T (num coding.order xs))
+headed_now n coding path T (Complete xs at rest) h = search (arith, after_now)
 
 leaf_now : (coding : Coding) (path : List PathSegment) (leaf : Leaf) (at b : ℕ) →
     IsOctetResult (at + 1) (leaf_step coding path leaf at b)
-leaf_now coding path (LeadingNumber T carry) at b =
-    headed_now (at + 1) coding path T (number_step coding.origin (leading_width T) at carry b)
-    (number_now coding.origin (leading_width T) at carry b)
-leaf_now coding path (Opening T n) at b =
-    opening_now (at + 1) path T at n (block_step 1 at [] b) (block_now 1 at [] b)
-leaf_now coding path (Content T total offset piece) at b = go (cases_lt 32 (total - offset))
-  where
-    full : Read
-    full = full_piece T path total offset (content T path total
-        (full_pieces (total - (offset + 32))) (offset + 32)) (block_step 32 at piece b)
-
-    last : Read
-    last = last_piece T path total offset (block_step (total - offset + tail T) at piece b)
-
-    go : (32 < total - offset) ⊎ (total - offset ≤ 32) →
-        IsOctetResult (at + 1) (cond (ltb 32 (total - offset)) full last)
-    go (inl h) =
-        rw (lt-ltb 32 (total - offset) h) (full_now (at + 1) T path total offset
-        (content T path total (full_pieces (total - (offset + 32))) (offset + 32))
-        (block_step 32 at piece b)
-        (block_now 32 at piece b) (content_quiet (at + 1) T path total
-        (full_pieces (total - (offset + 32))) (offset + 32) (omega arith)))
-    go (inr h) =
-        rw (le-ltb 32 (total - offset) h) (last_now (at + 1) T path total offset
-        (block_step (total - offset + tail T) at piece b)
-        (block_now (total - offset + tail T) at piece b))
+leaf_now coding path (LeadingNumber T carry) at b = search (arith, headed_now, number_now)
+leaf_now coding path (Opening T n) at b = search (arith, opening_now, block_now)
+leaf_now coding path (Content T total offset piece) at b = search (
+  arith,
+  cases_lt,
+  lt-ltb,
+  full_now,
+  block_now,
+  content_quiet,
+  le-ltb,
+  last_now,
+)
 
 around_now : (n : ℕ) (coding : Coding) (path : List PathSegment) (outer : List OpenPart)
     (r : Read) → IsOctetResult n r →
@@ -371,7 +335,4 @@ around_now n coding path (Inside T inner end ∷ outer) r h =
 pub step_now : (coding : Coding) (path : List PathSegment) (outer : List OpenPart) (leaf : Leaf)
     (at b : ℕ) →
     IsOctetResult (at + 1) (step coding path outer leaf at b)
-step_now coding path outer leaf at b =
-    around_now (at + 1) coding path outer (leaf_step (coding_in coding outer) (path_in path outer)
-    leaf at b)
-    (leaf_now (coding_in coding outer) (path_in path outer) leaf at b)
+step_now coding path outer leaf at b = search (arith, around_now, leaf_now)

@@ -1,5 +1,5 @@
 -- Pieces of strings are those of one list of contents at most.
-use Rattle.std.proofs.Common.{◌≡◌, ℕ, zero, suc, ◌+◌, true, false, List, [], ◌∷◌, ◌++◌, length, take, drop, refl, sym, ap, ◌∙◌, append_assoc, true≢false}
+use Rattle.std.proofs.Common.{arith, ◌≡◌, ℕ, zero, suc, ◌+◌, true, List, [], ◌∷◌, ◌++◌, length, take, drop, refl, sym, ap, ◌∙◌, append_assoc, true≢false}
 use Rattle.std.specs.Prelude.{flat_map}
 use Rattle.std.proofs.lemmas.List.{take-append-drop}
 use Rattle.giop_decode.specs.NotedFromLines.{TextPiece, AreUnended, piece, cut_from, pieces_of}
@@ -11,17 +11,9 @@ heads p q ps qs e = (cc, cc)
 
 cut_one : (full full' offset : ℕ) (c d : List ℕ) (xs ys : List TextPiece) →
     cut_from full offset c ++ xs ≡ cut_from full' offset d ++ ys → (c ≡ d) × (xs ≡ ys)
-cut_one zero zero offset c d xs ys e =
-    let h = heads (piece offset c false) (piece offset d false) xs ys e in
-    (ap (λ (p : TextPiece). p.octets) h.0, h.1)
-cut_one zero (suc full') offset c d xs ys e =
-    let h = heads (piece offset c false) (piece offset (take 32 d) true) xs
-    (cut_from full' (offset + 32) (drop 32 d) ++ ys) e in
-    absurd (true≢false (sym (ap (λ (p : TextPiece). p.more) h.0)))
-cut_one (suc full) zero offset c d xs ys e =
-    let h = heads (piece offset (take 32 c) true) (piece offset d false)
-    (cut_from full (offset + 32) (drop 32 c) ++ xs) ys e in
-    absurd (true≢false (ap (λ (p : TextPiece). p.more) h.0))
+cut_one zero zero offset c d xs ys e = search (arith, heads)
+cut_one zero (suc full') offset c d xs ys e = search (arith, heads, take, drop, true≢false)
+cut_one (suc full) zero offset c d xs ys e = search (arith, heads, take, drop, true≢false)
 cut_one (suc full) (suc full') offset c d xs ys e =
     let h = heads (piece offset (take 32 c) true) (piece offset (take 32 d) true)
     (cut_from full (offset + 32) (drop 32 c) ++ xs)
@@ -38,16 +30,14 @@ cut_ends (suc full) offset c xs h = cut_ends full (offset + 32) (drop 32 c) xs h
 
 pieces_end : (c : List ℕ) (cs : List (List ℕ)) (begun other : List TextPiece) → AreUnended other →
     other ≡ (pieces_of c ++ flat_map pieces_of cs) ++ begun → ⊥
-pieces_end c cs begun other h e =
-    cut_ends (full_pieces (length c)) 0 c (flat_map pieces_of cs ++ begun)
-    (rw (e, append_assoc) at h)
+pieces_end c cs begun other h e = search (arith, cut_ends, append_assoc)
 
 -- These contents are the only ones.
 pub contents_one : (cs ds : List (List ℕ)) (begun other : List TextPiece) → AreUnended begun →
     AreUnended other → flat_map pieces_of cs ++ begun ≡ flat_map pieces_of ds ++ other → cs ≡ ds
 contents_one [] [] begun other h k e = refl
-contents_one [] (d ∷ ds) begun other h k e = absurd (pieces_end d ds other begun h e)
-contents_one (c ∷ cs) [] begun other h k e = absurd (pieces_end c cs begun other k (sym e))
+contents_one [] (d ∷ ds) begun other h k e = search (arith, pieces_end)
+contents_one (c ∷ cs) [] begun other h k e = search (arith, pieces_end)
 contents_one (c ∷ cs) (d ∷ ds) begun other h k e =
     let both : pieces_of c ++ (flat_map pieces_of cs ++ begun) ≡ pieces_of d
     ++ (flat_map pieces_of ds ++ other) =

@@ -1,14 +1,13 @@
 -- An octet that only adds to what is held.
-use Rattle.std.proofs.Common.{◌≡◌, ℕ, ◌+◌, ◌%◌, List, [], Some, refl, sym, ◌∙◌, ap, subst, append-nil, arith}
+use Rattle.std.proofs.Common.{◌≡◌, ℕ, ◌+◌, ◌%◌, List, [], Some, sym, ◌∙◌, append-nil, arith}
 use Rattle.arrayvec.specs.ArrayVec.{ArrayVec}
 use Rattle.giop_decode.specs.declared.decoder.Decoder.{Decoder}
 use Rattle.giop_decode.specs.declared.leaf.Leaf.{Leaf as Innermost}
 use Rattle.giop_decode.specs.declared.progress.Progress.TheVariants as progress
-use Rattle.giop_decode.specs.Noted.{noted_of, is_header_root}
-use Rattle.giop_decode.specs.DecoderState.{Fits, CanStandAt, KeepsNoted, HoldsNoted, read_by_fields, read_by_leaf}
-use Rattle.giop_decode.specs.DecoderSteps.{decoder_step, leaf_in, Comes}
+use Rattle.giop_decode.specs.DecoderState.{Fits, CanStandAt, KeepsNoted, read_by_fields}
+use Rattle.giop_decode.specs.DecoderSteps.{decoder_step, Comes}
 use Rattle.giop_decode.specs.ReadResult.{plain, Line, PathSegment, Short, with_front}
-use Rattle.giop_decode.specs.ReadingSteps.{around, coding_in, leaf_step, path_in, step}
+use Rattle.giop_decode.specs.ReadingSteps.{coding_in, leaf_step}
 use Rattle.giop_decode.specs.Transitions.{open_parts, leaf_of, leaf_type, ticked, HaveOctetsLeft, AreKnown, IsClean}
 use Rattle.giop_decode.proofs.Advancing.{same_some, step_fits}
 use Rattle.giop_decode.proofs.Noting.{leaf_inside}
@@ -43,37 +42,32 @@ module _ (C : Table) (d new : Decoder) (leaf : Innermost) (octet : ℕ)
     (on : HaveOctetsLeft (ticked d.outer.items)) (f : Fits C d) (e : d.leaf ≡ Some leaf)
     (e' : new.leaf ≡ Some leaf) (counts : new.outer.items ≡ ticked d.outer.items) where
   known_on : AreKnown C (ticked d.outer.items)
-  known_on = known_ticked C d.outer.items f.ahead f.known_outer
+  known_on = search (arith, known_ticked)
 
   pub step_held : (here : ℕ) → CanStandAt d here → Holds C d new leaf here octet →
       decoder_step C d here octet ≡ Short [] (here + 1) (open_parts C (here + 1) new.outer.items)
       (leaf_of C leaf new.carry new.piece.items)
-  step_held here h holds =
-      let ps = open_parts C here d.outer.items in
-      let qs = open_parts C (here + 1) (ticked d.outer.items) in
-      let held = leaf_of C leaf new.carry new.piece.items in
-      let stands = surrounds C (here + 1) (ticked d.outer.items) known_on on
-      (stand_ticked here d.outer.items h.1) in
-      ap (λ l. step (plain d.order) [] ps (leaf_in C d l) here octet) e
-      ∙ (ap (around (plain d.order) [] ps) (holds (path_in [] ps))
-      ∙ (ap (λ zs. around (plain d.order) [] zs (Short [] (here + 1) [] held))
-      (sym (places_ticked C here d.outer.items f.ahead))
-      ∙ (around-short (plain d.order) [] qs [] (here + 1) [] held stands
-      ∙ (ap (λ zs. Short [] (here + 1) zs held) (append-nil qs)
-      ∙ ap (λ fs. Short [] (here + 1) (open_parts C (here + 1) fs) held) (sym counts)))))
+  step_held here h holds = search (
+    arith,
+    surrounds,
+    known_on,
+    stand_ticked,
+    places_ticked,
+    around-short,
+    append-nil,
+  )
 
   held_stands : (here : ℕ) → CanStandAt d here → Holds C d new leaf here octet →
       decoder_step C d here octet ≡ read_by_fields C new [] (here + 1)
-  held_stands here h holds = step_held here h holds
-      ∙ sym (ap (λ l. read_by_leaf C new l [] (here + 1)) e')
+  held_stands here h holds = search (arith, step_held)
 
   pub held_comes : (here : ℕ) → CanStandAt d here → Holds C d new leaf here octet →
       Comes C new progress.More (here + 1) (decoder_step C d here octet)
-  held_comes here h holds = ([], (held_stands here h holds, (leaf, e'), refl))
+  held_comes here h holds = search (arith, held_stands)
 
   pub held_here : (here : ℕ) → new.at ≡ (d.at + 1) % 8 → CanStandAt d here →
       CanStandAt new (here + 1)
-  held_here here at h = (omega (arith, h.0, at), rw counts (stand_ticked here d.outer.items h.1))
+  held_here here at h = search (arith, stand_ticked)
 
   pub held_fits : new.head ≡ d.head → new.notes ≡ d.notes → new.inside ≡ d.inside →
       new.at ≡ (d.at + 1) % 8 →
@@ -96,14 +90,4 @@ module _ (C : Table) (d new : Decoder) (leaf : Innermost) (octet : ℕ)
   pub held_keeps_noted : (here : ℕ) (front : List Line) → new.notes ≡ d.notes → CanStandAt d here →
       Holds C d new leaf here octet → KeepsNoted d.head.root d (read_by_fields C d front here) →
       KeepsNoted d.head.root new (with_front front (decoder_step C d here octet))
-  held_keeps_noted here front notes h holds old =
-      let header = is_header_root d.head.root in
-      let before : HoldsNoted d.notes (noted_of header
-      (Short front here (open_parts C here d.outer.items)
-      (leaf_of C leaf d.carry d.piece.items))) =
-      subst (λ l. HoldsNoted d.notes (noted_of header (read_by_leaf C d l front here))) e old in
-      let now = rw (
-        leaf_inside C leaf d.carry d.piece.items,
-        ← leaf_inside C leaf new.carry new.piece.items,
-      ) at before in
-      rw (notes, step_held here h holds, append-nil front) now
+  held_keeps_noted here front notes h holds old = search (arith, leaf_inside, step_held, append-nil)

@@ -52,7 +52,7 @@ module _ (C : Table) (d : Decoder) (octets : List ℕ) (of : TypeId) (count : �
       held.takes.reads (λ fault. fault)
 
   below : count - 1 < length octets
-  below = omega (arith, h.some, h.within)
+  below = search (arith)
 
   -- all but the last
   pub before_so_far : (a : OutLog) → TakenSoFar C d before octets (count - 1) a a

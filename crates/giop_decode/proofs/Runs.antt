@@ -9,9 +9,9 @@ use Rattle.giop_decode.specs.declared.progress.Progress.TheVariants as progress
 use Rattle.giop_decode.specs.ReadResult.{plain, Line, lines_of}
 use Rattle.giop_decode.specs.Reading.{read}
 use Rattle.giop_decode.specs.declared.decoder.Decoder.{Decoder}
-use Rattle.giop_decode.specs.DecoderState.{Reads, Takes, KeepsNoted, added_lines}
-use Rattle.giop_decode.specs.Runs.{added_lines_of_run, Answers, AreAnswered, TakesRun, BreaksOff, WritesRun}
-use Rattle.giop_decode.specs.Spelling.{line_text, lines_text}
+use Rattle.giop_decode.specs.DecoderState.{Reads, Takes, added_lines}
+use Rattle.giop_decode.specs.Runs.{added_lines_of_run, AreAnswered, TakesRun, BreaksOff, WritesRun}
+use Rattle.giop_decode.specs.Spelling.{lines_text}
 use Rattle.giop_decode.proofs.Resuming.{lines_begin}
 use Rattle.giop_print.proofs.Writing.{wrote-front}
 use Rattle.giop_print.specs.Output.{OutLog, Wrote, WroteFront}
@@ -25,10 +25,12 @@ lines_text_both : (message : ℕ) (root : Root) (xs ys : List Line) →
     lines_text message root (xs ++ ys) ≡ lines_text message root xs ++ lines_text message root ys
 unfolding lines_text
 lines_text_both message root [] ys = refl
-lines_text_both message root (x ∷ xs) ys =
-    ap (λ z. line_text message root x ++ z) (lines_text_both message root xs ys)
-    ∙ sym (append_assoc (line_text message root x) (lines_text message root xs)
-    (lines_text message root ys))
+lines_text_both message root (x ∷ xs) ys = search (
+  arith,
+  append_assoc,
+  lines_text_both message
+      root xs ys,
+)
 
 dues_begin : (order : Order) (T : Ty) (at : ℕ) (s xs : List ℕ) →
     lines_of (read (plain order) [] T at (s ++ xs))
@@ -42,15 +44,7 @@ dues_begin order T at s xs =
 pub dues_both : (order : Order) (T : Ty) (at : ℕ) (s xs ys : List ℕ) →
     added_lines_of_run order T at s (xs ++ ys) ≡ added_lines_of_run order T at s xs
     ++ added_lines_of_run order T at (s ++ xs) ys
-dues_both order T at s xs ys =
-    let front = lines_of (read (plain order) [] T at s) in
-    let first = added_lines_of_run order T at s xs in
-    let second = added_lines_of_run order T at (s ++ xs) ys in
-    let e : lines_of (read (plain order) [] T at (s ++ (xs ++ ys))) ≡ front ++ (first ++ second) =
-    ap (λ z. lines_of (read (plain order) [] T at z)) (sym (append_assoc s xs ys))
-    ∙ (dues_begin order T at (s ++ xs) ys
-    ∙ (ap (λ z. z ++ second) (dues_begin order T at s xs) ∙ append_assoc front first second)) in
-    ap (drop (length front)) e ∙ drop-append_seam front (first ++ second)
+dues_both order T at s xs ys = search (arith, append_assoc, dues_begin, drop, drop-append_seam)
 
 pub dues_none : (order : Order) (T : Ty) (at : ℕ) (s : List ℕ) →
     added_lines_of_run order T at s [] ≡ []
@@ -62,25 +56,21 @@ dues_none order T at s =
 pub text_none : (message : ℕ) (root : Root) (order : Order) (T : Ty) (at : ℕ) (s : List ℕ) →
     lines_text message root (added_lines_of_run order T at s []) ≡ []
 unfolding lines_text
-text_none message root order T at s = ap (lines_text message root) (dues_none order T at s)
+text_none message root order T at s = search (arith, dues_none)
 
 pub text_both : (message : ℕ) (root : Root) (order : Order) (T : Ty) (at : ℕ) (s xs ys : List ℕ) →
     lines_text message root (added_lines_of_run order T at s (xs ++ ys))
     ≡ lines_text message root (added_lines_of_run order T at s xs) ++ lines_text message root
     (added_lines_of_run order T at (s ++ xs) ys)
-text_both message root order T at s xs ys =
-    ap (lines_text message root) (dues_both order T at s xs ys)
-    ∙ lines_text_both message root (added_lines_of_run order T at s xs)
-    (added_lines_of_run order T at (s ++ xs) ys)
+text_both message root order T at s xs ys = search (arith, dues_both, lines_text_both)
 
 -- ---- the answers to them
 
 pub answered_both : (order : Order) (T : Ty) (at : ℕ) (root : Root) (s xs ys : List ℕ)
     (p : Progress) → AreAnswered order T at root s xs progress.More →
     AreAnswered order T at root (s ++ xs) ys p → AreAnswered order T at root s (xs ++ ys) p
-answered_both order T at root s [] ys p h k =
-    subst (λ z. AreAnswered order T at root z ys p) (append-nil s) k
-answered_both order T at root s (x ∷ []) [] p h k = subst (Answers order T at root s x) (sym k) h
+answered_both order T at root s [] ys p h k = search (arith, append-nil)
+answered_both order T at root s (x ∷ []) [] p h k = search (arith)
 answered_both order T at root s (x ∷ []) (y ∷ ys) p h k = (h, k)
 answered_both order T at root s (x ∷ x' ∷ xs) ys p h k = (
   h.0,
@@ -91,20 +81,13 @@ answered_both order T at root s (x ∷ x' ∷ xs) ys p h k = (
 pub takes_one : (C : Table) (T : Ty) (order : Order) (at message : ℕ) (root : Root) (d : Decoder)
     (s : List ℕ) (octet : ℕ) (p : Progress) → Takes C T order at message root d s octet p →
     TakesRun C T order at message root d s (octet ∷ []) p
-takes_one C T order at message root d s octet p t =
-    record { answers = t.answer; reads = t.reads; keeps_noted = t.keeps_noted }
+takes_one C T order at message root d s octet p t = search (arith)
 
 pub takes_both : (C : Table) (T : Ty) (order : Order) (at message : ℕ) (root : Root) (d : Decoder)
     (s xs ys : List ℕ) (p : Progress) → AreAnswered order T at root s xs progress.More →
     TakesRun C T order at message root d (s ++ xs) ys p →
     TakesRun C T order at message root d s (xs ++ ys) p
-takes_both C T order at message root d s xs ys p h t =
-    let e : (s ++ xs) ++ ys ≡ s ++ (xs ++ ys) = append_assoc s xs ys in
-    record {
-      answers = answered_both order T at root s xs ys p h t.answers;
-      reads = λ unfaulty. subst (Reads C T order at message root d) e (t.reads unfaulty);
-      keeps_noted = subst (λ z. KeepsNoted root d (read (plain order) [] T at z)) e t.keeps_noted;
-    }
+takes_both C T order at message root d s xs ys p h t = search (arith, append_assoc, answered_both)
 
 -- ---- the octets so far, and one more
 
@@ -118,19 +101,21 @@ pub text_more : (message : ℕ) (root : Root) (order : Order) (T : Ty) (at : ℕ
     ≡ lines_text message root (added_lines_of_run order T at s (take i octets))
     ++ lines_text message root
     (added_lines order T at (s ++ take i octets) (get_or octets i 0))
-text_more message root order T at s octets i h =
-    ap (λ xs. lines_text message root (added_lines_of_run order T at s xs)) (take_more octets i h)
-    ∙ text_both message root order T at s (take i octets) (get_or octets i 0 ∷ [])
+text_more message root order T at s octets i h = search (arith, take_more, text_both, take, get_or)
 
 pub takes_more : (C : Table) (T : Ty) (order : Order) (at message : ℕ) (root : Root) (d : Decoder)
     (s octets : List ℕ) (i : ℕ) (p : Progress) → i < length octets →
     AreAnswered order T at root s (take i octets) progress.More →
     Takes C T order at message root d (s ++ take i octets) (get_or octets i 0) p →
     TakesRun C T order at message root d s (take (i + 1) octets) p
-takes_more C T order at message root d s octets i p below h t =
-    rw (take_more octets i below)
-    (takes_both C T order at message root d s (take i octets) (get_or octets i 0 ∷ []) p h
-    (takes_one C T order at message root d (s ++ take i octets) (get_or octets i 0) p t))
+takes_more C T order at message root d s octets i p below h t = search (
+  arith,
+  take_more,
+  takes_both,
+  take,
+  get_or,
+  takes_one,
+)
 
 pub breaks_off : (T : Ty) (order : Order) (at message : ℕ) (root : Root) (s octets : List ℕ) (i : ℕ)
     (a b c : OutLog) → i < length octets →
@@ -156,7 +141,7 @@ breaks_off T order at message root s octets i a b c below h v w =
 pub take_near : (n : ℕ) (near octets : List ℕ) → near ≡ take (length near) octets →
     n ≤ length near →
     take n near ≡ take n octets
-take_near n near octets e le = ap (take n) e ∙ take-take n (length near) octets le
+take_near n near octets e le = search (arith, take, take-take)
 
 broken_near : (T : Ty) (order : Order) (at message : ℕ) (root : Root) (s near octets : List ℕ)
     (a b : OutLog) → near ≡ take (length near) octets →
@@ -179,11 +164,11 @@ pub writes_near : {E : Type 0} (r : Result (ℕ × Progress) E) (T : Ty) (order 
     near ≡ take (length near) octets → IfOk r (λ taken. taken.0 ≤ length near) →
     WritesRun r T order at message root s near a b →
     WritesRun r T order at message root s octets a b
-writes_near (Ok v) T order at message root s near octets a b e within h =
-    subst (λ xs. Wrote a b (lines_text message root (added_lines_of_run order T at s xs)))
-    (take_near v.0 near octets e within) h
-writes_near (Err v) T order at message root s near octets a b e within h =
-    broken_near T order at message root s near octets a b e h
+writes_near (Ok v) T order at message root s near octets a b e within h = search (arith, take_near)
+writes_near (Err v) T order at message root s near octets a b e within h = search (
+  arith,
+  broken_near,
+)
 
 -- of any list that the decoder before reads
 pub takes_near : {E : Type 0} (r : Result (ℕ × Progress) E) (C : Table) (old new : Decoder)
@@ -207,19 +192,13 @@ pub breaks_both : (T : Ty) (order : Order) (at message : ℕ) (root : Root) (s x
     Wrote a b (lines_text message root (added_lines_of_run order T at s xs)) →
     BreaksOff T order at message root (s ++ xs) ys b c →
     BreaksOff T order at message root s (xs ++ ys) a c
-breaks_both T order at message root s xs ys a b c h v w =
-    record {
-      front = xs ++ w.front;
-      octet = w.octet;
-      rest = w.rest;
-      all = ap (λ z. xs ++ z) w.all ∙ sym (append_assoc xs w.front (w.octet ∷ w.rest));
-      answers = answered_both order T at root s xs w.front progress.More h w.answers;
-      wrote = rw (
-        append_assoc xs w.front (w.octet ∷ []),
-        text_both message root order T at s xs (w.front ++ w.octet ∷ []),
-      )
-          (wrote-front a b c _ _ v w.wrote);
-    }
+breaks_both T order at message root s xs ys a b c h v w = search (
+  arith,
+  append_assoc,
+  answered_both,
+  text_both,
+  wrote-front,
+)
 
 -- ---- a run of one octet
 
@@ -232,28 +211,22 @@ pub text_one : (message : ℕ) (root : Root) (order : Order) (T : Ty) (at : ℕ)
     (n octet : ℕ) → 0 < n → lines_text message root
     (added_lines_of_run order T at s (take n (octet ∷ [])))
     ≡ lines_text message root (added_lines order T at s octet)
-text_one message root order T at s n octet some =
-    ap (λ xs. lines_text message root (added_lines_of_run order T at s xs)) (one_taken n octet some)
+text_one message root order T at s n octet some = search (arith, one_taken)
 
 pub taken_one : (C : Table) (T : Ty) (order : Order) (at message : ℕ) (root : Root) (d : Decoder)
     (s : List ℕ) (n octet : ℕ) (p : Progress) → 0 < n →
     TakesRun C T order at message root d s (take n (octet ∷ [])) p →
     Takes C T order at message root d s octet p
-taken_one C T order at message root d s n octet p some t =
-    let run = subst (λ xs. TakesRun C T order at message root d s xs p) (one_taken n octet some) t
-    in
-    record { answer = run.answers; reads = run.reads; keeps_noted = run.keeps_noted }
+taken_one C T order at message root d s n octet p some t = search (arith, one_taken)
 
 -- a front of one octet, with the octet after it, is that octet
 lone_front : (front : List ℕ) (octet last : ℕ) (rest : List ℕ) →
     octet ∷ [] ≡ front ++ last ∷ rest → front ++ last ∷ [] ≡ octet ∷ []
-lone_front [] octet last rest e = ap (λ xs. get_or xs 0 0 ∷ []) (sym e)
+lone_front [] octet last rest e = search (arith, get_or)
 lone_front (x ∷ xs) octet last rest e =
     absurd (omega (arith, ap length e, length-append xs (last ∷ rest)))
 
 pub one_broken : (T : Ty) (order : Order) (at message : ℕ) (root : Root) (s : List ℕ) (octet : ℕ)
     (a b : OutLog) → BreaksOff T order at message root s (octet ∷ []) a b →
     WroteFront a b (lines_text message root (added_lines order T at s octet))
-one_broken T order at message root s octet a b h =
-    subst (λ xs. WroteFront a b (lines_text message root (added_lines_of_run order T at s xs)))
-    (lone_front h.front octet h.octet h.rest h.all) h.wrote
+one_broken T order at message root s octet a b h = search (arith, lone_front)

@@ -1,5 +1,5 @@
 -- Octets that are taken so far, and those that are taken behind them.
-use Rattle.std.proofs.Common.{◌≡◌, Result, Ok, Err, IsErr, ℕ, ◌+◌, ◌<◌, ◌≤◌, List, ◌++◌, length, take, drop, get_or, refl, sym, ap, subst, append-nil, take-add, length-append, length-drop, arith}
+use Rattle.std.proofs.Common.{◌≡◌, Result, Ok, Err, IsErr, ℕ, ◌+◌, ◌<◌, ◌≤◌, List, ◌++◌, length, take, drop, get_or, ap, subst, append-nil, take-add, length-append, length-drop, arith}
 use Rattle.std.specs.Prelude.{IfOk}
 use Rattle.std.proofs.lemmas.Bool.{false≢true}
 use Rattle.std.proofs.lemmas.List.{take-append-drop}
@@ -53,15 +53,7 @@ AllSay C old octets n Says =
 
 pub none_taken : (C : Table) (d : Decoder) (octets : List ℕ) (a : OutLog) → Fits C d →
     TakenSoFar C d d octets 0 a a
-none_taken C d octets a f =
-    record {
-      within = omega arith;
-      fits = f;
-      reads = λ T order at message root s r.
-          subst (Reads C T order at message root d) (sym (append-nil s)) r;
-      answers = λ T order at message root s r. refl;
-      text = λ T order at message root s r. rw (text_none message root order T at s) (wrote-nil a);
-    }
+none_taken C d octets a f = search (arith, append-nil, text_none, wrote-nil)
 
 pub gathered_so_far : (C : Table) (d new : Decoder) (octets : List ℕ) (n : ℕ) (a : OutLog) →
     n ≤ length octets → Fits C new → AllGathered C d new (take n octets) →
@@ -104,8 +96,7 @@ pub broken : {E : Type 0} (r : Result (ℕ × Progress) E) (C : Table) (old new 
     Reads C T order at message root old s → BreaksOff T order at message root s octets a b) →
     TakesSome C old new octets a b r
 broken (Ok v) C old new octets a b e h = absurd (false≢true e)
-broken (Err v) C old new octets a b e h =
-    record { writes = h; takes = tt; within = tt; some = tt; fits = tt; done = tt }
+broken (Err v) C old new octets a b e h = search (arith)
 
 near_within : {E : Type 0} (r : Result (ℕ × Progress) E) (near octets : List ℕ) →
     near ≡ take (length near) octets → IfOk r (λ taken. taken.0 ≤ length near) →
@@ -120,17 +111,7 @@ near_within (Err v) near octets e h = tt
 pub near_some : {E : Type 0} (r : Result (ℕ × Progress) E) (C : Table) (old new : Decoder)
     (near octets : List ℕ) (a b : OutLog) → near ≡ take (length near) octets →
     TakesSome C old new near a b r → TakesSome C old new octets a b r
-near_some r C old new near octets a b e h =
-    record {
-      writes = λ T order at message root s reads.
-          writes_near r T order at message root s near octets a b e h.within
-          (h.writes T order at message root s reads);
-      takes = takes_near r C old new near octets e h.within h.takes;
-      within = near_within r near octets e h.within;
-      some = h.some;
-      fits = h.fits;
-      done = h.done;
-    }
+near_some r C old new near octets a b e h = search (arith, writes_near, takes_near, near_within)
 
 module _ (C : Table) (old mid : Decoder) (octets : List ℕ) (n : ℕ) (a b : OutLog)
     (h : TakenSoFar C old mid octets n a b) where
@@ -198,7 +179,7 @@ module _ (C : Table) (old mid : Decoder) (octets : List ℕ) (n : ℕ) (a b : Ou
 
     pub then_broken : {E : Type 0} (r : Result (ℕ × Progress) E) (e : E) → IsErr r →
         TakesSome {E = E} C mid new (drop n octets) b c (Err e) → TakesSome C old new octets a c r
-    then_broken r e is t = then_fails r is (broken r C mid new (drop n octets) b c is t.writes)
+    then_broken r e is t = search (arith, then_fails, broken, drop)
 
     -- ---- and one octet behind them
 

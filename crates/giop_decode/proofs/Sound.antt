@@ -1,19 +1,16 @@
 -- A reading ends at the offset after its last octet, and leaves open parts that fit the type.
-use Rattle.std.proofs.Common.{◌≡◌, ℕ, zero, suc, ◌+◌, ◌-◌, ◌<◌, ◌≤◌, true, List, [], ◌∷◌, ◌++◌, length, take, drop, Option, Some, None, refl, sym, subst, arith, add-zero, length-append, length-drop, lt-ltb, le-ltb, ◌⊎◌, inl, inr, lit<, length-take-le}
+use Rattle.std.proofs.Common.{◌≡◌, ℕ, zero, suc, ◌+◌, ◌-◌, ◌<◌, ◌≤◌, List, [], ◌∷◌, ◌++◌, length, take, drop, Option, Some, None, refl, sym, subst, arith, add-zero, length-append, length-drop, lt-ltb, le-ltb, ◌⊎◌, inl, inr, lit<, length-take-le}
 use Rattle.std.proofs.lemmas.Bool.{cases_lt}
 use Rattle.std.proofs.lemmas.List.{take_all, drop_all}
 use Rattle.giop_cdr.specs.declared.order.Order.{Order}
-use Rattle.giop_cdr.specs.Alignment.{padding}
-use Rattle.giop_cdr.specs.Numbers.{num}
 use Rattle.giop_decode.specs.Fits.{Sound, HasCase, HasContent, HasLeadingNumber, HasParts, IsEncapsulation}
-use Rattle.giop_decode.specs.Pieces.{Complete, Block, Partial, block, content, ends, full_piece, full_pieces, last_piece, number, octets, over, tail, text, unless}
-use Rattle.giop_decode.specs.Reading.{enclosed, inside, member, order_of, ordered, parts_from, read, refused, rest_of, single, sized, wrong}
-use Rattle.giop_decode.specs.ReadResult
-use Rattle.giop_decode.specs.ReadResult.{Coding, Count, Done, Fault, Index, Line, Member, Name, Part, Piece, Read, PathSegment, Short, Switch, followed, line, with_front, within, coded, Held, Ordered, Size}
+use Rattle.giop_decode.specs.Pieces.{Complete, Block, Partial, block, content, full_piece, full_pieces, last_piece, number, octets, tail, text, unless}
+use Rattle.giop_decode.specs.Reading.{enclosed, inside, member, order_of, ordered, parts_from, read, rest_of, single, sized}
+use Rattle.giop_decode.specs.ReadResult.{Coding, Done, Fault, Index, Line, Member, Name, Part, Read, PathSegment, Short, followed, with_front, within, Held}
 use Rattle.giop_decode.specs.ReadingSteps.{inner_path, after, leading_width, part_at, held}
 use Rattle.giop_decode.specs.declared.progress.Kind.{Kind}
 use Rattle.giop_sig.specs.Fits.{IsFit, SelectsBelow}
-use Rattle.giop_sig.specs.Types.{places_of, Choice, Array, Octets, Scalar, Sequence, Single, Struct, Text, Ty, Union, part_of, tag_of, Encapsulation}
+use Rattle.giop_sig.specs.Types.{places_of, Choice, Array, Octets, Scalar, Sequence, Single, Struct, Text, Ty, Union, part_of, Encapsulation}
 use Rattle.giop_sig.specs.declared.types.Selected.{Selected}
 use Rattle.giop_sig.specs.declared.types.Selected.TheVariants.{Case}
 use Rattle.giop_decode.proofs.Law.{headed_by, block_waits, block_got, number_waits, number_blocks, width_pos}
@@ -33,22 +30,19 @@ sound_unless T end U (Some kind) at r h = tt
 
 pub sound_followed : (T : Ty) (end : ℕ) (r : Read) (next : ℕ → List ℕ → Read) → Sound T end r →
     Keeps T next → Sound T end (followed r next)
-sound_followed T end (Done lines at rest) next h keeps =
-    sound_front T _ lines _ (subst (λ e. Sound T e (next at rest)) h (keeps at rest))
+sound_followed T end (Done lines at rest) next h keeps = search (arith, sound_front)
 sound_followed T end _ next h keeps = h
 
 pub sound_part : (T : Ty) (end i count : ℕ) (r : Read) → HasParts T count → i < count →
     Sound (part_of T i) end r → Sound T end (within (Part T i count) r)
 sound_part T end i count (Done lines at rest) kind below h = h
-sound_part T end i count (Short lines at outer leaf) kind below h =
-    (h.0, (record { same = refl; kind = kind; below = below }, h.1), (tt, h.2))
+sound_part T end i count (Short lines at outer leaf) kind below h = search (arith)
 sound_part T end i count (Fault lines at k S) kind below h = tt
 
 pub sound_member : (T : Ty) (end i : ℕ) (r : Read) → HasCase T i → Sound (part_of T i) end r →
     Sound T end (within (Member T i) r)
 sound_member T end i (Done lines at rest) kind h = h
-sound_member T end i (Short lines at outer leaf) kind h =
-    (h.0, (record { same = refl; kind = kind }, h.1), (tt, h.2))
+sound_member T end i (Short lines at outer leaf) kind h = search (arith)
 sound_member T end i (Fault lines at k S) kind h = tt
 
 -- octets taken: the offset at the end, and how many
@@ -57,24 +51,18 @@ Takes n end (Partial held at) = (at ≡ end) × (length held < n)
 Takes n end (Complete xs at rest) = (at + length rest ≡ end) × (length xs ≡ n)
 
 block_takes : (n at : ℕ) (s : List ℕ) → Takes n (at + length s) (block n at s)
-block_takes n at s = go (cases_lt (length s) n)
-  where
-    go : (length s < n) ⊎ (n ≤ length s) → Takes n (at + length s) (block n at s)
-    go (inl h) = rw (block_waits n at s h) (refl, h)
-    go (inr h) = rw (block_got n at s h) (omega (arith, length-drop n s), length-take-le n s h)
+block_takes n at s = search (arith, cases_lt, block_waits, block_got, length-drop, length-take-le)
 
 number_takes : (o n at : ℕ) (s : List ℕ) → 0 < n → Takes n (at + length s) (number o n at s)
-number_takes o n at s pos = go (cases_lt (length s) (padding (at - o) n))
-  where
-    go : (length s < padding (at - o) n) ⊎ (padding (at - o) n ≤ length s) →
-        Takes n (at + length s) (number o n at s)
-    go (inl h) = rw (number_waits o n at s h) (refl, pos)
-    go (inr h) =
-        let e : (at + padding (at - o) n) + length (drop (padding (at - o) n) s) ≡ at + length s =
-        omega (arith, length-drop (padding (at - o) n) s) in
-        rw (number_blocks o n at s h) (subst
-        (λ end. Takes n end (block n (at + padding (at - o) n) (drop (padding (at - o) n) s))) e
-        (block_takes n (at + padding (at - o) n) (drop (padding (at - o) n) s)))
+number_takes o n at s pos = search (
+  arith,
+  cases_lt,
+  number_waits,
+  drop,
+  length-drop,
+  number_blocks,
+  block_takes,
+)
 
 pub parts_keep : (coding : Coding) (path : List PathSegment) (T : Ty) (count : ℕ) →
     HasParts T count →
@@ -91,62 +79,33 @@ headed_keeps : (coding : Coding) (path : List PathSegment) (T : Ty) → HasLeadi
     0 < leading_width T →
     ((n : ℕ) → Keeps T (after coding path T n)) →
     Keeps T (λ at s. headed_by coding path T (number coding.origin (leading_width T) at s))
-headed_keeps coding path T kind pos keeps at s =
-    go (number coding.origin (leading_width T) at s)
-    (number_takes coding.origin (leading_width T) at s pos)
-  where
-    go : (g : Block) → Takes (leading_width T) (at + length s) g →
-        Sound T (at + length s) (headed_by coding path T g)
-    go (Partial carry at') h = (h.0, record { same = refl; kind = kind; room = h.1 }, tt)
-    go (Complete xs at' rest) h = subst (λ e.
-        Sound T e (after coding path T (num coding.order xs) at' rest)) h.0
-        (keeps (num coding.order xs) at' rest)
+headed_keeps coding path T kind pos keeps at s = search (arith, number_takes, headed_by)
 
 pub last_piece_sound : (T : Ty) (path : List PathSegment) (total offset end : ℕ) → HasContent T →
     total - offset ≤ 32 → offset ≤ total → (g : Block) → Takes (total - offset + tail T) end g →
     Sound T end (last_piece T path total offset g)
-last_piece_sound T path total offset end kind small ahead (Partial piece at) h = (
-  h.0,
-  record {
-    same = refl;
-    kind = kind;
-    ahead = ahead;
-    room_full =
-        λ more. absurd (omega arith);
-    room_last = λ _. h.1;
-  },
-  tt,
+last_piece_sound T path total offset end kind small ahead (Partial piece at) h = search (arith)
+last_piece_sound T path total offset end kind small ahead (Complete xs at rest) h = search (
+  arith,
+  sound_unless,
 )
-last_piece_sound T path total offset end kind small ahead (Complete xs at rest) h =
-    sound_unless T _ T (ends T (total - offset) xs) at _ h.0
 
 pub full_piece_sound : (T : Ty) (path : List PathSegment) (total offset end : ℕ) → HasContent T →
     32 < total - offset → (next : ℕ → List ℕ → Read) → Keeps T next → (g : Block) → Takes 32 end g →
     Sound T end (full_piece T path total offset next g)
-full_piece_sound T path total offset end kind large next keeps (Partial piece at) h = (
-  h.0,
-  record {
-    same = refl;
-    kind = kind;
-    ahead = omega arith;
-    room_full = λ _. h.1;
-    room_last =
-        λ small. absurd (omega arith);
-  },
-  tt,
-)
-full_piece_sound T path total offset end kind large next keeps (Complete xs at rest) h =
-    sound_front T _ (line at path (Piece T offset xs true) ∷ []) _
-    (subst (λ e. Sound T e (next at rest)) h.0 (keeps at rest))
+full_piece_sound T path total offset end kind large next keeps (Partial piece at) h = search (arith)
+full_piece_sound T path total offset end kind large next keeps (Complete xs at rest) h = search
+    (arith, sound_front)
 
 pub content_keeps : (T : Ty) (path : List PathSegment) (total : ℕ) → HasContent T →
     (full offset : ℕ) →
     full ≡ full_pieces (total - offset) → offset ≤ total →
     Keeps T (content T path total full offset)
-content_keeps T path total kind zero offset is ahead at s =
-    last_piece_sound T path total offset (at + length s) kind (omega arith) ahead
-    (block (total - offset + tail T) at s)
-    (block_takes (total - offset + tail T) at s)
+content_keeps T path total kind zero offset is ahead at s = search (
+  arith,
+  last_piece_sound,
+  block_takes,
+)
 content_keeps T path total kind (suc full) offset is ahead at s =
     full_piece_sound T path total offset (at + length s) kind (omega arith)
     (content T path total full (offset + 32))
@@ -156,27 +115,22 @@ content_keeps T path total kind (suc full) offset is ahead at s =
 text_keeps : (path : List PathSegment) (bound : Option ℕ) (n : ℕ) →
     Keeps (Text bound) (text bound path n)
 text_keeps path bound zero at s = refl
-text_keeps path bound (suc n) at s =
-    sound_unless (Text bound) _ _ (over bound n) at _
-    (content_keeps (Text bound) path n tt (full_pieces n) 0 (omega arith) (omega arith) at s)
+text_keeps path bound (suc n) at s = search (arith, sound_unless, content_keeps)
 
 octets_keeps : (path : List PathSegment) (bound : Option ℕ) (n : ℕ) →
     Keeps (Octets bound) (octets bound path n)
-octets_keeps path bound n at s =
-    sound_unless (Octets bound) _ _ (over bound n) at _
-    (content_keeps (Octets bound) path n tt (full_pieces n) 0 (omega arith) (omega arith) at s)
+octets_keeps path bound n at s = search (arith, sound_unless, content_keeps)
 
 single_keeps : (T : Ty) (path : List PathSegment) (scalar : Scalar) (n : ℕ) →
     Keeps T (single path scalar n)
-single_keeps T path scalar n at s = sound_unless T _ _ (wrong scalar n) at _ refl
+single_keeps T path scalar n at s = search (arith, sound_unless)
 
 selected_keeps : (coding : Coding) (path : List PathSegment) (T : Ty) (selected : Selected) →
     ((i : ℕ) → selected ≡ Case i → HasCase T i) →
     ((i : ℕ) → HasCase T i → Keeps (part_of T i) (read coding (inner_path path T i) (part_of T i)))
     → Keeps T (member selected (λ i at s. within (Member T i)
     (read coding (inner_path path T i) (part_of T i) at s)))
-selected_keeps coding path T (Case i) kind each at s =
-    sound_member T _ i _ (kind i refl) (each i (kind i refl) at s)
+selected_keeps coding path T (Case i) kind each at s = search (arith, sound_member)
 selected_keeps coding path T _ kind each at s = refl
 
 -- what follows a number, where the parts' readings keep
@@ -184,10 +138,12 @@ pub elements_keep : (coding : Coding) (path : List PathSegment) (bound : Option 
     (n : ℕ) →
     ((i : ℕ) → Keeps T (read coding (path ++ Index i ∷ []) T)) →
     Keeps (Sequence bound T) (after coding path (Sequence bound T) n)
-elements_keep coding path bound T n each at s =
-    sound_unless (Sequence bound T) _ _ (over bound n) at _
-    (sound_front (Sequence bound T) _ (line at path (Count n) ∷ []) _
-    (parts_keep coding path (Sequence bound T) n tt (λ i below. each i) n 0 (omega arith) at s))
+elements_keep coding path bound T n each at s = search (
+  arith,
+  sound_unless,
+  sound_front,
+  parts_keep,
+)
 
 pub cases_keep : (coding : Coding) (path : List PathSegment) (choice : Choice) (scalar : Scalar)
     (select : ℕ → Selected) (names : ℕ → List ℕ) (cases : ℕ → Ty) (n : ℕ) →
@@ -195,20 +151,18 @@ pub cases_keep : (coding : Coding) (path : List PathSegment) (choice : Choice) (
     ((i : ℕ) → i < places_of choice → Keeps (cases i) (read coding (path ++ Name (names i) ∷ [])
     (cases i))) → Keeps (Union choice scalar select names cases)
     (after coding path (Union choice scalar select names cases) n)
-cases_keep coding path choice scalar select names cases n below each at s =
-    let T = Union choice scalar select names cases in
-    sound_unless T _ T (wrong scalar n) at _
-    (sound_unless T _ T (refused (select n)) at _
-    (sound_front T _ (line at (path ++ Switch (tag_of choice names) ∷ [])
-    (ReadResult.Number scalar n) ∷ []) _
-    (selected_keeps coding path T (select n) (λ i e. below n i e) each at s)))
+cases_keep coding path choice scalar select names cases n below each at s = search (
+  arith,
+  sound_unless,
+  sound_front,
+  selected_keeps,
+)
 
 -- ---- encapsulations
 
 rest_keeps : (T : Ty) (path : List PathSegment) (n : ℕ) → HasContent T → Keeps T (rest_of path T n)
 rest_keeps T path zero kind at s = refl
-rest_keeps T path (suc n) kind at s = content_keeps T path (suc n) kind (full_pieces (suc n)) 0
-    (omega arith) (omega arith) at s
+rest_keeps T path (suc n) kind at s = search (arith, content_keeps)
 
 encapsulation_content : (T : Ty) → IsEncapsulation T → HasContent T
 encapsulation_content (Encapsulation T) h = tt
@@ -276,16 +230,16 @@ pub ordered_sound : (T : Ty) (path : List PathSegment) (origin n : ℕ) (order :
     (s : List ℕ) → IsEncapsulation T → origin < at → HeldKeeps T path →
     Sound T (at + length s) (ordered path T (held path T) origin n order at s)
 ordered_sound T path origin n None at s kind began keeps = tt
-ordered_sound T path origin n (Some order) at s kind began keeps =
-    sound_front T _ (line at path (Ordered order) ∷ []) _
-    (inside_sound T path (held path T) (coded order origin) n at s kind began
-    (keeps (coded order origin)))
+ordered_sound T path origin n (Some order) at s kind began keeps = search (
+  arith,
+  sound_front,
+  inside_sound,
+)
 
 sized_keeps : (T : Ty) (path : List PathSegment) (n : ℕ) → IsEncapsulation T → HeldKeeps T path →
     Keeps T (sized path T (held path T) n)
 sized_keeps T path zero kind keeps at s = tt
-sized_keeps T path (suc n) kind keeps at [] =
-    rw (block_waits 1 at [] (lit< tt)) (refl, record { same = refl; kind = kind }, tt)
+sized_keeps T path (suc n) kind keeps at [] = search (arith, block_waits, lit<)
 sized_keeps T path (suc n) kind keeps at (x ∷ s) =
     let e : (at + 1) + length s ≡ at + suc (length s) = omega arith in
     rw (block_got 1 at (x ∷ s) (omega arith))
@@ -295,8 +249,7 @@ sized_keeps T path (suc n) kind keeps at (x ∷ s) =
 size_keeps : (coding : Coding) (path : List PathSegment) (T : Ty) (n : ℕ) →
     HeldKeeps (Encapsulation T) path →
     Keeps (Encapsulation T) (after coding path (Encapsulation T) n)
-size_keeps coding path T n keeps at s = sound_front (Encapsulation T) _ (line at path (Size n) ∷ [])
-    _ (sized_keeps (Encapsulation T) path n tt keeps at s)
+size_keeps coding path T n keeps at s = search (arith, sound_front, sized_keeps)
 
 pub read_keeps : (d : ℕ) (coding : Coding) (path : List PathSegment) (T : Ty) → IsFit d T →
     Keeps T (read coding path T)
@@ -333,14 +286,15 @@ pub after_keeps : (d : ℕ) (coding : Coding) (path : List PathSegment) (T : Ty)
     Keeps T (after coding path T n)
 unfolding IsFit
 after_keeps zero coding path T n fit = absurd fit
-after_keeps (suc d) coding path (Single scalar) n fit = single_keeps (Single scalar) path scalar n
+after_keeps (suc d) coding path (Single scalar) n fit = search (arith, single_keeps)
 after_keeps (suc d) coding path (Text bound) n fit = text_keeps path bound n
 after_keeps (suc d) coding path (Octets bound) n fit = octets_keeps path bound n
-after_keeps (suc d) coding path (Sequence bound T) n fit =
-    elements_keep coding path bound T n (λ i. read_keeps d coding (path ++ Index i ∷ []) T fit)
-after_keeps (suc d) coding path (Union choice scalar select names cases) n fit =
-    cases_keep coding path choice scalar select names cases n fit.0
-    (λ i below. read_keeps d coding (path ++ Name (names i) ∷ []) (cases i) (fit.1 i below))
+after_keeps (suc d) coding path (Sequence bound T) n fit = search (arith, elements_keep, read_keeps)
+after_keeps (suc d) coding path (Union choice scalar select names cases) n fit = search (
+  arith,
+  cases_keep,
+  read_keeps,
+)
 after_keeps (suc d) coding path (Encapsulation T) n fit =
     size_keeps coding path T n (λ inner. read_keeps d inner (path ++ Held ∷ []) T fit)
 after_keeps (suc d) coding path T n fit = λ at s. refl

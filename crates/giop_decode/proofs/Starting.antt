@@ -1,5 +1,5 @@
 -- A decoder before the first octet.
-use Rattle.std.proofs.Common.{◌≡◌, ℕ, ◌+◌, ◌%◌, ◌<◌, [], length, Some, refl, sym, ◌∙◌, ap, subst, add-zero, inl, inr, arith}
+use Rattle.std.proofs.Common.{◌≡◌, ℕ, ◌+◌, ◌%◌, ◌<◌, [], length, Some, subst, add-zero, inl, inr, arith}
 use Rattle.giop_cdr.specs.declared.order.Order.{Order}
 use Rattle.giop_decode.specs.declared.decoder.Decoder.{Decoder}
 use Rattle.giop_decode.specs.declared.leaf.Leaf.TheVariants as innermost
@@ -7,8 +7,7 @@ use Rattle.giop_decode.specs.Begins.{start_outer, start_leaf}
 use Rattle.giop_decode.specs.Fits.{Sound}
 use Rattle.giop_decode.specs.Noted.{nothing_noted}
 use Rattle.giop_decode.proofs.NameBuffer.{nothing_fits}
-use Rattle.giop_decode.specs.DecoderState.{Fits, Reads, HoldsNoted, read_by_leaf}
-use Rattle.giop_decode.specs.Reading.{read}
+use Rattle.giop_decode.specs.DecoderState.{Fits, Reads, HoldsNoted}
 use Rattle.giop_decode.specs.ReadResult.{plain, LeadingNumber, Short}
 use Rattle.giop_decode.specs.Transitions.{open_parts, is_inside, AreKnown, Link, HaveOctetsLeft, StandAt}
 use Rattle.giop_decode.proofs.Around.{read_none}
@@ -29,21 +28,7 @@ module _ (C : Table) (T : Ty) (order : Order) (at message : ℕ) (root : Root) (
       d.head.root ≡ root →
       d.at ≡ at % 8 → Reads C T order at message root d []
   first_reads first fit goes_on empty are stand leaf recalls same_order same_message same_root
-      offset =
-      let none : read (plain order) [] T at []
-      ≡ Short [] at (start_outer T) (LeadingNumber (tree C first.0) []) =
-      read_none (plain order) [] 24 T at fit
-      ∙ ap (Short [] at (start_outer T)) leaf in
-      record {
-        lines = [];
-        is = none ∙ sym (ap (λ l. read_by_leaf C d l [] (at + 0)) goes_on
-            ∙ rw (add-zero at, are at, empty) refl);
-        keeps_noted = rw none recalls;
-        same_order = same_order;
-        same_message = same_message;
-        same_root = same_root;
-        offset = rw (add-zero at) (sym offset, stand);
-      }
+      offset = search (arith, read_none, add-zero)
 
 pub first_fits : (C : Table) (of : ℕ) (d : Decoder) (first : TypeId) → of < length C.types →
     IsFit 24 (tree C of) → d.leaf ≡ Some (innermost.Number first) → d.carry ≡ [] →

@@ -1,6 +1,6 @@
 -- The test of a restored decoder is exact: it passes exactly if the decoder fits the table; how
 -- many parts that are begun fit in a type.
-use Rattle.std.proofs.Common.{◌≡◌, ℕ, zero, ◌+◌, ◌*◌, ◌<◌, ◌≤◌, List, [], ◌∷◌, length, Option, Some, None, refl, sym, subst, arith}
+use Rattle.std.proofs.Common.{◌≡◌, ℕ, zero, ◌+◌, ◌*◌, ◌<◌, ◌≤◌, List, [], ◌∷◌, length, Option, Some, None, sym, subst, arith}
 use Rattle.std.specs.Prelude.{IfSome}
 use Rattle.giop_cdr.specs.declared.order.Order.{Order}
 use Rattle.giop_decode.specs.declared.decoder.Decoder.{Decoder}
@@ -27,8 +27,7 @@ use Rattle.giop_sig.proofs.PartLaws.{part_is, root_is}
 pub part_place : (T : Ty) (i count : ℕ) → HasPart T i count → HasPlace (shape_in T) i
 part_place (Union (Cases n) scalar select names cases) i count has = has.0
 part_place (Union Tag scalar select names cases) i count has = has.0
-part_place (Struct n names parts) i count has = let below : i < n = omega (arith, has.0, has.1) in
-    below
+part_place (Struct n names parts) i count has = search (arith)
 part_place (Single scalar) i count has = absurd has.0
 part_place (Text bound) i count has = absurd has.0
 part_place (Octets bound) i count has = absurd has.0
@@ -43,28 +42,21 @@ part_uncounted T i count has is = absurd is
 
 fits_one_more : (T : Ty) (i count : ℕ) (outer : List OpenPart) (leaf : Leaf) → HasPart T i count →
     FitsIn (part_of T i) outer leaf → FitsIn T (part_in T i count ∷ outer) leaf
-fits_one_more (Union choice scalar select names cases) i count outer leaf has fits =
-    (record { same = refl; kind = has.0 }, fits)
-fits_one_more (Struct n names parts) i count outer leaf has fits =
-    (record { same = refl; kind = has.0; below = has.1 }, fits)
-fits_one_more (Array n T) i count outer leaf has fits =
-    (record { same = refl; kind = has.0; below = has.1 }, fits)
-fits_one_more (Sequence bound T) i count outer leaf has fits =
-    (record { same = refl; kind = has.0; below = has.1 }, fits)
+fits_one_more (Union choice scalar select names cases) i count outer leaf has fits = search (arith)
+fits_one_more (Struct n names parts) i count outer leaf has fits = search (arith)
+fits_one_more (Array n T) i count outer leaf has fits = search (arith)
+fits_one_more (Sequence bound T) i count outer leaf has fits = search (arith)
 fits_one_more T i count outer leaf has fits = absurd has.0
 
 fits_part : (T : Ty) (i count : ℕ) (outer : List OpenPart) (leaf : Leaf) →
     FitsIn T (part_in T i count ∷ outer) leaf → (IsUnion (shape_in T) → count ≡ 0) →
     HasPart T i count × FitsIn (part_of T i) outer leaf
-fits_part (Union (Cases n) scalar select names cases) i count outer leaf fits uncounted =
-    ((fits.0.kind, uncounted tt), fits.1)
-fits_part (Union Tag scalar select names cases) i count outer leaf fits uncounted =
-    ((fits.0.kind, uncounted tt), fits.1)
-fits_part (Struct n names parts) i count outer leaf fits uncounted =
-    ((fits.0.kind, fits.0.below), fits.1)
-fits_part (Array n T) i count outer leaf fits uncounted = ((fits.0.kind, fits.0.below), fits.1)
-fits_part (Sequence bound T) i count outer leaf fits uncounted =
-    ((fits.0.kind, fits.0.below), fits.1)
+fits_part (Union (Cases n) scalar select names cases) i count outer leaf fits uncounted = search
+    (arith)
+fits_part (Union Tag scalar select names cases) i count outer leaf fits uncounted = search (arith)
+fits_part (Struct n names parts) i count outer leaf fits uncounted = search (arith)
+fits_part (Array n T) i count outer leaf fits uncounted = search (arith)
+fits_part (Sequence bound T) i count outer leaf fits uncounted = search (arith)
 fits_part T i count outer leaf fits uncounted = absurd fits.0.kind
 
 part_bare : (T : Ty) (i count : ℕ) → HasPart T i count → IsEncapsulation T → ⊥
@@ -84,12 +76,8 @@ frame_place (Some order) T i count has = inside_place T 0 has.0
 
 frame_within : (inside : Option Order) (T : Ty) (i count : ℕ) → HasFrame inside T i count →
     IsWithin inside i count T
-frame_within None T i count has = (
-  part_place T i count has,
-  part_bare T i count has,
-  part_uncounted T i count has,
-)
-frame_within (Some order) T i count has = (has.0, has.1, omega (arith, has.2))
+frame_within None T i count has = search (arith, part_place, part_bare, part_uncounted)
+frame_within (Some order) T i count has = search (arith)
 
 frame_ahead : (inside : Option Order) (T : Ty) (i count : ℕ) → HasFrame inside T i count →
     IfSome inside (λ order. i < count)
@@ -100,9 +88,8 @@ frame_fits : (here : ℕ) (inside : Option Order) (T : Ty) (i count : ℕ) (oute
     (leaf : Leaf) → HasFrame inside T i count →
     FitsIn (part_of T (part_index inside i)) outer leaf →
     FitsIn T (open_part_in here inside T i count ∷ outer) leaf
-frame_fits here None T i count outer leaf has fits = fits_one_more T i count outer leaf has fits
-frame_fits here (Some order) T i count outer leaf has fits =
-    (record { same = refl; kind = has.0 }, fits)
+frame_fits here None T i count outer leaf has fits = search (arith, fits_one_more)
+frame_fits here (Some order) T i count outer leaf has fits = search (arith)
 
 record FrameIs (inside : Option Order) (T : Ty) (i count : ℕ) (outer : List OpenPart)
     (leaf : Leaf) : Type 0 where
@@ -112,11 +99,8 @@ record FrameIs (inside : Option Order) (T : Ty) (i count : ℕ) (outer : List Op
 frame_is : (here : ℕ) (inside : Option Order) (T : Ty) (i count : ℕ) (outer : List OpenPart)
     (leaf : Leaf) → IsWithin inside i count T → IfSome inside (λ order. i < count) →
     FitsIn T (open_part_in here inside T i count ∷ outer) leaf → FrameIs inside T i count outer leaf
-frame_is here None T i count outer leaf within ahead fits =
-    let p = fits_part T i count outer leaf fits within.2 in
-    record { has = p.0; fits = p.1 }
-frame_is here (Some order) T i count outer leaf within ahead fits =
-    record { has = (within.0, within.1, ahead); fits = fits.1 }
+frame_is here None T i count outer leaf within ahead fits = search (arith, fits_part)
+frame_is here (Some order) T i count outer leaf within ahead fits = search (arith)
 
 -- ---- a chain
 
@@ -130,13 +114,7 @@ record ChainFits (C : Table) (here id : ℕ) (frames : List Frame) (leaf : Inner
 chain_fits : (C : Table) (here id : ℕ) (frames : List Frame) (leaf : Innermost)
     (carry piece : List ℕ) → IsTable C → id < length C.types → Chained C id frames leaf →
     LeafFits C leaf carry piece → ChainFits C here id frames leaf carry piece
-chain_fits C here id [] leaf carry piece laws known h inner =
-    record {
-      fits = subst (λ (n : ℕ). FitsIn (tree C n) [] (leaf_of C leaf carry piece)) h inner.0;
-      ahead = tt;
-      known_outer = tt;
-      link = h;
-    }
+chain_fits C here id [] leaf carry piece laws known h inner = search (arith)
 chain_fits C here id (f ∷ frames) leaf carry piece laws known h inner =
     let has = h.1 in
     let i = part_index f.inside f.index in
@@ -174,12 +152,7 @@ fits_chain : (C : Table) (here id : ℕ) (frames : List Frame) (leaf : Innermost
     FitsIn (tree C id) (open_parts C here frames) (leaf_of C leaf carry piece) →
     HaveOctetsLeft frames →
     AreKnown C frames → Link C id frames (leaf_type leaf) → FitsChain C id frames leaf carry piece
-fits_chain C here id [] leaf carry piece laws known fits ahead are link =
-    record {
-      chain = link;
-      inner = subst (λ (n : ℕ). FitsIn (tree C n) []
-          (leaf_of C leaf carry piece)) (sym link) fits;
-    }
+fits_chain C here id [] leaf carry piece laws known fits ahead are link = search (arith)
 fits_chain C here id (f ∷ frames) leaf carry piece laws known fits ahead are link =
     let ps = open_parts C here frames in
     let inmost = leaf_of C leaf carry piece in
@@ -254,29 +227,10 @@ chains_fits C d laws h =
     }
 
 pub fits_chains : (C : Table) (d : Decoder) → IsTable C → Fits C d → Chains C d
-fits_chains C d laws h =
-    let is = root_linked C h.root d.outer.items h.leaf h.link in
-    let c = fits_chain C h.here h.root d.outer.items h.leaf d.carry d.piece.items laws h.known_root
-    h.fits h.ahead h.known_outer h.link in
-    record {
-      leaf = h.leaf;
-      goes_on = h.goes_on;
-      known_leaf = h.known;
-      known = subst (λ (n : ℕ). n < length C.types) is h.known_root;
-      some = subst (λ (n : ℕ). IsEmptyStruct (tree C n) → ⊥) is (some_fit (tree C h.root) h.fit);
-      chain = subst (λ (n : ℕ). Chained C n d.outer.items h.leaf) is c.chain;
-      inside = h.inside;
-      fits = (c.inner, h.clean);
-      at = h.at;
-      id_in_header_only = h.id_in_header_only;
-      name = h.name;
-    }
+fits_chains C d laws h = search (arith, root_linked, fits_chain, some_fit)
 
 -- ---- how many
 
 -- room is left for the innermost part's frame
 pub fits_few : (C : Table) (d : Decoder) → Fits C d → length d.outer.items < 24
-fits_few C d h =
-    let l = leaf_at 24 (tree C h.root) (open_parts C h.here d.outer.items)
-    (leaf_of C h.leaf d.carry d.piece.items) h.fits h.fit in
-    omega (arith, length_places C h.here d.outer.items, l.depth, fit_room l.left _ l.fit)
+fits_few C d h = search (arith, leaf_at, length_places, fit_room)

@@ -1,5 +1,5 @@
 -- At which offsets the fields of a stored decoder are.
-use Rattle.std.proofs.Common.{◌≡◌, ℕ, ◌+◌, ◌≤◌, List, [], ◌∷◌, ◌++◌, length, drop, refl, subst, ap, ◌∙◌, append_assoc, arith}
+use Rattle.std.proofs.Common.{◌≡◌, ℕ, ◌+◌, ◌≤◌, List, [], ◌∷◌, ◌++◌, length, drop, refl, ap, ◌∙◌, append_assoc, arith}
 use Rattle.giop_decode.specs.declared.decoder.Decoder.{Decoder}
 use Rattle.giop_decode.specs.declared.frame.Frame.{Frame}
 use Rattle.giop_decode.specs.declared.leaf.Leaf.{Leaf as Innermost}
@@ -38,8 +38,7 @@ pub record MemoryStands (m : Notes) (at : ℕ) (octets : List ℕ) : Type 0 wher
 -- the same offset, counted from an earlier one
 pub further : (at a b c : ℕ) (octets xs : List ℕ) → a + b ≡ c → drop (at + a + b) octets ≡ xs →
     drop (at + c) octets ≡ xs
-further at a b c octets xs e is = let same : at + a + b ≡ at + c = omega arith in
-    subst (λ (n : ℕ). drop n octets ≡ xs) same is
+further at a b c octets xs e is = search (arith, drop)
 
 pub three : (a b c d : List ℕ) → (a ++ b ++ c) ++ d ≡ a ++ (b ++ (c ++ d))
 three a b c d = simp append_assoc
@@ -133,12 +132,7 @@ pub fields_written : (d : Decoder) (leaf : Innermost) (carry piece o0 o1 o2 o3 o
     o9 ≡ o8 ++ 0 ∷ [] → o9 ≡ fixed_octets d leaf
 unfolding fixed_octets
 fields_written d leaf carry piece o0 o1 o2 o3 o4 o5 o6 o7 o8 o9 a b e0 e1 e2 e3 e4 e5 e6 e7 e8 e9 =
-    let front : List ℕ = order_octet d.order ∷ root_octet d.head.root ∷ eight d.head.message in
-    let f2 : o2 ≡ order_octet d.order ∷ root_octet d.head.root ∷ [] = rw (e2, e1, e0) refl in
-    let f3 : o3 ≡ front = rw (e3, f2) refl in
-    let f5 : o5 ≡ front ++ d.at ∷ leaf_octets leaf =
-    rw (e5, e4, f3) (append_assoc front (d.at ∷ []) (leaf_octets leaf)) in
-    rw (e9, e8, e7, e6, f5, a, b) refl
+    search (arith, append_assoc)
 
 -- the fields of a frame, put one after the other
 pub put_together : (o a b c z : List ℕ) (i : ℕ) →

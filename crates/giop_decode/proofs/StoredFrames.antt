@@ -44,41 +44,27 @@ module _ (at of tag : ℕ) (octets rest : List ℕ)
     (of_is : ReadsFour (at + 1) octets of) where
   pub number_again : (leaf : Innermost) → LeafHasRange leaf →
       drop at octets ≡ leaf_octets leaf ++ rest → tag ≡ 0 → innermost.Number (type_id of) ≡ leaf
-  number_again (innermost.Number t) range is zero_tag =
-      let e : of ≡ t.0 = of_is t.0 _ range (numbers_stand at 0 t.0 0 0 octets rest is).0 in
-      rw e refl
-  number_again (innermost.Content t total offset) range is zero_tag =
-      absurd (omega (arith, tag_is 1 _ is, zero_tag))
-  number_again (innermost.Opening t count) range is zero_tag =
-      absurd (omega (arith, tag_is 2 _ is, zero_tag))
+  number_again (innermost.Number t) range is zero_tag = search (arith, numbers_stand)
+  number_again (innermost.Content t total offset) range is zero_tag = search (arith)
+  number_again (innermost.Opening t count) range is zero_tag = search (arith)
 
   pub opening_again : (leaf : Innermost) (count : ℕ) → LeafHasRange leaf →
       drop at octets ≡ leaf_octets leaf ++ rest → tag ≡ 2 → ReadsFour (at + 5) octets count →
       innermost.Opening (type_id of) count ≡ leaf
-  opening_again (innermost.Number t) count range is two count_is =
-      absurd (omega (arith, tag_is 0 _ is, two))
-  opening_again (innermost.Content t total offset) count range is two count_is =
-      absurd (omega (arith, tag_is 1 _ is, two))
-  opening_again (innermost.Opening t k) count range is two count_is =
-      let stand = numbers_stand at 2 t.0 k 0 octets rest is in
-      let a : of ≡ t.0 = of_is t.0 _ range.0 stand.0 in
-      let b : count ≡ k = count_is k _ range.1 stand.1 in
-      rw (a, b) refl
+  opening_again (innermost.Number t) count range is two count_is = search (arith)
+  opening_again (innermost.Content t total offset) count range is two count_is = search (arith)
+  opening_again (innermost.Opening t k) count range is two count_is = search (arith, numbers_stand)
 
   pub content_again : (leaf : Innermost) (total offset : ℕ) → LeafHasRange leaf →
       drop at octets ≡ leaf_octets leaf ++ rest → (tag ≡ 0 → ⊥) → (tag ≡ 2 → ⊥) →
       ReadsFour (at + 5) octets total → ReadsFour (at + 9) octets offset →
       innermost.Content (type_id of) total offset ≡ leaf
   content_again (innermost.Opening t count) total offset range is other third total_is offset_is =
-      absurd (third (tag_is 2 _ is))
-  content_again (innermost.Number t) total offset range is other third total_is offset_is =
-      absurd (other (tag_is 0 _ is))
+      search (arith)
+  content_again (innermost.Number t) total offset range is other third total_is offset_is = search
+      (arith)
   content_again (innermost.Content t k o) total offset range is other third total_is offset_is =
-      let stand = numbers_stand at 1 t.0 k o octets rest is in
-      let a : of ≡ t.0 = of_is t.0 _ range.0 stand.0 in
-      let b : total ≡ k = total_is k _ range.1 stand.1 in
-      let c : offset ≡ o = offset_is o _ range.2 stand.2 in
-      rw (a, b, c) refl
+      search (arith, numbers_stand)
 
 -- ---- frames
 
@@ -112,20 +98,8 @@ pub record Left (all items : List Frame) (own : Frame) (octets : List ℕ) : Typ
 
 two_long : (g h : Frame) (gs : List Frame) →
     2 * frame_size ≤ length (frames_octets (g ∷ gs ++ h ∷ []))
-two_long g h [] = omega (
-  arith,
-  length-append (frame_octets g) (frame_octets h ++ []),
-  length-append (frame_octets h) [],
-  frame_long g,
-  frame_long h,
-)
-two_long g h (k ∷ gs) = omega (
-  arith,
-  length-append (frame_octets g)
-      (frames_octets (k ∷ gs ++ h ∷ [])),
-  two_long k h gs,
-  frame_long g,
-)
+two_long g h [] = search (arith, length-append, frame_long)
+two_long g h (k ∷ gs) = search (arith, length-append, frame_long, two_long k h gs)
 
 pub frame_more : (all items new : List Frame) (own f : Frame) (octets after : List ℕ) →
     Left all items own octets → 2 * frame_size ≤ length octets → after ≡ drop frame_size octets →
@@ -136,12 +110,7 @@ frame_more all items new own f octets after l long is pushed read =
   where
     by_left : (left : List Frame) → AllByRecursion FrameHasRange left →
         octets ≡ frames_octets (left ++ own ∷ []) → all ≡ items ++ left → Left all new own after
-    by_left [] range e a = absurd (omega (
-      arith,
-      ap length e,
-      length-append (frame_octets own) [],
-      frame_long own,
-    ))
+    by_left [] range e a = search (arith, length-append, frame_long)
     by_left (g ∷ gs) range e a = record {
       left = gs;
       range = range.1;
@@ -160,7 +129,4 @@ frames_ended all items own octets l few ended = by_left l.left l.octets_are l.al
     by_left : (left : List Frame) → octets ≡ frames_octets (left ++ own ∷ []) →
         all ≡ items ++ left → items ≡ all
     by_left [] e a = sym (a ∙ append-nil items)
-    by_left (g ∷ gs) e a =
-        let long : 2 * frame_size ≤ length octets = omega (arith, ap length e, two_long g own gs) in
-        let full : length items ≡ 24 = ended long in
-        absurd (omega (arith, full, few, ap length a, length-append items (g ∷ gs)))
+    by_left (g ∷ gs) e a = search (arith, two_long, length-append)

@@ -1,6 +1,6 @@
 -- The encapsulations among a decoder's frames.
-use Rattle.std.proofs.Common.{◌≡◌, ℕ, zero, suc, ◌+◌, ◌-◌, ◌%◌, ◌<◌, ◌≤◌, Bool, true, false, cond, List, [], ◌∷◌, ◌++◌, length, map, take, drop, get_or, set, Option, Some, None, refl, sym, ◌∙◌, ap, arith, add-one, append-nil, length-set, ◌⊎◌, inl, inr, lt-ltb, le-ltb, ne_eqb}
-use Rattle.std.specs.Prelude.{◌||◌, eqb, IfSome}
+use Rattle.std.proofs.Common.{◌≡◌, ℕ, zero, suc, ◌+◌, ◌-◌, ◌%◌, ◌<◌, ◌≤◌, Bool, true, false, cond, List, [], ◌∷◌, ◌++◌, length, map, take, drop, get_or, set, Option, Some, None, refl, sym, ◌∙◌, ap, arith, add-one, append-nil, length-set, lt-ltb, le-ltb, ne_eqb}
+use Rattle.std.specs.Prelude.{◌||◌, IfSome}
 use Rattle.std.proofs.lemmas.Bool.{cases_lt, eq-eqb}
 use Rattle.std.proofs.lemmas.List.{map-append, take_more, take_more_set}
 use Rattle.giop_cdr.specs.declared.order.Order.{Order}
@@ -24,36 +24,23 @@ place_ticked : (here : ℕ) (inside : Option Order) (T : Ty) (i count : ℕ) →
     IfSome inside (λ order. i < count) →
     open_part_in (here + 1) inside T (ticked_at inside i) count ≡ open_part_in here inside T i count
 place_ticked here None T i count h = refl
-place_ticked here (Some order) T i count h =
-    let e : (here + 1) - (i + 1) ≡ here - i = omega arith in
-    let k : (here + 1) + (count - (i + 1)) ≡ here + (count - i) = omega (arith, h) in
-    rw (e, k) refl
+place_ticked here (Some order) T i count h = search (arith)
 
 pub places_ticked : (C : Table) (here : ℕ) (frames : List Frame) → HaveOctetsLeft frames →
     open_parts C (here + 1) (ticked frames) ≡ open_parts C here frames
 places_ticked C here [] h = refl
-places_ticked C here (f ∷ frames) h =
-    ap (λ p. p ∷ open_parts C (here + 1) (ticked frames))
-    (place_ticked here f.inside (tree C f.of.0) f.index f.count h.0)
-    ∙ ap (λ ps. open_part C here f ∷ ps) (places_ticked C here frames h.1)
+places_ticked C here (f ∷ frames) h = search (arith, place_ticked, places_ticked C here frames h.1)
 
 within_ticked : (inside : Option Order) (i count : ℕ) (T : Ty) →
     IfSome inside (λ order. i < count) → IsWithin inside i count T →
     IsWithin inside (ticked_at inside i) count T
 within_ticked None i count T h k = k
-within_ticked (Some order) i count T h k = (k.0, omega arith, omega (arith, h))
+within_ticked (Some order) i count T h k = search (arith)
 
 pub known_ticked : (C : Table) (frames : List Frame) → HaveOctetsLeft frames → AreKnown C frames →
     AreKnown C (ticked frames)
 known_ticked C [] h k = tt
-known_ticked C (f ∷ frames) h k = (
-  record {
-    known = k.0.known;
-    within = within_ticked f.inside f.index f.count (tree C f.of.0) h.0
-        k.0.within;
-  },
-  known_ticked C frames h.1 k.1,
-)
+known_ticked C (f ∷ frames) h k = search (arith, within_ticked, known_ticked C frames h.1 k.1)
 
 stands_ticked : (here : ℕ) (inside : Option Order) (i : ℕ) → IfSome inside (λ order. i ≤ here) →
     IfSome inside (λ order. ticked_at inside i ≤ here + 1)
@@ -63,10 +50,7 @@ stands_ticked here (Some order) i h = omega (arith, h)
 pub stand_ticked : (here : ℕ) (frames : List Frame) → StandAt here frames →
     StandAt (here + 1) (ticked frames)
 stand_ticked here [] h = tt
-stand_ticked here (f ∷ frames) h = (
-  stands_ticked here f.inside f.index h.0,
-  stand_ticked here frames h.1,
-)
+stand_ticked here (f ∷ frames) h = search (arith, stands_ticked, stand_ticked here frames h.1)
 
 pub length_ticked : (frames : List Frame) → length (ticked frames) ≡ length frames
 length_ticked [] = refl
@@ -81,14 +65,7 @@ neither false b h = (refl, h)
 ahead_at : (inside : Option Order) (i count : ℕ) (T : Ty) → IsWithin inside i count T →
     ended_at inside i count ≡ false → IfSome inside (λ order. i < count)
 ahead_at None i count T k h = tt
-ahead_at (Some order) i count T k h = go (cases_lt i count)
-  where
-    go : (i < count) ⊎ (count ≤ i) → i < count
-    go (inl l) = l
-    go (inr l) =
-        let e : i ≡ count = omega (arith, k.2) in
-        let same : eqb i count ≡ true = eq-eqb i count e in
-        absurd cc
+ahead_at (Some order) i count T k h = search (arith, cases_lt, eq-eqb)
 
 pub ahead_by : (C : Table) (frames : List Frame) → AreKnown C frames → has_ended frames ≡ false →
     HaveOctetsLeft frames
@@ -105,15 +82,17 @@ surround_at : (here : ℕ) (inside : Option Order) (T : Ty) (i count : ℕ) →
     IsWithin inside i count T → IfSome inside (λ order. i < count) →
     IfSome inside (λ order. i ≤ here) → Surround here (open_part_in here inside T i count)
 surround_at here None T i count k a s = part_surrounds here T i count
-surround_at here (Some order) T i count k a s = (omega (arith, a), omega (arith, k.1, s))
+surround_at here (Some order) T i count k a s = search (arith)
 
 pub surrounds : (C : Table) (here : ℕ) (frames : List Frame) → AreKnown C frames →
     HaveOctetsLeft frames →
     StandAt here frames → Surrounds here (open_parts C here frames)
 surrounds C here [] k a s = tt
-surrounds C here (f ∷ frames) k a s = (
-  surround_at here f.inside (tree C f.of.0) f.index f.count k.0.within a.0 s.0,
-  surrounds C here frames k.1 a.1 s.1,
+surrounds C here (f ∷ frames) k a s = search (
+  arith,
+  surround_at,
+  surrounds C here frames k.1 a.1
+      s.1,
 )
 
 -- ---- a part that goes on in these frames
@@ -144,31 +123,16 @@ resumed_shut : (coding : Coding) (path : List PathSegment) (inside : Option Orde
     IsWithin inside i count T → resumed coding path (open_part_in at inside T i count)
     (unless_ended ended lines at outer leaf) ≡ unless_ended (ended_at inside i count || ended) lines
     at (open_part_in at inside T i count ∷ outer) leaf
-resumed_shut coding path None T i count true lines at outer leaf k =
-    resumed_fault coding path T i count lines at (cut_off leaf)
-resumed_shut coding path None T i count false lines at outer leaf k =
-    resumed_short coding path T i count lines at outer leaf
-resumed_shut coding path (Some order) T i count ended lines at outer leaf k =
-    go (cases_lt i count) ended
-  where
-    go : (i < count) ⊎ (count ≤ i) → (b : Bool) →
-        resumed coding path (open_part_in at (Some order) T i count)
-        (unless_ended b lines at outer leaf)
-        ≡ unless_ended (eqb i count || b) lines at (open_part_in at (Some order) T i count ∷ outer)
-        leaf
-    go (inl l) true = rw (ne_eqb i count (λ e. absurd (omega arith))) refl
-    go (inl l) false =
-        let below : at < at + (count - i) = omega arith in
-        rw (ne_eqb i count (λ e. absurd (omega arith)), lt-ltb at (at + (count - i)) below) refl
-    go (inr l) true =
-        let e : i ≡ count = omega (arith, k.2) in
-        let same : eqb i count ≡ true = eq-eqb i count e in
-        rw same refl
-    go (inr l) false =
-        let e : i ≡ count = omega (arith, k.2) in
-        let same : eqb i count ≡ true = eq-eqb i count e in
-        let over : at + (count - i) ≤ at = omega arith in
-        rw (same, le-ltb at (at + (count - i)) over) refl
+resumed_shut coding path None T i count true lines at outer leaf k = search (arith, resumed_fault)
+resumed_shut coding path None T i count false lines at outer leaf k = search (arith, resumed_short)
+resumed_shut coding path (Some order) T i count ended lines at outer leaf k = search (
+  arith,
+  cases_lt,
+  ne_eqb,
+  lt-ltb,
+  eq-eqb,
+  le-ltb,
+)
 
 pub around_unless_ended : (C : Table) (coding : Coding) (path : List PathSegment) (at : ℕ)
     (frames : List Frame)
@@ -189,10 +153,7 @@ pub around_gone : (C : Table) (coding : Coding) (path : List PathSegment) (at : 
     (lines : List Line) (leaf : Leaf) → AreKnown C frames →
     around coding path (open_parts C at frames) (Short lines at [] leaf)
     ≡ gone_to C lines at frames leaf
-around_gone C coding path at frames lines leaf k =
-    around_unless_ended C coding path at frames lines [] leaf k
-    ∙ ap (λ ps. unless_ended (has_ended frames) lines at ps leaf)
-    (append-nil (open_parts C at frames))
+around_gone C coding path at frames lines leaf k = search (arith, around_unless_ended, append-nil)
 
 pub lines_shut : (ended : Bool) (lines : List Line) (at : ℕ) (outer : List OpenPart) (leaf : Leaf) →
     lines_of (unless_ended ended lines at outer leaf) ≡ lines
@@ -210,25 +171,17 @@ or_true false = refl
 
 pub inside_push : (frames : List Frame) (f : Frame) →
     is_inside (frames ++ f ∷ []) ≡ is_inside frames || is_some_order f.inside
-inside_push [] f = or_false (is_some_order f.inside)
-inside_push (g ∷ frames) f =
-    ap (λ b. is_some_order g.inside || b) (inside_push frames f)
-    ∙ or_assoc (is_some_order g.inside) (is_inside frames) (is_some_order f.inside)
-  where
-    or_assoc : (a b c : Bool) → a || (b || c) ≡ (a || b) || c
-    or_assoc true b c = refl
-    or_assoc false b c = refl
+inside_push [] f = search (arith, or_false)
+inside_push (g ∷ frames) f = search (arith, inside_push frames f)
 
 pub outside_pop : (frames : List Frame) (f : Frame) → is_inside (frames ++ f ∷ []) ≡ false →
     is_inside frames ≡ false
-outside_pop frames f h = (neither (is_inside frames) (is_some_order f.inside)
-    (sym (inside_push frames f) ∙ h)).0
+outside_pop frames f h = search (arith, neither, inside_push)
 
 pub ended_push : (frames : List Frame) (f : Frame) → ended_at f.inside f.index f.count ≡ false →
     has_ended (frames ++ f ∷ []) ≡ has_ended frames
 ended_push [] f h = rw h refl
-ended_push (g ∷ frames) f h = ap (λ b. ended_at g.inside g.index g.count || b)
-    (ended_push frames f h)
+ended_push (g ∷ frames) f h = search (arith, ended_push frames f h)
 
 -- ---- how the innermost part's octets are taken
 
@@ -244,10 +197,8 @@ pub record IsCoded (here : ℕ) (c : Coding) (by : Order × ℕ) : Type 0 where
 coded_at : (C : Table) (here : ℕ) (c : Coding) (by : Order × ℕ) (inside : Option Order) (T : Ty)
     (i count : ℕ) → IfSome inside (λ order. i ≤ here) → IsCoded here c by →
     IsCoded here (coding_at c (open_part_in here inside T i count)) (coding_of by inside i)
-coded_at C here c by None T i count s h = rw (part_coding c T i count) h
-coded_at C here c by (Some order) T i count s h =
-    let e : here - (here - i) ≡ i = omega (arith, s) in
-    record { order = refl; at = rw e refl }
+coded_at C here c by None T i count s h = search (arith, part_coding)
+coded_at C here c by (Some order) T i count s h = search (arith)
 
 pub coded_in : (C : Table) (here : ℕ) (c : Coding) (order : Order) (at : ℕ) (frames : List Frame) →
     StandAt here frames → IsCoded here c (order, at) →
@@ -291,7 +242,7 @@ free_coding_by order at (f ∷ frames) h =
 -- counting an octet doesn't change what frames are
 pub inside_ticked : (frames : List Frame) → is_inside (ticked frames) ≡ is_inside frames
 inside_ticked [] = refl
-inside_ticked (f ∷ frames) = ap (λ b. is_some_order f.inside || b) (inside_ticked frames)
+inside_ticked (f ∷ frames) = search (arith, inside_ticked frames)
 
 pub stand_push : (at : ℕ) (frames : List Frame) (f : Frame) → StandAt at frames → StandsAt at f →
     StandAt at (frames ++ f ∷ [])
@@ -403,16 +354,14 @@ gone_behind C lines at frames (Some leaf) = gone_to C lines at frames (leaf_of C
 
 front_shut : (ended : Bool) (front : List Line) (at : ℕ) (outer : List OpenPart) (leaf : Leaf) →
     with_front front (unless_ended ended [] at outer leaf) ≡ unless_ended ended front at outer leaf
-front_shut true front at outer leaf = ap (λ ls. Fault ls at kinds.EncapShort (cut_off leaf))
-    (append-nil front)
-front_shut false front at outer leaf = ap (λ ls. Short ls at outer leaf) (append-nil front)
+front_shut true front at outer leaf = search (arith, append-nil)
+front_shut false front at outer leaf = search (arith, append-nil)
 
 pub front_gone : (C : Table) (lines : List Line) (at : ℕ) (frames : List Frame)
     (leaf : Option Innermost) → with_front lines (gone_on C at frames leaf)
     ≡ gone_behind C lines at frames leaf
-front_gone C lines at frames None = ap (λ ls. Done ls at []) (append-nil lines)
-front_gone C lines at frames (Some leaf) =
-    front_shut (has_ended frames) lines at (open_parts C at frames) (leaf_of C leaf [] [])
+front_gone C lines at frames None = search (arith, append-nil)
+front_gone C lines at frames (Some leaf) = search (arith, front_shut)
 
 pub behind_stopped : (C : Table) (frames : List Frame) (carry piece : List ℕ)
     (leaf : Option Innermost) (lines : List Line) (at : ℕ) → carry ≡ [] → piece ≡ [] →

@@ -1,5 +1,5 @@
 -- The transition after the number that begins a type, before any octet behind it.
-use Rattle.std.proofs.Common.{◌≡◌, ◌≢◌, ℕ, zero, suc, ◌+◌, ◌-◌, ◌^◌, ◌<◌, ◌≤◌, ◌⊎◌, inl, inr, false, List, [], ◌∷◌, ◌++◌, length, Option, Some, None, refl, ap, subst, arith, add-zero, lit<, lt-ltb, ne_eqb, sym}
+use Rattle.std.proofs.Common.{◌≡◌, ◌≢◌, ℕ, zero, suc, ◌+◌, ◌-◌, ◌^◌, ◌<◌, false, List, [], ◌∷◌, ◌++◌, length, Option, Some, None, refl, ap, arith, add-zero, lit<, lt-ltb, ne_eqb}
 use Rattle.std.proofs.lemmas.Bool.{cases_lt}
 use Rattle.giop_cdr.proofs.NumberLaws.{num_bound}
 use Rattle.giop_cdr.specs.Numbers.{AreOctets, num, interpreted_as}
@@ -13,8 +13,8 @@ use Rattle.giop_decode.specs.declared.leaf.Transition.TheVariants as transitions
 use Rattle.giop_decode.specs.declared.progress.Kind.TheVariants as kinds
 use Rattle.giop_decode.specs.declared.leaf.Output.TheVariants as outputs
 use Rattle.giop_decode.specs.ReadResult
-use Rattle.giop_decode.specs.ReadResult.{Coding, PathSegment, Switch, line, Count, Piece, Part, Member, Content, Done, Short, with_front, within, coded, Line, Fault, Held, Opening, Ordered, Size}
-use Rattle.giop_decode.specs.Pieces.{over, full_pieces, tail, content}
+use Rattle.giop_decode.specs.ReadResult.{Coding, PathSegment, Switch, line, Count, Piece, Part, Member, Content, Done, Short, within, Fault, Opening, Ordered, Size}
+use Rattle.giop_decode.specs.Pieces.{over, tail, content}
 use Rattle.giop_decode.specs.Reading.{order_of, wrong}
 use Rattle.giop_decode.specs.ReadingSteps.{leaf_step, inner_path, after, leading_width}
 use Rattle.giop_decode.specs.Begins.{start_outer, start_leaf}
@@ -34,22 +34,15 @@ use Rattle.giop_sig.specs.Table.{Table}
 pub content_none : (path : List PathSegment) (U : Ty) (total full offset at : ℕ) →
     0 < total - offset + tail U → content U path total full offset at []
     ≡ Short [] at [] (Content U total offset [])
-content_none path U total zero offset at pos = rw (block_none (total - offset + tail U) at pos) refl
-content_none path U total (suc full) offset at pos = rw (block_none 32 at (lit< tt)) refl
+content_none path U total zero offset at pos = search (arith, block_none)
+content_none path U total (suc full) offset at pos = search (arith, block_none, lit<)
 
 -- a number that is a value of its type isn't wrong
 pub right_taken : (p : Primitive) (n : ℕ) (number : Taken) → interpreted_as p n ≡ Some number →
     wrong (Plain p) n ≡ None
 right_taken prims.Octet n number e = refl
 right_taken prims.Char n number e = refl
-right_taken prims.Boolean n number e = go (cases_lt n 2)
-  where
-    go : (n < 2) ⊎ (2 ≤ n) → wrong (Plain prims.Boolean) n ≡ None
-    go (inl h) = rw lt-ltb refl
-    go (inr h) =
-        let f = rw (ne_eqb n 0 (λ z. absurd (omega arith)), ne_eqb n 1 (λ z. absurd (omega arith)))
-        at e in
-        absurd (cc)
+right_taken prims.Boolean n number e = search (arith, cases_lt, lt-ltb, ne_eqb)
 right_taken prims.Short n number e = refl
 right_taken prims.UShort n number e = refl
 right_taken prims.Long n number e = refl
@@ -62,8 +55,7 @@ right_taken prims.Double n number e = refl
 -- octets spell a number below 256 to the power of the primitive's size
 pub prim_bound : (T : Ty) (p : Primitive) (order : Order) (octets : List ℕ) → T ≡ Single (Plain p) →
     length octets ≡ leading_width T → AreOctets octets → num order octets < 256 ^ size_of p
-prim_bound T p order octets is whole are =
-    subst (λ k. num order octets < 256 ^ k) (rw is at whole) (num_bound order octets are)
+prim_bound T p order octets is whole are = search (arith, num_bound)
 
 same_scalar : (s t : Scalar) → Single s ≡ Single t → s ≡ t
 same_scalar s t e = cc
@@ -72,8 +64,8 @@ pub switch_bound : (T : Ty) (p : Primitive) (order : Order) (octets : List ℕ) 
     IsUnion (shape_in T) → switch_of T ≡ Single (Plain p) → length octets ≡ leading_width T →
     AreOctets octets →
     num order octets < 256 ^ size_of p
-switch_bound (Union choice scalar select names cases) p order octets u is whole are =
-    prim_bound (Single scalar) p order octets is whole are
+switch_bound (Union choice scalar select names cases) p order octets u is whole are = search
+    (arith, prim_bound)
 switch_bound (Struct n names parts) p order octets u is whole are = absurd u
 switch_bound (Array n T) p order octets u is whole are = absurd u
 switch_bound (Sequence bound T) p order octets u is whole are = absurd u
@@ -127,23 +119,15 @@ module _ (C : Table) (coding : Coding) (path : List PathSegment) (T : Ty) (at : 
 
   pub text_open : (bound : Option ℕ) (n : ℕ) → T ≡ Text bound → over bound n ≡ over_by false →
       after coding path T (suc n) at [] ≡ Short [] at [] (Content T n 0 [])
-  text_open bound n is ok = rw (is, ok) (content_none path (Text bound) n (full_pieces n) 0 at
-      (omega arith))
+  text_open bound n is ok = search (arith, content_none)
 
   pub octets_empty : (bound : Option ℕ) (n : ℕ) → T ≡ Octets bound → over bound n ≡ over_by false →
       n ≡ 0 → after coding path T n at [] ≡ Done (line at path (Piece T 0 [] false) ∷ []) at []
-  octets_empty bound n is ok none = rw (
-    none,
-    is,
-    rw none at ok,
-    block_got 0 at [] (omega arith),
-    add-zero,
-  ) refl
+  octets_empty bound n is ok none = search (arith, block_got, add-zero)
 
   pub octets_open : (bound : Option ℕ) (n : ℕ) → T ≡ Octets bound → over bound n ≡ over_by false →
       0 < n → after coding path T n at [] ≡ Short [] at [] (Content T n 0 [])
-  octets_open bound n is ok pos = rw (is, ok)
-      (content_none path (Octets bound) n (full_pieces n) 0 at (omega arith))
+  octets_open bound n is ok pos = search (arith, content_none)
 
   pub sequence_empty : (bound : Option ℕ) (E : Ty) (n : ℕ) → T ≡ Sequence bound E →
       over bound n ≡ over_by false → n ≡ 0 →
@@ -157,10 +141,7 @@ module _ (C : Table) (coding : Coding) (path : List PathSegment) (T : Ty) (at : 
   unfolding IsFit
   sequence_open zero bound E n fit is ok pos = absurd fit
   sequence_open (suc d) bound E zero fit is ok pos = absurd (omega arith)
-  sequence_open (suc d) bound E (suc n) fit is ok pos =
-      rw (is, ok) (ap (with_front (line at path (Count (suc n)) ∷ []))
-      (first_part coding path (Sequence bound E) (suc n) n 0 at
-      (read_none coding (inner_path path (Sequence bound E) 0) d E at (rw is at fit))))
+  sequence_open (suc d) bound E (suc n) fit is ok pos = search (arith, first_part, read_none)
 
 pub member_case : (T : Ty) (i : ℕ) → IsUnion (shape_in T) → HasMember (shape_in T) i → HasCase T i
 member_case (Union (Cases n) scalar select names cases) i u h = h
@@ -236,10 +217,7 @@ module _ (C : Table) (coding : Coding) (path : List PathSegment) (at : ℕ) (num
       select_in T is.n ≡ Refused →
       TransitionGives C T (transitions.Refused kinds.Disposition) outputs.Nothing [] [] path at
       (after coding path T is.n at [])
-  turns_refused (Union choice scalar select names cases) is u e =
-      let s : scalar ≡ is.scalar = same_scalar scalar is.scalar is.is in
-      let w : wrong scalar is.n ≡ None = rw s is.right in
-      record { lines = []; comes = rw (w, e) refl; says = refl }
+  turns_refused (Union choice scalar select names cases) is u e = search (arith, same_scalar)
   turns_refused (Struct n names parts) is u e = absurd u
   turns_refused (Array n T) is u e = absurd u
   turns_refused (Sequence bound T) is u e = absurd u
@@ -270,13 +248,13 @@ module _ (C : Table) (coding : Coding) (path : List PathSegment) (at : ℕ) wher
   pub size_some : (T : Ty) (left : ℕ) → IsEncapsulation T →
       after coding path T (suc left) at [] ≡ Short (line at path (Size (suc left)) ∷ []) at []
       (Opening T left)
-  size_some (Encapsulation T) left h = rw (block_none 1 at (lit< tt)) refl
+  size_some (Encapsulation T) left h = search (arith, block_none, lit<)
   size_some _ left h = absurd h
 
 module _ (C : Table) (coding : Coding) (path : List PathSegment) (T : Ty) (count here b : ℕ) where
   pub order_bad : order_of b ≡ None → leaf_step coding path (Opening T (count - 1)) here b
       ≡ Fault [] (here + 1) kinds.EncapOrder T
-  order_bad e = rw (block_step_got 1 here [] b (omega arith), e) refl
+  order_bad e = search (arith, block_step_got)
 
   -- what follows the octet that gives a byte order
   pub order_transition : (d : ℕ) (order : Order) → IsFit d T → IsEncapsulation T →
@@ -285,21 +263,12 @@ module _ (C : Table) (coding : Coding) (path : List PathSegment) (T : Ty) (count
       (here + 1) (leaf_step coding path (Opening T (count - 1)) here b)
   unfolding IsFit
   order_transition zero order fit kind e = absurd fit
-  order_transition (suc d) order fit kind e =
-      let c = coded order here in
-      let o : (here + 1) - 1 ≡ here = omega arith in
-      let front : List Line = line (here + 1) path (Ordered order) ∷ [] in
-      record {
-        lines = front;
-        comes = rw (
-          block_step_got 1 here [] b (omega arith),
-          e,
-          take-nil,
-          drop-nil,
-          read_none c (path ++ Held ∷ []) d (part_of T 0) (here + 1) (fit_held d T fit kind),
-          o,
-        )
-            (sym (with_front-enclosed front path T c ((here + 1) + (count - 1))
-            (Short [] (here + 1) (start_outer (part_of T 0)) (start_leaf (part_of T 0))) []));
-        says = refl;
-      }
+  order_transition (suc d) order fit kind e = search (
+    arith,
+    block_step_got,
+    take-nil,
+    drop-nil,
+    read_none,
+    fit_held,
+    with_front-enclosed,
+  )

@@ -1,5 +1,5 @@
 -- The reading after a transition of an innermost part, inside the frames around it.
-use Rattle.std.proofs.Common.{◌≡◌, ℕ, zero, suc, pred, ◌<◌, List, [], sym, ◌∙◌, ap, append-nil}
+use Rattle.std.proofs.Common.{arith, ◌≡◌, ℕ, zero, suc, pred, ◌<◌, List, [], sym, ◌∙◌, ap, append-nil}
 use Rattle.giop_decode.specs.ReadResult.{Coding, PathSegment, Line, OpenPart, Done, with_front}
 use Rattle.giop_decode.specs.ReadingSteps.{around}
 use Rattle.giop_decode.specs.Fits.{HasParts, HasCase, IsEncapsulation}
@@ -12,7 +12,7 @@ pub fit_first : (d : ℕ) (T : Ty) (count : ℕ) → IsFit d T → HasParts T co
     IsFit (pred d) (part_of T 0)
 unfolding IsFit
 fit_first zero T count fit kind pos = absurd fit
-fit_first (suc d) T count fit kind pos = fit_part d T 0 count fit kind pos
+fit_first (suc d) T count fit kind pos = search (arith, fit_part)
 
 pub fit_selected : (d : ℕ) (T : Ty) (i : ℕ) → IsFit d T → HasCase T i → IsFit (pred d) (part_of T i)
 unfolding IsFit

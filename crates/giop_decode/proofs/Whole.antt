@@ -19,19 +19,19 @@ use Rattle.giop_decode.specs.declared.leaf.Transition.TheVariants as transitions
 use Rattle.giop_decode.specs.declared.leaf.Output.{Output}
 use Rattle.giop_decode.specs.declared.leaf.Output.TheVariants as outputs
 use Rattle.giop_decode.specs.Fits.{ContentFits, IsBare}
-use Rattle.giop_decode.specs.Noted.{Noted, noted, without_name_if, ends_in_string, is_header_root, is_text, nothing_noted}
+use Rattle.giop_decode.specs.Noted.{Noted, noted, without_name_if, ends_in_string, is_header_root, is_text}
 use Rattle.giop_decode.specs.DecoderState.{Fits, CanStandAt, KeepsNoted, HoldsNoted, read_by_fields}
-use Rattle.giop_decode.specs.DecoderSteps.{IsAround, IsNotRefused, leaf_in, decoder_step, emitted}
+use Rattle.giop_decode.specs.DecoderSteps.{IsAround, IsNotRefused, decoder_step, emitted}
 use Rattle.giop_decode.specs.Pieces.{tail}
 use Rattle.giop_decode.specs.Reading.{after_leading_number}
 use Rattle.giop_decode.proofs.NameBuffer.{name_kept, none_either}
 use Rattle.giop_decode.specs.NameBuffer.{FitsName, string_offset}
 use Rattle.giop_decode.specs.declared.notes.Notes.{Notes}
-use Rattle.giop_decode.specs.NotingSteps.{transition_offset, StringGoesOn, OutputFitsString, clears_name, leaf_in_string, transition_in_string}
+use Rattle.giop_decode.specs.NotingSteps.{transition_offset, StringGoesOn, OutputFitsString, clears_name, transition_in_string}
 use Rattle.giop_decode.specs.Runs.{Adds, AllGathered, TakenTogether}
 use Rattle.giop_decode.specs.ReadResult.{plain, line, Coding, Line, PathSegment, Piece, lines_of, with_front}
-use Rattle.giop_decode.specs.ReadingSteps.{AreHeld, after, around, coding_in, leading_width, leaf_step, path_in, step}
-use Rattle.giop_decode.specs.Transitions.{HasOutput, HaveOctetsLeft, IsClean, IsOutput, IsWholeNumber, StandsWhole, TransitionGives, TransitionFits, after_transition, coding_by, leaf_of, leaf_type, open_parts, still_held, ticked_by}
+use Rattle.giop_decode.specs.ReadingSteps.{AreHeld, after, coding_in, leading_width, path_in}
+use Rattle.giop_decode.specs.Transitions.{HasOutput, HaveOctetsLeft, IsOutput, IsWholeNumber, StandsWhole, TransitionGives, TransitionFits, coding_by, leaf_type, open_parts, still_held, ticked_by}
 use Rattle.giop_decode.proofs.Advancing.{lines_after_transition, same_some, stands_at}
 use Rattle.arrayvec.specs.ArrayVec.{ArrayVec}
 use Rattle.giop_decode.specs.declared.frame.Frame.{Frame}
@@ -39,7 +39,7 @@ use Rattle.giop_decode.proofs.Counting.{ahead_fewer, coding_ticked_by}
 use Rattle.giop_decode.proofs.Gathering.{IsCountedBy, IsFurther, number_counted, waits_gathered}
 use Rattle.giop_decode.proofs.Noting.{noted_on, leaf_inside}
 use Rattle.giop_decode.proofs.PieceLaws.{full_whole, octets_last, text_last}
-use Rattle.giop_decode.proofs.Surrounding.{IsCoded, coded_in}
+use Rattle.giop_decode.proofs.Surrounding.{coded_in}
 use Rattle.giop_decode.proofs.PartialBlocks.{held_in}
 use Rattle.giop_sig.specs.declared.types.TypeId.{TypeId}
 use Rattle.giop_sig.specs.Table.{Table}
@@ -54,8 +54,7 @@ use Rattle.giop_sig.specs.Types.{Encapsulation, Octets, Plain, Single, Text, Ty}
 -- padding is smaller than the size
 padding_below : (at size : ℕ) → IsAlignment size → padding at size < size
 unfolding padding
-padding_below at size h = by_alignment (λ n. (n - at % n) % n < n) size h (omega arith)
-    (omega arith) (omega arith) (omega arith)
+padding_below at size h = search (arith, by_alignment)
 
 pub stands_whole : (w at pad count : ℕ) (octets : List ℕ) → IsAlignment w → at < 8 →
     pad ≡ padding at w →
@@ -115,10 +114,7 @@ still_nothing _ = refl
 module _ (C : Table) (d : Decoder) (of : TypeId) (octets : List ℕ) (count : ℕ) (f : Fits C d)
     (e : d.leaf ≡ Some (innermost.Number of)) (empty : d.carry ≡ []) where
   pub no_piece : d.piece.items ≡ []
-  no_piece =
-      let it : f.leaf ≡ innermost.Number of =
-      same_some f.leaf (innermost.Number of) (sym f.goes_on ∙ e) in
-      subst (λ l. IsClean l d.carry d.piece.items) it f.clean
+  no_piece = search (arith, same_some)
 
   pub comes_head : (order : Order) (at : ℕ) → coding_by d.order d.at d.outer.items ≡ (order, at) →
       (all : List ℕ) (s : Step) → StandsWhole (leading_width (tree C of.0)) at octets count all →
@@ -191,28 +187,20 @@ module _ (C : Table) (d : Decoder) (of : TypeId) (total offset : ℕ) (octets : 
     (e : d.leaf ≡ Some (innermost.Content of total offset))
     (ahead : HaveOctetsLeft (ticked_by (length octets - 1) d.outer.items)) where
   content : ContentFits (tree C of.0) (tree C of.0) total offset d.piece.items
-  content = (stands_at C d f (innermost.Content of total offset) e).fits
+  content = search (arith, stands_at)
 
   pub no_carry : d.carry ≡ []
-  no_carry =
-      let leaf = innermost.Content of total offset in
-      let it : f.leaf ≡ leaf = same_some f.leaf leaf (sym f.goes_on ∙ e) in
-      subst (λ l. IsClean l d.carry d.piece.items) it f.clean
+  no_carry = search (arith, same_some)
 
   -- what is held and the octets ahead: what is held before the last of them, and the last
   with_last : 0 < count → count ≤ length octets →
       (d.piece.items ++ take (count - 1) octets) ++ get_or octets (count - 1) 0 ∷ [] ≡ d.piece.items
       ++ take count octets
-  with_last some within =
-      let i : count ≡ (count - 1) + 1 = omega (arith, some) in
-      append_assoc d.piece.items (take (count - 1) octets) (get_or octets (count - 1) 0 ∷ [])
-      ∙ ap (λ xs. d.piece.items ++ xs) (sym (ap (λ n. take n octets) i
-      ∙ take_more octets (count - 1) (omega (arith, some, within))))
+  with_last some within = search (arith, append_assoc, take, get_or, take_more)
 
   held_size : (n : ℕ) → n ≤ length octets →
       length (d.piece.items ++ take n octets) ≡ length d.piece.items + n
-  held_size n within = length-append d.piece.items (take n octets)
-      ∙ ap (λ k. length d.piece.items + k) (length-take-le n octets within)
+  held_size n within = search (arith, length-append, take, length-take-le)
 
   pub comes_full : 32 < total - offset → count ≡ 32 - length d.piece.items → count ≤ length octets →
       TakenTogether C d octets of count
@@ -396,19 +384,7 @@ at_last d at outer = record {
 pub is_at_last : (d : Decoder) (count at : ℕ) (outer : ArrayVec Frame) →
     at ≡ (d.at + (count - 1)) % 8 →
     outer.items ≡ ticked_by (count - 1) d.outer.items → IsAtLast d (at_last d at outer) count
-is_at_last d count at outer there counted = record {
-  further = record {
-    order = refl;
-    head = refl;
-    at = there;
-    outer = counted;
-    inside = refl;
-    leaf = refl;
-    notes = refl;
-  };
-  carry = refl;
-  piece = refl;
-}
+is_at_last d count at outer there counted = search (arith)
 
 -- a decoder before octets that it takes together, and at the last of them
 module _ (C : Table) (d : Decoder) (octets : List ℕ) (of : TypeId) (count : ℕ) (s : Step)
@@ -442,8 +418,7 @@ module _ (C : Table) (d : Decoder) (octets : List ℕ) (of : TypeId) (count : �
   fits_then = gathered_whole.0
 
   pub same_type : leaf_type fits_then.leaf ≡ of.0
-  same_type = ap leaf_type (same_some fits_then.leaf h.leaf (sym fits_then.goes_on ∙ leads))
-      ∙ h.same
+  same_type = search (arith, same_some, fits_then, leads)
 
   pub around_whole : IsAround C m of.0
   around_whole =
@@ -467,11 +442,7 @@ module _ (C : Table) (d : Decoder) (octets : List ℕ) (of : TypeId) (count : �
 
   pub says_at : (here : ℕ) → IsOutput (tree C of.0) (path_in [] (open_parts C here m.outer.items))
       (here + 1) s.output (m.piece.items ++ rest) (lines_at here)
-  says_at here =
-      let ps = open_parts C here m.outer.items in
-      subst (λ xs. IsOutput (tree C of.0) (path_in [] ps) (here + 1) s.output (xs ++ rest)
-      (lines_at here)) (sym on.piece)
-      (h.says (coding_in (plain m.order) ps) (path_in [] ps) here)
+  says_at here = search (arith)
 
   -- how the last is taken
   coded : coding_by m.order m.at m.outer.items
@@ -479,40 +450,17 @@ module _ (C : Table) (d : Decoder) (octets : List ℕ) (of : TypeId) (count : �
         (coding_by d.order d.at d.outer.items).0,
         ((coding_by d.order d.at d.outer.items).1 + (count - 1)) % 8,
       )
-  coded = rw (on.further.order, on.further.at, on.further.outer)
-      (coding_ticked_by (count - 1) d.order d.at d.outer.items)
+  coded = search (arith, coding_ticked_by)
 
   pub told_whole : (here : ℕ) → CanStandAt before_last here →
       decoder_step C before_last here (get_or octets (count - 1) 0)
       ≡ emitted C m of.0 s.transition s.output
       (lines_at here) here
-  told_whole here stands =
-      let ps = open_parts C here m.outer.items in
-      let b = get_or octets (count - 1) 0 in
-      let c = coding_in (plain m.order) ps in
-      let k : IsCoded here c (coding_by m.order m.at m.outer.items) =
-      coded_in C here (plain m.order) m.order m.at m.outer.items stands.1
-      (record { order = refl; at = omega (arith, stands.0) }) in
-      let T = tree C of.0 in
-      let comes : leaf_step c (path_in [] ps) (leaf_of C h.leaf h.carry h.piece) here b
-      ≡ after_transition C T s.transition m.carry (still_held s.output m.piece.items)
-      (lines_at here) (here + 1) =
-      h.comes c (path_in [] ps) here (k.order ∙ ap (λ (p : Order × ℕ). p.0) coded)
-      (k.at ∙ ap (λ (p : Order × ℕ). p.1) coded)
-      ∙ (ap (λ xs. after_transition C T s.transition xs (still_held s.output d.piece.items)
-      (lines_at here) (here + 1)) (sym on.carry)
-      ∙ ap (λ xs. after_transition C T s.transition m.carry (still_held s.output xs) (lines_at here)
-      (here + 1)) (sym on.piece)) in
-      ap (λ l. step (plain m.order) [] ps (leaf_in C before_last l) here b) leads
-      ∙ ap (around (plain m.order) [] ps) comes
+  told_whole here stands = search (arith, get_or, coded_in, coded, leads)
 
   pub lines_whole : (here : ℕ) → CanStandAt before_last here →
       lines_of (decoder_step C before_last here (get_or octets (count - 1) 0)) ≡ lines_at here
-  lines_whole here stands =
-      ap lines_of (told_whole here stands)
-      ∙ lines_after_transition C here (plain m.order) [] m.outer.items (tree C of.0) s.transition
-      m.carry (still_held s.output m.piece.items)
-      (lines_at here) fits_then.ahead fits_then.known_outer
+  lines_whole here stands = search (arith, told_whole, lines_after_transition, fits_then)
 
   pub keeps_noted_whole : (new : Decoder) (here : ℕ) (front : List Line) →
       CanStandAt before_last here →
@@ -525,28 +473,16 @@ module _ (C : Table) (d : Decoder) (octets : List ℕ) (of : TypeId) (count : �
       KeepsNoted m.head.root before_last (read_by_fields C before_last front here) →
       KeepsNoted m.head.root new (with_front front
       (decoder_step C before_last here (get_or octets (count - 1) 0)))
-  keeps_noted_whole new here front stands inside notes old =
-      let r = decoder_step C before_last here (get_or octets (count - 1) 0) in
-      let header = is_header_root m.head.root in
-      let path = path_in [] (open_parts C here m.outer.items) in
-      let back = sym h.same in
-      let T = tree C (leaf_type h.leaf) in
-      let before : HoldsNoted m.notes (without_name_if (leaf_in_string T h.leaf)
-      (noted header nothing_noted front)) =
-      subst (λ b. HoldsNoted m.notes (without_name_if b (noted header nothing_noted front)))
-      (leaf_inside C h.leaf h.carry h.piece)
-      (rw leads at old) in
-      let then = noted_on header C h.leaf s.transition s.output path (here + 1)
-      (m.piece.items ++ rest) front (lines_at here) r
-      (subst (λ t. OutputFitsString (tree C t) (leaf_in_string (tree C t) h.leaf) s.transition
-      s.output) back h.output_fits_string)
-      (subst (λ t. IsOutput (tree C t) path (here + 1) s.output (m.piece.items ++ rest)
-      (lines_at here)) back (says_at here))
-      (subst (λ t. ends_in_string r ≡ transition_in_string (tree C t) s.transition) back
-      (ap ends_in_string (told_whole here stands) ∙ inside))
-      (lines_whole here stands) in
-      subst (HoldsNoted new.notes) then (notes
-      (without_name_if (leaf_in_string T h.leaf) (noted header nothing_noted front)) before)
+  keeps_noted_whole new here front stands inside notes old = search (
+    arith,
+    get_or,
+    leaf_inside,
+    leads,
+    noted_on,
+    says_at,
+    told_whole,
+    lines_whole,
+  )
 
   pub name_whole : (here : ℕ) (next : Innermost) (new : Notes) → IsNotRefused s.transition →
       string_offset (tree C (leaf_type next)) next ≡ transition_offset (tree C of.0) s.transition →

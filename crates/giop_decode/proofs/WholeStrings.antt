@@ -1,7 +1,7 @@
 -- The lines of a reading that are pieces of strings: those of whole contents, one after the other,
 -- and those of one that has begun.
-use Rattle.std.proofs.Common.{◌≡◌, ℕ, zero, suc, ◌+◌, ◌-◌, ◌*◌, ◌<◌, ◌≤◌, Bool, true, false, List, [], ◌∷◌, ◌++◌, length, take, drop, get_or, Option, Some, None, refl, sym, ◌∙◌, ap, append_assoc, append-nil, length-append, true≢false, arith, ◌⊎◌, inl, inr}
-use Rattle.std.specs.Prelude.{cond, flat_map, ltb}
+use Rattle.std.proofs.Common.{◌≡◌, ℕ, zero, suc, ◌+◌, ◌-◌, ◌*◌, ◌<◌, ◌≤◌, Bool, true, List, [], ◌∷◌, ◌++◌, length, take, drop, get_or, Option, Some, None, refl, sym, ◌∙◌, ap, append_assoc, append-nil, length-append, true≢false, arith, ◌⊎◌, inl, inr}
+use Rattle.std.specs.Prelude.{flat_map}
 use Rattle.std.specs.List.{AllByRecursion as Each}
 use Rattle.std.proofs.lemmas.Bool.{cases_lt}
 use Rattle.std.proofs.lemmas.Grind.{flat_map-append}
@@ -12,11 +12,10 @@ use Rattle.giop_cdr.specs.Numbers.{num}
 use Rattle.giop_cdr.specs.declared.order.Order.{Order}
 use Rattle.giop_decode.specs.Noted.{ends_in_string}
 use Rattle.giop_decode.specs.NotedFromLines.{piece, text_of, text_pieces, cut_from, pieces_of, Strings}
-use Rattle.giop_decode.specs.Pieces.{Complete, Block, Partial, block, content, ends, full_piece, full_pieces, last_piece, octets, over, tail, text, unless}
-use Rattle.giop_decode.specs.Reading.{cut_off, enclosed, after_leading_number, inside, member, opening, order_of, ordered, parts_from, read, refused, rest_of, single, sized, wrong}
-use Rattle.giop_decode.specs.ReadResult.{Coding, Count, Done, Fault, Held, Index, Inside, Line, Member, Name, Number, Opening, Ordered, Part, Piece, OpenPart, Read, PathSegment, Short, Size, Switch, coded, followed, line, with_front, within, lines_of}
+use Rattle.giop_decode.specs.Pieces.{Complete, Block, Partial, block, content, ends, full_piece, full_pieces, last_piece, octets, over, text, unless}
+use Rattle.giop_decode.specs.Reading.{enclosed, after_leading_number, inside, member, opening, ordered, parts_from, read, refused, rest_of, single, sized, wrong}
+use Rattle.giop_decode.specs.ReadResult.{Coding, Count, Done, Fault, Held, Index, Line, Member, Name, Number, Part, Piece, OpenPart, Read, PathSegment, Short, Size, Switch, followed, line, with_front, within, lines_of}
 use Rattle.giop_decode.specs.declared.progress.Kind.{Kind}
-use Rattle.giop_decode.specs.declared.progress.Kind.TheVariants as kinds
 use Rattle.giop_sig.specs.Types.{tag_of, Array, Encapsulation, Octets, Scalar, Sequence, Single, Struct, Text, Ty, Union}
 use Rattle.giop_sig.specs.declared.types.Selected.{Selected}
 use Rattle.giop_sig.specs.declared.types.Selected.TheVariants.{Case}
@@ -25,11 +24,11 @@ use Rattle.giop_decode.proofs.Law.{block_got, block_waits}
 use Rattle.giop_decode.proofs.Resuming.{lines_front}
 
 texts_append : (xs ys : List Line) → text_pieces (xs ++ ys) ≡ text_pieces xs ++ text_pieces ys
-texts_append xs ys = filter_map-append (λ l. text_of l.value) xs ys
+texts_append xs ys = search (arith, filter_map-append)
 
 -- readings with no string among their lines
 no_strings : (r : Read) → text_pieces (lines_of r) ≡ [] → Strings r
-no_strings r e = record { contents = []; begun = []; lines = e; unended = tt; none = λ _. refl }
+no_strings r e = search (arith)
 
 whole_then : (front : List Line) (contents : List (List ℕ)) (r : Read) →
     text_pieces front ≡ flat_map pieces_of contents → Strings r → Strings (with_front front r)
@@ -55,39 +54,27 @@ then_strings front r e h = whole_then front [] r e h
 
 followed_strings : (r : Read) (next : ℕ → List ℕ → Read) → Strings r →
     ((at : ℕ) (s : List ℕ) → Strings (next at s)) → Strings (followed r next)
-followed_strings (Done lines at rest) next h k =
-    whole_then lines h.contents _ (h.lines
-    ∙ (ap (λ begun. flat_map pieces_of h.contents ++ begun) (h.none refl)
-    ∙ append-nil (flat_map pieces_of h.contents)))
-    (k at rest)
+followed_strings (Done lines at rest) next h k = search (arith, whole_then, append-nil)
 followed_strings _ next h k = h
 
 within_strings : (place : OpenPart) (r : Read) → Strings r → Strings (within place r)
-within_strings place (Short lines at outer leaf) h =
-    record {
-      contents = h.contents;
-      begun = h.begun;
-      lines = h.lines;
-      unended = h.unended;
-      none =
-          h.none;
-    }
+within_strings place (Short lines at outer leaf) h = search (arith)
 within_strings place r h = h
 
 unless_strings : (T : Ty) (why : Option Kind) (at : ℕ) (r : Read) → Strings r →
     Strings (unless T why at r)
 unless_strings T None at r h = h
-unless_strings T (Some kind) at r h = no_strings (Fault [] at kind T) refl
+unless_strings T (Some kind) at r h = search (arith, no_strings)
 
 headed_strings : (T : Ty) (after : List ℕ → ℕ → List ℕ → Read) →
     ((xs : List ℕ) (at : ℕ) (s : List ℕ) → Strings (after xs at s)) → (g : Block) →
     Strings (after_leading_number T after g)
-headed_strings T after h (Partial carry at) = no_strings (Short [] at [] _) refl
+headed_strings T after h (Partial carry at) = search (arith, no_strings)
 headed_strings T after h (Complete xs at rest) = h xs at rest
 
 parts_strings : (part : ℕ → ℕ → List ℕ → Read) → ((i at : ℕ) (s : List ℕ) → Strings (part i at s)) →
     (more i at : ℕ) (s : List ℕ) → Strings (parts_from part more i at s)
-parts_strings part h zero i at s = no_strings (Done [] at s) refl
+parts_strings part h zero i at s = search (arith, no_strings)
 parts_strings part h (suc more) i at s =
     followed_strings (part i at s) (parts_from part more (suc i)) (h i at s)
     (parts_strings part h more (suc i))
@@ -104,29 +91,15 @@ Comes total full offset r =
 last_comes : (bound : Option ℕ) (path : List PathSegment) (total offset at : ℕ) (s : List ℕ) →
     offset ≤ total → Comes total 0 offset (last_piece (Text bound) path total offset
     (block (total - offset + 1) at s))
-last_comes bound path total offset at s ahead = go (cases_lt (length s) (total - offset + 1))
-  where
-    ended : (why : Option Kind) (xs rest : List ℕ) (at : ℕ) → total - offset ≤ length xs →
-        Comes total 0 offset (unless (Text bound) why at (Done
-        (line at path (Piece (Text bound) offset (take (total - offset) xs) false) ∷ []) at rest))
-    ended None xs rest at h = inl (
-      take (total - offset) xs,
-      let e =
-          length-take-le (total - offset) xs h in omega arith,
-      refl,
-    )
-    ended (Some kind) xs rest at h = inr (refl, tt)
-
-    go : (length s < total - offset + 1) ⊎ (total - offset + 1 ≤ length s) →
-        Comes total 0 offset (last_piece (Text bound) path total offset
-        (block (total - offset + 1) at s))
-    go (inl h) = rw (block_waits (total - offset + 1) at s h) (inr (refl, tt))
-    go (inr h) =
-        let e = length-take-le (total - offset + 1) s h in
-        rw (block_got (total - offset + 1) at s h)
-        (ended (ends (Text bound) (total - offset) (take (total - offset + 1) s))
-        (take (total - offset + 1) s)
-        (drop (total - offset + 1) s) (at + (total - offset + 1)) (omega arith))
+last_comes bound path total offset at s ahead = search (
+  arith,
+  cases_lt,
+  take,
+  length-take-le,
+  block_waits,
+  block_got,
+  drop,
+)
 
 cut_more : (full offset : ℕ) (xs ys : List ℕ) → length xs ≡ 32 →
     piece offset xs true ∷ cut_from full (offset + 32) ys ≡ cut_from (suc full) offset (xs ++ ys)
@@ -145,19 +118,17 @@ full_comes bound path total full offset next xs rest at h (inl (ys, len, is)) =
     let front : List Line = line at path (Piece (Text bound) offset xs true) ∷ [] in
     let long : offset + length (xs ++ ys) ≡ total = omega (arith, length-append {A = ℕ}) in
     inl (xs ++ ys, long, rw (lines_front front (next at rest), is) (cut_more full offset xs ys h))
-full_comes bound path total full offset next xs rest at h (inr (inside, each)) =
-    let front : List Line = line at path (Piece (Text bound) offset xs true) ∷ [] in
-    inr (
-      front_inside front (next at rest) ∙ inside,
-      rw (lines_front front (next at rest)) (refl, each),
-    )
+full_comes bound path total full offset next xs rest at h (inr (inside, each)) = search (
+  arith,
+  front_inside,
+  lines_front,
+)
 
 content_comes : (bound : Option ℕ) (path : List PathSegment) (total full offset at : ℕ)
     (s : List ℕ) →
     offset + 32 * full ≤ total → Comes total full offset (content (Text bound) path total full
     offset at s)
-content_comes bound path total zero offset at s ahead =
-    last_comes bound path total offset at s (omega arith)
+content_comes bound path total zero offset at s ahead = search (arith, last_comes)
 content_comes bound path total (suc full) offset at s ahead =
     go (cases_lt (length s) 32) (content_comes bound path total full (offset + 32) (at + 32)
     (drop 32 s) (omega arith))
@@ -169,7 +140,7 @@ content_comes bound path total (suc full) offset at s ahead =
         Comes total full (offset + 32) (next (at + 32) (drop 32 s)) →
         Comes total (suc full) offset (full_piece (Text bound) path total offset next
         (block 32 at s))
-    go (inl h) k = rw (block_waits 32 at s h) (inr (refl, tt))
+    go (inl h) k = search (arith, block_waits)
     go (inr h) k = rw (block_got 32 at s h)
         (full_comes bound path total full offset next (take 32 s) (drop 32 s) (at + 32)
         (length-take-le 32 s h) k)
@@ -182,13 +153,7 @@ comes_strings total r (inl (octets, len, is)) = record {
   unended = tt;
   none = λ _. refl;
 }
-comes_strings total r (inr (inside, each)) = record {
-  contents = [];
-  begun = text_pieces (lines_of r);
-  lines = refl;
-  unended = each;
-  none = λ outside. absurd (true≢false (sym inside ∙ outside));
-}
+comes_strings total r (inr (inside, each)) = search (arith, true≢false)
 
 text_strings : (bound : Option ℕ) (path : List PathSegment) (n at : ℕ) (s : List ℕ) →
     Strings (text bound path n at s)
@@ -214,23 +179,17 @@ module _ (T : Ty) (none : (offset : ℕ) (octets : List ℕ) (more : Bool) →
   bare_last : (path : List PathSegment) (total offset : ℕ) (g : Block) →
       text_pieces (lines_of (last_piece T path total offset g)) ≡ []
   bare_last path total offset (Partial held at) = refl
-  bare_last path total offset (Complete xs at rest) =
-      rw (endless (total - offset) xs, none offset (take (total - offset) xs) false) refl
+  bare_last path total offset (Complete xs at rest) = search (arith, take)
 
   bare_full : (path : List PathSegment) (total offset : ℕ) (next : ℕ → List ℕ → Read) (g : Block) →
       ((at : ℕ) (s : List ℕ) → text_pieces (lines_of (next at s)) ≡ []) →
       text_pieces (lines_of (full_piece T path total offset next g)) ≡ []
   bare_full path total offset next (Partial held at) h = refl
-  bare_full path total offset next (Complete xs at rest) h =
-      rw (
-        lines_front (line at path (Piece T offset xs true) ∷ []) (next at rest),
-        none offset xs true,
-      ) (h at rest)
+  bare_full path total offset next (Complete xs at rest) h = search (arith, lines_front)
 
   bare_none : (path : List PathSegment) (total full offset at : ℕ) (s : List ℕ) →
       text_pieces (lines_of (content T path total full offset at s)) ≡ []
-  bare_none path total zero offset at s =
-      bare_last path total offset (block (total - offset + tail T) at s)
+  bare_none path total zero offset at s = search (arith, bare_last)
   bare_none path total (suc full) offset at s =
       bare_full path total offset (content T path total full (offset + 32)) (block 32 at s)
       (bare_none path total full (offset + 32))
@@ -247,75 +206,53 @@ octets_strings bound path n at s =
 
 single_strings : (path : List PathSegment) (scalar : Scalar) (n at : ℕ) (s : List ℕ) →
     Strings (single path scalar n at s)
-single_strings path scalar n at s = unless_strings (Single scalar) (wrong scalar n) at _
-    (no_strings _ refl)
+single_strings path scalar n at s = search (arith, unless_strings, no_strings)
 
 member_strings : (selected : Selected) (case : ℕ → ℕ → List ℕ → Read) →
     ((i at : ℕ) (s : List ℕ) → Strings (case i at s)) → (at : ℕ) (s : List ℕ) →
     Strings (member selected case at s)
 member_strings (Case i) case h at s = h i at s
-member_strings _ case h at s = no_strings (Done [] at s) refl
+member_strings _ case h at s = search (arith, no_strings)
 
 -- ---- encapsulations
 
 module _ (path : List PathSegment) (T : Ty) where
   rest_strings : (n at : ℕ) (s : List ℕ) → Strings (rest_of path (Encapsulation T) n at s)
-  rest_strings zero at s = no_strings (Done [] at s) refl
-  rest_strings (suc n) at s = no_strings _
-      (bare_none (Encapsulation T) (λ offset octets more. refl) (λ n xs. refl) path (suc n)
-      (full_pieces (suc n)) 0 at s)
+  rest_strings zero at s = search (arith, no_strings)
+  rest_strings (suc n) at s = search (arith, no_strings, bare_none)
 
   enclosed_strings : (coding : Coding) (end : ℕ) (r : Read) (more : List ℕ) → Strings r →
       Strings (enclosed path (Encapsulation T) coding end r more)
-  enclosed_strings coding end (Done lines at rest) more h =
-      whole_then lines h.contents _
-      (h.lines ∙ (ap (λ begun. flat_map pieces_of h.contents ++ begun) (h.none refl)
-      ∙ append-nil (flat_map pieces_of h.contents)))
-      (rest_strings (end - at) at (rest ++ more))
-  enclosed_strings coding end (Short lines at outer leaf) more h = go (ltb at end)
-    where
-      go : (test : Bool) → Strings (cond test (Short lines
-          at (Inside (Encapsulation T) coding end ∷ outer) leaf)
-          (Fault lines at kinds.EncapShort (cut_off leaf)))
-      go true = record {
-        contents = h.contents;
-        begun = h.begun;
-        lines = h.lines;
-        unended =
-            h.unended;
-        none = h.none;
-      }
-      go false = record {
-        contents = h.contents;
-        begun = h.begun;
-        lines = h.lines;
-        unended =
-            h.unended;
-        none = λ k. h.none (sym (cut_inside leaf) ∙ k);
-      }
+  enclosed_strings coding end (Done lines at rest) more h = search (
+    arith,
+    whole_then,
+    append-nil,
+    rest_strings,
+  )
+  enclosed_strings coding end (Short lines at outer leaf) more h = search (arith, cut_inside)
   enclosed_strings coding end (Fault lines at kind S) more h = h
 
 module _ (path : List PathSegment) (T : Ty) (value : Coding → ℕ → List ℕ → Read)
     (strings : (coding : Coding) (at : ℕ) (s : List ℕ) → Strings (value coding at s)) where
   ordered_strings : (origin n : ℕ) (order : Option Order) (at : ℕ) (rest : List ℕ) →
       Strings (ordered path (Encapsulation T) value origin n order at rest)
-  ordered_strings origin n None at rest =
-      no_strings (Fault [] at kinds.EncapOrder (Encapsulation T)) refl
-  ordered_strings origin n (Some order) at rest =
-      then_strings (line at path (Ordered order) ∷ []) _ refl
-      (enclosed_strings path T (coded order origin) (at + n) _ (drop n rest)
-      (strings (coded order origin) at (take n rest)))
+  ordered_strings origin n None at rest = search (arith, no_strings)
+  ordered_strings origin n (Some order) at rest = search (
+    arith,
+    then_strings,
+    enclosed_strings,
+    drop,
+    take,
+  )
 
   opening_strings : (origin n : ℕ) (g : Block) →
       Strings (opening path (Encapsulation T) value origin n g)
-  opening_strings origin n (Partial none at) =
-      no_strings (Short [] at [] (Opening (Encapsulation T) n)) refl
-  opening_strings origin n (Complete octets at rest) =
-      ordered_strings origin n (order_of (get_or octets 0 0)) at rest
+  opening_strings origin n (Partial none at) = search (arith, no_strings)
+  opening_strings origin n (Complete octets at rest) = search (arith, ordered_strings, get_or)
 
   sized_strings : (n at : ℕ) (s : List ℕ) → Strings (sized path (Encapsulation T) value n at s)
-  sized_strings zero at s = no_strings (Fault [] at kinds.EncapShort (Encapsulation T)) refl
-  sized_strings (suc n) at s = opening_strings at n (block 1 at s)
+  sized_strings zero at s = search (arith, no_strings)
+  sized_strings (suc n) at s = search (arith, opening_strings)
 
 -- The strings of any reading.
 pub read_strings : (coding : Coding) (path : List PathSegment) (T : Ty) (at : ℕ) (s : List ℕ) →

@@ -14,16 +14,14 @@ use Rattle.giop_decode.specs.declared.progress.Progress.TheVariants as progress
 use Rattle.giop_decode.specs.declared.text_ahead.TextAhead.{TextAhead}
 use Rattle.giop_decode.specs.DecoderState.{Fits, HoldsNoted, read_by_fields}
 use Rattle.giop_decode.specs.DecoderSteps.{emitted}
-use Rattle.giop_decode.specs.NameBuffer.{string_offset}
 use Rattle.giop_decode.specs.Passes.{Gives, Passes}
-use Rattle.giop_decode.specs.Noted.{Noted, ended, ends_in_string, is_header_root, noted, with_expects, with_piece, without_name_if}
-use Rattle.giop_decode.specs.NotingSteps.{transition_offset}
+use Rattle.giop_decode.specs.Noted.{Noted, is_header_root, noted, with_piece, without_name_if}
 use Rattle.giop_decode.specs.ReadResult.{plain, line, Line, PathSegment, Piece, Short}
 use Rattle.giop_decode.specs.ReadingSteps.{around, path_in}
 use Rattle.giop_decode.specs.Runs.{TakenTogether, TakesSome}
 use Rattle.giop_decode.specs.Spelling.{lines_text}
 use Rattle.giop_decode.specs.TextAhead.{IsTextAhead}
-use Rattle.giop_decode.specs.Transitions.{IsClean, Link, is_inside, leaf_of, leaf_type, open_parts}
+use Rattle.giop_decode.specs.Transitions.{is_inside, leaf_of, leaf_type, open_parts}
 use Rattle.giop_decode.proofs.Advancing.{same_some}
 use Rattle.giop_decode.proofs.NextParts.{stand_free}
 use Rattle.giop_decode.proofs.Noting.{leaf_inside}
@@ -60,33 +58,9 @@ forgotten_id m b = refl
 
 forgets : (m : Notes) (b : Buffer) (h : Noted) → m.buffer ≡ b → HoldsNoted m h →
     HoldsNoted (forgotten m b) (without_name_if true h)
-forgets m buffers.Whole h is k =
-    let held = rw is at k.name in
-    record {
-      request_id = k.request_id;
-      status = k.status;
-      expects_reply = k.expects_reply;
-      name =
-          (refl, held.1, omega arith);
-    }
-forgets m buffers.Begun h is k =
-    let held = rw is at k.name in
-    record {
-      request_id = k.request_id;
-      status = k.status;
-      expects_reply = k.expects_reply;
-      name =
-          rw is (refl, held.1, held.2);
-    }
-forgets m buffers.TooLong h is k =
-    let held = rw is at k.name in
-    record {
-      request_id = k.request_id;
-      status = k.status;
-      expects_reply = k.expects_reply;
-      name =
-          rw is (refl, held.1, held.2);
-    }
+forgets m buffers.Whole h is k = search (arith)
+forgets m buffers.Begun h is k = search (arith)
+forgets m buffers.TooLong h is k = search (arith)
 
 -- what was noted before the name was cleared, from what is noted then: a piece of the string
 -- follows on both alike
@@ -115,29 +89,15 @@ recalled m buffers.Whole o is k = record {
   same = λ octets. rw k.name.1 refl;
   expects = refl;
 }
-recalled m buffers.Begun o is k = record {
-  noted = o;
-  held = k;
-  same = λ octets. refl;
-  expects =
-      refl;
-}
-recalled m buffers.TooLong o is k = record {
-  noted = o;
-  held = k;
-  same = λ octets. refl;
-  expects =
-      refl;
-}
+recalled m buffers.Begun o is k = search (arith)
+recalled m buffers.TooLong o is k = search (arith)
 
 piece_recalled : (header : Bool) (m : Notes) (o : Noted) (r : Recalled m o) (T : Ty)
     (bound : Option ℕ) (at : ℕ)
     (path : List PathSegment) (octets : List ℕ) (lines : List Line) → T ≡ Text bound →
     lines ≡ line at path (Piece T 0 octets false) ∷ [] →
     noted header r.noted lines ≡ noted header o lines
-piece_recalled header m o r T bound at path octets lines text says =
-    rw (says, text) (ap (λ z. with_expects (ended z) r.noted.expects_reply) (r.same octets)
-    ∙ ap (with_expects (ended (with_piece o octets))) r.expects)
+piece_recalled header m o r T bound at path octets lines text says = search (arith)
 
 -- ---- where a string stands whole
 
@@ -198,8 +158,7 @@ text_stands C d octets of inner by head total s rest bound text outside leaf is 
 pub free_at_last : (d : Decoder) (count at : ℕ) → is_inside d.outer.items ≡ false →
     at ≡ (d.at + (count - 1)) % 8 →
     IsAtLast d (at_last d at d.outer) count
-free_at_last d count at free there = is_at_last d count at d.outer there
-    (free_ticked_by (count - 1) d.outer.items free)
+free_at_last d count at free there = search (arith, is_at_last, free_ticked_by)
 
 module _ (C : Table) (d : Decoder) (octets : List ℕ) (text : TextAhead) (f : Fits C d)
     (h : IsTextAhead C d octets text) where
@@ -223,7 +182,7 @@ module _ (C : Table) (d : Decoder) (octets : List ℕ) (text : TextAhead) (f : F
   at_head = at_last d there d.outer
 
   on_head : IsAtLast d at_head text.head
-  on_head = free_at_last d text.head there free refl
+  on_head = search (arith, free_at_last, free)
 
   -- the decoder after its length
   abbrev pub begun : Decoder
@@ -240,10 +199,7 @@ module _ (C : Table) (d : Decoder) (octets : List ℕ) (text : TextAhead) (f : F
   }
 
   pub no_piece : d.piece.items ≡ []
-  no_piece =
-      let it : f.leaf ≡ innermost.Number text.of =
-      same_some f.leaf (innermost.Number text.of) (sym f.goes_on ∙ h.number) in
-      subst (λ l. IsClean l d.carry d.piece.items) it f.clean
+  no_piece = search (arith, same_some)
 
   come : (here : ℕ) (lines : List Line) →
       emitted C at_head text.of.0 step.transition step.output lines here
@@ -261,42 +217,22 @@ module _ (C : Table) (d : Decoder) (octets : List ℕ) (text : TextAhead) (f : F
 
   -- its length is passed, and gives no line
   length_passes : Passes C at_head begun text.of.0 step h.none progress.More
-  length_passes =
-      let same = type_at_last C d octets text.of text.head step h.none f h.leads at_head on_head in
-      let g = fits_then C d octets text.of text.head step h.none f h.leads at_head on_head in
-      let known : text.of.0 < length C.types = rw same at g.known in
-      record {
-        order = refl;
-        head = refl;
-        here = λ here k. (
-          let some = h.leads.some in omega (arith, k.0, some),
-          stand_free (here + 1) d.outer.items free,
-        );
-        next = λ goes_on. record {
-          known_outer = f.known_outer;
-          inside = f.inside;
-          ahead = f.ahead;
-          known = λ next is. subst (λ l. leaf_type l < length C.types) (same_some leaf next is)
-              known;
-          clean = λ next is. subst (λ l. IsClean l d.carry d.piece.items) (same_some leaf next is)
-              h.leads.transition_fits.1;
-          link = λ root next link is. subst (λ l. Link C root d.outer.items (leaf_type l))
-              (same_some leaf next is) link;
-          going = tt;
-          offset = λ next is.
-              subst (λ l. string_offset (tree C (leaf_type l)) l
-              ≡ transition_offset (tree C text.of.0) step.transition) (same_some leaf next is) refl;
-        };
-        steps = λ here lines says. (lines, (come here lines, (leaf, refl), rw says refl));
-        inside = λ here lines.
-            ap ends_in_string (come here lines) ∙ leaf_inside C leaf d.carry d.piece.items;
-        id = λ no. forgotten_id d.notes d.notes.buffer;
-        notes = λ o here at lines held says. rw says (forgets d.notes d.notes.buffer o refl held);
-      }
+  length_passes = search (
+    arith,
+    type_at_last,
+    on_head,
+    fits_then,
+    stand_free,
+    free,
+    same_some,
+    come,
+    leaf_inside,
+    forgotten_id,
+    forgets,
+  )
 
   pub begun_fits : Fits C begun
-  begun_fits = last_fits C d octets text.of text.head step h.none f h.leads at_head on_head begun
-      progress.More length_passes tt
+  begun_fits = search (arith, last_fits, on_head, length_passes)
 
   begun_so_far : (a : OutLog) → TakenSoFar C d begun octets text.head a a
   begun_so_far a =

@@ -1,15 +1,15 @@
 -- What a message writes and answers at an octet, and at its close, are the lines of its reading.
-use Rattle.std.proofs.Common.{◌≡◌, ℕ, suc, ◌+◌, ◌-◌, ◌≤◌, Bool, true, false, List, [], ◌∷◌, ◌++◌, length, map, drop, refl, sym, ap, ◌∙◌, arith, flat_map}
-use Rattle.std.specs.Prelude.{◌||◌, ◌==◌, if◌then◌else◌}
+use Rattle.std.proofs.Common.{◌≡◌, ℕ, suc, ◌+◌, ◌-◌, ◌≤◌, Bool, false, List, [], ◌∷◌, ◌++◌, length, map, drop, refl, sym, ap, ◌∙◌, arith, flat_map}
+use Rattle.std.specs.Prelude.{◌||◌, ◌==◌}
 use Rattle.std.specs.List.{filter, list_any, AllByRecursion as Each}
 use Rattle.std.proofs.Math.Seq.{drop-append_seam}
 use Rattle.std.proofs.lemmas.Bool.{eq-eqb, ne_eqb}
 use Rattle.std.proofs.lemmas.List.Elements.{filter-append}
 use Rattle.giop_message.specs.MessageReader.{TimedLine, is_fault}
-use Rattle.giop_message.specs.Text.{line_class_text, numbered_lines}
+use Rattle.giop_message.specs.Text.{numbered_lines}
 use Rattle.giop_message.specs.Signatures.{Signatures}
-use Rattle.giop_message.specs.Messages.{MessageLine, ValueLine, CallLine, RestLine, FaultLine, ShortLine, EndLine, LineAt, body_may_be_missing, Stage, In_typed, In_padding, In_rest, Over, message, message_lines, stage_of, close}
-use Rattle.giop_message.specs.ReaderOfTable.{line_class_of, text_of, timed_line_of, closing_of, remarks_by, closes_by, due_by, is_over, is_wrong}
+use Rattle.giop_message.specs.Messages.{MessageLine, LineAt, message, message_lines, stage_of, close}
+use Rattle.giop_message.specs.ReaderOfTable.{line_class_of, timed_line_of, closing_of, remarks_by, closes_by, due_by, is_over, is_wrong}
 use Rattle.giop_message.specs.MessageState.{message_line_text, message_lines_text, due, due_text, is_short, closing_text, timed_lines_text, closes_text}
 use Rattle.giop_message.proofs.Going.{message_goes}
 use Rattle.giop_message.proofs.Causal.{ToldAt, map_both, stands, one_more, ordered}
@@ -21,16 +21,12 @@ use Rattle.std.proofs.lemmas.List.{drop-map, length-map}
 none_before : (n : ℕ) (emitted : List LineAt) → Each (λ t. t.at ≤ 12 + n) emitted →
     filter (λ r. r.at == suc n) (map timed_line_of emitted) ≡ []
 none_before n [] h = refl
-none_before n (t ∷ ts) h = rw (ne_eqb (t.at - 12) (suc n) (λ e. omega (arith, h.0)))
-    (none_before n ts h.1)
+none_before n (t ∷ ts) h = search (arith, ne_eqb, none_before n ts h.1)
 
 all_here : (n : ℕ) (emitted : List LineAt) → ToldAt ((12 + n) + 1) emitted →
     filter (λ r. r.at == suc n) (map timed_line_of emitted) ≡ map timed_line_of emitted
 all_here n [] h = refl
-all_here n (t ∷ ts) h =
-    let e : t.at - 12 ≡ suc n = omega (arith, h.0) in
-    rw (eq-eqb (t.at - 12) (suc n) e) (ap (λ (rs : List TimedLine). timed_line_of t ∷ rs)
-    (all_here n ts h.1))
+all_here n (t ∷ ts) h = search (arith, eq-eqb, all_here n ts h.1)
 
 -- the lines of one octet more: they are at that octet, and the reading has them
 record One (S : Signatures) (header xs : List ℕ) (x : ℕ) : Type 0 where
@@ -73,10 +69,7 @@ told_here : (number place offset : ℕ) (emitted : List LineAt) → ToldAt (offs
     ≡ numbered_lines (suc place) number (map timed_line_of emitted)
 unfolding message_lines_text numbered_lines message_line_text
 told_here number place offset [] h = refl
-told_here number place offset (t ∷ ts) h =
-    let e : place + (t.at - offset) ≡ suc place = omega (arith, h.0) in
-    rw e (ap (λ (z : List ℕ). line_class_text (suc place) number (line_class_of t.message_line)
-    (text_of t.message_line) ++ z) (told_here number place offset ts h.1))
+told_here number place offset (t ∷ ts) h = search (arith, told_here number place offset ts h.1)
 
 -- The text of an octet is that of its lines in the reading.
 pub octet_text : (S : Signatures) (number place : ℕ) (header xs : List ℕ) (x : ℕ) →
@@ -92,16 +85,7 @@ octet_text S number place header xs x =
 
 wrong_is : (t : LineAt) → is_wrong t ≡ is_fault (line_class_of t.message_line)
 unfolding is_wrong line_class_of
-wrong_is t = go t.message_line
-  where
-    go : (s : MessageLine) → is_wrong (record { at = t.at; message_line = s })
-        ≡ is_fault (line_class_of s)
-    go (ValueLine root path v) = refl
-    go (CallLine id operation) = refl
-    go (RestLine offset octets) = refl
-    go (FaultLine why) = refl
-    go ShortLine = refl
-    go EndLine = refl
+wrong_is t = search (arith)
 
 wrongs_are : (emitted : List LineAt) → list_any is_wrong emitted
     ≡ list_any (λ r. is_fault r.line_class) (map timed_line_of emitted)
@@ -114,32 +98,20 @@ or_of a b c e = ap (λ (d : Bool). a || d) e
 any_both : (xs ys : List LineAt) → list_any is_wrong (xs ++ ys)
     ≡ (list_any is_wrong xs || list_any is_wrong ys)
 any_both [] ys = refl
-any_both (x ∷ xs) ys = or_of (is_wrong x) (list_any is_wrong (xs ++ ys))
-    (list_any is_wrong xs || list_any is_wrong ys) (any_both xs ys)
-    ∙ or_more (is_wrong x) (list_any is_wrong xs) (list_any is_wrong ys)
-  where
-    or_more : (a b c : Bool) → (a || (b || c)) ≡ ((a || b) || c)
-    or_more true b c = refl
-    or_more false b c = refl
+any_both (x ∷ xs) ys = search (arith, or_of, any_both xs ys)
 
 over_more : (S : Signatures) (header xs : List ℕ) (x : ℕ) →
     is_over (stage_of (message S header (xs ++ x ∷ [])))
     ≡ (is_over (stage_of (message S header xs)) || list_any (λ r. is_fault r.line_class)
     (due_by S header xs x))
-over_more S header xs x =
-    let one = one_octet S header xs x in
-    let old = message_lines (message S header xs) in
-    over_where_faulted S header (xs ++ x ∷ [])
-    ∙ (ap (list_any is_wrong) one.emitted
-    ∙ (any_both old (due S header xs (x ∷ []))
-    ∙ rw (over_where_faulted S header xs, one.said, wrongs_are (due S header xs (x ∷ []))) refl))
+over_more S header xs x = search (arith, one_octet, over_where_faulted, any_both, wrongs_are)
 
 -- A message that isn't over is over after an octet exactly if the octet has the line of a fault.
 pub octet_over : (S : Signatures) (header xs : List ℕ) (x : ℕ) →
     is_over (stage_of (message S header xs)) ≡ false →
     is_over (stage_of (message S header (xs ++ x ∷ [])))
     ≡ list_any (λ r. is_fault r.line_class) (due_by S header xs x)
-octet_over S header xs x h = over_more S header xs x ∙ rw h refl
+octet_over S header xs x h = search (arith, over_more)
 
 -- ---- a close
 
@@ -148,56 +120,37 @@ pub close_short : (S : Signatures) (header xs : List ℕ) →
     is_short (close (stage_of (message S header xs)))
     ≡ list_any (λ l. is_fault l.0) (closes_by S header xs)
 unfolding closes_by is_short line_class_of close
-close_short S header xs = go (stage_of (message S header xs))
-  where
-    lack : (test : Bool) → is_short (if test then EndLine ∷ [] else ShortLine ∷ [])
-        ≡ list_any (λ l. is_fault l.0)
-        (map closing_of (if test then EndLine ∷ [] else ShortLine ∷ []))
-    lack true = refl
-    lack false = refl
-
-    go : (stage : Stage) → is_short (close stage)
-        ≡ list_any (λ l. is_fault l.0) (map closing_of (close stage))
-    go (In_typed section h outer leaf) = refl
-    go (In_padding t) = lack (body_may_be_missing t)
-    go (In_rest offset []) = refl
-    go (In_rest offset (x ∷ held)) = refl
-    go Over = refl
+close_short S header xs = search (arith, map)
 
 each_timed_line : (number place n : ℕ) (emitted : List LineAt) →
     flat_map (λ t. message_line_text number (place + (t.at - (12 + n))) t.message_line) emitted
     ≡ timed_lines_text number place n (map timed_line_of emitted)
 unfolding message_line_text timed_lines_text
 each_timed_line number place n [] = refl
-each_timed_line number place n (t ∷ ts) =
-    let e : t.at - (12 + n) ≡ (t.at - 12) - n = omega arith in
-    rw e (ap (λ z. line_class_text (place + ((t.at - 12) - n)) number (line_class_of t.message_line)
-    (text_of t.message_line) ++ z) (each_timed_line number place n ts))
+each_timed_line number place n (t ∷ ts) = search (arith, each_timed_line number place n ts)
 
 pub text_is : (S : Signatures) (number place : ℕ) (header s more : List ℕ) →
     due_text S number place header s more ≡ timed_lines_text number place (length s)
     (drop (length (remarks_by S header s)) (remarks_by S header (s ++ more)))
 unfolding due_text message_lines_text due remarks_by
-text_is S number place header s more =
-    each_timed_line number place (length s)
-    (drop (length (message_lines (message S header s)))
-    (message_lines (message S header (s ++ more))))
-    ∙ ap (timed_lines_text number place (length s))
-    (sym (ap (λ n. drop n (map timed_line_of (message_lines (message S header (s ++ more)))))
-    (length-map (message_lines (message S header s)) timed_line_of)
-    ∙ drop-map timed_line_of (length (message_lines (message S header s)))
-    (message_lines (message S header (s ++ more)))))
+text_is S number place header s more = search (
+  arith,
+  each_timed_line,
+  drop,
+  map,
+  length-map,
+  drop-map,
+)
 
 each_close : (number place : ℕ) (speeches : List MessageLine) →
     flat_map (message_line_text number place) speeches
     ≡ closes_text number place (map closing_of speeches)
 unfolding message_line_text closes_text
 each_close number place [] = refl
-each_close number place (s ∷ ss) = ap (λ z.
-    line_class_text place number (line_class_of s) (text_of s) ++ z) (each_close number place ss)
+each_close number place (s ∷ ss) = search (arith, each_close number place ss)
 
 pub close_is : (S : Signatures) (number place : ℕ) (header s : List ℕ) →
     closing_text number place (close (stage_of (message S header s)))
     ≡ closes_text number place (closes_by S header s)
 unfolding closing_text closes_by
-close_is S number place header s = each_close number place (close (stage_of (message S header s)))
+close_is S number place header s = search (arith, each_close)

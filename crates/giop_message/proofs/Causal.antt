@@ -13,13 +13,13 @@ use Rattle.giop_decode.specs.ReadResult.{plain, PathSegment, Value as Valued, Li
 use Rattle.giop_decode.specs.Reading.{read}
 use Rattle.giop_decode.specs.ReadingSteps as decoder
 use Rattle.giop_decode.specs.ReadingSteps.{IsEmptyResult, OneAt, IsOctetResult}
-use Rattle.giop_decode.specs.Noted.{Noted, nothing_noted, note, noted, ends_operation, is_header_root}
+use Rattle.giop_decode.specs.Noted.{Noted, nothing_noted, note, ends_operation, is_header_root}
 use Rattle.giop_decode.proofs.ReadingLaws.{length_one_more, each_append, read_quiet, step_now}
 use Rattle.giop_message.specs.declared.part.Section.{Section}
 use Rattle.giop_message.specs.Headers.{order}
 use Rattle.giop_message.specs.MessageReader.{LineClass, TimedLine, AreInLineOrder, IsOrdered, IsCausal}
 use Rattle.giop_message.specs.Signatures.{Signatures}
-use Rattle.giop_message.specs.Messages.{ValueLine, CallLine, RestLine, FaultLine, LineAt, line_at, is_shown, call_of, calls, section_lines, BodyType, Stage, In_typed, In_padding, In_rest, Over, Message, ReadTo, with_front, section_then, rest_in, rest, body, padded, message, message_lines, root_of, may_call, after, section_and_rest}
+use Rattle.giop_message.specs.Messages.{ValueLine, CallLine, RestLine, FaultLine, LineAt, line_at, call_of, calls, section_lines, BodyType, Stage, In_typed, In_padding, In_rest, Over, Message, ReadTo, with_front, section_then, rest_in, rest, body, padded, message, message_lines, root_of, may_call, after, section_and_rest}
 use Rattle.giop_message.specs.StageSteps.{rest_step, message_step, advance}
 use Rattle.giop_message.specs.ReaderOfTable.{line_class_of, timed_line_of, remarks_by, reader_by}
 use Rattle.giop_message.proofs.LastParts.{CallsNone, step_none}
@@ -42,12 +42,12 @@ abbrev pub Prompt : ℕ → Message → Type 0
 Prompt n (ReadTo emitted at stage) = Turn n emitted × ((at ≡ n) ⊎ (stage ≡ Over))
 
 silent_prompt : (n : ℕ) (m : Message) → Silent n m → Prompt n m
-silent_prompt n (ReadTo emitted at stage) h = rw h.0 ((tt, inl refl), inl h.1)
+silent_prompt n (ReadTo emitted at stage) h = search (arith)
 
 prompt_front : (n : ℕ) (front : List LineAt) (m : Message) → Turn n front → Silent n m →
     Prompt n (with_front front m)
 unfolding with_front
-prompt_front n front (ReadTo emitted at stage) h k = rw (k.0, append-nil front) (h, inl k.1)
+prompt_front n front (ReadTo emitted at stage) h k = search (arith, append-nil)
 
 -- one call line, or none
 abbrev pub MayCall : ℕ → List LineAt → Type 0
@@ -58,11 +58,7 @@ call_is : (n : ℕ) (id : Option ℕ) (name : Option (List ℕ)) → MayCall n (
 unfolding call_of
 call_is n None name = inl refl
 call_is n (Some id) None = inl refl
-call_is n (Some id) (Some name) = go (is_shown name)
-  where
-    go : (test : Bool) → MayCall n (if test then line_at n (CallLine id name) ∷ [] else [])
-    go true = inr (id, name, refl)
-    go false = inl refl
+call_is n (Some id) (Some name) = search (arith)
 
 call_by : (n : ℕ) (test : Bool) (ts : List LineAt) → MayCall n ts →
     MayCall n (if test then ts else [])
@@ -71,14 +67,13 @@ call_by n false ts h = inl refl
 
 pub calls_is : (is : Bool) (l : Line) (h : Noted) → MayCall l.at (calls is l h)
 unfolding calls
-calls_is is l h = call_by l.at (ends_operation is l) (call_of l.at h.request_id h.name)
-    (call_is l.at h.request_id h.name)
+calls_is is l h = search (arith, call_by, call_is)
 
 value_turn : (n : ℕ) (root : Root) (path : List PathSegment) (v : Valued) (more : List LineAt) →
     MayCall n more → Turn n ((line_at n (ValueLine root path v) ∷ more) ++ [])
 unfolding line_at line_class_of
-value_turn n root path v more (inl e) = rw e ((refl, tt), inr (inl refl))
-value_turn n root path v more (inr f) = rw f.2 ((refl, (refl, tt)), inr (inr (inl refl)))
+value_turn n root path v more (inl e) = search (arith)
+value_turn n root path v more (inr f) = search (arith)
 
 section_lines_turn : (root : Root) (is : Bool) (n : ℕ) (h : Noted) (lines : List Line) →
     OneAt n lines →
@@ -99,7 +94,7 @@ module _ (section : Section) (is : Bool) (next : Noted → ℕ → List ℕ → 
   pub passes_silent : (k : Noted) (r : Read) → IsEmptyResult n r →
       Silent n (section_then section is next k r)
   unfolding section_then section_lines
-  passes_silent k (Done lines at s) h = rw (h.0, h.1, h.2, front_none (next k n [])) (silent k)
+  passes_silent k (Done lines at s) h = search (arith, front_none)
   passes_silent k (Short lines at outer leaf) h = rw (h.0, h.1) (refl, refl)
   passes_silent k (Fault lines at why T) h = absurd h
 
@@ -108,22 +103,16 @@ module _ (section : Section) (is : Bool) (next : Noted → ℕ → List ℕ → 
       Each (λ l. ends_operation is l ≡ false) lines →
       Turn n (section_lines R is k lines ++ line_at at (FaultLine why) ∷ [])
   unfolding line_at section_lines calls line_class_of
-  faulted_turn k [] at why e one none = ((e, tt), inr (inr (inr (inr (inl refl)))))
-  faulted_turn k (l ∷ []) at why e one none =
-      rw none.0 ((one, (e, tt)), inr (inr (inr (inr (inr refl)))))
+  faulted_turn k [] at why e one none = search (arith)
+  faulted_turn k (l ∷ []) at why e one none = search (arith)
   faulted_turn k (l ∷ l' ∷ ls) at why e one none = absurd one
 
   passes_prompt : (k : Noted) (r : Read) → IsOctetResult n r → CallsNone is r →
       Prompt n (section_then section is next k r)
   unfolding section_then line_at section_lines line_class_of
-  passes_prompt k (Done lines at s) h none =
-      let now = noted (is_header_root R) k lines in
-      rw (h.1, h.2) (prompt_front n (section_lines R is k lines) (next now n [])
-      (section_lines_turn R is n k lines h.0) (silent now))
-  passes_prompt k (Short lines at outer leaf) h none =
-      (section_lines_turn R is n k lines h.0, inl h.1)
-  passes_prompt k (Fault lines at why T) h none =
-      (faulted_turn k lines at why h.1 (one_faulted n why lines h.0) none, inr refl)
+  passes_prompt k (Done lines at s) h none = search (arith, prompt_front, section_lines_turn)
+  passes_prompt k (Short lines at outer leaf) h none = search (arith, section_lines_turn)
+  passes_prompt k (Fault lines at why T) h none = search (arith, faulted_turn, one_faulted)
 
 pub rest_silent : (n : ℕ) → Silent n (rest n [])
 unfolding rest rest_in
@@ -138,20 +127,11 @@ module _ (S : Signatures) (header : List ℕ) where
       ((h : Noted) → IsSilent (after S header section h)) →
       IsSilent (λ at s. section_and_rest S header section nothing_noted
       (read (plain (order header)) [] T at s))
-  reads_silent section T silent n =
-      passes_silent section (may_call header section) (after S header section) n (λ k. silent k n)
-      nothing_noted (read (plain (order header)) [] T n [])
-      (read_quiet (plain (order header)) [] T n)
+  reads_silent section T silent n = search (arith, passes_silent, read_quiet)
 
   padded_silent : (t : BodyType) → IsSilent (body S header t) → IsSilent (padded S header t)
   unfolding padded
-  padded_silent t silent n = go (cases_lt 0 (padding n 8))
-    where
-      go : (0 < padding n 8) ⊎ (padding n 8 ≤ 0) → Silent n
-          (if nat_lt 0 (padding n 8) then ReadTo [] (n + 0) (In_padding t)
-          else body S header t (n + padding n 8) (drop (padding n 8) []))
-      go (inl h) = rw (lt-ltb 0 (padding n 8) h) (refl, add-zero n)
-      go (inr h) = let e : padding n 8 ≡ 0 = omega arith in rw (e, add-zero n) (silent n)
+  padded_silent t silent n = search (arith, cases_lt, drop, lt-ltb, add-zero)
 
   pub body_silent : (t : BodyType) (n : ℕ) → Silent n (body S header t n [])
   body_silent t = body_has S header IsSilent rest_silent reads_silent padded_silent t
@@ -170,7 +150,7 @@ rest_by : (offset : ℕ) (held : List ℕ) (n : ℕ) (test : Bool) →
     (In_rest (offset + 32) [])
     else ReadTo [] n (In_rest offset held))
 unfolding line_at line_class_of
-rest_by offset held n true = (((refl, tt), inr (inr (inr (inl refl)))), inl refl)
+rest_by offset held n true = search (arith)
 rest_by offset held n false = ((tt, inl refl), inl refl)
 
 pub step_prompt : (S : Signatures) (header : List ℕ) (at : ℕ) (stage : Stage) (b : ℕ) →
@@ -189,8 +169,7 @@ step_prompt S header at (In_padding t) b = go (nat_lt 1 (padding at 8))
     go true = ((tt, inl refl), inl refl)
     go false = silent_prompt (at + 1) (body S header t (at + 1) [])
         (body_silent S header t (at + 1))
-step_prompt S header at (In_rest offset held) b =
-    rest_by offset (held ++ b ∷ []) (at + 1) (length (held ++ b ∷ []) == 32)
+step_prompt S header at (In_rest offset held) b = search (arith, rest_by)
 step_prompt S header at Over b = ((tt, inl refl), inr refl)
 
 -- a message after so many octets is at that offset, unless it is over
@@ -200,19 +179,19 @@ Stands n (ReadTo emitted at stage) = (at ≡ n) ⊎ (stage ≡ Over)
 stands_more : (S : Signatures) (header : List ℕ) (n : ℕ) (m : Message) (b : ℕ) → Stands n m →
     Stands (n + 1) (advance S header m b)
 unfolding advance with_front message_step
-stands_more S header n (ReadTo emitted at stage) b (inl h) =
-    go (message_step S header at stage b) (step_prompt S header at stage b)
-  where
-    go : (m : Message) → Prompt (at + 1) m → Stands (n + 1) (with_front emitted m)
-    go (ReadTo more at' stage') k = rw (← h) k.1
+stands_more S header n (ReadTo emitted at stage) b (inl h) = search (arith, step_prompt)
 stands_more S header n (ReadTo emitted at stage) b (inr h) = rw h (inr refl)
 
 -- Induction that adds at the end.
 pub grown : {A : Type 0} (P : List A → Type 0) → ((xs : List A) (x : A) → P xs → P (xs ++ x ∷ [])) →
     (done more : List A) → P done → P (done ++ more)
 grown P more_of done [] h = rw append-nil h
-grown P more_of done (x ∷ xs) h = subst P (append_assoc done (x ∷ []) xs)
-    (grown P more_of (done ++ x ∷ []) xs (more_of done x h))
+grown P more_of done (x ∷ xs) h = search (
+  arith,
+  append_assoc,
+  grown P more_of (done ++ x ∷ []) xs
+      (more_of done x h),
+)
 
 pub stands : (S : Signatures) (header xs : List ℕ) → Stands (12 + length xs) (message S header xs)
 stands S header xs = grown (λ xs. Stands (12 + length xs) (message S header xs)) more [] xs
@@ -223,8 +202,7 @@ stands S header xs = grown (λ xs. Stands (12 + length xs) (message S header xs)
 
     more : (xs : List ℕ) (b : ℕ) → Stands (12 + length xs) (message S header xs) →
         Stands (12 + length (xs ++ b ∷ [])) (message S header (xs ++ b ∷ []))
-    more xs b h = rw (message_goes S header xs b, length_one_more xs b, ← add_assoc)
-        (stands_more S header (12 + length xs) (message S header xs) b h)
+    more xs b h = search (arith, message_goes, length_one_more, add_assoc, stands_more)
 
 -- lines after so many octets
 abbrev pub Behind : ℕ → List LineAt → Type 0
@@ -232,11 +210,11 @@ Behind n emitted = Each (λ t. n < t.at) emitted
 
 behind_at : (n : ℕ) (emitted : List LineAt) → ToldAt (n + 1) emitted → Behind n emitted
 behind_at n [] h = tt
-behind_at n (t ∷ ts) h = (omega (arith, h.0), behind_at n ts h.1)
+behind_at n (t ∷ ts) h = search (arith, behind_at n ts h.1)
 
 behind_less : (n m : ℕ) (emitted : List LineAt) → n ≤ m → Behind m emitted → Behind n emitted
 behind_less n m [] h k = tt
-behind_less n m (t ∷ ts) h k = (omega (arith, k.0), behind_less n m ts h k.1)
+behind_less n m (t ∷ ts) h k = search (arith, behind_less n m ts h k.1)
 
 pub one_more : (S : Signatures) (header : List ℕ) (n : ℕ) (m : Message) (b : ℕ) → Stands n m →
     (more : List LineAt) × (message_lines (advance S header m b) ≡ message_lines m ++ more)
@@ -249,7 +227,7 @@ one_more S header n (ReadTo emitted at stage) b (inl h) =
         (more : List LineAt) × (message_lines (with_front emitted m) ≡ emitted ++ more)
         × Turn (n + 1) more
     go (ReadTo more at' stage') k = (more, refl, rw (← h) k.0)
-one_more S header n (ReadTo emitted at stage) b (inr h) = ([], rw h refl, (tt, inl refl))
+one_more S header n (ReadTo emitted at stage) b (inr h) = search (arith)
 
 pub told_begins : (S : Signatures) (header xs more : List ℕ) → (later : List LineAt)
     × (message_lines (message S header (xs ++ more)) ≡ message_lines (message S header xs) ++ later)
@@ -280,8 +258,7 @@ map_both {A} {B} f (x ∷ xs) ys = ap (λ (zs : List B). f x ∷ zs) (map_both f
 later_none : (n k : ℕ) (emitted : List LineAt) → Behind (12 + n) emitted → k ≤ n →
     filter (λ r. r.at == k) (map timed_line_of emitted) ≡ []
 later_none n k [] h below = refl
-later_none n k (t ∷ ts) h below = rw (ne_eqb (t.at - 12) k (λ e. omega (arith, h.0)))
-    (later_none n k ts h.1 below)
+later_none n k (t ∷ ts) h below = search (arith, ne_eqb, later_none n k ts h.1 below)
 
 -- More octets change no lines of those before them.
 pub is_causal : (S : ℕ → Signatures) → IsCausal (reader_by S)
@@ -312,38 +289,30 @@ module _ (k : ℕ) where
 
   line_classes_append : (xs ys : List LineAt) → LineClasses (xs ++ ys) ≡ LineClasses xs
       ++ LineClasses ys
-  line_classes_append xs ys =
-      ap (λ ls. map (λ r. r.line_class) (filter At_k ls)) (map_both timed_line_of xs ys)
-      ∙ (ap (map (λ r. r.line_class)) (filter-append At_k (map timed_line_of xs)
-      (map timed_line_of ys))
-      ∙ map_both (λ r. r.line_class) (filter At_k (map timed_line_of xs))
-      (filter At_k (map timed_line_of ys)))
+  line_classes_append xs ys = search (arith, map, map_both, filter-append)
 
   line_classes_here : (n : ℕ) (ts : List LineAt) → ToldAt n ts → n - 12 ≡ k →
       LineClasses ts ≡ map (λ t. line_class_of t.message_line) ts
   line_classes_here n [] h e = refl
-  line_classes_here n (t ∷ ts) h e = rw (h.0, eq-eqb (n - 12) k e)
-      (ap (λ cs. line_class_of t.message_line ∷ cs) (line_classes_here n ts h.1 e))
+  line_classes_here n (t ∷ ts) h e = search (arith, eq-eqb, line_classes_here n ts h.1 e)
 
   line_classes_elsewhere : (n : ℕ) (ts : List LineAt) → ToldAt n ts → n - 12 ≢ k →
       LineClasses ts ≡ []
   line_classes_elsewhere n [] h e = refl
-  line_classes_elsewhere n (t ∷ ts) h e =
-      rw (h.0, ne_eqb (n - 12) k e) (line_classes_elsewhere n ts h.1 e)
+  line_classes_elsewhere n (t ∷ ts) h e = search (arith, ne_eqb, line_classes_elsewhere n ts h.1 e)
 
   line_classes_before : (n : ℕ) (ts : List LineAt) → Each (λ t. t.at ≤ n) ts → n - 12 < k →
       LineClasses ts ≡ []
   line_classes_before n [] h e = refl
-  line_classes_before n (t ∷ ts) h e = rw (ne_eqb (t.at - 12) k (λ f. omega (arith, h.0)))
-      (line_classes_before n ts h.1 e)
+  line_classes_before n (t ∷ ts) h e = search (arith, ne_eqb, line_classes_before n ts h.1 e)
 
   up_to : (n m : ℕ) (ts : List LineAt) → n ≤ m → Each (λ t. t.at ≤ n) ts → Each (λ t. t.at ≤ m) ts
   up_to n m [] h j = tt
-  up_to n m (t ∷ ts) h j = (omega (arith, j.0), up_to n m ts h j.1)
+  up_to n m (t ∷ ts) h j = search (arith, up_to n m ts h j.1)
 
   here_up_to : (n : ℕ) (ts : List LineAt) → ToldAt n ts → Each (λ t. t.at ≤ n) ts
   here_up_to n [] h = tt
-  here_up_to n (t ∷ ts) h = (omega (arith, h.0), here_up_to n ts h.1)
+  here_up_to n (t ∷ ts) h = search (arith, here_up_to n ts h.1)
 
   turn_of : (n : ℕ) (old more : List LineAt) → Each (λ t. t.at ≤ 12 + n) old →
       AreInLineOrder (LineClasses old) →

@@ -1,11 +1,11 @@
 -- The lines of a close: it ends the message, and none of its lines is of a class that the last
 -- octet has, since a message that is faulted there, or ends a part of its rest there, has no rest
 -- left.
-use Rattle.std.proofs.Common.{◌≡◌, Bool, true, false, List, [], ◌∷◌, ◌++◌, map, inl, inr, refl, ap, ◌≢◌, ℕ, suc, length, ◌⊎◌}
+use Rattle.std.proofs.Common.{arith, ◌≡◌, Bool, true, false, List, [], ◌∷◌, ◌++◌, map, inl, inr, refl, ap, ◌≢◌, ℕ, suc, length, ◌⊎◌}
 use Rattle.std.specs.Prelude.{if◌then◌else◌}
 use Rattle.giop_message.specs.MessageReader.{LineClass, Rest, End, AtClose, IsClosing, Value, Call, Fault, AreInLineOrder, is_fault}
 use Rattle.giop_message.specs.Signatures.{Signatures}
-use Rattle.giop_message.specs.Messages.{MessageLine, ShortLine, EndLine, body_may_be_missing, Stage, In_typed, In_padding, In_rest, message, stage_of, close}
+use Rattle.giop_message.specs.Messages.{MessageLine, ShortLine, EndLine, Stage, In_typed, In_padding, In_rest, message, stage_of, close}
 use Rattle.giop_message.specs.ReaderOfTable.{line_class_of, closing_of, closes_by, reader_by}
 use Rattle.giop_message.proofs.Leaving.{octet_leaves, Leaves}
 use Rattle.std.specs.List.{list_any}
@@ -24,7 +24,7 @@ lack_says false = inl refl
 closes_say : (stage : Stage) → AtClose (LineClasses (close stage))
 unfolding line_class_of close
 closes_say (In_typed section h outer leaf) = inl refl
-closes_say (In_padding b) = lack_says (body_may_be_missing b)
+closes_say (In_padding b) = search (arith, lack_says)
 closes_say (In_rest offset (x ∷ held)) = inr (inr refl)
 closes_say _ = inr (inl refl)
 
@@ -49,7 +49,7 @@ leaves_end : (line_classes : List LineClass) (stage : Stage) → Leaves line_cla
     (line_classes ≡ Rest ∷ []) ⊎ (list_any is_fault line_classes ≡ true) →
     LineClasses (close stage) ≡ End ∷ []
 unfolding close line_class_of
-leaves_end line_classes stage h (inl e) = let left = h.0 e in rw left.1 refl
+leaves_end line_classes stage h (inl e) = search (arith)
 leaves_end line_classes stage h (inr e) = rw (h.1 e) refl
 
 other : (a b : LineClass) → a ≢ b → AreApart (a ∷ b ∷ [])
@@ -61,33 +61,25 @@ one_apart : (a : LineClass) (line_classes : List LineClass) → AtClose line_cla
     a ≢ Rest → AreApart (a ∷ line_classes)
 one_apart a line_classes (inl e) f g h = rw e (other a Fault f)
 one_apart a line_classes (inr (inl e)) f g h = rw e (other a End g)
-one_apart a line_classes (inr (inr e)) f g h = rw e ((h, (g, tt)), (((λ k. cc), tt), (tt, tt)))
+one_apart a line_classes (inr (inr e)) f g h = search (arith)
 
 close_apart : (line_classes : List LineClass) → AtClose line_classes → AreApart line_classes
 close_apart line_classes (inl e) = rw e (tt, tt)
 close_apart line_classes (inr (inl e)) = rw e (tt, tt)
-close_apart line_classes (inr (inr e)) = rw e (((λ k. cc), tt), (tt, tt))
+close_apart line_classes (inr (inr e)) = search (arith)
 
 call_apart : (line_classes : List LineClass) → AtClose line_classes →
     AreApart (Value ∷ Call ∷ line_classes)
-call_apart line_classes (inl e) = rw e (((λ k. cc), ((λ k. cc), tt)), other Call Fault (λ k. cc))
-call_apart line_classes (inr (inl e)) = rw e
-    (((λ k. cc), ((λ k. cc), tt)), other Call End (λ k. cc))
-call_apart line_classes (inr (inr e)) =
-    rw e (
-      ((λ k. cc), ((λ k. cc), ((λ k. cc), tt))),
-      one_apart Call (Rest ∷ End ∷ []) (inr (inr refl)) (λ k. cc) (λ k. cc) (λ k. cc),
-    )
+call_apart line_classes (inl e) = search (arith, other)
+call_apart line_classes (inr (inl e)) = search (arith, other)
+call_apart line_classes (inr (inr e)) = search (arith, one_apart)
 
 turn_apart : (line_classes : List LineClass) (stage : Stage) → AreInLineOrder line_classes →
     Leaves line_classes stage →
     AtClose (LineClasses (close stage)) → AreApart (line_classes ++ LineClasses (close stage))
-turn_apart line_classes stage (inl e) h closed =
-    rw e (close_apart (LineClasses (close stage)) closed)
-turn_apart line_classes stage (inr (inl e)) h closed =
-    rw e (one_apart Value (LineClasses (close stage)) closed (λ k. cc) (λ k. cc) (λ k. cc))
-turn_apart line_classes stage (inr (inr (inl e))) h closed =
-    rw e (call_apart (LineClasses (close stage)) closed)
+turn_apart line_classes stage (inl e) h closed = search (arith, close_apart)
+turn_apart line_classes stage (inr (inl e)) h closed = search (arith, one_apart)
+turn_apart line_classes stage (inr (inr (inl e))) h closed = search (arith, call_apart)
 turn_apart line_classes stage (inr (inr (inr (inl e)))) h closed =
     rw (leaves_end line_classes stage h (inl e), e) (other Rest End (λ k. cc))
 turn_apart line_classes stage (inr (inr (inr (inr (inl e))))) h closed =
@@ -110,4 +102,4 @@ octet_apart S number header xs x =
 
 -- No octet has two lines of one class, with those of a close at it.
 pub is_apart : (S : ℕ → Signatures) → IsApart (reader_by S)
-is_apart S = record { apart = octet_apart S }
+is_apart S = search (arith, octet_apart)

@@ -1,5 +1,5 @@
 -- The close of a message that follows a list: its lines by the message's part, and its text.
-use Rattle.std.proofs.Common.{◌≡◌, ℕ, zero, suc, ◌+◌, Bool, true, false, List, [], ◌∷◌, ◌++◌, length, refl, sym, ap, subst, ◌∙◌, append-nil, arith}
+use Rattle.std.proofs.Common.{◌≡◌, ℕ, zero, suc, Bool, true, false, List, [], ◌∷◌, ◌++◌, refl, sym, ap, ◌∙◌, append-nil, arith}
 use Rattle.std.specs.Prelude.{◌==◌, codes, if◌then◌else◌, not}
 use Rattle.std.proofs.lemmas.Bool.{false≢true, ne_eqb}
 use Rattle.giop_print.specs.Lines.{fault_line, end_line, rest_line}
@@ -8,22 +8,18 @@ use Rattle.giop_sig.specs.declared.types.Shape.TheVariants as shapes
 use Rattle.giop_sig.specs.Types.{Cases, Ty, Plain, Single, Struct, Union, shape_in}
 use Rattle.giop_sig.specs.Table.{Table}
 use Rattle.giop_decode.specs.declared.decoder.Decoder.{Decoder}
-use Rattle.giop_decode.specs.ReadResult.{plain, Line, OpenPart, Leaf, Short}
-use Rattle.giop_decode.specs.Reading.{read}
-use Rattle.giop_decode.specs.Noted.{Noted, nothing_noted}
-use Rattle.giop_decode.specs.DecoderState as decoders
+use Rattle.giop_decode.specs.ReadResult.{Line, OpenPart, Leaf, Short}
+use Rattle.giop_decode.specs.Noted.{Noted}
 use Rattle.giop_message.specs.declared.message.Message.{Message as Struct_of}
 use Rattle.giop_message.specs.declared.part.Section.{Section}
 use Rattle.giop_message.specs.declared.part.Part.{Part}
 use Rattle.giop_message.specs.declared.part.Part.TheVariants as parts
 use Rattle.giop_message.specs.declared.part.Rest.{Rest}
 use Rattle.giop_message.specs.declared.body_type.BodyTypeId.{BodyTypeId}
-use Rattle.giop_message.specs.Headers.{order}
-use Rattle.giop_message.specs.Text.{numbered_line}
 use Rattle.giop_message.specs.Signatures.{Signatures, Answers, signatures_of}
 use Rattle.giop_message.specs.Messages.{MessageLine, RestLine, ShortLine, EndLine, BodyType, Typed, body_may_be_missing, Stage, In_typed, In_padding, In_rest, Over, section_then, message, stage_of, close, section_and_rest}
 use Rattle.giop_message.specs.ReaderOfTable.{line_class_of, text_of}
-use Rattle.giop_message.specs.MessageState.{message_line_text, closing_text, is_short, body_type, FitsPart, Fits, Stands, Follows}
+use Rattle.giop_message.specs.MessageState.{message_line_text, closing_text, is_short, body_type, Fits, Follows}
 use Rattle.giop_message.specs.MessageSteps.{held_text, last_rest_text}
 use Rattle.giop_message.proofs.Spelling.{rest_said, end_said}
 use Rattle.giop_message.proofs.Octets.{stage_front}
@@ -44,9 +40,8 @@ suc_none n e = omega (arith, e)
 pub lacks_members : (T : Ty) (count : ℕ) → shape_in T ≡ shapes.Members count →
     (count == 0) ≡ body_may_be_missing (Typed T)
 unfolding body_may_be_missing
-lacks_members (Struct zero names parts) count e = ap (λ k. k == 0) (sym (members_of e))
-lacks_members (Struct (suc n) names parts) count e =
-    ne_eqb count 0 (λ none. absurd (suc_none n (members_of e ∙ none)))
+lacks_members (Struct zero names parts) count e = search (arith, members_of)
+lacks_members (Struct (suc n) names parts) count e = search (arith, ne_eqb, suc_none, members_of)
 lacks_members (Single (Plain p)) count e = absurd cc
 lacks_members (Union (Cases n) scalar select names cases) count e = absurd cc
 lacks_members T count e = absurd cc
@@ -74,28 +69,16 @@ module _ {C : Table} {answers : Answers} {number : ℕ} {header : List ℕ} {m :
   -- inside a section it is short
   pub section_short : {section : Section} {d : Decoder} → m.part ≡ parts.Typed section d →
       close At ≡ ShortLine ∷ []
-  section_short {section} {d} is =
-      let S = signatures_of C (answers number) in
-      let e = subst (Stands C answers number header s) is f.stands in
-      let fit = subst (FitsPart C m.at) is fits in
-      let r = read (plain (order header)) [] e.T (12 + length e.front) e.octets in
-      let stage : At ≡ stage_of (section_and_rest S header section nothing_noted r) =
-      ap stage_of e.is ∙ stage_front e.before
-      (section_and_rest S header section nothing_noted r) in
-      let stands = ap (λ leaf. decoders.read_by_leaf C d leaf e.reads.lines
-      ((12 + length e.front) + length e.octets)) fit.goes_on in
-      ap close (stage ∙ ap (λ r. stage_of (section_and_rest S header section nothing_noted r))
-      (e.reads.is ∙ stands))
-      ∙ short_stage S header section nothing_noted e.reads.lines _ _ _
+  section_short {section} {d} is = search (arith, stage_front, short_stage)
 
   pub padding_stage : {body_type_id : BodyTypeId} → m.part ≡ parts.Padding body_type_id →
       At ≡ In_padding (body_type C body_type_id)
   unfolding stage_of
-  padding_stage is = let x = subst (Stands C answers number header s) is f.stands in ap stage_of x.1
+  padding_stage is = search (arith)
 
   pub rest_stage : {r : Rest} → m.part ≡ parts.Rest r → At ≡ In_rest r.offset r.held.items
   unfolding stage_of
-  rest_stage is = let x = subst (Stands C answers number header s) is f.stands in ap stage_of x.1
+  rest_stage is = search (arith)
 
 -- ---- its text
 
@@ -106,7 +89,7 @@ lack_short false = refl
 
 pub padding_short : (b : BodyType) → is_short (close (In_padding b)) ≡ not (body_may_be_missing b)
 unfolding close
-padding_short b = lack_short (body_may_be_missing b)
+padding_short b = search (arith, lack_short)
 
 pub rest_short : (offset : ℕ) (held : List ℕ) → is_short (close (In_rest offset held)) ≡ false
 unfolding close is_short
@@ -122,7 +105,7 @@ if_short false e = refl
 pub short_is : (stage : Stage) → is_short (close stage) ≡ true → close stage ≡ ShortLine ∷ []
 unfolding close is_short
 short_is (In_typed section h outer leaf) e = refl
-short_is (In_padding b) e = if_short (body_may_be_missing b) e
+short_is (In_padding b) e = search (arith, if_short)
 short_is (In_rest offset []) e = absurd (false≢true e)
 short_is (In_rest offset (x ∷ held)) e = absurd (false≢true e)
 short_is Over e = absurd (false≢true e)
@@ -146,16 +129,14 @@ last_then : (number place offset : ℕ) (held : List ℕ) →
     closing_text number place (RestLine offset held ∷ EndLine ∷ [])
     ≡ rest_line number offset held ++ end_line number
 unfolding closing_text message_line_text line_class_of text_of
-last_then number place offset held =
-    rw (rest_said number offset held) (ap (λ z. rest_line number offset held ++ z)
-    (append-nil (numbered_line number (codes "end")) ∙ end_said number))
+last_then number place offset held = search (arith, rest_said, append-nil, end_said)
 
 rest_ends : (number place offset : ℕ) (held : List ℕ) →
     closing_text number place (close (In_rest offset held))
     ≡ held_text number offset held ++ end_line number
 unfolding close
 rest_ends number place offset [] = ends_text_is number place
-rest_ends number place offset (x ∷ held) = last_then number place offset (x ∷ held)
+rest_ends number place offset (x ∷ held) = search (arith, last_then)
 
 module _ {C : Table} {answers : Answers} {number : ℕ} {header : List ℕ} {m : Struct_of} {s : List ℕ}
     (f : Follows C answers number header m s) (fits : Fits C m) (place : ℕ) where
@@ -167,14 +148,10 @@ module _ {C : Table} {answers : Answers} {number : ℕ} {header : List ℕ} {m :
   unfolding close is_short
   ended_by (parts.Typed section d) is e =
       absurd (false≢true (sym (rw (section_short f fits is) at e)))
-  ended_by (parts.Padding body_type_id) is e =
-      let stage = padding_stage f fits is in
-      ap (λ stage. closing_text number place (close stage)) stage
-      ∙ (ap (closing_text number place) (if_ends (body_may_be_missing (body_type C body_type_id))
-      (rw stage at e)) ∙ ends_text_is number place)
+  ended_by (parts.Padding body_type_id) is e = search (arith, padding_stage, if_ends, ends_text_is)
   ended_by (parts.Rest r) is e = ap (λ stage. closing_text number place (close stage))
       (rest_stage f fits is) ∙ rest_ends number place r.offset r.held.items
 
   pub ended_text : is_short Close ≡ false →
       closing_text number place Close ≡ last_rest_text m.number m.part ++ end_line m.number
-  ended_text e = rw f.same_number (ended_by m.part refl e)
+  ended_text e = search (arith, ended_by)

@@ -15,16 +15,7 @@ use Rattle.giop_message.proofs.Followings.{told_more}
 due_both : (S : Signatures) (header s xs ys : List ℕ) →
     due S header s (xs ++ ys) ≡ due S header s xs ++ due S header (s ++ xs) ys
 unfolding due
-due_both S header s xs ys =
-    let front = message_lines (message S header s) in
-    let e : message_lines (message S header (s ++ (xs ++ ys))) ≡ front
-    ++ (due S header s xs ++ due S header (s ++ xs) ys) =
-    ap (λ z. message_lines (message S header z)) (sym (append_assoc s xs ys))
-    ∙ (told_more S header (s ++ xs) ys
-    ∙ (ap (λ emitted. emitted ++ due S header (s ++ xs) ys) (told_more S header s xs)
-    ∙ append_assoc front (due S header s xs) (due S header (s ++ xs) ys))) in
-    ap (drop (length front)) e ∙ drop-append_seam front
-    (due S header s xs ++ due S header (s ++ xs) ys)
+due_both S header s xs ys = search (arith, append_assoc, told_more, drop, drop-append_seam)
 
 -- lines after an offset have the same places, counted from a later one
 moved : (number place offset more : ℕ) (emitted : List LineAt) → Behind (offset + more) emitted →
@@ -32,11 +23,11 @@ moved : (number place offset more : ℕ) (emitted : List LineAt) → Behind (off
     ≡ message_lines_text number (place + more) (offset + more) emitted
 unfolding message_lines_text
 moved number place offset more [] behind = refl
-moved number place offset more (t ∷ ts) behind =
-    let e : place + (t.at - offset) ≡ (place + more) + (t.at - (offset + more)) =
-    omega (arith, behind.0) in
-    rw e (ap (λ z. message_line_text number ((place + more) + (t.at - (offset + more)))
-    t.message_line ++ z) (moved number place offset more ts behind.1))
+moved number place offset more (t ∷ ts) behind = search (
+  arith,
+  moved number place offset more ts
+      behind.1,
+)
 
 due_behind : (S : Signatures) (header s more : List ℕ) →
     Behind (12 + length s) (due S header s more)
@@ -78,13 +69,12 @@ text_none S number place header s =
 over_goes : (S : Signatures) (header : List ℕ) (emitted : List LineAt) (at : ℕ) (t : List ℕ) →
     goes_on S header (ReadTo emitted at Over) t ≡ ReadTo emitted at Over
 over_goes S header emitted at [] = refl
-over_goes S header emitted at (b ∷ t) = ap (λ m. goes_on S header m t)
-    (sym (stays S header emitted at b)) ∙ over_goes S header emitted at t
+over_goes S header emitted at (b ∷ t) = search (arith, stays, over_goes S header emitted at t)
 
 over_same : (S : Signatures) (header t : List ℕ) (m : Message) → is_over (stage_of m) ≡ true →
     message_lines (goes_on S header m t) ≡ message_lines m
 unfolding is_over stage_of
-over_same S header t (ReadTo emitted at Over) e = ap message_lines (over_goes S header emitted at t)
+over_same S header t (ReadTo emitted at Over) e = search (arith, over_goes)
 over_same S header t _ e = absurd cc
 
 pub text_over : (S : Signatures) (number place : ℕ) (header s more : List ℕ) →
@@ -104,11 +94,12 @@ pub text_so_far : (S : Signatures) (number place : ℕ) (header s octets : List 
     (more : List ℕ) → i ≤ length octets → due_text S number place header s (take i octets ++ more)
     ≡ due_text S number place header s (take i octets)
     ++ due_text S number (place + i) header (s ++ take i octets) more
-text_so_far S number place header s octets i more h =
-    text_both S number place header s (take i octets) more
-    ∙ ap (λ k. due_text S number place header s (take i octets)
-    ++ due_text S number (place + k) header (s ++ take i octets) more)
-    (length-take-le i octets h)
+text_so_far S number place header s octets i more h = search (
+  arith,
+  text_both,
+  take,
+  length-take-le,
+)
 
 -- all of it, where the message is over
 pub text_ended : (S : Signatures) (number place : ℕ) (header s octets : List ℕ) (n : ℕ) →

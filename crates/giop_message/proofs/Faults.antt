@@ -1,17 +1,16 @@
 -- A message is over exactly if its lines have a fault.
-use Rattle.std.proofs.Common.{◌≡◌, ℕ, zero, suc, ◌+◌, Bool, true, false, List, [], ◌∷◌, ◌++◌, length, take, drop, refl, sym, ◌∙◌, inl, inr}
-use Rattle.std.specs.Prelude.{◌||◌, nat_lt, if◌then◌else◌}
+use Rattle.std.proofs.Common.{arith, ◌≡◌, ℕ, zero, suc, ◌+◌, Bool, true, false, List, [], ◌∷◌, ◌++◌, take, drop, refl, sym, ◌∙◌, inl, inr}
+use Rattle.std.specs.Prelude.{◌||◌}
 use Rattle.std.specs.List.{list_any}
-use Rattle.giop_cdr.specs.Alignment.{padding}
 use Rattle.giop_print.specs.declared.path.Root.{Root}
 use Rattle.giop_sig.specs.Types.{Ty}
 use Rattle.giop_decode.specs.ReadResult.{plain, Line, Read, Done, Short, Fault}
 use Rattle.giop_decode.specs.Reading.{read}
-use Rattle.giop_decode.specs.Noted.{Noted, nothing_noted, note, noted, is_header_root}
+use Rattle.giop_decode.specs.Noted.{Noted, nothing_noted, note, is_header_root}
 use Rattle.giop_message.specs.declared.part.Section.{Section}
 use Rattle.giop_message.specs.Headers.{minor, kind, order}
 use Rattle.giop_message.specs.Signatures.{Signatures}
-use Rattle.giop_message.specs.Messages.{RestLine, FaultLine, LineAt, line_at, calls, section_lines, BodyType, In_padding, Message, ReadTo, with_front, section_then, rest_in, rest, body, padded, of_header, message, message_lines, stage_of, root_of, may_call, after, section_and_rest}
+use Rattle.giop_message.specs.Messages.{LineAt, line_at, calls, section_lines, BodyType, Message, ReadTo, with_front, section_then, rest_in, rest, body, padded, of_header, message, message_lines, stage_of, root_of, after, section_and_rest}
 use Rattle.giop_message.specs.ReaderOfTable.{line_class_of, is_over, is_wrong}
 use Rattle.giop_message.proofs.Going.{after_has, message_has}
 use Rattle.giop_message.proofs.Causal.{MayCall, calls_is}
@@ -46,7 +45,7 @@ none_told root is h (l ∷ ls) =
 front_tallies : (front : List LineAt) (m : Message) → list_any is_wrong front ≡ false → Tallies m →
     Tallies (with_front front m)
 unfolding with_front
-front_tallies front (ReadTo emitted at stage) h k = k ∙ sym (any_append front emitted h)
+front_tallies front (ReadTo emitted at stage) h k = search (arith, any_append)
 
 module _ (section : Section) (is : Bool) (next : Noted → ℕ → List ℕ → Message)
     (tallies : (k : Noted) (at : ℕ) (s : List ℕ) → Tallies (next k at s)) where
@@ -55,22 +54,21 @@ module _ (section : Section) (is : Bool) (next : Noted → ℕ → List ℕ → 
 
   passes_tallies : (k : Noted) (r : Read) → Tallies (section_then section is next k r)
   unfolding section_then is_over is_wrong line_class_of line_at
-  passes_tallies k (Done lines at s) =
-      let now = noted (is_header_root R) k lines in
-      front_tallies (section_lines R is k lines) (next now at s) (none_told R is k lines)
-      (tallies now at s)
+  passes_tallies k (Done lines at s) = search (arith, front_tallies, none_told)
   passes_tallies k (Short lines at outer leaf) = sym (none_told R is k lines)
-  passes_tallies k (Fault lines at why T) =
-      sym (any_append (section_lines R is k lines) (line_at at (FaultLine why) ∷ [])
-      (none_told R is k lines))
+  passes_tallies k (Fault lines at why T) = search (arith, any_append, none_told)
 
 rest_tallies : (full offset at : ℕ) (s : List ℕ) → Tallies (rest_in full offset at s)
 unfolding rest_in is_over is_wrong line_class_of line_at
 rest_tallies zero offset at s = refl
-rest_tallies (suc full) offset at s =
-    front_tallies (line_at (at + 32) (RestLine offset (take 32 s)) ∷ [])
-    (rest_in full (offset + 32) (at + 32) (drop 32 s)) refl
-    (rest_tallies full (offset + 32) (at + 32) (drop 32 s))
+rest_tallies (suc full) offset at s = search (
+  arith,
+  front_tallies,
+  take,
+  drop,
+  rest_tallies full
+      (offset + 32) (at + 32) (drop 32 s),
+)
 
 -- a reader's messages are all so
 abbrev AllTally : (ℕ → List ℕ → Message) → Type 0
@@ -84,18 +82,11 @@ module _ (S : Signatures) (header : List ℕ) where
   reads_tally : (section : Section) (T : Ty) → ((h : Noted) → AllTally (after S header section h)) →
       AllTally (λ at s. section_and_rest S header section nothing_noted
       (read (plain (order header)) [] T at s))
-  reads_tally section T tallies at s =
-      passes_tallies section (may_call header section) (after S header section) tallies
-      nothing_noted (read (plain (order header)) [] T at s)
+  reads_tally section T tallies at s = search (arith, passes_tallies)
 
   padded_tallies : (t : BodyType) → AllTally (body S header t) → AllTally (padded S header t)
   unfolding padded is_over
-  padded_tallies t tallies at s = go (nat_lt (length s) (padding at 8))
-    where
-      go : (test : Bool) → Tallies (if test then ReadTo [] (at + length s) (In_padding t)
-          else body S header t (at + padding at 8) (drop (padding at 8) s))
-      go true = refl
-      go false = tallies (at + padding at 8) (drop (padding at 8) s)
+  padded_tallies t tallies at s = search (arith, drop)
 
   pub after_tallies : (section : Section) (k : Noted) → AllTally (after S header section k)
   after_tallies section k = after_has S header AllTally all_rest reads_tally padded_tallies section

@@ -16,13 +16,12 @@ use Rattle.giop_decode.specs.DecoderState as decoders
 use Rattle.giop_message.specs.declared.message.Message.{Message as Struct_of}
 use Rattle.giop_message.specs.declared.part.Section.{Section}
 use Rattle.giop_message.specs.declared.part.Section.TheVariants as sections
-use Rattle.giop_message.specs.declared.part.Part.{Part}
 use Rattle.giop_message.specs.declared.part.Part.TheVariants as parts
 use Rattle.giop_message.specs.Headers.{order}
 use Rattle.giop_message.specs.Signatures.{Signatures, Answers, signatures_of}
-use Rattle.giop_message.specs.Messages.{ValueLine, LineAt, line_at, calls, section_lines, Message, ReadTo, section_then, message, message_lines, stage_of, root_of, may_call, after, section_and_rest}
+use Rattle.giop_message.specs.Messages.{ValueLine, LineAt, line_at, calls, section_lines, Message, ReadTo, section_then, message, message_lines, stage_of, root_of, may_call, section_and_rest}
 use Rattle.giop_message.specs.ReaderOfTable.{id_in, first_id, first_request_id, is_over}
-use Rattle.giop_message.specs.MessageState.{due, IsFirst, Decodes, Stands, is_header, in_header, Follows}
+use Rattle.giop_message.specs.MessageState.{due, Decodes, Stands, is_header, in_header, Follows}
 use Rattle.giop_message.specs.MessageSteps.{IsAt}
 use Rattle.giop_message.proofs.Causal.{MayCall, calls_is, Silent, after_silent, told_begins}
 use Rattle.giop_message.proofs.Faults.{Tallies, after_tallies}
@@ -42,13 +41,7 @@ module _ (S : Signatures) (header : List ℕ) (section : Section) (C : Table) (d
       (decoders.read_by_leaf C d leaf lines at)))
       ≡ false
   unfolding section_then stage_of is_over
-  standing_over None =
-      let R = root_of section in
-      let h = noted (is_header_root R) nothing_noted lines in
-      let next = after S header section h at [] in
-      ap is_over (stage_front (section_lines R (may_call header section) nothing_noted lines) next)
-      ∙ none_over at next (after_silent S header section h at)
-      (after_tallies S header section h at [])
+  standing_over None = search (arith, stage_front, none_over, after_silent, after_tallies)
   standing_over (Some leaf) = refl
 
   standing_told : (leaf : Option Innermost) →
@@ -56,13 +49,7 @@ module _ (S : Signatures) (header : List ℕ) (section : Section) (C : Table) (d
       (decoders.read_by_leaf C d leaf lines at))
       ≡ section_lines (root_of section) (may_call header section) nothing_noted lines
   unfolding section_then message_lines
-  standing_told None =
-      let R = root_of section in
-      let h = noted (is_header_root R) nothing_noted lines in
-      let emitted = section_lines R (may_call header section) nothing_noted lines in
-      let next = after S header section h at [] in
-      told_front emitted next ∙ (ap (λ ts. emitted ++ ts)
-      (told_silent at next (after_silent S header section h at)) ∙ append-nil emitted)
+  standing_told None = search (arith, told_front, told_silent, after_silent, append-nil)
   standing_told (Some leaf) = refl
 
   lines_standing : (leaf : Option Innermost) →
@@ -84,13 +71,7 @@ pub follows_goes : {C : Table} {answers : Answers} {number : ℕ} {header : List
     {s : List ℕ} → Follows C answers number header m s →
     is_over (stage_of (message (signatures_of C (answers number)) header s)) ≡ false
 unfolding is_over stage_of
-follows_goes {C} {answers} {number} {header} {m} {s} f = go m.part f.stands
-  where
-    go : (p : Part) → Stands C answers number header s p →
-        is_over (stage_of (message (signatures_of C (answers number)) header s)) ≡ false
-    go (parts.Typed section d) e = section_over e
-    go (parts.Padding body_type_id) (emitted, e) = rw e refl
-    go (parts.Rest r) (emitted, e) = rw e refl
+follows_goes {C} {answers} {number} {header} {m} {s} f = search (arith, section_over)
 
 -- ---- the request id
 
@@ -113,8 +94,7 @@ pub id_both : (xs ys : List LineAt) → first_request_id (xs ++ ys)
     ≡ first_id (first_request_id xs) (first_request_id ys)
 unfolding first_request_id first_id
 id_both [] ys = refl
-id_both (x ∷ xs) ys = ap (first_id (id_in x.message_line)) (id_both xs ys)
-    ∙ first_all (id_in x.message_line) (first_request_id xs) (first_request_id ys)
+id_both (x ∷ xs) ys = search (arith, first_all, id_both xs ys)
 
 pub first_none : (a : Option ℕ) → first_id a None ≡ a
 unfolding first_id
@@ -126,11 +106,7 @@ pub id_stays : (S : Signatures) (header s more : List ℕ) →
     first_request_id (due S header s more) ≡ None →
     first_request_id (message_lines (message S header (s ++ more)))
     ≡ first_request_id (message_lines (message S header s))
-id_stays S header s more e =
-    ap first_request_id (told_more S header s more)
-    ∙ (id_both (message_lines (message S header s)) (due S header s more)
-    ∙ (ap (first_id (first_request_id (message_lines (message S header s)))) e
-    ∙ first_none (first_request_id (message_lines (message S header s)))))
+id_stays S header s more e = search (arith, told_more, id_both, first_none)
 
 call_no_id : (n : ℕ) (emitted : List LineAt) → MayCall n emitted → first_request_id emitted ≡ None
 unfolding first_request_id id_in line_at first_id
@@ -177,9 +153,7 @@ pub section_no_id : (section : Section) → is_header section ≡ false →
     (is : Bool) (h : Noted) (r : Read) →
     first_request_id (section_lines (root_of section) is h (lines_of r) ++ wrongs r) ≡ None
 unfolding first_id
-section_no_id section other is h r =
-    id_both (section_lines (root_of section) is h (lines_of r)) (wrongs r)
-    ∙ rw (no_id section other is h (lines_of r), wrongs_no_id r) refl
+section_no_id section other is h r = search (arith, id_both, wrongs, no_id, wrongs_no_id)
 
 first_same : (a b : Option ℕ) → first_of a b ≡ first_id a b
 unfolding first_id
@@ -226,14 +200,7 @@ module _ {C : Table} {S : Signatures} {number : ℕ} {header s : List ℕ} {sect
 
   header_told : section ≡ sections.Header → message_lines (message S header s)
       ≡ section_lines (root_of section) (may_call header section) nothing_noted e.reads.lines
-  header_told in_it =
-      let first = subst (λ x. IsFirst header x e.T e.before e.front) in_it e.first in
-      ap message_lines e.is ∙ (told_front e.before
-      (section_and_rest S header section nothing_noted noted_reading)
-      ∙ (ap (λ ts. ts ++ message_lines (section_and_rest S header section nothing_noted
-      noted_reading)) first.1
-      ∙ (ap (λ r. message_lines (section_and_rest S header section nothing_noted r)) e.reads.is
-      ∙ standing_told S header section C d e.reads.lines _ d.leaf)))
+  header_told in_it = search (arith, told_front, standing_told)
 
   pub id_noted : section ≡ sections.Header →
       (noted_of true noted_reading).request_id
@@ -262,7 +229,7 @@ id_read {C} {answers} {number} {header} {m} {s} {section} {d} f is =
     (noted_reading stands, stands.reads.keeps_noted, go (is_header section) refl)
   where
     stands : Decodes C (signatures_of C (answers number)) number header s section d
-    stands = subst (Stands C answers number header s) is f.stands
+    stands = search (arith)
 
     go : (inside : Bool) → is_header section ≡ inside →
         cond inside (noted_of true (noted_reading stands)).request_id m.id
@@ -316,8 +283,7 @@ module _ {C : Table} {answers : Answers} {number : ℕ} {header : List ℕ} {m :
       in_header m.part ≡ false →
       m.id ≡ first_request_id (message_lines
       (message (signatures_of C (answers number)) header (s ++ more)))
-  id_kept none past = f.id ∙ rw past (sym (id_stays (signatures_of C (answers number)) header s more
-      none))
+  id_kept none past = search (arith, id_stays)
 
 -- a message of the same fields follows what it does
 pub same_fields : {C : Table} {answers : Answers} {number : ℕ} {header : List ℕ} {m n : Struct_of}

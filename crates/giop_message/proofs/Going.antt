@@ -17,7 +17,7 @@ use Rattle.giop_message.specs.declared.part.Section.{Section}
 use Rattle.giop_message.specs.declared.part.Section.TheVariants as sections
 use Rattle.giop_message.specs.Headers.{minor, kind, order}
 use Rattle.giop_message.specs.Signatures.{Signatures}
-use Rattle.giop_message.specs.Messages.{ValueLine, RestLine, FaultLine, LineAt, line_at, calls, section_lines, BodyType, Untyped, Typed, UserException, SystemException, In_padding, In_rest, Over, Message, ReadTo, with_front, section_then, rest_in, rest, typed, option_typed, members_of, after_exception, body, body_of, has_body, padded, after_header, of_header, message, root_of, may_call, after, section_and_rest}
+use Rattle.giop_message.specs.Messages.{ValueLine, RestLine, LineAt, line_at, calls, section_lines, BodyType, Untyped, Typed, UserException, SystemException, In_padding, In_rest, Over, Message, ReadTo, with_front, section_then, rest_in, rest, typed, option_typed, after_exception, body, body_of, has_body, padded, after_header, of_header, message, root_of, may_call, after, section_and_rest}
 use Rattle.giop_message.specs.StageSteps.{rest_step, message_step, advance, goes_on}
 
 -- a reader for which one octet more is one step
@@ -28,8 +28,7 @@ Goes S header reader = (at : ℕ) (s : List ℕ) (b : ℕ) →
 pub front_twice : (front mid : List LineAt) (m : Message) →
     with_front front (with_front mid m) ≡ with_front (front ++ mid) m
 unfolding with_front
-front_twice front mid (ReadTo emitted at stage) =
-    ap (λ ls. ReadTo ls at stage) (sym (append_assoc front mid emitted))
+front_twice front mid (ReadTo emitted at stage) = search (arith, append_assoc)
 
 pub front_none : (m : Message) → with_front [] m ≡ m
 unfolding with_front
@@ -38,13 +37,12 @@ front_none (ReadTo emitted at stage) = refl
 pub front_advance : (S : Signatures) (header : List ℕ) (front : List LineAt) (m : Message) (b : ℕ) →
     with_front front (advance S header m b) ≡ advance S header (with_front front m) b
 unfolding with_front advance
-front_advance S header front (ReadTo emitted at stage) b =
-    front_twice front emitted (message_step S header at stage b)
+front_advance S header front (ReadTo emitted at stage) b = search (arith, front_twice)
 
 pub stays : (S : Signatures) (header : List ℕ) (emitted : List LineAt) (at b : ℕ) →
     ReadTo emitted at Over ≡ advance S header (ReadTo emitted at Over) b
 unfolding with_front advance message_step
-stays S header emitted at b = ap (λ ls. ReadTo ls at Over) (sym (append-nil emitted))
+stays S header emitted at b = search (arith, append-nil)
 
 -- ---- lines in two parts
 
@@ -69,20 +67,18 @@ module _ (section : Section) (is : Bool) (next : Noted → ℕ → List ℕ → 
       ≡ with_front (section_lines R is h front)
       (section_then section is next (noted (is_header_root R) h front) r)
   unfolding section_then with_front
-  passes_front h front (Done lines at s) =
-      let now = noted (is_header_root R) h front in
-      rw (section_lines_append R is h front lines, noted-append (is_header_root R) h front lines)
-      (sym (front_twice (section_lines R is h front) (section_lines R is now lines)
-      (next (noted (is_header_root R) now lines) at s)))
-  passes_front h front (Short lines at outer leaf) =
-      rw (section_lines_append R is h front lines, noted-append (is_header_root R) h front lines)
-      refl
-  passes_front h front (Fault lines at why T) =
-      rw (section_lines_append R is h front lines)
-      (ap (λ ls. ReadTo ls at Over)
-      (append_assoc (section_lines R is h front)
-      (section_lines R is (noted (is_header_root R) h front) lines)
-      (line_at at (FaultLine why) ∷ [])))
+  passes_front h front (Done lines at s) = search (
+    arith,
+    section_lines_append,
+    noted-append,
+    front_twice,
+  )
+  passes_front h front (Short lines at outer leaf) = search (
+    arith,
+    section_lines_append,
+    noted-append,
+  )
+  passes_front h front (Fault lines at why T) = search (arith, section_lines_append, append_assoc)
 
 -- a section goes on as its reading does, where what follows it goes on
 pub through_goes : (S : Signatures) (header : List ℕ) (section : Section) →
@@ -90,18 +86,11 @@ pub through_goes : (S : Signatures) (header : List ℕ) (section : Section) →
     section_and_rest S header section h (decoder.advance (plain (order header)) [] r b)
     ≡ advance S header (section_and_rest S header section h r) b
 unfolding section_then with_front advance message_step
-through_goes S header section goes h (Done lines at s) b =
-    let R = root_of section in
-    let now = noted (is_header_root R) h lines in
-    ap (with_front (section_lines R (may_call header section) h lines)) (goes now at s b)
-    ∙ front_advance S header (section_lines R (may_call header section) h lines)
-    (after S header section now at s) b
+through_goes S header section goes h (Done lines at s) b = search (arith, front_advance)
 through_goes S header section goes h (Short lines at outer leaf) b =
     passes_front section (may_call header section) (after S header section) h lines
     (decoder.step (plain (order header)) [] outer leaf at b)
-through_goes S header section goes h (Fault lines at why T) b =
-    stays S header (section_lines (root_of section) (may_call header section) h lines
-    ++ line_at at (FaultLine why) ∷ []) at b
+through_goes S header section goes h (Fault lines at why T) b = search (arith, stays)
 
 -- ---- the rest
 
@@ -114,20 +103,19 @@ rest_step_full offset held at e = rw eq-eqb refl
 pub rest_step_more : (offset : ℕ) (held : List ℕ) (at : ℕ) → length held < 32 →
     rest_step offset held at ≡ ReadTo [] at (In_rest offset held)
 unfolding rest_step
-rest_step_more offset held at h = rw (ne_eqb (length held) 32 (λ e. omega arith)) refl
+rest_step_more offset held at h = search (arith, ne_eqb)
 
 rest_in_goes : (S : Signatures) (header : List ℕ) (full more offset at : ℕ) (s : List ℕ) (b : ℕ) →
     full ≡ length s / 32 → more ≡ (length s + 1) / 32 →
     rest_in more offset at (s ++ b ∷ []) ≡ advance S header (rest_in full offset at s) b
 unfolding rest_in advance message_step with_front
-rest_in_goes S header zero zero offset at s b e f =
-    let l : length (s ++ b ∷ []) < 32 = omega (arith, length_one_more s b) in
-    rw (
-      rest_step_more offset (s ++ b ∷ []) ((at + length s) + 1) l,
-      front_none,
-      length_one_more,
-      add_assoc,
-    ) refl
+rest_in_goes S header zero zero offset at s b e f = search (
+  arith,
+  length_one_more,
+  rest_step_more,
+  front_none,
+  add_assoc,
+)
 rest_in_goes S header zero (suc zero) offset at s b e f =
     let l : length (s ++ b ∷ []) ≡ 32 = omega (arith, length_one_more s b) in
     let n : at + 32 ≡ (at + length s) + 1 = omega (arith, length_one_more s b) in
@@ -146,8 +134,7 @@ rest_in_goes S header (suc full) (suc more) offset at s b e f =
 
 pub rest_goes : (S : Signatures) (header : List ℕ) → Goes S header rest
 unfolding rest
-rest_goes S header at s b = rest_in_goes S header (length s / 32) (length (s ++ b ∷ []) / 32) 0 at s
-    b refl (ap (λ n. n / 32) (length_one_more s b))
+rest_goes S header at s b = search (arith, rest_in_goes, length_one_more)
 
 -- ---- the padding
 
@@ -183,14 +170,7 @@ module _ (S : Signatures) (header : List ℕ) (t : BodyType) (at b : ℕ) (s : L
       body S header t (at + padding at 8) (drop (padding at 8) (s ++ b ∷ []))
       ≡ advance S header (ReadTo [] (at + length s) (In_padding t)) b
   unfolding advance message_step
-  padding_begins l m =
-      let n : at + padding at 8 ≡ (at + length s) + 1 = omega (arith, length_one_more s b) in
-      rw (
-        le-ltb 1 (padding (at + length s) 8) m,
-        front_none,
-        drop_all (padding at 8) (s ++ b ∷ []) (le_of_eq (sym l)),
-        n,
-      ) refl
+  padding_begins l m = search (arith, length_one_more, le-ltb, front_none, drop_all, le_of_eq)
 
 padded_goes : (S : Signatures) (header : List ℕ) (t : BodyType) → Goes S header (body S header t) →
     Goes S header (padded S header t)
@@ -200,24 +180,17 @@ padded_goes S header t goes at s b = go (cases_lt (length s) (padding at 8))
     go : (length s < padding at 8) ⊎ (padding at 8 ≤ length s) →
         (length s + 1 < padding at 8) ⊎ (padding at 8 ≤ length s + 1) →
         padded S header t at (s ++ b ∷ []) ≡ advance S header (padded S header t at s) b
-    go (inl h) (inl k) =
-        let l : length (s ++ b ∷ []) < padding at 8 = rw length_one_more k in
-        let m : 1 < padding (at + length s) 8 = omega (arith, pad_less at (length s) h) in
-        rw (padded_waits S header t at (s ++ b ∷ []) l, padded_waits S header t at s h)
-        (padding_waits S header t at b s m)
-    go (inl h) (inr k) =
-        let l : padding at 8 ≡ length (s ++ b ∷ []) = omega (arith, length_one_more s b) in
-        let m : padding (at + length s) 8 ≤ 1 = omega (arith, pad_less at (length s) h) in
-        rw (padded_begins S header t at (s ++ b ∷ []) (le_of_eq l), padded_waits S header t at s h)
-        (padding_begins S header t at b s l m)
-    go (inr h) _ =
-        let l : padding at 8 ≤ length (s ++ b ∷ []) = omega (arith, length_one_more s b) in
-        rw (
-          padded_begins S header t at (s ++ b ∷ []) l,
-          padded_begins S header t at s h,
-          drop-append-le (padding at 8) s (b ∷ []) h,
-        )
-        (goes (at + padding at 8) (drop (padding at 8) s) b)
+    go (inl h) (inl k) = search (arith, length_one_more, pad_less, padded_waits, padding_waits)
+    go (inl h) (inr k) = search (
+      arith,
+      length_one_more,
+      pad_less,
+      padded_begins,
+      le_of_eq,
+      padded_waits,
+      padding_begins,
+    )
+    go (inr h) _ = search (arith, length_one_more, padded_begins, drop-append-le, drop)
 
 -- ---- a message
 
@@ -239,7 +212,7 @@ module _ (S : Signatures) (header : List ℕ) (P : (ℕ → List ℕ → Message
 
   exception_has : (h : Noted) → P (after_exception S header h)
   unfolding after_exception
-  exception_has h = option_has (members_of S h.name)
+  exception_has h = search (arith, option_has)
 
   pub body_has : (t : BodyType) → P (body S header t)
   unfolding body
@@ -271,16 +244,13 @@ module _ (S : Signatures) (header : List ℕ) (P : (ℕ → List ℕ → Message
   message_by (Some T) = reads sections.Header T header_has
 
   pub message_has : P (of_header S header (S.header (minor header) (kind header)))
-  message_has = message_by (S.header (minor header) (kind header))
+  message_has = search (arith, message_by)
 
 reads_go : (S : Signatures) (header : List ℕ) (section : Section) (T : Ty) →
     ((h : Noted) → Goes S header (after S header section h)) →
     Goes S header (λ at s. section_and_rest S header section nothing_noted
     (read (plain (order header)) [] T at s))
-reads_go S header section T goes at s b =
-    ap (section_and_rest S header section nothing_noted)
-    (read_goes (plain (order header)) [] T at s b)
-    ∙ through_goes S header section goes nothing_noted (read (plain (order header)) [] T at s) b
+reads_go S header section T goes at s b = search (arith, read_goes, through_goes)
 
 pub after_goes : (S : Signatures) (header : List ℕ) (section : Section) (h : Noted) →
     Goes S header (after S header section h)
@@ -298,8 +268,11 @@ message_goes S header s b =
 -- and so are many
 pub message_resumes : (S : Signatures) (header s t : List ℕ) →
     message S header (s ++ t) ≡ goes_on S header (message S header s) t
-message_resumes S header s [] = ap (message S header) (append-nil s)
-message_resumes S header s (b ∷ t) =
-    ap (message S header) (sym (append_assoc s (b ∷ []) t))
-    ∙ (message_resumes S header (s ++ b ∷ []) t
-    ∙ ap (λ m. goes_on S header m t) (message_goes S header s b))
+message_resumes S header s [] = search (arith, append-nil)
+message_resumes S header s (b ∷ t) = search (
+  arith,
+  append_assoc,
+  message_goes,
+  message_resumes S
+      header (s ++ b ∷ []) t,
+)

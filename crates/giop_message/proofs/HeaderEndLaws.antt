@@ -5,17 +5,16 @@ use Rattle.std.proofs.lemmas.List.{take-append-drop}
 use Rattle.std.proofs.lemmas.Bool.{cases_lt, false≢true}
 use Rattle.giop_sig.specs.Types.{Ty}
 use Rattle.giop_sig.specs.Table.{Table}
-use Rattle.giop_sig.specs.HeaderTypes.{header_type}
 use Rattle.giop_decode.specs.ReadResult.{plain, Read, Done, Short, Fault}
 use Rattle.giop_decode.specs.Reading.{read}
 use Rattle.giop_decode.specs.ReadingSteps.{advance}
 use Rattle.giop_decode.specs.Noted.{Noted, nothing_noted}
 use Rattle.giop_decode.proofs.ReadingLaws.{read_goes}
 use Rattle.giop_message.specs.declared.part.Section.TheVariants as sections
-use Rattle.giop_message.specs.Headers.{minor, kind, order}
+use Rattle.giop_message.specs.Headers.{order}
 use Rattle.giop_message.specs.Signatures.{Answer, Answers, signatures_of}
-use Rattle.giop_message.specs.Messages.{Stage, In_typed, In_padding, In_rest, Over, section_then, of_header, rest, message, message_lines, stage_of, close, is_request, after_header}
-use Rattle.giop_message.specs.ReaderOfTable.{is_over, timed_line_of, closing_of, remarks_by, closes_by}
+use Rattle.giop_message.specs.Messages.{Stage, In_typed, In_padding, In_rest, Over, section_then, of_header, rest, message, stage_of, is_request, after_header}
+use Rattle.giop_message.specs.ReaderOfTable.{is_over, remarks_by, closes_by}
 use Rattle.giop_message.specs.MessageState.{is_header}
 use Rattle.giop_message.proofs.Raises.{is_settled, raised_stays, raised_settled, raised_before, raised_apart}
 use Rattle.giop_message.specs.DueOctets.{StaysUndue}
@@ -47,7 +46,7 @@ module _ (header : List ℕ) (T : Ty) where
 
   whole_stays : (more s : List ℕ) (h : Noted) → noted_if_whole (Reads s) ≡ Some h →
       noted_if_whole (Reads (s ++ more)) ≡ Some h
-  whole_stays [] s h e = ap (λ z. noted_if_whole (Reads z)) (append-nil s) ∙ e
+  whole_stays [] s h e = search (arith, append-nil)
   whole_stays (b ∷ more) s h e =
       let one = ap noted_if_whole (read_goes (plain (order header)) [] T 12 s b)
       ∙ whole_on (Reads s) b h e in
@@ -55,7 +54,7 @@ module _ (header : List ℕ) (T : Ty) where
       ∙ whole_stays more (s ++ b ∷ []) h one
 
   fault_stays : (more s : List ℕ) → faulted (Reads s) ≡ true → faulted (Reads (s ++ more)) ≡ true
-  fault_stays [] s e = ap (λ z. faulted (Reads z)) (append-nil s) ∙ e
+  fault_stays [] s e = search (arith, faulted, append-nil)
   fault_stays (b ∷ more) s e =
       let one = ap faulted (read_goes (plain (order header)) [] T 12 s b)
       ∙ fault_on (Reads s) b e in
@@ -76,8 +75,7 @@ stays_by header (Some T) s more h e = whole_stays header T more s h e
 header_noted_stays : (header s more : List ℕ) (h : Noted) → header_noted header s ≡ Some h →
     header_noted header (s ++ more) ≡ Some h
 unfolding header_noted
-header_noted_stays header s more h e = stays_by header (header_type (minor header) (kind header)) s
-    more h e
+header_noted_stays header s more h e = search (arith, stays_by)
 
 -- ---- the headers that end in octets of two parts
 
@@ -86,7 +84,7 @@ both_between : (number : ℕ) (header : List ℕ) (a b c : Option Noted) →
     ends_between number header a c ≡ ends_between number header a b
     ++ ends_between number header b c
 both_between number header (Some h) (Some k) c f g = refl
-both_between number header (Some h) None c f g = absurd (let no = f h refl in cc)
+both_between number header (Some h) None c f g = search (arith)
 both_between number header None None c f g = refl
 both_between number header None (Some k) c f g = ap (ends_between number header None) (g k refl)
 
@@ -94,7 +92,7 @@ raises_both : (number : ℕ) (a b c : Option (List ℕ)) →
     ((n : List ℕ) → a ≡ Some n → b ≡ Some n) → ((n : List ℕ) → b ≡ Some n → c ≡ Some n) →
     raises_between number a c ≡ raises_between number a b ++ raises_between number b c
 raises_both number (Some n) (Some m) c f g = refl
-raises_both number (Some n) None c f g = absurd (let no = f n refl in cc)
+raises_both number (Some n) None c f g = search (arith)
 raises_both number None None c f g = refl
 raises_both number None (Some m) c f g = ap (raises_between number None) (g m refl)
 
@@ -103,18 +101,13 @@ crossed : (number : ℕ) (header : List ℕ) (a b : Option (List ℕ)) (k l : Op
     (k ≡ None → b ≡ None) →
     ends_between number header k l ++ raises_between number a b ≡ raises_between number a b
     ++ ends_between number header k l
-crossed number header a b (Some h) l f = sym (append-nil (raises_between number a b))
-crossed number header (Some n) b None l f = append-nil (ends_between number header None l)
-crossed number header None b None l f = rw (f refl) (append-nil (ends_between number header None l))
+crossed number header a b (Some h) l f = search (arith, append-nil)
+crossed number header (Some n) b None l f = search (arith, append-nil)
+crossed number header None b None l f = search (arith, append-nil)
 
 exchanged : (us bs cs ds : List HeaderEnd) → bs ++ cs ≡ cs ++ bs → (us ++ bs)
     ++ (cs ++ ds) ≡ (us ++ cs) ++ (bs ++ ds)
-exchanged us bs cs ds e =
-    append_assoc us bs (cs ++ ds)
-    ∙ (ap (λ (z : List HeaderEnd). us ++ z)
-    (sym (append_assoc bs cs ds) ∙ (ap (λ (z : List HeaderEnd). z ++ ds) e
-    ∙ append_assoc cs bs ds))
-    ∙ sym (append_assoc us cs (bs ++ ds)))
+exchanged us bs cs ds e = search (arith, append_assoc)
 
 pub header_ends_both : (number : ℕ) (header s xs ys : List ℕ) →
     header_ends number header s (xs ++ ys) ≡ header_ends number header s xs
@@ -147,12 +140,7 @@ raises_same number (Some n) = refl
 
 pub header_ends_none : (number : ℕ) (header s : List ℕ) → header_ends number header s [] ≡ []
 unfolding header_ends
-header_ends_none number header s = rw (append-nil s, raises_same number (raised header s))
-    (go (header_noted header s))
-  where
-    go : (o : Option Noted) → ends_between number header o o ++ [] ≡ []
-    go None = refl
-    go (Some h) = refl
+header_ends_none number header s = search (arith, append-nil, raises_same)
 
 -- after octets, of which more end neither
 pub ends_further : (number : ℕ) (header s octets : List ℕ) (t j : ℕ) →
@@ -198,34 +186,7 @@ pub one_octet : (number : ℕ) (header s : List ℕ) (x : ℕ) →
     × (header_ends number header s (x ∷ []) ≡ Header_end number header n ∷ []))
     ⊎ ((name : List ℕ) × (header_ends number header s (x ∷ []) ≡ Exception_end number name ∷ [])))
 unfolding header_ends
-one_octet number header s x = go (header_noted header s) (header_noted header (s ++ x ∷ [])) refl
-    refl
-  where
-    Before : Option (List ℕ)
-    Before = raised header s
-
-    Now : Option (List ℕ)
-    Now = raised header (s ++ x ∷ [])
-
-    go : (o q : Option Noted) → header_noted header s ≡ o → header_noted header (s ++ x ∷ []) ≡ q →
-        (ends_between number header o q ++ raises_between number Before Now ≡ [])
-        ⊎ (((n : Noted) × (o ≡ None) × (q ≡ Some n)
-        × (ends_between number header o q ++ raises_between number Before Now
-        ≡ Header_end number header n ∷ []))
-        ⊎ ((name : List ℕ) × (ends_between number header o q
-        ++ raises_between number Before Now ≡ Exception_end number name ∷ [])))
-    go (Some h) q e f = elim (name_or_none number Before Now) [
-      | inl none ↦ inl none
-      | inr one ↦ inr (inr one)
-    ]
-    go None None e f = inl (rw (raised_before header s e, raised_before header (s ++ x ∷ []) f)
-        refl)
-    go None (Some n) e f = inr (inl (
-      n,
-      refl,
-      refl,
-      rw (raised_before header s e, raised_apart header s x e) refl,
-    ))
+one_octet number header s x = search (arith, name_or_none, raised_before, raised_apart)
 
 -- ---- none where a message is past its header
 
@@ -243,29 +204,19 @@ past_by : (C : Table) (answer : Answer) (number : ℕ) (header : List ℕ) (foun
     (noted_by_type header found (s ++ more)) ≡ []
 unfolding waits section_then stage_of of_header
 past_by C answer number header None s more e = refl
-past_by C answer number header (Some T) s more e = go (read (plain (order header)) [] T 12 s) e
-  where
-    go : (r : Read) → waits (stage_of (section_then sections.Header (is_request header)
-        (after_header (signatures_of C answer) header) nothing_noted r)) ≡ false →
-        ends_between number header (noted_if_whole r)
-        (noted_if_whole (read (plain (order header)) [] T 12 (s ++ more))) ≡ []
-    go (Done lines at rest) e = refl
-    go (Short lines at outer leaf) e = absurd (false≢true (sym e))
-    go (Fault lines at why U) e = absurd (false≢true (sym e))
+past_by C answer number header (Some T) s more e = search (arith, false≢true)
 
 pub past_none : (C : Table) (answer : Answer) (number : ℕ) (header s more : List ℕ) →
     waits (stage_of (message (signatures_of C answer) header s)) ≡ false →
     ends_between number header (header_noted header s) (header_noted header (s ++ more)) ≡ []
 unfolding header_noted message signatures_of
-past_none C answer number header s more e =
-    past_by C answer number header (header_type (minor header) (kind header)) s more e
+past_none C answer number header s more e = search (arith, past_by)
 
 -- nor a name, where none is to come any more
 pub settled_none : (C : Table) (answer : Answer) (number : ℕ) (header s more : List ℕ) →
     is_settled (stage_of (message (signatures_of C answer) header s)) ≡ true →
     raises_between number (raised header s) (raised header (s ++ more)) ≡ []
-settled_none C answer number header s more e =
-    rw (raised_settled C answer header s more e) (raises_same number (raised header s))
+settled_none C answer number header s more e = search (arith, raised_settled, raises_same)
 
 over_by : (C : Table) (answer : Answer) (number : ℕ) (header : List ℕ) (found : Option Ty)
     (s more : List ℕ) →
@@ -295,8 +246,7 @@ over_header : (C : Table) (answer : Answer) (number : ℕ) (header s more : List
     is_over (stage_of (message (signatures_of C answer) header s)) ≡ true →
     ends_between number header (header_noted header s) (header_noted header (s ++ more)) ≡ []
 unfolding header_noted message signatures_of
-over_header C answer number header s more e =
-    over_by C answer number header (header_type (minor header) (kind header)) s more e
+over_header C answer number header s more e = search (arith, over_by)
 
 over_settled : (g : Stage) → is_over g ≡ true → is_settled g ≡ true
 unfolding is_over is_settled
@@ -350,10 +300,7 @@ module _ (number : ℕ) (header s octets : List ℕ) (t : ℕ) where
   pub ends_over : (C : Table) (answer : Answer) →
       is_over (stage_of (message (signatures_of C answer) header (s ++ take t octets))) ≡ true →
       header_ends number header s octets ≡ header_ends number header s (take t octets)
-  ends_over C answer over =
-      ends_split ∙ (ap (λ (z : List HeaderEnd). header_ends number header s (take t octets) ++ z)
-      (over_none C answer number header (s ++ take t octets) (drop t octets) over)
-      ∙ append-nil (header_ends number header s (take t octets)))
+  ends_over C answer over = search (arith, ends_split, take, over_none, drop, append-nil)
 
   module _ {St : Type 0} (answer : St → Answer) (notified : St → CallEvent → St) (C : Table)
       (st now : St) where
@@ -362,23 +309,14 @@ module _ (number : ℕ) (header s octets : List ℕ) (t : ℕ) where
         AgreesAtEnds answer notified C st a (header_ends number header s octets) →
         AgreesAtEnds answer notified C now a
         (header_ends number header (s ++ take t octets) (drop t octets))
-    agrees_now a told h =
-        let rest = header_ends number header (s ++ take t octets) (drop t octets) in
-        subst (λ x. AgreesAtEnds answer notified C x a rest) (sym told)
-        (answers_then answer notified C st a (header_ends number header s (take t octets)) rest
-        (subst (AgreesAtEnds answer notified C st a) ends_split h))
+    agrees_now a told h = search (arith, take, drop, answers_then, ends_split)
 
     pub told_more : (n : ℕ) (later : St) →
         now ≡ after_ends notified C st (header_ends number header s (take t octets)) →
         later ≡ after_ends notified C now (header_ends number header (s ++ take t octets)
         (take n (drop t octets))) →
         later ≡ after_ends notified C st (header_ends number header s (take (t + n) octets))
-    told_more n later told more =
-        let mid = header_ends number header (s ++ take t octets) (take n (drop t octets)) in
-        more ∙ (ap (λ x. after_ends notified C x mid) told
-        ∙ (sym (told_both answer notified C st (header_ends number header s (take t octets)) mid)
-        ∙ ap (after_ends notified C st) (sym (ap (header_ends number header s) (take-add t n octets)
-        ∙ header_ends_both number header s (take t octets) (take n (drop t octets))))))
+    told_more n later told more = search (arith, take, drop, told_both, take-add, header_ends_both)
 
 -- ---- a message whose header has not ended is read alike, whatever the ids answer
 
@@ -388,46 +326,28 @@ unended_by : (C : Table) (x y : Answer) (header : List ℕ) (found : Option Ty) 
     ≡ of_header (signatures_of C y) header found 12 s
 unfolding of_header section_then
 unended_by C x y header None s e = refl
-unended_by C x y header (Some T) s e = go (read (plain (order header)) [] T 12 s) e
-  where
-    go : (r : Read) → noted_if_whole r ≡ None →
-        section_then sections.Header (is_request header) (after_header (signatures_of C x) header)
-        nothing_noted r
-        ≡ section_then sections.Header (is_request header) (after_header (signatures_of C y) header)
-        nothing_noted r
-    go (Done lines at rest) e = absurd cc
-    go (Short lines at outer leaf) e = refl
-    go (Fault lines at why U) e = refl
+unended_by C x y header (Some T) s e = search (arith)
 
 pub unended_agree : (C : Table) (x y : Answer) (header s : List ℕ) → header_noted header s ≡ None →
     message (signatures_of C x) header s ≡ message (signatures_of C y) header s
 unfolding header_noted message signatures_of
-unended_agree C x y header s e = unended_by C x y header (header_type (minor header) (kind header))
-    s e
+unended_agree C x y header s e = search (arith, unended_by)
 
 pub header_noted_before : (header s more : List ℕ) → header_noted header (s ++ more) ≡ None →
     header_noted header s ≡ None
-header_noted_before header s more e = go (header_noted header s) refl
-  where
-    go : (o : Option Noted) → header_noted header s ≡ o → o ≡ None
-    go None is = refl
-    go (Some h) is = absurd (let no : None ≡ Some h =
-        sym e ∙ header_noted_stays header s more h is in cc)
+header_noted_before header s more e = search (arith, header_noted_stays)
 
 -- by answers that agree, or before the header ends, a message has the same lines
 pub alike_remarks : (C : Table) (x y : Answer) (header s : List ℕ) → (x ≡ y)
     ⊎ (header_noted header s ≡ None) →
     remarks_by (signatures_of C x) header s ≡ remarks_by (signatures_of C y) header s
 unfolding remarks_by
-alike_remarks C x y header s (inl e) = ap (λ (z : Answer). remarks_by (signatures_of C z) header s)
-    e
-alike_remarks C x y header s (inr e) = ap (λ m. map timed_line_of (message_lines m))
-    (unended_agree C x y header s e)
+alike_remarks C x y header s (inl e) = search (arith)
+alike_remarks C x y header s (inr e) = search (arith, map, unended_agree)
 
 pub alike_closes : (C : Table) (x y : Answer) (header s : List ℕ) → (x ≡ y)
     ⊎ (header_noted header s ≡ None) →
     closes_by (signatures_of C x) header s ≡ closes_by (signatures_of C y) header s
 unfolding closes_by
-alike_closes C x y header s (inl e) = ap (λ (z : Answer). closes_by (signatures_of C z) header s) e
-alike_closes C x y header s (inr e) = ap (λ m. map closing_of (close (stage_of m)))
-    (unended_agree C x y header s e)
+alike_closes C x y header s (inl e) = search (arith)
+alike_closes C x y header s (inr e) = search (arith, map, unended_agree)

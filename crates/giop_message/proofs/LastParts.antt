@@ -77,18 +77,12 @@ both_false false b c e = refl
 
 no_end : (is : Bool) (path : List PathSegment) (l : Line) → IsOf path l →
     is_member (codes "operation") path ≡ false → ends_operation is l ≡ false
-no_end is path l of e = both_false is (is_member (codes "operation") l.path) (ends_text l.value)
-    (go of.stands)
-  where
-    go : (l.path ≡ path) ⊎ ((tag : Option (List ℕ)) × (l.path ≡ path ++ Switch tag ∷ [])) →
-        is_member (codes "operation") l.path ≡ false
-    go (inl same) = rw same e
-    go (inr same) = rw same.1 (switch_member (codes "operation") path same.0)
+no_end is path l of e = search (arith, both_false, switch_member)
 
 pub no_ends : (is : Bool) (path : List PathSegment) (lines : List Line) → Each (IsOf path) lines →
     is_member (codes "operation") path ≡ false → Each (λ l. ends_operation is l ≡ false) lines
 no_ends is path [] each e = tt
-no_ends is path (l ∷ ls) each e = (no_end is path l each.0 e, no_ends is path ls each.1 e)
+no_ends is path (l ∷ ls) each e = search (arith, no_end, no_ends is path ls each.1 e)
 
 -- a reading that is done
 abbrev pub done_test : Read → Bool
@@ -97,7 +91,7 @@ done_test r = false
 
 short_front : (front : List Line) (r : Read) (at : ℕ) (outer : List OpenPart) (leaf : Leaf) →
     with_front [] r ≡ Short [] at outer leaf → done_test (with_front front r) ≡ false
-short_front front (Done lines at rest) at' outer leaf e = absurd (false≢true (sym (ap done_test e)))
+short_front front (Done lines at rest) at' outer leaf e = search (arith, false≢true)
 short_front front r at' outer' leaf' e = refl
 
 -- a struct goes on after a part that isn't its last
@@ -146,12 +140,7 @@ module _ (coding : Coding) (is : Bool) (n : ℕ) (names : ℕ → List ℕ) (par
   in_struct [] (Content U total offset piece) fits done = absurd fits.kind
   in_struct (Inside U inner end ∷ outer) leaf fits done = absurd fits.0.kind
   in_struct (Member U i ∷ outer) leaf fits done = absurd fits.0.kind
-  in_struct (Part U i count ∷ []) leaf fits done =
-      let same : Part U i count ≡ Part (Struct (suc n) names parts) i (suc n) =
-      rw (fits.0.same, fits.0.kind) refl in
-      subst (λ p. NoCalls (p ∷ []) leaf) (sym same)
-      (in_part i leaf fits.1 (rw fits.0.kind at fits.0.below)
-      (subst (λ p. done_test (step coding [] (p ∷ []) leaf at b) ≡ true) same done))
+  in_struct (Part U i count ∷ []) leaf fits done = search (arith, in_part)
   in_struct (Part U i count ∷ place ∷ outer) leaf fits done =
       no_ends is (path_in (segment_of U i ∷ segment_in place ∷ []) outer) _
       (step_of coding [] (Part U i count ∷ place ∷ outer) leaf at b)
@@ -201,13 +190,7 @@ firm_none is (Fault lines at why T) (inr h) = absurd (false≢true (sym h.1))
 
 followed_none : (is : Bool) (n : ℕ) (r : Read) (next : ℕ → List ℕ → Read) → IsOctetResult n r →
     IsEmptyResult n (next n []) → CallsNone is r → CallsNone is (followed r next)
-followed_none is n (Done lines at rest) next now quiet h =
-    rw (now.1, now.2) (behind (next n []) quiet)
-  where
-    behind : (q : Read) → IsEmptyResult n q → CallsNone is (ReadResult.with_front lines q)
-    behind (Done ls at rest) k = tt
-    behind (Short ls at outer leaf) k = tt
-    behind (Fault ls at why S) k = absurd k
+followed_none is n (Done lines at rest) next now quiet h = search (arith)
 followed_none is n (Short lines at outer leaf) next now quiet h = tt
 followed_none is n (Fault lines at why T) next now quiet h = h
 
@@ -220,9 +203,9 @@ within_none is place r h = h
 held_member : (name : List ℕ) (path : List PathSegment) (outer : List OpenPart) →
     is_member name (path_in (path ++ Held ∷ []) outer) ≡ false
 held_member name [] [] = refl
-held_member name [] (place ∷ outer) = deep_member name Held (segment_in place) [] outer
-held_member name (a ∷ []) outer = deep_member name a Held [] outer
-held_member name (a ∷ b ∷ path) outer = deep_member name a b (path ++ Held ∷ []) outer
+held_member name [] (place ∷ outer) = search (arith, deep_member)
+held_member name (a ∷ []) outer = search (arith, deep_member)
+held_member name (a ∷ b ∷ path) outer = search (arith, deep_member)
 
 -- An octet that ends an encapsulation too soon may have the line of what it completes, which is no
 -- operation.

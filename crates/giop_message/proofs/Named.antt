@@ -1,9 +1,9 @@
 -- The close ends a message, and in a message that begins with its request id the first four octets
 -- have no line but that of the id.
 use Rattle.std.proofs.Common.{◌≡◌, ℕ, suc, ◌<◌, ◌≤◌, ◌⊎◌, inl, inr, Bool, true, false, List, [], ◌∷◌, ◌++◌, length, map, Option, Some, None, refl, ap, ◌∙◌, append-nil, arith}
-use Rattle.std.specs.Prelude.{◌&&◌, ◌||◌, ◌==◌, if◌then◌else◌, IfSome, codes}
+use Rattle.std.specs.Prelude.{◌&&◌, ◌||◌, IfSome, codes}
 use Rattle.std.proofs.lemmas.Bool.{eqb-true}
-use Rattle.std.specs.List.{list_any, AllByRecursion as Each}
+use Rattle.std.specs.List.{AllByRecursion as Each}
 use Rattle.giop_cdr.specs.Alignment.{padding}
 use Rattle.giop_cdr.specs.Numbers.{num}
 use Rattle.giop_cdr.specs.declared.order.Order.{Order}
@@ -14,18 +14,18 @@ use Rattle.giop_sig.specs.Table.{Table}
 use Rattle.giop_sig.specs.HeaderTypes.{BeginsWithId, IdStandsFirst, header_type}
 use Rattle.giop_sig.proofs.HeaderLaws.{id_first}
 use Rattle.giop_decode.specs.ReadResult as spine
-use Rattle.giop_decode.specs.ReadResult.{plain, PathSegment, Name, Line, Number, line, OpenPart, Leaf, Part, Read, Done, Short, followed, within}
+use Rattle.giop_decode.specs.ReadResult.{plain, PathSegment, Name, Line, Number, line, Part, Read, Done, followed, within}
 use Rattle.giop_decode.specs.Pieces.{block, number}
 use Rattle.giop_decode.specs.Reading.{read, parts_from}
 use Rattle.giop_decode.specs.ReadingSteps.{IsEmptyResult, part_at}
-use Rattle.giop_decode.specs.Noted.{Noted, nothing_noted, noted, is_member, ends_operation}
+use Rattle.giop_decode.specs.Noted.{Noted, nothing_noted, ends_operation}
 use Rattle.giop_decode.proofs.ReadingLaws.{quiet_parts, part_quiet}
 use Rattle.giop_message.specs.declared.part.Section.TheVariants as sections
-use Rattle.giop_message.specs.Headers.{minor, kind, order, has_more, may_be_fragmented, is_opener, is_fragment, is_cancel, has_name}
-use Rattle.giop_message.specs.MessageReader.{Value, is_last, IsEnding, HasOnlyValuesInId}
+use Rattle.giop_message.specs.Headers.{minor, kind, order, is_opener, is_fragment, is_cancel, has_name}
+use Rattle.giop_message.specs.MessageReader.{Value, IsEnding, HasOnlyValuesInId}
 use Rattle.giop_message.specs.Signatures.{Signatures, Answer, signatures_of}
-use Rattle.giop_message.specs.Messages.{ValueLine, ShortLine, EndLine, LineAt, line_at, calls, section_lines, body_may_be_missing, Stage, In_typed, In_padding, In_rest, Over, Message, section_then, rest_in, rest, is_request, after_header, of_header, message, message_lines, stage_of, close}
-use Rattle.giop_message.specs.ReaderOfTable.{line_class_of, timed_line_of, closing_of, remarks_by, closes_by, reader_by, HasIds, id_in, first_id, first_request_id}
+use Rattle.giop_message.specs.Messages.{ValueLine, LineAt, line_at, calls, section_lines, Message, section_then, rest_in, rest, is_request, after_header, of_header, message, message_lines, close}
+use Rattle.giop_message.specs.ReaderOfTable.{line_class_of, timed_line_of, remarks_by, closes_by, reader_by, HasIds, id_in, first_id, first_request_id}
 use Rattle.giop_message.proofs.Going.{passes_front}
 use Rattle.giop_message.proofs.Octets.{told_front, told_silent}
 use Rattle.giop_message.proofs.Causal.{Silent, passes_silent, after_silent, told_begins}
@@ -34,20 +34,7 @@ use Rattle.giop_message.proofs.Causal.{Silent, passes_silent, after_silent, told
 
 pub is_ending : (S : ℕ → Signatures) → IsEnding (reader_by S)
 unfolding closes_by line_class_of close
-is_ending S = record { ends = λ number header xs. go (stage_of (message (S number) header xs)) }
-  where
-    lack : (test : Bool) →
-        list_any (λ l. is_last l.0) (map closing_of (if test then EndLine ∷ [] else ShortLine ∷ []))
-        ≡ true
-    lack true = refl
-    lack false = refl
-
-    go : (stage : Stage) → list_any (λ l. is_last l.0) (map closing_of (close stage)) ≡ true
-    go (In_typed section h outer leaf) = refl
-    go (In_padding t) = lack (body_may_be_missing t)
-    go (In_rest offset []) = refl
-    go (In_rest offset (x ∷ held)) = refl
-    go Over = refl
+is_ending S = search (arith, map)
 
 -- ---- an unsigned long at the front
 
@@ -59,13 +46,13 @@ no_operation false path_is = refl
 
 number_no_operation : (is : Bool) (path : List PathSegment) (n : ℕ) →
     ends_operation is (line 16 path (Number (Plain prims.ULong) n)) ≡ false
-number_no_operation is path n = no_operation is (is_member (codes "operation") path)
+number_no_operation is path n = search (arith, no_operation)
 
 section_lines_id : (is : Bool) (path : List PathSegment) (n : ℕ) →
     section_lines roots.Header is nothing_noted (line 16 path (Number (Plain prims.ULong) n) ∷ [])
     ≡ line_at 16 (ValueLine roots.Header path (Number (Plain prims.ULong) n)) ∷ []
 unfolding section_lines calls
-section_lines_id is path n = rw (number_no_operation is path n) refl
+section_lines_id is path n = search (arith, number_no_operation)
 
 module _ (o : Order) (path : List PathSegment) where
   read_four : (a b c d : ℕ) →
@@ -84,8 +71,7 @@ module _ (o : Order) (n : ℕ) (of : ℕ → List ℕ) (parts : ℕ → Ty)
       (within (Part (Struct (suc n) of parts) 0 (suc n))
       (read (plain o) (Name (of 0) ∷ []) (Single (Plain prims.ULong)) 12 xs)) next
   unfolding next
-  first_part xs = ap (λ P. followed (within (Part (Struct (suc n) of parts) 0 (suc n))
-      (read (plain o) (Name (of 0) ∷ []) P 12 xs)) next) is
+  first_part xs = search (arith, next)
 
   id_line : List ℕ → Line
   id_line xs = line 16 (Name (of 0) ∷ []) (Number (Plain prims.ULong) (num o xs))
@@ -93,15 +79,11 @@ module _ (o : Order) (n : ℕ) (of : ℕ → List ℕ) (parts : ℕ → Ty)
   first_four : (a b c d : ℕ) → read (plain o) [] (Struct (suc n) of parts) 12 (a ∷ b ∷ c ∷ d ∷ [])
       ≡ spine.with_front (id_line (a ∷ b ∷ c ∷ d ∷ []) ∷ []) (next 16 [])
   unfolding id_line
-  first_four a b c d =
-      first_part (a ∷ b ∷ c ∷ d ∷ []) ∙ ap (λ r.
-      followed (within (Part (Struct (suc n) of parts) 0 (suc n)) r) next)
-      (read_four o (Name (of 0) ∷ []) a b c d)
+  first_four a b c d = search (arith, first_part, next, read_four)
 
   next_quiet : IsEmptyResult 16 (next 16 [])
   unfolding next
-  next_quiet = quiet_parts 16 (part_at (plain o) [] (Struct (suc n) of parts) (suc n))
-      (part_quiet (plain o) [] (Struct (suc n) of parts) (suc n) 16) n 1
+  next_quiet = search (arith, quiet_parts, part_quiet)
 
   module _ (is_req : Bool) (onward : Noted → ℕ → List ℕ → Message)
       (silent : (h : Noted) → Silent 16 (onward h 16 [])) where
@@ -109,15 +91,10 @@ module _ (o : Order) (n : ℕ) (of : ℕ → List ℕ) (parts : ℕ → Ty)
         message_lines (section_then sections.Header is_req onward nothing_noted
         (read (plain o) [] (Struct (suc n) of parts) 12 xs)) ≡ []
     unfolding number block padding section_then section_lines message_lines
-    told_few [] h = ap (λ r. message_lines
-        (section_then sections.Header is_req onward nothing_noted r)) (first_part [])
-    told_few (a ∷ []) h = ap (λ r. message_lines
-        (section_then sections.Header is_req onward nothing_noted r)) (first_part (a ∷ []))
-    told_few (a ∷ b ∷ []) h = ap (λ r. message_lines
-        (section_then sections.Header is_req onward nothing_noted r)) (first_part (a ∷ b ∷ []))
-    told_few (a ∷ b ∷ c ∷ []) h = ap (λ r.
-        message_lines (section_then sections.Header is_req onward nothing_noted r))
-        (first_part (a ∷ b ∷ c ∷ []))
+    told_few [] h = search (arith, first_part)
+    told_few (a ∷ []) h = search (arith, first_part)
+    told_few (a ∷ b ∷ []) h = search (arith, first_part)
+    told_few (a ∷ b ∷ c ∷ []) h = search (arith, first_part)
     told_few (a ∷ b ∷ c ∷ d ∷ xs) h = absurd (omega arith)
 
     told_four : (a b c d : ℕ) → message_lines
@@ -126,22 +103,19 @@ module _ (o : Order) (n : ℕ) (of : ℕ → List ℕ) (parts : ℕ → Ty)
         (ValueLine roots.Header (Name (of 0) ∷ [])
         (Number (Plain prims.ULong) (num o (a ∷ b ∷ c ∷ d ∷ [])))) ∷ []
     unfolding id_line
-    told_four a b c d =
-        let l = id_line (a ∷ b ∷ c ∷ d ∷ []) in
-        ap (λ r. message_lines (section_then sections.Header is_req onward nothing_noted r))
-        (first_four a b c d)
-        ∙ (ap message_lines (passes_front sections.Header is_req onward nothing_noted (l ∷ [])
-        (next 16 []))
-        ∙ (told_front (section_lines roots.Header is_req nothing_noted (l ∷ []))
-        (section_then sections.Header is_req onward (noted true nothing_noted (l ∷ []))
-        (next 16 []))
-        ∙ (ap (λ ts. section_lines roots.Header is_req nothing_noted (l ∷ []) ++ ts)
-        (told_silent 16 (section_then sections.Header is_req onward
-        (noted true nothing_noted (l ∷ [])) (next 16 []))
-        (passes_silent sections.Header is_req onward 16 silent (noted true nothing_noted (l ∷ []))
-        (next 16 []) next_quiet))
-        ∙ (append-nil (section_lines roots.Header is_req nothing_noted (l ∷ []))
-        ∙ section_lines_id is_req (Name (of 0) ∷ []) (num o (a ∷ b ∷ c ∷ d ∷ []))))))
+    told_four a b c d = search (
+      arith,
+      id_line,
+      first_four,
+      passes_front,
+      next,
+      told_front,
+      told_silent,
+      passes_silent,
+      next_quiet,
+      append-nil,
+      section_lines_id,
+    )
 
 -- of a header that begins with its request id
 module _ (S : Signatures) (header : List ℕ) where
@@ -181,12 +155,11 @@ module _ (S : Signatures) (header : List ℕ) where
       are_values (message_lines (of_header S header found 12 xs))
   unfolding are_values line_class_of line_at id_told
   named_by None begins xs h = rw (rest_few xs h) tt
-  named_by (Some T) begins [] h = rw (few_by T begins [] (omega arith)) tt
-  named_by (Some T) begins (a ∷ []) h = rw (few_by T begins (a ∷ []) (omega arith)) tt
-  named_by (Some T) begins (a ∷ b ∷ []) h = rw (few_by T begins (a ∷ b ∷ []) (omega arith)) tt
-  named_by (Some T) begins (a ∷ b ∷ c ∷ []) h =
-      rw (few_by T begins (a ∷ b ∷ c ∷ []) (omega arith)) tt
-  named_by (Some T) begins (a ∷ b ∷ c ∷ d ∷ []) h = rw (four_by T begins a b c d) (refl, tt)
+  named_by (Some T) begins [] h = search (arith, few_by)
+  named_by (Some T) begins (a ∷ []) h = search (arith, few_by)
+  named_by (Some T) begins (a ∷ b ∷ []) h = search (arith, few_by)
+  named_by (Some T) begins (a ∷ b ∷ c ∷ []) h = search (arith, few_by)
+  named_by (Some T) begins (a ∷ b ∷ c ∷ d ∷ []) h = search (arith, four_by)
   named_by (Some T) begins (a ∷ b ∷ c ∷ d ∷ e ∷ xs) h = absurd (omega arith)
 
   id_four : (T : Ty) → BeginsWithId T → (a b c d : ℕ) (later : List LineAt) →
@@ -194,7 +167,7 @@ module _ (S : Signatures) (header : List ℕ) where
       ++ later)
       ≡ Some (num (order header) (a ∷ b ∷ c ∷ d ∷ []))
   unfolding first_request_id id_in first_id line_at id_told
-  id_four T begins a b c d later = rw (four_by T begins a b c d) refl
+  id_four T begins a b c d later = search (arith, four_by)
 
 pub is_named : (S : ℕ → Signatures) → ((number : ℕ) → HasIds (S number)) →
     HasOnlyValuesInId (reader_by S)
@@ -225,18 +198,12 @@ first_by false more fragmented seven cancel e = inr e
 
 goes_first : (header : List ℕ) → has_name header ≡ true → IdStandsFirst (minor header) (kind header)
 unfolding is_opener is_fragment is_cancel
-goes_first header by = go (first_by (minor header == 2) (has_more header) (may_be_fragmented header)
-    (kind header == 7) (kind header == 2) by)
-  where
-    go : ((minor header == 2) ≡ true) ⊎ ((kind header == 2) ≡ true) →
-        IdStandsFirst (minor header) (kind header)
-    go (inl e) = inl (eqb-true (minor header) 2 e)
-    go (inr e) = inr (eqb-true (kind header) 2 e)
+goes_first header by = search (arith, first_by, eqb-true)
 
 pub begins_with_id : (header : List ℕ) → has_name header ≡ true →
     IfSome (header_type (minor header) (kind header)) BeginsWithId
-begins_with_id header by = id_first (minor header) (kind header) (goes_first header by)
+begins_with_id header by = search (arith, id_first, goes_first)
 
 pub has_ids : (C : Table) (answer : Answer) → HasIds (signatures_of C answer)
 unfolding signatures_of
-has_ids C answer = record { begins = λ header by. begins_with_id header by }
+has_ids C answer = search (arith, begins_with_id)

@@ -1,5 +1,5 @@
 -- The lines of one octet of a section, and their text.
-use Rattle.std.proofs.Common.{◌≡◌, ℕ, ◌+◌, ◌-◌, Bool, false, List, [], ◌∷◌, ◌++◌, refl, sym, ap, ◌∙◌, append_assoc, append-nil, arith}
+use Rattle.std.proofs.Common.{◌≡◌, ℕ, ◌+◌, Bool, false, List, [], ◌∷◌, ◌++◌, refl, sym, ap, ◌∙◌, append_assoc, append-nil, arith}
 use Rattle.std.specs.List.{AllByRecursion as Each}
 use Rattle.std.proofs.Math.Seq.{drop-append_seam}
 use Rattle.std.proofs.lemmas.List.Concat.{flat_map-append}
@@ -37,8 +37,7 @@ pub due_is : (S : Signatures) (header s more : List ℕ) (before : List LineAt) 
     message S header (s ++ more) ≡ with_front before n → message_lines m ≡ before →
     due S header s more ≡ message_lines n
 unfolding due
-due_is S header s more before m n is now same =
-    rw (is, same, now, told_front before n) (drop-append_seam before (message_lines n))
+due_is S header s more before m n is now same = search (arith, told_front, drop-append_seam)
 
 -- the line of a fault, after the others
 abbrev pub wrongs : Read → List LineAt
@@ -51,8 +50,7 @@ text_both : (number place offset : ℕ) (xs ys : List LineAt) →
     message_lines_text number place offset (xs ++ ys)
     ≡ message_lines_text number place offset xs ++ message_lines_text number place offset ys
 unfolding message_lines_text
-text_both number place offset xs ys = flat_map-append
-    (λ t. message_line_text number (place + (t.at - offset)) t.message_line) xs ys
+text_both number place offset xs ys = search (arith, flat_map-append)
 
 -- the call of a first line
 abbrev pub first_call : Root → Bool → Noted → List Line → List LineAt
@@ -63,8 +61,7 @@ numbered_lines : (number place offset at : ℕ) (root : Root) (l : Line) →
     message_lines_text number place offset (line_at at (ValueLine root l.path l.value) ∷ [])
     ≡ line_text number root l
 unfolding message_lines_text message_line_text line_class_of line_at
-numbered_lines number place offset at root l =
-    append-nil _ ∙ said_is_line number l.at root l.path l.value
+numbered_lines number place offset at root l = search (arith, append-nil, said_is_line)
 
 section_lines_text : (number place offset n : ℕ) (root : Root) (is : Bool) (h : Noted)
     (lines : List Line) →
@@ -86,9 +83,7 @@ section_lines_text number place offset n root is h (l ∷ l' ∷ ls) one = absur
 wrongs_text : (number place n : ℕ) (st : Read) → IsOctetResult (n + 1) st →
     message_lines_text number place n (wrongs st) ≡ fault_text number (place + 1) st
 unfolding message_lines_text message_line_text line_class_of text_of line_at
-wrongs_text number place n (Fault lines at why T) now =
-    let e : at - n ≡ 1 = omega (arith, now.1) in
-    rw e (append-nil _)
+wrongs_text number place n (Fault lines at why T) now = search (arith, append-nil)
 wrongs_text number place n _ now = refl
 
 -- where no line ends an operation there is no call
@@ -107,31 +102,25 @@ swapped : (number place n : ℕ) (root : Root) (is : Bool) (h : Noted) (st : Rea
     ≡ (lines_text number root (lines_of st) ++ fault_text number (place + 1) st)
     ++ message_lines_text number place n (first_call root is h (lines_of st))
 unfolding lines_text message_lines_text
-swapped number place n root is h (Done lines at rest) now none =
-    rw (
-      append-nil (message_lines_text number place n (first_call root is h lines)),
-      append-nil (lines_text number root lines),
-    ) refl
-swapped number place n root is h (Short lines at outer leaf) now none =
-    rw (
-      append-nil (message_lines_text number place n (first_call root is h lines)),
-      append-nil (lines_text number root lines),
-    ) refl
-swapped number place n root is h (Fault lines at why T) now none =
-    rw (no_first root is h lines none) (sym (append-nil _))
+swapped number place n root is h (Done lines at rest) now none = search (arith, append-nil)
+swapped number place n root is h (Short lines at outer leaf) now none = search (arith, append-nil)
+swapped number place n root is h (Fault lines at why T) now none = search (
+  arith,
+  no_first,
+  append-nil,
+)
 
 pub step_text : (number place n : ℕ) (root : Root) (is : Bool) (h : Noted) (st : Read) →
     IsOctetResult (n + 1) st → CallsNone is st →
     message_lines_text number place n (section_lines root is h (lines_of st) ++ wrongs st)
     ≡ (lines_text number root (lines_of st) ++ fault_text number (place + 1) st)
     ++ message_lines_text number place n (first_call root is h (lines_of st))
-step_text number place n root is h st now none =
-    text_both number place n (section_lines root is h (lines_of st)) (wrongs st)
-    ∙ (rw (
-      wrongs_text number place n st now,
-      section_lines_text number place n (n + 1) root is h (lines_of st) (one_of (n + 1) st now),
-    )
-    (append_assoc (lines_text number root (lines_of st))
-    (message_lines_text number place n (first_call root is h (lines_of st)))
-    (fault_text number (place + 1) st)
-    ∙ swapped number place n root is h st now none))
+step_text number place n root is h st now none = search (
+  arith,
+  text_both,
+  wrongs_text,
+  section_lines_text,
+  one_of,
+  append_assoc,
+  swapped,
+)

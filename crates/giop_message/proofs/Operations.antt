@@ -1,13 +1,11 @@
 -- Where a line ends a string, as that of an operation does, no other string has begun.
-use Rattle.std.proofs.Common.{◌≡◌, ℕ, zero, suc, ◌+◌, ◌-◌, ◌⊎◌, inl, inr, Bool, true, false, List, [], ◌∷◌, ◌++◌, refl, sym, subst, ◌∙◌, arith, lit<}
-use Rattle.std.specs.Prelude.{cond, ltb}
+use Rattle.std.proofs.Common.{◌≡◌, ℕ, zero, suc, ◌+◌, ◌-◌, ◌⊎◌, inl, inr, false, List, [], ◌∷◌, ◌++◌, refl, sym, subst, ◌∙◌, arith, lit<}
 use Rattle.std.specs.List.{AllByRecursion as Each}
-use Rattle.giop_sig.specs.Types.{Encapsulation, Ty, Single, Struct, Union, Array, part_of, width}
-use Rattle.giop_decode.specs.declared.progress.Kind.TheVariants as kinds
+use Rattle.giop_sig.specs.Types.{Encapsulation, Ty, Single, Struct, Union, Array, part_of}
 use Rattle.giop_decode.specs.ReadResult.{Coding, PathSegment, Name, Index, Held, OpenPart, Part, Member, Inside, Leaf, Read, Done, Short, Fault, followed, within}
-use Rattle.giop_decode.specs.Pieces.{content, full_pieces, tail}
-use Rattle.giop_decode.specs.Reading.{read, parts_from, cut_off, enclosed, rest_of}
-use Rattle.giop_decode.specs.ReadingSteps.{inner_path, IsEmptyResult, IsOctetResult, leaf_step, part_at, segment_of, step}
+use Rattle.giop_decode.specs.Pieces.{content, full_pieces}
+use Rattle.giop_decode.specs.Reading.{read, parts_from, enclosed, rest_of}
+use Rattle.giop_decode.specs.ReadingSteps.{IsEmptyResult, IsOctetResult, leaf_step, part_at, segment_of, step}
 use Rattle.giop_decode.specs.Fits.{FitsIn, IsEncapsulation}
 use Rattle.giop_decode.specs.Noted.{ends_in_string}
 use Rattle.giop_decode.proofs.ReadingLaws.{cut_inside, front_inside, now_within, block_waits, width_pos, number_none, part_quiet, step_now}
@@ -22,22 +20,23 @@ mute_within place r = refl
 mute_followed : (n : ℕ) (r : Read) (next : ℕ → List ℕ → Read) → IsEmptyResult n r →
     ends_in_string r ≡ false →
     ends_in_string (next n []) ≡ false → ends_in_string (followed r next) ≡ false
-mute_followed n (Done lines at rest) next quiet h k =
-    rw (quiet.1, quiet.2) (front_inside lines (next n []) ∙ k)
+mute_followed n (Done lines at rest) next quiet h k = search (arith, front_inside)
 mute_followed n r next quiet h k = h
 
 mute_parts : (n : ℕ) (part : ℕ → ℕ → List ℕ → Read) → ((i : ℕ) → IsEmptyResult n (part i n [])) →
     ((i : ℕ) → ends_in_string (part i n []) ≡ false) → (more i : ℕ) →
     ends_in_string (parts_from part more i n []) ≡ false
 mute_parts n part quiet h zero i = refl
-mute_parts n part quiet h (suc more) i =
-    mute_followed n (part i n []) (parts_from part more (suc i)) (quiet i) (h i)
-    (mute_parts n part quiet h more (suc i))
+mute_parts n part quiet h (suc more) i = search (
+  arith,
+  mute_followed,
+  mute_parts n part quiet h
+      more (suc i),
+)
 
 pub read_mute : (coding : Coding) (path : List PathSegment) (T : Ty) (n : ℕ) →
     ends_in_string (read coding path T n []) ≡ false
-read_mute coding path (Single scalar) n =
-    rw (number_none coding.origin (width scalar) n (width_pos scalar)) refl
+read_mute coding path (Single scalar) n = search (arith, number_none, width_pos)
 read_mute coding path (Struct count names parts) n =
     mute_parts n (part_at coding path (Struct count names parts) count)
     (part_quiet coding path (Struct count names parts) count n)
@@ -49,15 +48,16 @@ read_mute coding path (Array count T) n =
     (part_quiet coding path (Array count T) count n)
     (λ i. mute_within (Part (Array count T) i count) (read coding (path ++ Index i ∷ []) T n [])
     ∙ read_mute coding (path ++ Index i ∷ []) T n) count 0
-read_mute coding path (Union choice scalar select names cases) n =
-    rw (number_none coding.origin (width scalar) n (width_pos scalar)) refl
-read_mute coding path _ n = rw (number_none coding.origin 4 n (lit< tt)) refl
+read_mute coding path (Union choice scalar select names cases) n = search (
+  arith,
+  number_none,
+  width_pos,
+)
+read_mute coding path _ n = search (arith, number_none, lit<)
 
 part_mute : (coding : Coding) (path : List PathSegment) (T : Ty) (count n i : ℕ) →
     ends_in_string (part_at coding path T count i n []) ≡ false
-part_mute coding path T count n i =
-    mute_within (Part T i count) (read coding (inner_path path T i) (part_of T i) n [])
-    ∙ read_mute coding (inner_path path T i) (part_of T i) n
+part_mute coding path T count n i = search (arith, mute_within, read_mute)
 
 -- ---- no line ends a string, or none has begun
 
@@ -76,8 +76,7 @@ closed_within place r h = h
 
 closed_followed : (n : ℕ) (r : Read) (next : ℕ → List ℕ → Read) → IsOctetResult n r →
     ends_in_string (next n []) ≡ false → Closed r → Closed (followed r next)
-closed_followed n (Done lines at rest) next now mute h =
-    rw (now.1, now.2) (inr (front_inside lines (next n []) ∙ mute))
+closed_followed n (Done lines at rest) next now mute h = search (arith, front_inside)
 closed_followed n r next now mute h = h
 
 -- an encapsulation of its type
@@ -102,24 +101,18 @@ rest_mute path (Encapsulation T) zero n is = refl
 rest_mute path (Encapsulation T) (suc k) n is = go (full_pieces (suc k))
   where
     go : (full : ℕ) → ends_in_string (content (Encapsulation T) path (suc k) full 0 n []) ≡ false
-    go zero = rw (block_waits (suc k - 0 + tail (Encapsulation T)) n [] (omega arith)) refl
-    go (suc full) = rw (block_waits 32 n [] (lit< tt)) refl
+    go zero = search (arith, block_waits)
+    go (suc full) = search (arith, block_waits, lit<)
 rest_mute path T k n is = absurd is
 
 closed_enclosed : (n : ℕ) (path : List PathSegment) (T : Ty) (inner : Coding) (end : ℕ) (r : Read) →
     IsEncapsulation T → IsOctetResult n r → Closed r → Closed (enclosed path T inner end r [])
-closed_enclosed n path T inner end (Done lines at rest) is now h =
-    rw (now.1, now.2) (inr (front_inside lines (rest_of path T (end - n) n [])
-    ∙ rest_mute path T (end - n) n is))
-closed_enclosed n path T inner end (Short lines at outer leaf) is now h = go (ltb at end) h
-  where
-    go : (test : Bool) → Closed (Short lines at outer leaf) →
-        Closed (cond test (Short lines at (Inside T inner end ∷ outer) leaf)
-        (Fault lines at kinds.EncapShort (cut_off leaf)))
-    go true (inl k) = inl k
-    go true (inr k) = inr k
-    go false (inl k) = inl k
-    go false (inr k) = inr (cut_inside leaf ∙ k)
+closed_enclosed n path T inner end (Done lines at rest) is now h = search (
+  arith,
+  front_inside,
+  rest_mute,
+)
+closed_enclosed n path T inner end (Short lines at outer leaf) is now h = search (arith, cut_inside)
 closed_enclosed n path T inner end (Fault lines at why S) is now h = h
 
 -- Where a line ends a string no other has begun.

@@ -17,8 +17,7 @@ use Rattle.giop_sig.specs.Types.{Ty}
 use Rattle.giop_message.specs.declared.part.Section.{Section}
 use Rattle.giop_message.specs.Headers.{order}
 use Rattle.giop_message.specs.Signatures.{Signatures}
-use Rattle.giop_message.specs.Messages.{LineAt, section_lines, Message, with_front, section_then, message, message_lines, root_of, may_call, after, section_and_rest}
-use Rattle.giop_message.specs.StageSteps.{advance}
+use Rattle.giop_message.specs.Messages.{LineAt, section_lines, Message, with_front, section_then, message, message_lines, root_of, may_call, section_and_rest}
 use Rattle.giop_message.specs.MessageState.{message_lines_text, due, due_text, IsFirst}
 use Rattle.giop_message.specs.MessageSteps.{fault_text}
 use Rattle.giop_message.proofs.Going.{front_twice, front_advance, passes_front, through_goes, after_goes, message_goes}
@@ -85,16 +84,13 @@ pub passed_section_lines : (S : Signatures) (header : List ℕ) (section : Secti
     ReadsAll r → message_lines (section_and_rest S header section h r)
     ≡ section_lines (root_of section) (may_call header section) h (lines_of r) ++ wrongs r
 unfolding section_then message_lines
-passed_section_lines S header section h (Done lines at rest) all =
-    let R = root_of section in
-    let emitted = section_lines R (may_call header section) h lines in
-    let next = after S header section (noted (is_header_root R) h lines) in
-    rw (all)
-    (told_front emitted (next at []) ∙ ap (λ ts. emitted ++ ts)
-    (told_silent at (next at []) (after_silent S header section
-    (noted (is_header_root R) h lines) at)))
-passed_section_lines S header section h (Short lines at outer leaf) all =
-    sym (append-nil (section_lines (root_of section) (may_call header section) h lines))
+passed_section_lines S header section h (Done lines at rest) all = search (
+  arith,
+  told_front,
+  told_silent,
+  after_silent,
+)
+passed_section_lines S header section h (Short lines at outer leaf) all = search (arith, append-nil)
 passed_section_lines S header section h (Fault lines at why T) all = refl
 
 short_told : (S : Signatures) (header : List ℕ) (section : Section) (before : List LineAt)
@@ -118,7 +114,7 @@ EndsAt n r = Unit {0}
 offset_is : (n : ℕ) (r st : Read) (lines : List Line) → r ≡ ReadResult.with_front lines st →
     IsOctetResult n st →
     EndsAt n r
-offset_is n r (Done ls at rest) lines e now = subst (EndsAt n) (sym e) now.1
+offset_is n r (Done ls at rest) lines e now = search (arith)
 offset_is n r q lines e now = subst (EndsAt n) (sym e) tt
 
 -- what a reading that goes on has begun and not ended, at this offset
@@ -126,26 +122,22 @@ short_by : (n end : ℕ) (named : Bool) (r st : Read) (lines : List Line) →
     r ≡ ReadResult.with_front lines st → IsOctetResult n st →
     decoders.IsAnswer end named progress.More r →
     (ls : List Line) × (outer : List OpenPart) × (leaf : Leaf) × (r ≡ Short ls n outer leaf)
-short_by n end named r (Short ls at outer leaf) lines e now answer =
-    (lines ++ ls, outer, leaf, e ∙ ap (λ k. Short (lines ++ ls) k outer leaf) now.1)
-short_by n end named r _ lines e now answer =
-    absurd (subst (decoders.IsAnswer end named progress.More) e answer)
+short_by n end named r (Short ls at outer leaf) lines e now answer = search (arith)
+short_by n end named r _ lines e now answer = search (arith)
 
 -- ---- an octet of it
 
 pub goes_one : (w : Begun) (s octets : List ℕ) →
     message w.S w.header s ≡ comes w (reading w octets) →
     (b : ℕ) → message w.S w.header (s ++ b ∷ []) ≡ comes w (reading w (octets ++ b ∷ []))
-goes_one w s octets is b =
-    let r = reading w octets in
-    message_goes S header s b ∙ (ap (λ m. advance S header m b) is
-    ∙ (sym (front_advance S header w.before (section_and_rest S header section nothing_noted r) b)
-    ∙ ap (with_front w.before) (sym (through_goes S header section (after_goes S header section)
-    nothing_noted r b)
-    ∙ ap (section_and_rest S header section nothing_noted)
-    (sym (read_goes (plain (order header)) [] w.T (start w) octets b)))))
-  where
-    open w use {S, header, section}
+goes_one w s octets is b = search (
+  arith,
+  message_goes,
+  front_advance,
+  through_goes,
+  after_goes,
+  read_goes,
+)
 
 module _ (w : Begun) (s octets : List ℕ) (i : Inside w s octets) (b : ℕ) where
   open w use {S, number, header, section, T, before, front}
@@ -173,39 +165,37 @@ module _ (w : Begun) (s octets : List ℕ) (i : Inside w s octets) (b : ℕ) whe
   noted_before = noted (is_header_root R) nothing_noted i.lines
 
   pub next_is : Next ≡ ReadResult.with_front i.lines Added
-  next_is = read_goes coding [] T (start w) octets b
-      ∙ ap (λ r. decoder.advance coding [] r b) i.was_short
+  next_is = search (arith, read_goes)
 
   pub added_now : IsOctetResult (Here + 1) Added
-  added_now = step_now coding [] i.outer i.leaf Here b
+  added_now = search (arith, step_now)
 
   pub added_none : CallsNone Is Added
-  added_none = step_none Is coding [] i.outer i.leaf Here b
+  added_none = search (arith, step_none)
 
   pub lines_due : decoders.added_lines (order header) T (start w) octets b ≡ lines_of Added
-  lines_due = rw (i.was_short, next_is, lines_front i.lines Added)
-      (drop-append_seam i.lines (lines_of Added))
+  lines_due = search (arith, next_is, lines_front, drop-append_seam)
 
   pub goes_more : message S header (s ++ b ∷ []) ≡ comes w Next
   goes_more = goes_one w s octets i.is b
 
   due_here : due S header s (b ∷ []) ≡ section_lines R Is noted_before (lines_of Added)
       ++ wrongs Added
-  due_here =
-      let emitted = section_lines R Is nothing_noted i.lines in
-      let more = section_and_rest S header section noted_before Added in
-      due_is S header s (b ∷ []) (before ++ emitted) (comes w (Short i.lines Here i.outer i.leaf))
-      more
-      (i.is ∙ ap (comes w) i.was_short)
-      (goes_more ∙ (ap (comes w) next_is
-      ∙ (ap (with_front before) (passes_front section Is (after S header section) nothing_noted
-      i.lines Added) ∙ front_twice before emitted more)))
-      (short_told S header section before i.lines Here i.outer i.leaf)
-      ∙ passed_section_lines S header section noted_before Added
-      (now_all (Here + 1) Added added_now)
+  due_here = search (
+    arith,
+    due_is,
+    goes_more,
+    next_is,
+    passes_front,
+    front_twice,
+    short_told,
+    passed_section_lines,
+    now_all,
+    added_now,
+  )
 
   here_is : Here ≡ 12 + length s
-  here_is = omega (arith, ap length i.since, length-append front octets)
+  here_is = search (arith, length-append)
 
   -- the text of the octet: its line or its fault, and its call
   pub text_here : (place : ℕ) → due_text S number place header s (b ∷ []) ≡
@@ -214,11 +204,17 @@ module _ (w : Begun) (s octets : List ℕ) (i : Inside w s octets) (b : ℕ) whe
       ++ message_lines_text number place (12 + length s)
       (first_call R Is noted_before (lines_of Added))
   unfolding due_text
-  text_here place =
-      let now = subst (λ n. IsOctetResult (n + 1) Added) here_is added_now in
-      ap (message_lines_text number place (12 + length s)) due_here
-      ∙ (step_text number place (12 + length s) R Is noted_before Added now added_none
-      ∙ rw (lines_due, next_is, fault_front number (place + 1) i.lines Added) refl)
+  text_here place = search (
+    arith,
+    here_is,
+    added_now,
+    due_here,
+    step_text,
+    added_none,
+    lines_due,
+    next_is,
+    fault_front,
+  )
 
   -- where it goes on
   pub inside_on : Answers (order header) T (start w) R octets b progress.More →
@@ -240,6 +236,4 @@ module _ (w : Begun) (s octets : List ℕ) (i : Inside w s octets) (b : ℕ) whe
 
   -- where it ends
   pub ends_here : EndsAt (12 + length (s ++ b ∷ [])) Next
-  ends_here =
-      let e : Here + 1 ≡ 12 + length (s ++ b ∷ []) = omega (arith, here_is, length_one_more s b) in
-      subst (λ n. EndsAt n Next) e (offset_is _ Next Added i.lines next_is added_now)
+  ends_here = search (arith, here_is, length_one_more, offset_is, next_is, added_now)

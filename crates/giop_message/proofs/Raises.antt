@@ -1,6 +1,6 @@
 -- The name of the exception that a Reply raises, by where the message is.
 use Rattle.std.proofs.Common.{◌≡◌, ℕ, zero, suc, ◌+◌, ◌<◌, ◌≤◌, Bool, true, false, List, [], ◌∷◌, ◌++◌, length, drop, Option, Some, None, refl, sym, ap, subst, ◌∙◌, append-nil, append_assoc, length-append, arith, ◌⊎◌, inl, inr}
-use Rattle.std.specs.Prelude.{◌==◌, ◌||◌, nat_lt, if◌then◌else◌}
+use Rattle.std.specs.Prelude.{◌==◌, nat_lt, if◌then◌else◌}
 use Rattle.std.proofs.lemmas.List.{drop-append-le, drop_all}
 use Rattle.std.proofs.lemmas.Bool.{cases_lt, lt-ltb, le-ltb, eqb-true, false≢true}
 use Rattle.giop_cdr.specs.Alignment.{padding}
@@ -12,15 +12,15 @@ use Rattle.giop_decode.specs.ReadResult
 use Rattle.giop_decode.specs.ReadResult.{Coding, plain, Line, OpenPart, Leaf, Read, Done, Short, Fault}
 use Rattle.giop_decode.specs.Reading.{read}
 use Rattle.giop_decode.specs.ReadingSteps as decoder
-use Rattle.giop_decode.specs.ReadingSteps.{IsEmptyResult, IsOctetResult, resumes}
+use Rattle.giop_decode.specs.ReadingSteps.{IsEmptyResult, resumes}
 use Rattle.giop_decode.specs.Noted.{Noted, nothing_noted, noted, is_header_root}
 use Rattle.giop_decode.proofs.ReadingLaws.{read_goes, read_quiet, step_now, noted-append, length_one_more}
 use Rattle.giop_message.specs.declared.part.Section.{Section}
 use Rattle.giop_message.specs.declared.part.Section.TheVariants as sections
 use Rattle.giop_message.specs.Headers.{minor, kind, order}
 use Rattle.giop_message.specs.Signatures.{Signatures, Answer, signatures_of}
-use Rattle.giop_message.specs.Messages.{LineAt, BodyType, Untyped, Typed, UserException, SystemException, Stage, In_typed, In_padding, In_rest, Over, Message, ReadTo, with_front, section_then, rest_in, rest, typed, option_typed, members_of, after_exception, type_if, request_body, result_body, reply_body, is_request, body, body_of, has_body, padded, after_header, of_header, message, root_of, stage_of}
-use Rattle.giop_message.specs.HeaderEnds.{noted_if_whole, noted_by_type, header_noted, named_if_whole, named_by_type, named_behind, raising, raised_after, raised_by_type, raised}
+use Rattle.giop_message.specs.Messages.{LineAt, BodyType, Untyped, Typed, UserException, SystemException, Stage, In_typed, In_padding, In_rest, Over, Message, ReadTo, with_front, section_then, rest_in, rest, typed, option_typed, after_exception, type_if, request_body, result_body, reply_body, is_request, body, body_of, has_body, padded, after_header, of_header, message, root_of, stage_of}
+use Rattle.giop_message.specs.HeaderEnds.{noted_if_whole, header_noted, named_if_whole, named_by_type, named_behind, raising, raised_after, raised_by_type, raised}
 use Rattle.giop_message.proofs.Going.{padded_waits, padded_begins}
 use Rattle.giop_message.proofs.Octets.{stage_front}
 
@@ -32,25 +32,26 @@ module _ (header : List ℕ) where
 
   read_resumes : (T : Ty) (at : ℕ) (s t : List ℕ) →
       read P [] T at (s ++ t) ≡ resumes P [] (read P [] T at s) t
-  read_resumes T at s [] = ap (read P [] T at) (append-nil s)
-  read_resumes T at s (b ∷ t) =
-      ap (read P [] T at) (sym (append_assoc s (b ∷ []) t))
-      ∙ (read_resumes T at (s ++ b ∷ []) t ∙ ap (λ r. resumes P [] r t) (read_goes P [] T at s b))
+  read_resumes T at s [] = search (arith, append-nil)
+  read_resumes T at s (b ∷ t) = search (
+    arith,
+    append_assoc,
+    read_goes,
+    read_resumes T at (s ++ b ∷
+        []) t,
+  )
 
   front_both : (ls ms : List Line) (r : Read) →
       ReadResult.with_front ls (ReadResult.with_front ms r) ≡ ReadResult.with_front (ls ++ ms) r
-  front_both ls ms (Done lines at s) = ap (λ k. Done k at s) (sym (append_assoc ls ms lines))
-  front_both ls ms (Short lines at outer leaf) =
-      ap (λ k. Short k at outer leaf) (sym (append_assoc ls ms lines))
-  front_both ls ms (Fault lines at why T) =
-      ap (λ k. Fault k at why T) (sym (append_assoc ls ms lines))
+  front_both ls ms (Done lines at s) = search (arith, append_assoc)
+  front_both ls ms (Short lines at outer leaf) = search (arith, append_assoc)
+  front_both ls ms (Fault lines at why T) = search (arith, append_assoc)
 
   front_advance : (ls : List Line) (r : Read) (b : ℕ) →
       decoder.advance P [] (ReadResult.with_front ls r) b
       ≡ ReadResult.with_front ls (decoder.advance P [] r b)
   front_advance ls (Done lines at s) b = refl
-  front_advance ls (Short lines at outer leaf) b =
-      sym (front_both ls lines (decoder.step P [] outer leaf at b))
+  front_advance ls (Short lines at outer leaf) b = search (arith, front_both)
   front_advance ls (Fault lines at why T) b = refl
 
   front_resumes : (ls : List Line) (t : List ℕ) (r : Read) →
@@ -62,9 +63,13 @@ module _ (header : List ℕ) where
 
   done_resumes : (lines : List Line) (at : ℕ) (t z : List ℕ) →
       resumes P [] (Done lines at z) t ≡ Done lines at (z ++ t)
-  done_resumes lines at [] z = ap (Done lines at) (sym (append-nil z))
-  done_resumes lines at (b ∷ t) z = done_resumes lines at t (z ++ b ∷ [])
-      ∙ ap (Done lines at) (append_assoc z (b ∷ []) t)
+  done_resumes lines at [] z = search (arith, append-nil)
+  done_resumes lines at (b ∷ t) z = search (
+    arith,
+    append_assoc,
+    done_resumes lines at t (z ++ b ∷
+        []),
+  )
 
   fault_resumes : (lines : List Line) (at : ℕ) (why : Kind) (T : Ty) (t : List ℕ) →
       resumes P [] (Fault lines at why T) t ≡ Fault lines at why T
@@ -73,17 +78,15 @@ module _ (header : List ℕ) where
 
   done_on : (T : Ty) (at : ℕ) (s t : List ℕ) (lines : List Line) (n : ℕ) (z : List ℕ) →
       read P [] T at s ≡ Done lines n z → read P [] T at (s ++ t) ≡ Done lines n (z ++ t)
-  done_on T at s t lines n z e =
-      read_resumes T at s t ∙ (ap (λ r. resumes P [] r t) e ∙ done_resumes lines n t z)
+  done_on T at s t lines n z e = search (arith, read_resumes, done_resumes)
 
   fault_on : (T : Ty) (at : ℕ) (s t : List ℕ) (lines : List Line) (n : ℕ) (why : Kind) (U : Ty) →
       read P [] T at s ≡ Fault lines n why U → read P [] T at (s ++ t) ≡ Fault lines n why U
-  fault_on T at s t lines n why U e =
-      read_resumes T at s t ∙ (ap (λ r. resumes P [] r t) e ∙ fault_resumes lines n why U t)
+  fault_on T at s t lines n why U e = search (arith, read_resumes, fault_resumes)
 
   named_front : (h : Noted) (ls : List Line) (r : Read) →
       named_if_whole h (ReadResult.with_front ls r) ≡ named_if_whole (noted false h ls) r
-  named_front h ls (Done lines at s) = ap (λ (n : Noted). n.name) (noted-append false h ls lines)
+  named_front h ls (Done lines at s) = search (arith, noted-append)
   named_front h ls (Short lines at outer leaf) = refl
   named_front h ls (Fault lines at why T) = refl
 
@@ -163,9 +166,13 @@ rest_in_settled : (full offset at : ℕ) (s : List ℕ) →
     is_settled (stage_of (rest_in full offset at s)) ≡ true
 unfolding rest_in is_settled stage_of
 rest_in_settled zero offset at s = refl
-rest_in_settled (suc full) offset at s =
-    ap is_settled (stage_front _ (rest_in full (offset + 32) (at + 32) (drop 32 s)))
-    ∙ rest_in_settled full (offset + 32) (at + 32) (drop 32 s)
+rest_in_settled (suc full) offset at s = search (
+  arith,
+  stage_front,
+  drop,
+  rest_in_settled full
+      (offset + 32) (at + 32) (drop 32 s),
+)
 
 pub rest_settled : (at : ℕ) (s : List ℕ) → is_settled (stage_of (rest at s)) ≡ true
 unfolding rest
@@ -174,7 +181,7 @@ rest_settled at s = rest_in_settled _ 0 at s
 through_body : (h : Noted) (r : Read) →
     is_settled (stage_of (section_then sections.Body false (λ k. rest) h r)) ≡ true
 unfolding section_then is_settled stage_of
-through_body h (Done lines at s) = ap is_settled (stage_front _ (rest at s)) ∙ rest_settled at s
+through_body h (Done lines at s) = search (arith, stage_front, rest_settled)
 through_body h (Short lines at outer leaf) = refl
 through_body h (Fault lines at why T) = refl
 
@@ -182,17 +189,12 @@ module _ (header : List ℕ) where
   pub typed_settled : (T : Ty) (at : ℕ) (s : List ℕ) →
       is_settled (stage_of (typed (order header) T at s)) ≡ true
   unfolding typed
-  typed_settled T at s = through_body nothing_noted (read (P header) [] T at s)
+  typed_settled T at s = search (arith, through_body)
 
   pub members_settled : (S : Signatures) (h : Noted) (at : ℕ) (s : List ℕ) →
       is_settled (stage_of (after_exception S header h at s)) ≡ true
   unfolding after_exception option_typed
-  members_settled S h at s = go (members_of S h.name)
-    where
-      go : (found : Option Ty) → is_settled (stage_of (option_typed (order header) found at s))
-          ≡ true
-      go None = rest_settled at s
-      go (Some T) = typed_settled T at s
+  members_settled S h at s = search (arith, rest_settled, typed_settled)
 
   -- the name after more octets, where a message is at this offset and at this stage
   unfoldable pub tail_name : ℕ → List ℕ → Stage → Option (List ℕ)
@@ -239,8 +241,7 @@ module _ (header : List ℕ) where
     name_stays : (s t name : List ℕ) (r : Read) → read (P header) [] T at s ≡ r →
         named_if_whole nothing_noted r ≡ Some name →
         named_if_whole nothing_noted (read (P header) [] T at (s ++ t)) ≡ Some name
-    name_stays s t name (Done lines n rest) e k =
-        ap (named_if_whole nothing_noted) (done_on header T at s t lines n rest e) ∙ k
+    name_stays s t name (Done lines n rest) e k = search (arith, done_on)
     name_stays s t name (Short lines n outer leaf) e k = absurd cc
     name_stays s t name (Fault lines n why U) e k = absurd cc
 
@@ -249,31 +250,22 @@ module _ (header : List ℕ) where
         named_if_whole nothing_noted (read (P header) [] T at (s ++ t))
         ≡ named_if_whole nothing_noted r
     unfolding section_then stage_of is_settled
-    name_settled s t (Done lines n rest) e k =
-        ap (named_if_whole nothing_noted) (done_on header T at s t lines n rest e)
-    name_settled s t (Short lines n outer leaf) e k = absurd (false≢true (sym over ∙ k))
-    name_settled s t (Fault lines n why U) e k =
-        ap (named_if_whole nothing_noted) (fault_on header T at s t lines n why U e)
+    name_settled s t (Done lines n rest) e k = search (arith, done_on)
+    name_settled s t (Short lines n outer leaf) e k = search (arith, false≢true)
+    name_settled s t (Fault lines n why U) e k = search (arith, fault_on)
 
     name_inside : (s t : List ℕ) (r : Read) → read (P header) [] T at s ≡ r →
         raises_here (stage_of (Within r)) ≡ true →
         named_if_whole nothing_noted (read (P header) [] T at (s ++ t))
         ≡ tail_name (offset_of (Within r)) t (stage_of (Within r))
     unfolding section_then stage_of raises_here offset_of tail_name
-    name_inside s t (Done lines n rest) e k =
-        let m = next (noted (is_header_root (root_of section)) nothing_noted lines) n rest in
-        absurd (false≢true (sym (ap raises_here (stage_front _ m)
-        ∙ settled_quiet (stage_of m) (behind _ n rest)) ∙ k))
-    name_inside s t (Short lines n outer leaf) e k =
-        rw other (named_on header nothing_noted T at s t lines n outer leaf e)
+    name_inside s t (Done lines n rest) e k = search (arith, false≢true, stage_front, settled_quiet)
+    name_inside s t (Short lines n outer leaf) e k = search (arith, named_on)
     name_inside s t (Fault lines n why U) e k = absurd (false≢true k)
 
     name_pads : (s : List ℕ) (x : ℕ) (r : Read) → pads_here (stage_of (Within r)) ≡ true → ⊥
     unfolding section_then stage_of pads_here
-    name_pads s x (Done lines n rest) k =
-        let m = next (noted (is_header_root (root_of section)) nothing_noted lines) n rest in
-        false≢true (sym (ap pads_here (stage_front _ m)
-        ∙ settled_bare (stage_of m) (behind _ n rest)) ∙ k)
+    name_pads s x (Done lines n rest) k = search (arith, false≢true, stage_front, settled_bare)
     name_pads s x (Short lines n outer leaf) k = false≢true k
     name_pads s x (Fault lines n why U) k = false≢true k
 
@@ -297,11 +289,8 @@ module _ (header : List ℕ) where
   tells_body : (S : Signatures) (b : BodyType) (at : ℕ) →
       Tells (body S header b at) (named_by_type header (name_type S b) at)
   unfolding body
-  tells_body S Untyped at = tells_none (rest at)
-      (λ s. settled_quiet (stage_of (rest at s)) (rest_settled at s))
-  tells_body S (Typed T) at =
-      tells_none (typed (order header) T at)
-      (λ s. settled_quiet (stage_of (typed (order header) T at s)) (typed_settled T at s))
+  tells_body S Untyped at = search (arith, tells_none, settled_quiet, rest_settled)
+  tells_body S (Typed T) at = search (arith, tells_none, settled_quiet, typed_settled)
   tells_body S UserException at =
       tells_section sections.Exception refl refl refl S.exception_id (after_exception S header)
       (members_settled S) at
@@ -334,19 +323,15 @@ module _ (header : List ℕ) where
 
     drops : (s t : List ℕ) → n ≤ length s →
         Padded names at (s ++ t) ≡ names (at + n) (drop n s ++ t)
-    drops s t h =
-        names_begin names at (s ++ t) (omega (arith, h, length-append s t))
-        ∙ ap (names (at + n)) (drop-append-le n s t h)
+    drops s t h = search (arith, names_begin, length-append, drop-append-le)
 
     padded_none : Cases [] → Padded names at [] ≡ None
     padded_none (inl h) = names_wait names at [] h
-    padded_none (inr h) =
-        names_begin names at [] h ∙ (ap (names (at + n)) (drop_all n [] (omega arith))
-        ∙ (tells (at + n)).none)
+    padded_none (inr h) = search (arith, names_begin, drop_all)
 
     padded_stays : (s t name : List ℕ) → Padded names at s ≡ Some name → Cases s →
         Padded names at (s ++ t) ≡ Some name
-    padded_stays s t name e (inl h) = absurd (let no = sym (names_wait names at s h) ∙ e in cc)
+    padded_stays s t name e (inl h) = search (arith, names_wait)
     padded_stays s t name e (inr h) =
         drops s t h ∙ (tells (at + n)).stays (drop n s) t name (sym (names_begin names at s h) ∙ e)
 
@@ -354,9 +339,7 @@ module _ (header : List ℕ) where
         Cases s →
         Padded names at (s ++ t) ≡ Padded names at s
     unfolding is_settled stage_of
-    padded_settled s t e (inl h) =
-        absurd (false≢true (sym (ap (λ m. is_settled (stage_of m)) (padded_waits S header b at s h))
-        ∙ e))
+    padded_settled s t e (inl h) = search (arith, false≢true, padded_waits)
     padded_settled s t e (inr h) =
         let here = sym (ap (λ m. is_settled (stage_of m)) (padded_begins S header b at s h)) ∙ e in
         drops s t h ∙ ((tells (at + n)).settled (drop n s) t here ∙ sym (names_begin names at s h))
@@ -366,9 +349,7 @@ module _ (header : List ℕ) where
         Padded names at (s ++ t) ≡ tail_name (offset_of (padded S header b at s)) t
         (stage_of (padded S header b at s))
     unfolding raises_here stage_of
-    padded_inside s t e (inl h) =
-        absurd (false≢true (sym (ap (λ m. raises_here (stage_of m))
-        (padded_waits S header b at s h)) ∙ e))
+    padded_inside s t e (inl h) = search (arith, false≢true, padded_waits)
     padded_inside s t e (inr h) =
         let is = padded_begins S header b at s h in
         let here = sym (ap (λ m. raises_here (stage_of m)) is) ∙ e in
@@ -377,11 +358,8 @@ module _ (header : List ℕ) where
 
     one_more : (s : List ℕ) (x : ℕ) → length s < n → Cases (s ++ x ∷ []) →
         Padded names at (s ++ x ∷ []) ≡ None
-    one_more s x h (inl k) = names_wait names at (s ++ x ∷ []) k
-    one_more s x h (inr k) =
-        names_begin names at (s ++ x ∷ []) k
-        ∙ (ap (names (at + n)) (drop_all n (s ++ x ∷ []) (omega (arith, h, length_one_more s x)))
-        ∙ (tells (at + n)).none)
+    one_more s x h (inl k) = search (arith, names_wait)
+    one_more s x h (inr k) = search (arith, names_begin, drop_all, length_one_more)
 
     padded_pads : (s : List ℕ) (x : ℕ) → pads_here (stage_of (padded S header b at s)) ≡ true →
         Cases s →
@@ -409,21 +387,15 @@ module _ (header : List ℕ) where
   body_quiet : (S : Signatures) (b : BodyType) → name_type S b ≡ None → (at : ℕ) (s : List ℕ) →
       raises_here (stage_of (body S header b at s)) ≡ false
   unfolding body
-  body_quiet S Untyped none at s = settled_quiet (stage_of (rest at s)) (rest_settled at s)
-  body_quiet S (Typed T) none at s = settled_quiet (stage_of (typed (order header) T at s))
-      (typed_settled T at s)
+  body_quiet S Untyped none at s = search (arith, settled_quiet, rest_settled)
+  body_quiet S (Typed T) none at s = search (arith, settled_quiet, typed_settled)
   body_quiet S UserException none at s = absurd cc
   body_quiet S SystemException none at s = absurd cc
 
   padded_quiet : (S : Signatures) (b : BodyType) → name_type S b ≡ None → (at : ℕ) (s : List ℕ) →
       raises_here (stage_of (padded S header b at s)) ≡ false
   unfolding raises_here stage_of padded
-  padded_quiet S b none at s = go (nat_lt (length s) (padding at 8))
-    where
-      go : (c : Bool) → raises_here (stage_of (if c then ReadTo [] (at + length s) (In_padding b)
-          else body S header b (at + padding at 8) (drop (padding at 8) s))) ≡ false
-      go true = refl
-      go false = body_quiet S b none (at + padding at 8) (drop (padding at 8) s)
+  padded_quiet S b none at s = search (arith, drop, body_quiet)
 
   type_none : (S : Signatures) (found : Option Ty) → name_type S (type_if found) ≡ None
   unfolding type_if
@@ -445,33 +417,21 @@ module _ (header : List ℕ) where
   after_quiet : (S : Signatures) (h : Noted) → (kind header == 1) ≡ false → (at : ℕ) (s : List ℕ) →
       raises_here (stage_of (after_header S header h at s)) ≡ false
   unfolding after_header has_body body_of is_request
-  after_quiet S h other at s = rw other (go (kind header == 0) (minor header == 2))
-    where
-      go : (request two : Bool) → raises_here (stage_of (if request || false
-          then (if two then padded S header (if request then request_body S h.name else reply_body S
-          h.request_id h.status) at s
-          else body S header (if request then request_body S h.name else reply_body S h.request_id
-          h.status) at s)
-          else rest at s)) ≡ false
-      go true true = padded_quiet S (request_body S h.name) (request_none S h.name) at s
-      go true false = body_quiet S (request_body S h.name) (request_none S h.name) at s
-      go false two = settled_quiet (stage_of (rest at s)) (rest_settled at s)
+  after_quiet S h other at s = search (
+    arith,
+    padded_quiet,
+    request_none,
+    body_quiet,
+    settled_quiet,
+    rest_settled,
+  )
 
   message_quiet : (S : Signatures) → (kind header == 1) ≡ false →
       (found : Option Ty) (at : ℕ) (s : List ℕ) →
       raises_here (stage_of (of_header S header found at s)) ≡ false
   unfolding of_header section_then stage_of raises_here
-  message_quiet S other None at s = settled_quiet (stage_of (rest at s)) (rest_settled at s)
-  message_quiet S other (Some T) at s = go (read (P header) [] T at s)
-    where
-      go : (r : Read) → raises_here (stage_of
-          (section_then sections.Header (is_request header) (after_header S header) nothing_noted
-          r)) ≡ false
-      go (Done lines n z) =
-          let h = noted true nothing_noted lines in
-          ap raises_here (stage_front _ (after_header S header h n z)) ∙ after_quiet S h other n z
-      go (Short lines n outer leaf) = refl
-      go (Fault lines n why U) = refl
+  message_quiet S other None at s = search (arith, settled_quiet, rest_settled)
+  message_quiet S other (Some T) at s = search (arith, stage_front, after_quiet)
 
   -- ---- a Reply
 
@@ -479,37 +439,13 @@ module _ (header : List ℕ) where
       raising (Some status) ≡ name_type (signatures_of C answer)
       (reply_body (signatures_of C answer) id (Some status))
   unfolding reply_body signatures_of
-  status_raises C answer id status =
-      go (status == 0) (status == 1) (status == 2) ((status == 3) || (status == 4)) (status == 5)
-      (λ e. rw (eqb-true status 0 e) refl) (λ e. rw (eqb-true status 0 e) refl)
-    where
-      S : Signatures
-      S = signatures_of C answer
-
-      go : (none user system forward addressing : Bool) → (none ≡ true → user ≡ false) →
-          (none ≡ true → system ≡ false) →
-          (if user then Some S.exception_id else (if system then Some S.system_exception else None))
-          ≡ name_type S (if none then result_body S id else
-          (if user then UserException else (if system then SystemException
-          else (if forward then Typed S.forward else
-          (if addressing then Typed S.addressing else Untyped)))))
-      go true user system forward addressing f g = rw (f refl, g refl) (sym (result_none S id))
-      go false true system forward addressing f g = refl
-      go false false true forward addressing f g = refl
-      go false false false true addressing f g = refl
-      go false false false false true f g = refl
-      go false false false false false f g = refl
+  status_raises C answer id status = search (arith, eqb-true, result_none)
 
   reply_raises : (C : Table) (answer : Answer) (h : Noted) → kind header ≡ 1 →
       name_type (signatures_of C answer) (body_of (signatures_of C answer) header h)
       ≡ raising h.status
   unfolding body_of is_request reply_body
-  reply_raises C answer h reply = rw reply (go h.status)
-    where
-      go : (status : Option ℕ) → name_type (signatures_of C answer)
-          (reply_body (signatures_of C answer) h.request_id status) ≡ raising status
-      go None = refl
-      go (Some status) = sym (status_raises C answer h.request_id status)
+  reply_raises C answer h reply = search (arith, status_raises)
 
   reply_has : kind header ≡ 1 → has_body header ≡ true
   unfolding has_body
@@ -572,8 +508,7 @@ module _ (header : List ℕ) where
         ap (raised_after header) (done_on header T 12 s t lines n z e)
         ∙ (tells (heard lines) n).settled z t here
     header_settled s t (Short lines n outer leaf) e k = absurd (false≢true k)
-    header_settled s t (Fault lines n why U) e k =
-        ap (raised_after header) (fault_on header T 12 s t lines n why U e)
+    header_settled s t (Fault lines n why U) e k = search (arith, fault_on)
 
     header_inside : (s t : List ℕ) (r : Read) → Reading s ≡ r →
         raises_here (stage_of (Whole r)) ≡ true →
@@ -625,10 +560,8 @@ message_tells C answer header = go (kind header == 1) refl
     go : (reply : Bool) → (kind header == 1) ≡ reply → (found : Option Ty) →
         Tells header (of_header S header found 12)
         (λ s. if reply then raised_by_type header found s else None)
-    go false e found = tells_none header (of_header S header found 12)
-        (message_quiet header S e found 12)
-    go true e None = tells_none header (rest 12)
-        (λ s. settled_quiet (stage_of (rest 12 s)) (rest_settled 12 s))
+    go false e found = search (arith, tells_none, S, message_quiet)
+    go true e None = search (arith, tells_none, settled_quiet, rest_settled)
     go true e (Some T) =
         let one = eqb-true (kind header) 1 e in
         tells_header header S (λ h n. subst (λ o.
@@ -672,40 +605,16 @@ before_by header (Fault lines n why U) e = refl
 
 pub raised_before : (header s : List ℕ) → header_noted header s ≡ None → raised header s ≡ None
 unfolding raised header_noted
-raised_before header s e = go (kind header == 1) (header_type (minor header) (kind header)) e
-  where
-    go : (reply : Bool) (found : Option Ty) → noted_by_type header found s ≡ None →
-        (if reply then raised_by_type header found s else None) ≡ None
-    go false found none = refl
-    go true None none = refl
-    go true (Some T) none = before_by header (read (plain (order header)) [] T 12 s) none
+raised_before header s e = search (arith, before_by)
 
 named_none : (header : List ℕ) (found : Option Ty) (at : ℕ) →
     named_by_type header found at [] ≡ None
 named_none header None at = refl
-named_none header (Some T) at = go (read (plain (order header)) [] T at [])
-    (read_quiet (plain (order header)) [] T at)
-  where
-    go : (r : Read) → IsEmptyResult at r → named_if_whole nothing_noted r ≡ None
-    go (Done lines n z) h = rw h.0 refl
-    go (Short lines n outer leaf) h = refl
-    go (Fault lines n why U) h = refl
+named_none header (Some T) at = search (arith, read_quiet)
 
 behind_none : (header : List ℕ) (found : Option Ty) (at : ℕ) →
     named_behind header found at [] ≡ None
-behind_none header found at = go (minor header == 2) (cases_lt 0 (padding at 8))
-  where
-    go : (two : Bool) → (0 < padding at 8) ⊎ (padding at 8 ≤ 0) →
-        (if two then (if nat_lt 0 (padding at 8) then None else named_by_type header found
-        (at + padding at 8) (drop (padding at 8) []))
-        else named_by_type header found at []) ≡ None
-    go false c = named_none header found at
-    go true (inl h) = rw lt-ltb refl
-    go true (inr h) =
-        rw le-ltb
-        (ap (named_by_type header found (at + padding at 8))
-        (drop_all (padding at 8) [] (omega arith))
-        ∙ named_none header found (at + padding at 8))
+behind_none header found at = search (arith, cases_lt, drop, named_none, lt-ltb, le-ltb, drop_all)
 
 -- a reading that is done with no octet left
 abbrev pub EndsHere : Read → Type 0
@@ -714,8 +623,7 @@ EndsHere (Short lines n outer leaf) = Unit {0}
 EndsHere (Fault lines n why T) = Unit {0}
 
 ended_by : (header : List ℕ) (r : Read) → EndsHere r → raised_after header r ≡ None
-ended_by header (Done lines n z) e = rw e
-    (behind_none header (raising (noted true nothing_noted lines).status) n)
+ended_by header (Done lines n z) e = search (arith, behind_none)
 ended_by header (Short lines n outer leaf) e = refl
 ended_by header (Fault lines n why U) e = refl
 
@@ -725,42 +633,21 @@ ended_found : (header s : List ℕ) (found : Option Ty) →
     ((T : Ty) → found ≡ Some T → EndsHere (read (plain (order header)) [] T 12 s)) →
     raised header s ≡ None
 unfolding raised
-ended_found header s found e ends = rw e (go (kind header == 1) found ends)
-  where
-    go : (reply : Bool) (o : Option Ty) → ((T : Ty) → o ≡ Some T →
-        EndsHere (read (plain (order header)) [] T 12 s)) →
-        (if reply then raised_by_type header o s else None) ≡ None
-    go false o k = refl
-    go true None k = refl
-    go true (Some T) k = ended_by header (read (plain (order header)) [] T 12 s) (k T refl)
+ended_found header s found e ends = search (arith, ended_by)
 
 pub raised_ended : (header s : List ℕ) (T : Ty) →
     header_type (minor header) (kind header) ≡ Some T →
     EndsHere (read (plain (order header)) [] T 12 s) → raised header s ≡ None
-raised_ended header s T e h =
-    ended_found header s (Some T) e
-    (λ U is. let same : T ≡ U = cc in subst (λ V. EndsHere (read (plain (order header)) [] V 12 s))
-    same h)
+raised_ended header s T e h = search (arith, ended_found)
 
 octet_ends : (header : List ℕ) (r : Read) (x : ℕ) → noted_if_whole r ≡ None →
     EndsHere (decoder.advance (plain (order header)) [] r x)
 octet_ends header (Done lines n z) x e = absurd cc
-octet_ends header (Short lines n outer leaf) x e =
-    go (decoder.step (plain (order header)) [] outer leaf n x)
-    (step_now (plain (order header)) [] outer leaf n x)
-  where
-    go : (r : Read) → IsOctetResult (n + 1) r → EndsHere (ReadResult.with_front lines r)
-    go (Done more m z) h = h.2
-    go (Short more m o l) h = tt
-    go (Fault more m why U) h = tt
+octet_ends header (Short lines n outer leaf) x e = search (arith, step_now)
 octet_ends header (Fault lines n why U) x e = tt
 
 -- so a name never ends at the octet that ends the header
 pub raised_apart : (header s : List ℕ) (x : ℕ) → header_noted header s ≡ None →
     raised header (s ++ x ∷ []) ≡ None
 unfolding header_noted
-raised_apart header s x e =
-    ended_found header (s ++ x ∷ []) (header_type (minor header) (kind header)) refl
-    (λ T is. let none = sym (ap (λ o. noted_by_type header o s) is) ∙ e in
-    subst EndsHere (sym (read_goes (plain (order header)) [] T 12 s x))
-    (octet_ends header (read (plain (order header)) [] T 12 s) x none))
+raised_apart header s x e = search (arith, ended_found, read_goes, octet_ends)

@@ -1,16 +1,13 @@
 -- What is said of the first four octets of a message whose header begins with its request id: the
 -- line of that, and no other.
-use Rattle.std.proofs.Common.{◌≡◌, ℕ, ◌<◌, List, [], ◌∷◌, length, map, Option, Some, ap, ◌∙◌}
-use Rattle.std.specs.Prelude.{codes}
+use Rattle.std.proofs.Common.{arith, ◌≡◌, ℕ, ◌<◌, List, [], ◌∷◌, length, map, Some}
 use Rattle.giop_cdr.specs.Numbers.{num}
 use Rattle.giop_cdr.specs.declared.number.Number.TheVariants.{Unsigned}
 use Rattle.giop_cdr.specs.declared.prim.Primitive.TheVariants as prims
 use Rattle.giop_print.specs.Lines.{kind_line, value_line}
-use Rattle.giop_print.specs.declared.path.Root.TheVariants as roots
 use Rattle.giop_print.specs.declared.value.Value.TheVariants as values
-use Rattle.giop_sig.specs.Types.{Ty, Plain}
+use Rattle.giop_sig.specs.Types.{Ty}
 use Rattle.giop_sig.specs.HeaderTypes.{BeginsWithId}
-use Rattle.giop_decode.specs.ReadResult.{Name, Number}
 use Rattle.giop_message.specs.Headers.{minor, kind, order}
 use Rattle.giop_message.specs.Text.{value_line_text, numbered_line}
 use Rattle.giop_message.specs.Signatures.{Signatures}
@@ -26,26 +23,20 @@ module _ (S : ℕ → Signatures) (number : ℕ) (header : List ℕ) (T : Ty)
     reading_is : (xs : List ℕ) → (reader_by S).reads number header xs
         ≡ map timed_line_of (message_lines (of_header (S number) header (Some T) 12 xs))
     unfolding remarks_by message
-    reading_is xs = ap (λ (o : Option Ty). map timed_line_of
-        (message_lines (of_header (S number) header o 12 xs))) found
+    reading_is xs = search (arith, map)
 
     -- fewer than four octets say nothing,
     pub few_said : (xs : List ℕ) → length xs < 4 → (reader_by S).reads number header xs ≡ []
-    few_said xs few = reading_is xs ∙ ap (map timed_line_of)
-        (few_by (S number) header T begins xs few)
+    few_said xs few = search (arith, reading_is, map, few_by)
 
     -- and four the number that they spell
     pub four_said : (a b c d : ℕ) → (reader_by S).reads number header (a ∷ b ∷ c ∷ d ∷ [])
         ≡ request_id_said (num (order header) (a ∷ b ∷ c ∷ d ∷ [])) ∷ []
     unfolding id_told line_at line_class_of text_of value_line_text request_id_path request_id_text
-    four_said a b c d =
-        reading_is (a ∷ b ∷ c ∷ d ∷ []) ∙ ap (map timed_line_of)
-        (four_by (S number) header T begins a b c d)
+    four_said a b c d = search (arith, reading_is, map, four_by)
 
 -- The line is the one that is printed of an unsigned long at that path.
 pub id_line_is : (number id : ℕ) → numbered_line number (request_id_text id)
     ≡ value_line number request_id_path (values.Primitive prims.ULong (Unsigned id))
 unfolding request_id_path request_id_text text_of kind_line
-id_line_is number id =
-    said_is_line number 16 roots.Header (Name (codes "request_id") ∷ [])
-    (Number (Plain prims.ULong) id)
+id_line_is number id = search (arith, said_is_line)

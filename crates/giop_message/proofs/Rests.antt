@@ -1,6 +1,5 @@
 -- One octet in the padding, and those of one part in the rest.
-use Rattle.std.proofs.Common.{◌≡◌, ℕ, ◌+◌, ◌-◌, ◌<◌, ◌≤◌, Bool, true, false, List, [], ◌∷◌, ◌++◌, length, take, min, None, refl, sym, ap, subst, ◌∙◌, append-nil, append_assoc, length-append, arith}
-use Rattle.std.specs.Prelude.{◌==◌, if◌then◌else◌}
+use Rattle.std.proofs.Common.{◌≡◌, ℕ, ◌+◌, ◌-◌, ◌<◌, ◌≤◌, false, List, [], ◌∷◌, ◌++◌, length, take, min, None, refl, sym, ap, subst, ◌∙◌, append-nil, append_assoc, length-append, arith}
 use Rattle.std.proofs.lemmas.List.{length-take-le}
 use Rattle.std.proofs.lemmas.Bool.{lt-ltb, le-ltb}
 use Rattle.giop_cdr.specs.Alignment.{padding}
@@ -12,7 +11,7 @@ use Rattle.giop_message.specs.declared.part.Part.TheVariants as parts
 use Rattle.giop_message.specs.declared.part.Rest.{Rest}
 use Rattle.giop_message.specs.declared.body_type.BodyTypeId.{BodyTypeId}
 use Rattle.giop_message.specs.Signatures.{Signatures, Answers, signatures_of}
-use Rattle.giop_message.specs.Messages.{RestLine, LineAt, line_at, BodyType, Stage, In_padding, In_rest, Message, ReadTo, with_front, body, message, message_lines, stage_of}
+use Rattle.giop_message.specs.Messages.{LineAt, line_at, BodyType, Stage, In_padding, In_rest, Message, ReadTo, with_front, body, message, message_lines, stage_of}
 use Rattle.giop_message.specs.StageSteps.{rest_step, message_step, advance, goes_on}
 use Rattle.giop_message.specs.ReaderOfTable.{line_class_of, text_of, id_in, first_id, first_request_id}
 use Rattle.giop_message.specs.MessageState.{message_line_text, message_lines_text, due, due_text, body_type, Stands, in_header, Follows}
@@ -28,8 +27,7 @@ pub comes_more : (S : Signatures) (header s : List ℕ) (b : ℕ) (emitted : Lis
     (stage : Stage) → message S header s ≡ ReadTo emitted at stage →
     message S header (s ++ b ∷ []) ≡ with_front emitted (message_step S header at stage b)
 unfolding advance
-comes_more S header s b emitted at stage e =
-    message_goes S header s b ∙ ap (λ m. advance S header m b) e
+comes_more S header s b emitted at stage e = search (arith, message_goes)
 
 pub comes_due : (S : Signatures) (header s : List ℕ) (b : ℕ) (emitted : List LineAt) (at : ℕ)
     (stage : Stage) (m : Message) → message S header s ≡ ReadTo emitted at stage →
@@ -45,19 +43,19 @@ unfolding with_front
 comes_next before emitted n m stage e = rw e refl
 
 next_at : (s : List ℕ) (b : ℕ) → (12 + length s) + 1 ≡ 12 + length (s ++ b ∷ [])
-next_at s b = omega (arith, length_one_more s b)
+next_at s b = search (arith, length_one_more)
 
 -- ---- in the padding
 
 padding_on : (S : Signatures) (header : List ℕ) (at b : ℕ) (t : BodyType) → 1 < padding at 8 →
     message_step S header at (In_padding t) b ≡ ReadTo [] (at + 1) (In_padding t)
 unfolding message_step
-padding_on S header at b t h = rw (lt-ltb 1 (padding at 8) h) refl
+padding_on S header at b t h = search (arith, lt-ltb)
 
 padding_last : (S : Signatures) (header : List ℕ) (at b : ℕ) (t : BodyType) → padding at 8 ≤ 1 →
     message_step S header at (In_padding t) b ≡ body S header t (at + 1) []
 unfolding message_step
-padding_last S header at b t h = rw (le-ltb 1 (padding at 8) h) refl
+padding_last S header at b t h = search (arith, le-ltb)
 
 none_said : (emitted : List LineAt) → emitted ≡ [] → first_request_id emitted ≡ None
 unfolding first_request_id
@@ -85,29 +83,26 @@ module _ {C : Table} {answers : Answers} {number : ℕ} {header : List ℕ} {m :
     further = s ++ b ∷ []
 
     padded : (emitted : List LineAt) × (message S header s ≡ ReadTo emitted Here (In_padding T))
-    padded = subst (Stands C answers number header s) is f.stands
+    padded = search (arith)
 
     one_due : (x : Message) → message_step S header Here (In_padding T) b ≡ x →
         due S header s (b ∷ []) ≡ message_lines x
-    one_due x e = comes_due S header s b padded.0 Here (In_padding T) x padded.1 e
+    one_due x e = search (arith, comes_due, padded)
 
     one_comes : (x : Message) → message_step S header Here (In_padding T) b ≡ x →
         message S header further ≡ with_front padded.0 x
-    one_comes x e = comes_more S header s b padded.0 Here (In_padding T) padded.1
-        ∙ ap (with_front padded.0) e
+    one_comes x e = search (arith, comes_more, padded)
 
     pub padding_told : (1 < padding Here 8) → due S header s (b ∷ []) ≡ []
     unfolding message_lines
     padding_told h = one_due (ReadTo [] (Here + 1) (In_padding T)) (padding_on S header Here b T h)
 
     pub last_told : padding Here 8 ≤ 1 → due S header s (b ∷ []) ≡ []
-    last_told h =
-        one_due (body S header T (Here + 1) []) (padding_last S header Here b T h)
-        ∙ told_silent (Here + 1) (body S header T (Here + 1) []) (body_silent S header T (Here + 1))
+    last_told h = search (arith, one_due, padding_last, told_silent, body_silent)
 
     same_id : due S header s (b ∷ []) ≡ [] →
         m.id ≡ first_request_id (message_lines (message S header further))
-    same_id none = id_kept f (b ∷ []) (none_said _ none) (rw is refl)
+    same_id none = search (arith, id_kept, none_said)
 
     pub padding_follows : (1 < padding Here 8) → {n : Struct_of} → Moved m n 1 → n.id ≡ m.id →
         n.part ≡ m.part → Follows C answers number header n further
@@ -140,14 +135,7 @@ pub record Rested (m : Message) (at : ℕ) : Type 0 where
 
 rested : (offset : ℕ) (held : List ℕ) (at : ℕ) → Rested (rest_step offset held at) at
 unfolding rest_step message_lines stage_of first_request_id id_in first_id line_at
-rested offset held at = go (length held == 32)
-  where
-    go : (full : Bool) →
-        Rested (if full then ReadTo (line_at at (RestLine offset held) ∷ []) at
-        (In_rest (offset + 32) [])
-        else ReadTo [] at (In_rest offset held)) at
-    go true = record { comes = refl; no_id = refl }
-    go false = record { comes = refl; no_id = refl }
+rested offset held at = search (arith)
 
 -- octets of one part are one step
 part_goes : (S : Signatures) (header : List ℕ) (emitted : List LineAt) (at offset : ℕ)
@@ -157,17 +145,16 @@ part_goes : (S : Signatures) (header : List ℕ) (emitted : List LineAt) (at off
     ≡ with_front emitted (rest_step offset (held ++ b ∷ bs) (at + length (b ∷ bs)))
 unfolding advance message_step
 part_goes S header emitted at offset held b [] h = refl
-part_goes S header emitted at offset held b (b' ∷ bs) h =
-    let few : length (held ++ b ∷ []) < 32 = omega (arith, length_one_more held b, h) in
-    let n : (at + 1) + length (b' ∷ bs) ≡ at + length (b ∷ b' ∷ bs) = omega arith in
-    ap (λ m. goes_on S header (with_front emitted m) (b' ∷ bs))
-    (rest_step_more offset (held ++ b ∷ []) (at + 1) few)
-    ∙ (ap (λ m. goes_on S header m (b' ∷ bs))
-    (comes_next emitted [] (at + 1) (at + 1) (In_rest offset (held ++ b ∷ [])) refl
-    ∙ ap (λ ts. ReadTo ts (at + 1) (In_rest offset (held ++ b ∷ []))) (append-nil emitted))
-    ∙ (part_goes S header emitted (at + 1) offset (held ++ b ∷ []) b' bs
-    (omega (arith, length_one_more held b, h))
-    ∙ rw (n, append_assoc held (b ∷ []) (b' ∷ bs)) refl))
+part_goes S header emitted at offset held b (b' ∷ bs) h = search (
+  arith,
+  length_one_more,
+  rest_step_more,
+  comes_next,
+  append-nil,
+  append_assoc,
+  part_goes S header emitted (at + 1)
+      offset (held ++ b ∷ []) b' bs (omega (arith, length_one_more held b, h)),
+)
 
 module _ {C : Table} {answers : Answers} {number : ℕ} {header : List ℕ} {m : Struct_of} {s : List ℕ}
     {r : Rest}
@@ -179,7 +166,7 @@ module _ {C : Table} {answers : Answers} {number : ℕ} {header : List ℕ} {m :
   xs = take n octets
 
   size : length xs ≡ n
-  size = length-take-le n octets (omega (arith, taken))
+  size = search (arith, length-take-le)
 
   abbrev At : ℕ
   At = 12 + length s
@@ -192,32 +179,19 @@ module _ {C : Table} {answers : Answers} {number : ℕ} {header : List ℕ} {m :
 
   stood : (emitted : List LineAt) × (message (signatures_of C (answers number)) header s
       ≡ Stood emitted)
-  stood = subst (Stands C answers number header s) is f.stands
+  stood = search (arith)
 
   rest_comes : message (signatures_of C (answers number)) header (s ++ xs) ≡ with_front stood.0 Step
-  rest_comes =
-      message_resumes (signatures_of C (answers number)) header s xs
-      ∙ (ap (λ m. goes_on (signatures_of C (answers number)) header m xs) stood.1
-      ∙ go xs (omega (arith, size, taken, left, r.room, some))
-      (omega (arith, size, taken, left, r.room)))
-    where
-      go : (xs : List ℕ) → 0 < length xs → length r.held.items + length xs ≤ 32 →
-          goes_on (signatures_of C (answers number)) header (Stood stood.0) xs
-          ≡ with_front stood.0 (rest_step r.offset (r.held.items ++ xs) (At + length xs))
-      go [] some room = absurd (omega arith)
-      go (b ∷ bs) some room = part_goes (signatures_of C (answers number)) header stood.0 At
-          r.offset r.held.items b bs room
+  rest_comes = search (arith, message_resumes, stood, size, part_goes)
 
   rest_due : due (signatures_of C (answers number)) header s xs ≡ message_lines Step
   unfolding message_lines
-  rest_due = due_is (signatures_of C (answers number)) header s xs stood.0 (Stood stood.0) Step
-      stood.1 rest_comes refl
+  rest_due = search (arith, due_is, stood, rest_comes)
 
   pub rest_text : (place : ℕ) → due_text (signatures_of C (answers number)) number place header s xs
       ≡ message_lines_text m.number place At (message_lines Step)
   unfolding due_text
-  rest_text place = ap (message_lines_text number place At) rest_due
-      ∙ ap (λ n. message_lines_text n place At (message_lines Step)) (sym f.same_number)
+  rest_text place = search (arith, rest_due)
 
   pub rest_follows : {m' : Struct_of} {r' : Rest} → Moved m m' n → m'.id ≡ m.id →
       m'.part ≡ parts.Rest r' →
@@ -238,21 +212,20 @@ module _ {C : Table} {answers : Answers} {number : ℕ} {header : List ℕ} {m :
 pub few_told : (number place offset at : ℕ) (from : ℕ) (held : List ℕ) → length held < 32 →
     message_lines_text number place offset (message_lines (rest_step from held at)) ≡ []
 unfolding message_lines_text message_lines
-few_told number place offset at from held h = rw (rest_step_more from held at h) refl
+few_told number place offset at from held h = search (arith, rest_step_more)
 
 pub full_told : (number place offset at : ℕ) (from : ℕ) (held : List ℕ) → length held ≡ 32 →
     message_lines_text number place offset (message_lines (rest_step from held at))
     ≡ rest_line number from held
 unfolding message_lines_text message_lines message_line_text line_class_of text_of line_at
-full_told number place offset at from held h =
-    rw (rest_step_full from held at h) (append-nil _ ∙ rest_said number from held)
+full_told number place offset at from held h = search (arith, rest_step_full, append-nil, rest_said)
 
 pub few_stage : (at from : ℕ) (held : List ℕ) → length held < 32 →
     stage_of (rest_step from held at) ≡ In_rest from held
 unfolding stage_of
-few_stage at from held h = rw (rest_step_more from held at h) refl
+few_stage at from held h = search (arith, rest_step_more)
 
 pub full_stage : (at from : ℕ) (held : List ℕ) → length held ≡ 32 →
     stage_of (rest_step from held at) ≡ In_rest (from + 32) []
 unfolding stage_of
-full_stage at from held h = rw (rest_step_full from held at h) refl
+full_stage at from held h = search (arith, rest_step_full)

@@ -64,16 +64,12 @@ last_one o T at root s (b ∷ []) p some h =
       answer =
           subst (λ z. Answers o T at root z b p) (sym (append-nil s)) h;
     }
-last_one o T at root s (b ∷ b' ∷ xs) p some h =
-    let l = last_one o T at root (s ++ b ∷ []) (b' ∷ xs) p (omega arith) h.1 in
-    record {
-      front = b ∷ l.front;
-      octet = l.octet;
-      all = ap (λ z. b ∷ z) l.all;
-      before = answered_more o T at root s b l.front h.0 l.before;
-      answer = subst (λ z. Answers o T at root z l.octet p) (append_assoc s (b ∷ []) l.front)
-          l.answer;
-    }
+last_one o T at root s (b ∷ b' ∷ xs) p some h = search (
+  arith,
+  answered_more,
+  append_assoc,
+  last_one o T at root (s ++ b ∷ []) (b' ∷ xs) p (omega arith) h.1,
+)
 
 -- octets after which the value goes on, and each front of them
 pub more_fronts : (o : Order) (T : Ty) (at : ℕ) (root : Root) (k : ℕ) (s xs : List ℕ) →
@@ -110,14 +106,14 @@ module _ (w : Begun) where
 
   section_goes : (s octets : List ℕ) → message S header s ≡ comes w (reading w octets) →
       (xs : List ℕ) → message S header (s ++ xs) ≡ comes w (reading w (octets ++ xs))
-  section_goes s octets is [] = rw (append-nil s, append-nil octets) is
+  section_goes s octets is [] = search (arith, append-nil)
   section_goes s octets is (b ∷ xs) =
       rw (← append_assoc s (b ∷ []) xs, ← append_assoc octets (b ∷ []) xs)
       (section_goes (s ++ b ∷ []) (octets ++ b ∷ []) (goes_one w s octets is b) xs)
 
   inside_run : (s octets : List ℕ) → Inside w s octets → (xs : List ℕ) → Answered octets xs →
       Inside w (s ++ xs) (octets ++ xs)
-  inside_run s octets i [] h = rw (append-nil s, append-nil octets) i
+  inside_run s octets i [] h = search (arith, append-nil)
   inside_run s octets i (b ∷ []) h = inside_on w s octets i b h
   inside_run s octets i (b ∷ b' ∷ xs) h =
       rw (← append_assoc s (b ∷ []) (b' ∷ xs), ← append_assoc octets (b ∷ []) (b' ∷ xs))
@@ -129,7 +125,7 @@ module _ (w : Begun) where
   text_run s octets i [] h place =
       whole.text_none S number place header s
       ∙ sym (readings.text_none number R O T (start w) octets)
-  text_run s octets i (b ∷ []) h place = more_text w s octets i b h place
+  text_run s octets i (b ∷ []) h place = search (arith, more_text)
   text_run s octets i (b ∷ b' ∷ xs) h place =
       let on = inside_on w s octets i b h.0 in
       whole.text_both S number place header s (b ∷ []) (b' ∷ xs)
@@ -144,17 +140,14 @@ module _ (w : Begun) where
 told_before : (w : Begun) (s : List ℕ) (r : Read) → is_header w.section ≡ false →
     message w.S w.header s ≡ comes w r → ReadsAll r →
     first_request_id (message_lines (message w.S w.header s)) ≡ first_request_id w.before
-told_before w s r other is all =
-    let more = section_and_rest S header section nothing_noted r in
-    ap (λ m. first_request_id (message_lines m)) is
-    ∙ (ap first_request_id (told_front before more) ∙ (id_both before (message_lines more)
-    ∙ rw (
-      passed_section_lines S header section nothing_noted r all,
-      section_no_id section other (may_call header section) nothing_noted r,
-    )
-    (first_none (first_request_id before))))
-  where
-    open w use {S, header, section, before}
+told_before w s r other is all = search (
+  arith,
+  told_front,
+  id_both,
+  passed_section_lines,
+  section_no_id,
+  first_none,
+)
 
 answer_all : (end : ℕ) (named : Bool) (p : Progress) (r : Read) → decoders.IsAnswer end named p r →
     ReadsAll r
@@ -187,12 +180,7 @@ fault_by S header section end named kind _ answer = absurd answer
 inside_goes : (w : Begun) (s octets : List ℕ) → Inside w s octets →
     is_over (stage_of (message w.S w.header s)) ≡ false
 unfolding section_then stage_of is_over
-inside_goes w s octets i =
-    ap (λ m. is_over (stage_of m)) i.is
-    ∙ (ap is_over (stage_front w.before (section_and_rest w.S w.header w.section nothing_noted
-    (reading w octets)))
-    ∙ ap (λ r. is_over (stage_of (section_and_rest w.S w.header w.section nothing_noted r)))
-    i.was_short)
+inside_goes w s octets i = search (arith, stage_front, reading)
 
 -- the octets before the last of those taken
 pub but_last : (octets front : List ℕ) (b n : ℕ) → n ≤ length octets →
@@ -228,10 +216,10 @@ module _ (w : Begun) (s octets : List ℕ) (i : Inside w s octets) where
 
   last_octets : (xs fr : List ℕ) (b : ℕ) → xs ≡ fr ++ b ∷ [] →
       (octets ++ fr) ++ b ∷ [] ≡ octets ++ xs
-  last_octets xs fr b all = append_assoc octets fr (b ∷ []) ∙ ap (λ z. octets ++ z) (sym all)
+  last_octets xs fr b all = search (arith, append_assoc)
 
   last_so_far : (xs fr : List ℕ) (b : ℕ) → xs ≡ fr ++ b ∷ [] → (s ++ fr) ++ b ∷ [] ≡ s ++ xs
-  last_so_far xs fr b all = append_assoc s fr (b ∷ []) ∙ ap (λ z. s ++ z) (sym all)
+  last_so_far xs fr b all = search (arith, append_assoc)
 
   abbrev at_last : (fr : List ℕ) → Answered w octets fr → Inside w (s ++ fr) (octets ++ fr)
   at_last fr h = inside_run w s octets i fr h
@@ -252,7 +240,7 @@ module _ (w : Begun) (s octets : List ℕ) (i : Inside w s octets) where
   -- they go on
   pub run_more : (xs : List ℕ) (place : ℕ) → Answered w octets xs →
       due_text S number place header s xs ≡ Lines xs
-  run_more xs place h = text_run w s octets i xs h place
+  run_more xs place h = search (arith, text_run)
 
   -- the last ends the section
   pub run_done : (xs : List ℕ) (place : ℕ) → Last w octets xs progress.Done →
@@ -306,14 +294,10 @@ module _ (w : Begun) (s octets : List ℕ) (i : Inside w s octets) where
 
   pub last_answer : (xs : List ℕ) (p : Progress) → Last w octets xs p →
       (end : ℕ) × (named : Bool) × decoders.IsAnswer end named p (With xs)
-  last_answer xs p l =
-      let end = start w + length ((octets ++ l.front) ++ l.octet ∷ []) in
-      let named = is_named w (octets ++ l.front) l.octet in
-      let all = last_octets xs l.front l.octet l.all in
-      (end, named, subst (λ z. decoders.IsAnswer end named p (reading w z)) all l.answer)
+  last_answer xs p l = search (arith, start, is_named, last_octets, reading)
 
   pub behind : (xs : List ℕ) → message S header (s ++ xs) ≡ comes w (With xs)
-  behind xs = section_goes w s octets i.is xs
+  behind xs = search (arith, section_goes)
 
   abbrev pub decodes : (C : Table) (xs : List ℕ) (d : Decoder) →
       decoders.Reads C T (O w) (start w) number (R w) d (octets ++ xs) →

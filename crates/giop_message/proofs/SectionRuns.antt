@@ -206,15 +206,11 @@ module _ {t : Standing} {octets : List ℕ} {n : ℕ} {d' : Decoder} where
   open t use {C, answers, number, header, m, s, follows, section}
 
   last : (p : Progress) → Took t octets n d' p → LastOf t (take n octets) p
-  last p k =
-      let some : 0 < length (take n octets) =
-      omega (arith, length-take-le n octets k.within, k.some) in
-      last_one (order header) (opened t).T (start (begun t)) (root_of section) (octets_of t)
-      (take n octets) p some k.takes.answers
+  last p k = search (arith, take, length-take-le, last_one, start)
 
   moved : (p : Progress) → Took t octets n d' p → (m' : Struct_of) → Moved m m' n →
       Moved m m' (length (take n octets))
-  moved p k m' move = rw (length-take-le n octets k.within) move
+  moved p k m' move = search (arith, length-take-le)
 
   -- ---- their text
 
@@ -367,10 +363,7 @@ module _ (t : Standing) where
       ≡ with_front (begun t).before (section_and_rest (S t) header section nothing_noted
       (Short (inside t).lines (start (begun t) + length (octets_of t)) (inside t).outer
       (inside t).leaf))
-  stands_short =
-      let i = inside t in
-      i.is ∙ ap (λ r. with_front (begun t).before
-      (section_and_rest (S t) header section nothing_noted r)) i.was_short
+  stands_short = search (arith, inside)
 
   -- another section ends none
   section_none : is_header section ≡ false → (more : List ℕ) →
@@ -461,8 +454,8 @@ module _ (C : Table) (number : ℕ) (header : List ℕ) {St : Type 0} (notified 
       (operation_of C header (noted_of true r)))
       ≡ after_ends notified C st (section_ends x number header r)
   event_ends sections.Header r = refl
-  event_ends sections.Exception r = name_ends (noted_of false r).name
-  event_ends sections.SystemException r = name_ends (noted_of false r).name
+  event_ends sections.Exception r = search (arith, name_ends)
+  event_ends sections.SystemException r = search (arith, name_ends)
   event_ends sections.Body r = refl
 
 module _ (t : Standing) (xs : List ℕ) (p : Progress) (l : LastOf t xs p) (other : IsNoEnd p) where
@@ -495,9 +488,9 @@ module _ (t : Standing) (xs : List ℕ) (p : Progress) (l : LastOf t xs p) (othe
           let before = header_short t e in
           let now = header_is t e xs ∙ none_read.0 in
           rw (raised_before header s before, raised_before header (s ++ xs) now, before, now) refl
-      go sections.Exception e = raising (ap is_raising e) (ap is_header e)
-      go sections.SystemException e = raising (ap is_raising e) (ap is_header e)
-      go sections.Body e = rw (section_none t (ap is_header e) xs, body_none t e xs) refl
+      go sections.Exception e = search (arith, raising, is_raising)
+      go sections.SystemException e = search (arith, raising, is_raising)
+      go sections.Body e = search (arith, section_none, xs, body_none)
 
 -- nor do fronts of octets after which the section goes on
 ends_sooner : (t : Standing) (front more : List ℕ) →
@@ -626,13 +619,12 @@ module _ {t : Standing} {octets : List ℕ} {n : ℕ} {d' : Decoder} where
           rw (raised_before header s before, none, before, now) refl
       go sections.Exception e = raising (ap is_raising e) (ap is_header e)
       go sections.SystemException e = raising (ap is_raising e) (ap is_header e)
-      go sections.Body e = rw (section_none t (ap is_header e) xs, body_none t e xs) refl
+      go sections.Body e = search (arith, section_none, xs, body_none)
 
   one_ends : Took t octets n d' progress.Done → section ≡ sections.Header →
       header_ends number header s (take n octets)
       ≡ Header_end number header (noted_of true (ReadWith t (take n octets))) ∷ []
-  one_ends k in_it = done_ends k ∙ ap (λ x.
-      section_ends x number header (ReadWith t (take n octets))) in_it
+  one_ends k in_it = search (arith, done_ends, take)
 
   module _ {St : Type 0} (answer : St → Answer) (notified : St → CallEvent → St) (st : St) where
     -- a header that ends is answered by the state before it,

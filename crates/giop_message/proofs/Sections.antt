@@ -1,11 +1,10 @@
 -- One octet of a section that goes on: its text, with its fault or its call.
-use Rattle.std.proofs.Common.{◌≡◌, ℕ, ◌+◌, ◌-◌, Bool, true, false, List, [], ◌∷◌, ◌++◌, length, ◌⊎◌, inl, inr, Option, Some, None, refl, sym, ap, subst, ◌∙◌, append-nil, append_assoc}
+use Rattle.std.proofs.Common.{arith, ◌≡◌, ℕ, ◌+◌, ◌-◌, Bool, true, false, List, [], ◌∷◌, ◌++◌, length, ◌⊎◌, Option, Some, None, refl, sym, ap, subst, ◌∙◌, append-nil, append_assoc}
 use Rattle.std.specs.Prelude.{◌&&◌, ◌||◌, codes, IfSome, if◌then◌else◌}
 use Rattle.std.specs.List.{AllByRecursion as Each}
 use Rattle.std.proofs.lemmas.Bool.{false≢true, eqb-true}
 use Rattle.giop_print.specs.Lines.{call_line, fault_line}
 use Rattle.giop_print.specs.declared.path.Root.{Root}
-use Rattle.giop_print.specs.declared.path.Root.TheVariants as roots
 use Rattle.giop_sig.specs.HeaderTypes.{header_type}
 use Rattle.giop_decode.specs.declared.progress.Kind.{Kind}
 use Rattle.giop_decode.specs.declared.progress.Progress.{Progress}
@@ -14,7 +13,7 @@ use Rattle.giop_decode.specs.ReadResult
 use Rattle.giop_decode.specs.ReadResult.{plain, Line, Read, Done, Short, Fault, lines_of}
 use Rattle.giop_decode.specs.Fits.{FitsIn, Sound}
 use Rattle.giop_decode.specs.ReadingSteps.{OneAt}
-use Rattle.giop_decode.specs.Noted.{Noted, nothing_noted, note, noted, noted_of, without_name_if, ends_in_string, ends_text, is_member, is_header_root, ends_operation, names_operation}
+use Rattle.giop_decode.specs.Noted.{Noted, nothing_noted, note, noted, noted_of, ends_in_string, ends_text, is_member, is_header_root, ends_operation, names_operation}
 use Rattle.giop_decode.specs.DecoderState as decoders
 use Rattle.giop_decode.specs.Runs.{Answers}
 use Rattle.giop_decode.specs.Spelling.{lines_text}
@@ -22,7 +21,7 @@ use Rattle.giop_decode.proofs.ReadingLaws.{front_inside, lines_front, noted-appe
 use Rattle.giop_message.specs.declared.part.Section.{Section}
 use Rattle.giop_message.specs.declared.part.Section.TheVariants as sections
 use Rattle.giop_message.specs.Headers.{minor, kind, order}
-use Rattle.giop_message.specs.Messages.{CallLine, line_at, is_shown, call_of, calls, is_request, root_of, may_call}
+use Rattle.giop_message.specs.Messages.{CallLine, line_at, call_of, calls, is_request, root_of, may_call}
 use Rattle.giop_message.specs.ReaderOfTable.{line_class_of, text_of}
 use Rattle.giop_message.specs.Text.{fault_word}
 use Rattle.giop_message.specs.MessageState.{message_line_text, message_lines_text, due_text, IsFirst}
@@ -38,8 +37,7 @@ use Rattle.giop_decode.specs.DecoderState.{IsAnswer, IsFault}
 pub fault_is : (number place end : ℕ) (named : Bool) (kind : Kind) (r : Read) →
     IsAnswer end named (progress.Fault kind) r →
     fault_text number place r ≡ fault_line number (fault_word kind) place
-fault_is number place end named kind (Fault lines at why T) answer =
-    ap (λ k. fault_line number (fault_word k) place) (sym answer.0)
+fault_is number place end named kind (Fault lines at why T) answer = search (arith)
 fault_is number place end named kind r answer = absurd answer
 
 pub no_fault : (number place end : ℕ) (named : Bool) (p : Progress) (r : Read) →
@@ -80,8 +78,7 @@ call_shown : (number place offset at id : ℕ) (name : List ℕ) (test : Bool) �
     message_lines_text number place offset (if test then line_at at (CallLine id name) ∷ [] else [])
     ≡ (if test then call_line number id name else [])
 unfolding message_lines_text line_at
-call_shown number place offset at id name true =
-    append-nil _ ∙ one_call number place offset at id name
+call_shown number place offset at id name true = search (arith, append-nil, one_call)
 call_shown number place offset at id name false = refl
 
 called_is : (number place offset at : ℕ) (id : Option ℕ) (name : Option (List ℕ)) →
@@ -89,27 +86,21 @@ called_is : (number place offset at : ℕ) (id : Option ℕ) (name : Option (Lis
 unfolding message_lines_text call_of called_text
 called_is number place offset at None name = refl
 called_is number place offset at (Some id) None = refl
-called_is number place offset at (Some id) (Some name) =
-    call_shown number place offset at id name (is_shown name)
+called_is number place offset at (Some id) (Some name) = search (arith, call_shown)
 
 -- the call of the line that ends an operation
 call_by : (is : Bool) (number place offset : ℕ) (l : Line) (h : Noted) →
     ends_operation true l ≡ true → message_lines_text number place offset (calls is l h)
     ≡ (if is then called_text number h.request_id h.name else [])
 unfolding calls message_lines_text
-call_by true number place offset l h e =
-    rw e (called_is number place offset l.at h.request_id h.name)
+call_by true number place offset l h e = search (arith, called_is)
 call_by false number place offset l h e = refl
 
 -- with one line that names it
 named_line : (n : ℕ) (lines : List Line) → OneAt n lines → names_operation true lines ≡ true →
     (l : Line) × (lines ≡ l ∷ []) × (ends_operation true l ≡ true)
 named_line n [] one e = absurd (false≢true e)
-named_line n (l ∷ []) one e = (l, refl, or_last (ends_operation true l) e)
-  where
-    or_last : (a : Bool) → (a || false) ≡ true → a ≡ true
-    or_last true e = refl
-    or_last false e = absurd (false≢true e)
+named_line n (l ∷ []) one e = search (arith, false≢true)
 named_line n (l ∷ l' ∷ ls) one e = absurd one
 
 and_last : (a b : Bool) → (a && b) ≡ true → b ≡ true
@@ -120,19 +111,14 @@ and_last false b e = absurd (false≢true e)
 muted : (lines : List Line) (st : Read) (l : Line) → NoEnds st ⊎ (ends_in_string st ≡ false) →
     lines_of st ≡ l ∷ [] → ends_operation true l ≡ true →
     noted_of true (ReadResult.with_front lines st) ≡ note true (noted true nothing_noted lines) l
-muted lines st l closed e ends =
-    let mute : ends_in_string (ReadResult.with_front lines st) ≡ false =
-    front_inside lines st ∙ go closed in
-    ap (λ quiet. without_name_if quiet (noted true nothing_noted
-    (lines_of (ReadResult.with_front lines st)))) mute
-    ∙ (ap (noted true nothing_noted) (lines_front lines st ∙ ap (λ ls. lines ++ ls) e)
-    ∙ noted-append true nothing_noted lines (l ∷ []))
-  where
-    go : NoEnds st ⊎ (ends_in_string st ≡ false) → ends_in_string st ≡ false
-    go (inr f) = f
-    go (inl none) =
-        absurd (false≢true (sym (subst (λ ls. Each (λ l. ends_text l.value ≡ false) ls) e none).0
-        ∙ and_last (is_member (codes "operation") l.path) (ends_text l.value) ends))
+muted lines st l closed e ends = search (
+  arith,
+  front_inside,
+  lines_front,
+  noted-append,
+  false≢true,
+  and_last,
+)
 
 never : (lines : List Line) → Each (λ l. ends_operation false l ≡ false) lines
 never [] = tt
@@ -150,13 +136,13 @@ request_kind header e = eqb-true (kind header) 0 e
 unnamed_by : (header : List ℕ) (section : Section) (lines : List Line) →
     names_operation (is_header_root (root_of section)) lines ≡ false →
     Each (λ l. ends_operation (may_call header section) l ≡ false) lines
-unnamed_by header sections.Header lines e = unnamed (is_request header) lines e
+unnamed_by header sections.Header lines e = search (arith, unnamed)
 unnamed_by header section lines e = never lines
 
 named_header : (section : Section) (lines : List Line) →
     names_operation (is_header_root (root_of section)) lines ≡ true → section ≡ sections.Header
 named_header sections.Header lines e = refl
-named_header section lines e = absurd (false≢true (sym (none_named lines) ∙ e))
+named_header section lines e = search (arith, false≢true, none_named)
 
 -- the call of a step's line
 call_here : (number place offset : ℕ) (header : List ℕ) (section : Section) (before : List Line)
@@ -166,16 +152,18 @@ call_here : (number place offset : ℕ) (header : List ℕ) (section : Section) 
     (noted (is_header_root (root_of section)) nothing_noted before) (lines_of st))
     ≡ request_call number header (noted_of true (ReadResult.with_front before st))
 unfolding request_call
-call_here number place offset header sections.Header before st n one closed named =
-    let x = named_line n (lines_of st) one named in
-    let now = note true (noted true nothing_noted before) x.0 in
-    ap (λ ls. message_lines_text number place offset
-    (first_call roots.Header (is_request header) (noted true nothing_noted before) ls)) x.1
-    ∙ (call_by (is_request header) number place offset x.0 now x.2
-    ∙ ap (λ h. if is_request header then called_text number h.request_id h.name else [])
-    (sym (muted before st x.0 closed x.1 x.2)))
-call_here number place offset header section before st n one closed named =
-    absurd (false≢true (sym (none_named (lines_of st)) ∙ named))
+call_here number place offset header sections.Header before st n one closed named = search (
+  arith,
+  named_line,
+  first_call,
+  call_by,
+  muted,
+)
+call_here number place offset header section before st n one closed named = search (
+  arith,
+  false≢true,
+  none_named,
+)
 
 done_is : (end : ℕ) (named : Bool) (st : Read) (lines : List Line) →
     decoders.IsAnswer end named progress.Done (ReadResult.with_front lines st) → done_test st ≡ true
@@ -283,13 +271,11 @@ module _ (w : Begun) (s octets : List ℕ) (i : Inside w s octets) (b : ℕ) whe
 
   uncalled : (place : ℕ) → Silences → Call place ≡ []
   unfolding message_lines_text
-  uncalled place each =
-      ap (message_lines_text number place (12 + length s))
-      (no_first R (may_call header section) (noted_before w s octets i b) (lines_of St) each)
+  uncalled place each = search (arith, no_first, noted_before)
 
   -- any octet
   pub any_text : (place : ℕ) → Due place ≡ Lines ++ (Wrongs place ++ Call place)
-  any_text place = joined_text place (Wrongs place) (Call place) refl refl
+  any_text place = search (arith, joined_text)
 
   -- one after which the section goes on
   pub more_text : Is progress.More → (place : ℕ) → Due place ≡ Lines
@@ -323,7 +309,7 @@ module _ (w : Begun) (s octets : List ℕ) (i : Inside w s octets) (b : ℕ) whe
 
   -- one that ends an operation
   pub named_in : Is progress.Named → section ≡ sections.Header
-  named_in answer = named_header section _ (named_is End Names Behind answer)
+  named_in answer = search (arith, named_header, named_is)
 
   pub named_text : Is progress.Named → (place : ℕ) →
       Due place ≡ Lines ++ request_call number header (noted_of true Behind)

@@ -1,12 +1,12 @@
 -- The lines of a reading, with the message's number, are the lines that the printing functions
 -- write.
-use Rattle.std.proofs.Common.{◌≡◌, ℕ, List, [], ◌∷◌, ◌++◌, refl, sym, ap, ◌∙◌, append_assoc}
+use Rattle.std.proofs.Common.{arith, ◌≡◌, ℕ, List, [], ◌∷◌, ◌++◌, refl, append_assoc}
 use Rattle.std.specs.Prelude.{codes, decimal}
-use Rattle.giop_print.specs.Text.{joined, hex}
+use Rattle.giop_print.specs.Text.{joined}
 use Rattle.giop_print.specs.Lines.{call_line, rest_line, end_line}
 use Rattle.giop_print.specs.declared.path.Root.{Root}
 use Rattle.giop_decode.specs.ReadResult.{PathSegment, Value, line}
-use Rattle.giop_decode.specs.Spelling.{path_text, value_words, line_text}
+use Rattle.giop_decode.specs.Spelling.{line_text}
 use Rattle.giop_message.specs.Text.{value_line_text, call_text, rest_text, numbered_line}
 use Rattle.giop_message.specs.Messages.{ValueLine}
 use Rattle.giop_message.specs.ReaderOfTable.{text_of}
@@ -14,32 +14,28 @@ use Rattle.giop_message.specs.ReaderOfTable.{text_of}
 -- pieces inside pieces
 joined_both : (xs ys : List (List ℕ)) → joined (xs ++ ys) ≡ joined xs ++ joined ys
 joined_both [] ys = refl
-joined_both (x ∷ xs) ys = ap (λ z. x ++ z) (joined_both xs ys)
-    ∙ sym (append_assoc x (joined xs) (joined ys))
+joined_both (x ∷ xs) ys = search (arith, append_assoc, joined_both xs ys)
 
 -- a text of these pieces, as a line
 said_joined : (number : ℕ) (xs : List (List ℕ)) → numbered_line number (joined xs)
     ≡ joined (codes "m" ∷ decimal number ∷ codes " " ∷ (xs ++ codes "\n" ∷ []))
 unfolding numbered_line
-said_joined number xs = ap (λ z. codes "m" ++ (decimal number ++ (codes " " ++ z)))
-    (sym (joined_both xs (codes "\n" ∷ [])))
+said_joined number xs = search (arith, joined_both)
 
 pub said_is_line : (number at : ℕ) (root : Root) (path : List PathSegment) (v : Value) →
     numbered_line number (text_of (ValueLine root path v)) ≡ line_text number root (line at path v)
 unfolding text_of value_line_text
-said_is_line number at root path v = said_joined number (path_text root path ∷ value_words v)
+said_is_line number at root path v = search (arith, said_joined)
 
 pub call_said : (number id : ℕ) (operation : List ℕ) →
     numbered_line number (call_text id operation) ≡ call_line number id operation
 unfolding call_text call_line
-call_said number id operation = said_joined number
-    (codes "call " ∷ decimal id ∷ codes " " ∷ operation ∷ [])
+call_said number id operation = search (arith, said_joined)
 
 pub rest_said : (number offset : ℕ) (octets : List ℕ) →
     numbered_line number (rest_text offset octets) ≡ rest_line number offset octets
 unfolding rest_text rest_line
-rest_said number offset octets = said_joined number
-    (codes "rest @" ∷ decimal offset ∷ codes " " ∷ hex octets ∷ [])
+rest_said number offset octets = search (arith, said_joined)
 
 pub end_said : (number : ℕ) → numbered_line number (codes "end") ≡ end_line number
 unfolding end_line numbered_line

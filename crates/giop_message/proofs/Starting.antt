@@ -1,6 +1,6 @@
 -- A message whose header has come, and what begins after a part of it.
-use Rattle.std.proofs.Common.{◌≡◌, ℕ, zero, suc, ◌<◌, Bool, true, false, List, [], Option, option_map, option_and_then, Some, None, refl, sym, ap, ◌∙◌, append-nil, add-zero, arith}
-use Rattle.std.specs.Prelude.{◌&&◌, ◌||◌, ◌==◌, nat_lt, if◌then◌else◌}
+use Rattle.std.proofs.Common.{◌≡◌, ℕ, zero, ◌<◌, Bool, true, false, List, [], Option, option_map, option_and_then, Some, None, refl, sym, append-nil, add-zero, arith}
+use Rattle.std.specs.Prelude.{◌&&◌, nat_lt, if◌then◌else◌}
 use Rattle.std.proofs.lemmas.Bool.{ltb-false, ne_eqb, false≢true}
 use Rattle.giop_cdr.specs.Alignment.{padding}
 use Rattle.giop_cdr.specs.declared.order.Order.{Order}
@@ -12,7 +12,7 @@ use Rattle.giop_decode.specs.Noted.{Noted, nothing_noted}
 use Rattle.giop_message.specs.declared.part.Section.{Section}
 use Rattle.giop_message.specs.declared.part.Section.TheVariants as sections
 use Rattle.giop_message.specs.Headers.{minor, kind, order}
-use Rattle.giop_sig.specs.Table.{Table, operation_in}
+use Rattle.giop_sig.specs.Table.{Table}
 use Rattle.giop_message.specs.Signatures.{Signatures, Answer, request_type, signatures_of}
 use Rattle.giop_message.specs.HeaderEnds.{operation_of}
 use Rattle.giop_message.specs.MessageState.{is_header}
@@ -30,7 +30,7 @@ fit_some T fit empty = absurd empty
 
 -- before its first octet a message has no line
 pub none_told : (S : Signatures) (header : List ℕ) → message_lines (message S header []) ≡ []
-none_told S header = told_silent 12 (message S header []) (message_silent S header)
+none_told S header = search (arith, told_silent, message_silent)
 
 -- and without a header type it is in the rest
 pub none_rests : (S : Signatures) (header : List ℕ) → S.header (minor header) (kind header) ≡ None →
@@ -59,11 +59,11 @@ front_comes before n stage = rw (append-nil before) refl
 
 pub front_rests : (before : List LineAt) (n : ℕ) →
     with_front before (rest n []) ≡ ReadTo before n (In_rest 0 [])
-front_rests before n = ap (with_front before) (rest_is n) ∙ front_comes before n (In_rest 0 [])
+front_rests before n = search (arith, rest_is, front_comes)
 
 pub front_pads : (before : List LineAt) (n : ℕ) (b : BodyType) →
     with_front before (ReadTo [] n (In_padding b)) ≡ ReadTo before n (In_padding b)
-front_pads before n b = front_comes before n (In_padding b)
+front_pads before n b = search (arith, front_comes)
 
 -- a section that ends with no octet after it: in front of what follows there is padding, or there
 -- is none
@@ -78,9 +78,7 @@ unfolding padded body
 by_tests S header h n false two some e = refl
 by_tests S header h n true false some e = refl
 by_tests S header h n true true true e = rw (e, add-zero) refl
-by_tests S header h n true true false e =
-    let none : padding n 8 ≡ 0 = omega (arith, ltb-false 0 (padding n 8) e) in
-    rw (none, add-zero) refl
+by_tests S header h n true true false e = search (arith, ltb-false, add-zero)
 
 option_body : (S : Signatures) (header : List ℕ) (found : Option Ty) (n : ℕ) →
     option_typed (order header) found n [] ≡ body S header (type_if found) n []
@@ -94,21 +92,20 @@ follows_by : (S : Signatures) (header : List ℕ) (section : Section) (h : Noted
     (In_padding (body_type_after S header section h))
     else body S header (body_type_after S header section h) n [])
 unfolding after_header after_exception body is_unaligned
-follows_by S header sections.Header h n =
-    by_tests S header h n (has_body header) (minor header == 2) (nat_lt 0 (padding n 8)) refl
-follows_by S header sections.Exception h n = option_body S header (members_of S h.name) n
+follows_by S header sections.Header h n = search (arith, by_tests)
+follows_by S header sections.Exception h n = search (arith, option_body)
 follows_by S header sections.SystemException h n = refl
 follows_by S header sections.Body h n = refl
 
 pub left_padded : (S : Signatures) (header : List ℕ) (section : Section) (h : Noted) (n : ℕ) →
     is_padded header section n ≡ true →
     after S header section h n [] ≡ ReadTo [] n (In_padding (body_type_after S header section h))
-left_padded S header section h n e = follows_by S header section h n ∙ rw e refl
+left_padded S header section h n e = search (arith, follows_by)
 
 pub left_bare : (S : Signatures) (header : List ℕ) (section : Section) (h : Noted) (n : ℕ) →
     is_padded header section n ≡ false →
     after S header section h n [] ≡ body S header (body_type_after S header section h) n []
-left_bare S header section h n e = follows_by S header section h n ∙ rw e refl
+left_bare S header section h n e = search (arith, follows_by)
 
 -- the empty struct is done at once
 pub empty_rests : (o : Order) (T : Ty) (n : ℕ) → body_may_be_missing (Typed T) ≡ true →
@@ -127,17 +124,12 @@ some_not_empty T e empty = empty
 
 pub has_some : (header : List ℕ) → kind header < 2 → has_body header ≡ true
 unfolding has_body
-has_some header few = go (kind header) few
-  where
-    go : (k : ℕ) → k < 2 → ((k == 0) || (k == 1)) ≡ true
-    go zero h = refl
-    go (suc zero) h = refl
-    go (suc (suc k)) h = absurd (omega arith)
+has_some header few = search (arith)
 
 pub has_none : (header : List ℕ) → (kind header ≡ 0 → ⊥) → (kind header ≡ 1 → ⊥) →
     has_body header ≡ false
 unfolding has_body
-has_none header f g = rw (ne_eqb (kind header) 0 f, ne_eqb (kind header) 1 g) refl
+has_none header f g = search (arith, ne_eqb)
 
 pub request_wants : (S : Signatures) (header : List ℕ) (h : Noted) → kind header ≡ 0 →
     body_type_after S header sections.Header h ≡ request_body S h.name
@@ -158,13 +150,7 @@ pub named_body : (C : Table) (answer : Answer) (header : List ℕ) (n : Noted) �
     type_if (option_map (request_type C) (operation_of C header n))
     ≡ request_body (signatures_of C answer) n.name
 unfolding operation_of signatures_of request_body type_if
-named_body C answer header n request = rw request (go n.name)
-  where
-    go : (name : Option (List ℕ)) → type_if
-        (option_map (request_type C) (option_and_then (operation_in C) name))
-        ≡ request_body (signatures_of C answer) name
-    go None = refl
-    go (Some name) = refl
+named_body C answer header n request = search (arith, option_map, option_and_then)
 
 -- What follows a section depends on what the ids answer after a header alone.
 pub wanted_agree : (C : Table) (a b : Answer) (header : List ℕ) (section : Section) (h : Noted) →
@@ -172,13 +158,7 @@ pub wanted_agree : (C : Table) (a b : Answer) (header : List ℕ) (section : Sec
     body_type_after (signatures_of C a) header section h
     ≡ body_type_after (signatures_of C b) header section h
 unfolding signatures_of members_of
-wanted_agree C a b header sections.Header h same =
-    ap (λ (x : Answer). body_type_after (signatures_of C x) header sections.Header h) (same refl)
-wanted_agree C a b header sections.Exception h same = go h.name
-  where
-    go : (name : Option (List ℕ)) → type_if (members_of (signatures_of C a) name)
-        ≡ type_if (members_of (signatures_of C b) name)
-    go None = refl
-    go (Some name) = refl
+wanted_agree C a b header sections.Header h same = search (arith)
+wanted_agree C a b header sections.Exception h same = search (arith)
 wanted_agree C a b header sections.SystemException h same = refl
 wanted_agree C a b header sections.Body h same = refl

@@ -1,17 +1,15 @@
 -- The lines of a step: they have the path of the innermost part, and where one ends a string.
-use Rattle.std.proofs.Common.{◌≡◌, ℕ, zero, suc, ◌+◌, ◌-◌, ◌⊎◌, inl, inr, Bool, true, false, List, [], ◌∷◌, ◌++◌, take, get_or, Option, Some, None, refl, sym, ap, subst, ◌∙◌, append-nil}
-use Rattle.giop_cdr.specs.declared.order.Order.{Order}
-use Rattle.std.specs.Prelude.{cond, ltb}
+use Rattle.std.proofs.Common.{arith, ◌≡◌, ℕ, zero, suc, ◌+◌, ◌-◌, ◌⊎◌, inl, Bool, true, false, List, [], ◌∷◌, ◌++◌, take, get_or, Option, Some, None, refl, ◌∙◌, append-nil}
 use Rattle.std.specs.List.{AllByRecursion as Each}
 use Rattle.giop_cdr.specs.Numbers.{num}
-use Rattle.giop_sig.specs.Types.{tag_of, Encapsulation, Ty, Single, Text, Octets, Struct, Union, Sequence, Array}
+use Rattle.giop_sig.specs.Types.{Encapsulation, Ty, Single, Text, Octets, Struct, Union, Sequence, Array}
 use Rattle.giop_decode.specs.declared.progress.Kind.{Kind}
 use Rattle.giop_decode.specs.declared.progress.Kind.TheVariants as kinds
 use Rattle.giop_decode.specs.ReadResult
-use Rattle.giop_decode.specs.ReadResult.{Coding, PathSegment, Switch, Held, Line, Count, Size, Ordered, Piece, line, OpenPart, Part, Member, Inside, Leaf, LeadingNumber, Opening, Content, Read, Done, Short, Fault, lines_of, with_front, followed, within}
-use Rattle.giop_decode.specs.Pieces.{Block, Partial, Complete, block, unless, over, content, full_piece, full_pieces, last_piece, tail, ends}
-use Rattle.giop_decode.specs.Reading.{after_leading_number, wrong, refused, parts_from, cut_off, enclosed, opening, order_of, ordered, rest_of}
-use Rattle.giop_decode.specs.ReadingSteps.{coding_in, held, Faulted, OneAt, IsEmptyResult, IsOctetResult, after, block_step, leading_width, leaf_step, number_step, part_at, path_in, segment_of, step}
+use Rattle.giop_decode.specs.ReadResult.{Coding, PathSegment, Switch, Held, Line, Piece, line, OpenPart, Part, Member, Inside, Leaf, LeadingNumber, Opening, Content, Read, Done, Short, Fault, lines_of, with_front, followed, within}
+use Rattle.giop_decode.specs.Pieces.{Block, Partial, Complete, unless, content, full_piece, last_piece}
+use Rattle.giop_decode.specs.Reading.{after_leading_number, parts_from, enclosed, opening}
+use Rattle.giop_decode.specs.ReadingSteps.{coding_in, held, Faulted, OneAt, IsEmptyResult, IsOctetResult, after, leaf_step, part_at, path_in, segment_of, step}
 use Rattle.giop_decode.specs.Noted.{ends_text, ends_in_string}
 use Rattle.giop_decode.proofs.ReadingLaws.{now_within, rest_quiet, parts_quiet, step_now, lines_front}
 
@@ -63,111 +61,74 @@ module _ (n : ℕ) (path : List PathSegment) where
   OneSays r = OneAt n (lines_of r) → Says path r
 
   bare : (r : Read) → lines_of r ≡ [] → OneSays r
-  bare r e one = record { are = rw e tt; firm = inl (rw e tt) }
+  bare r e one = search (arith)
 
   done_says : (v : ReadResult.Value) (at : ℕ) (rest : List ℕ) →
       OneSays (Done (line at path v ∷ []) at rest)
-  done_says v at rest one = record { are = (at_path path at v, tt); firm = inr (refl, refl) }
+  done_says v at rest one = search (arith, at_path)
 
   -- a line that ends no string, and what comes after it
   front_says : (l : Line) (r : Read) → IsOf path l → ends_text l.value ≡ false →
       OneSays (with_front (l ∷ []) r)
-  front_says l r of no_end one =
-      let alone = go (lines_of r) (rw lines_front at one) in
-      record {
-        are = rw (lines_front, alone) (of, tt);
-        firm =
-            inl (rw (lines_front, alone) (no_end, tt));
-      }
-    where
-      go : (ls : List Line) → OneAt n (l ∷ ls) → ls ≡ []
-      go [] h = refl
-      go (x ∷ ls) h = absurd h
+  front_says l r of no_end one = search (arith, lines_front)
 
   unless_says : (T : Ty) (why : Option Kind) (at : ℕ) (r : Read) → OneSays r →
       OneSays (unless T why at r)
   unless_says T None at r h = h
-  unless_says T (Some kind) at r h = bare (Fault [] at kind T) refl
+  unless_says T (Some kind) at r h = search (arith, bare)
 
   last_says : (T : Ty) (total offset : ℕ) (g : Block) → OneSays (last_piece T path total offset g)
   last_says T total offset (Partial piece at) = bare _ refl
-  last_says T total offset (Complete xs at rest) =
-      let v = Piece T offset (take (total - offset) xs) false in
-      unless_says T (ends T (total - offset) xs) at (Done (line at path v ∷ []) at rest)
-      (done_says v at rest)
+  last_says T total offset (Complete xs at rest) = search (arith, take, unless_says, done_says)
 
   full_says : (T : Ty) (total offset : ℕ) (next : ℕ → List ℕ → Read) (g : Block) →
       OneSays (full_piece T path total offset next g)
   full_says T total offset next (Partial piece at) = bare _ refl
-  full_says T total offset next (Complete xs at rest) =
-      front_says (line at path (Piece T offset xs true)) (next at rest) (at_path path at _)
-      (more_no_end T offset xs)
+  full_says T total offset next (Complete xs at rest) = search (
+    arith,
+    front_says,
+    at_path,
+    more_no_end,
+  )
 
   content_says : (T : Ty) (total full offset at : ℕ) (s : List ℕ) →
       OneSays (content T path total full offset at s)
-  content_says T total zero offset at s =
-      last_says T total offset (block (total - offset + tail T) at s)
-  content_says T total (suc full) offset at s =
-      full_says T total offset (content T path total full (offset + 32)) (block 32 at s)
+  content_says T total zero offset at s = search (arith, last_says)
+  content_says T total (suc full) offset at s = search (arith, full_says)
 
   -- what follows a number
   after_says : (coding : Coding) (T : Ty) (k at : ℕ) (s : List ℕ) →
       OneSays (after coding path T k at s)
-  after_says coding (Single scalar) k at s =
-      unless_says (Single scalar) (wrong scalar k) at
-      (Done (line at path (ReadResult.Number scalar k) ∷ []) at s) (done_says _ at s)
-  after_says coding (Text bound) zero at s = done_says (Piece (Text bound) 0 [] false) at s
-  after_says coding (Text bound) (suc k) at s =
-      unless_says (Text bound) (over bound k) at _
-      (content_says (Text bound) k (full_pieces k) 0 at s)
-  after_says coding (Octets bound) k at s =
-      unless_says (Octets bound) (over bound k) at _
-      (content_says (Octets bound) k (full_pieces k) 0 at s)
+  after_says coding (Single scalar) k at s = search (arith, unless_says, done_says)
+  after_says coding (Text bound) zero at s = search (arith, done_says)
+  after_says coding (Text bound) (suc k) at s = search (arith, unless_says, content_says)
+  after_says coding (Octets bound) k at s = search (arith, unless_says, content_says)
   after_says coding (Struct count names parts) k at s = bare _ refl
   after_says coding (Array count T) k at s = bare _ refl
-  after_says coding (Sequence bound T) k at s =
-      unless_says (Sequence bound T) (over bound k) at _
-      (front_says (line at path (Count k)) _ (at_path path at (Count k)) refl)
-  after_says coding (Union choice scalar select names cases) k at s =
-      let T = Union choice scalar select names cases in
-      let tag = tag_of choice names in
-      let says = front_says (line at (path ++ Switch tag ∷ []) (ReadResult.Number scalar k)) _
-      (record { stands = inr (tag, refl) }) refl in
-      unless_says T (wrong scalar k) at _ (unless_says T (refused (select k)) at _ says)
-  after_says coding (Encapsulation T) k at s =
-      front_says (line at path (Size k)) _ (at_path path at (Size k)) refl
+  after_says coding (Sequence bound T) k at s = search (arith, unless_says, front_says, at_path)
+  after_says coding (Union choice scalar select names cases) k at s = search (
+    arith,
+    front_says,
+    unless_says,
+  )
+  after_says coding (Encapsulation T) k at s = search (arith, front_says, at_path)
 
   headed_says : (coding : Coding) (T : Ty) (g : Block) →
       OneSays (after_leading_number T (λ xs at rest.
       after coding path T (num coding.order xs) at rest) g)
   headed_says coding T (Partial carry at) = bare _ refl
-  headed_says coding T (Complete xs at rest) = after_says coding T (num coding.order xs) at rest
+  headed_says coding T (Complete xs at rest) = search (arith, after_says)
 
   -- the octet with a byte order
   opening_says : (T : Ty) (origin k : ℕ) (g : Block) →
       OneSays (opening path T (held path T) origin k g)
   opening_says T origin k (Partial none at) = bare _ refl
-  opening_says T origin k (Complete xs at rest) = go (order_of (get_or xs 0 0))
-    where
-      go : (order : Option Order) → OneSays (ordered path T (held path T) origin k order at rest)
-      go None = bare _ refl
-      go (Some order) = front_says (line at path (Ordered order)) _
-          (at_path path at (Ordered order)) refl
+  opening_says T origin k (Complete xs at rest) = search (arith, get_or, bare, front_says, at_path)
 
   leaf_one : (coding : Coding) (leaf : Leaf) (at b : ℕ) → OneSays (leaf_step coding path leaf at b)
-  leaf_one coding (LeadingNumber T carry) at b =
-      headed_says coding T (number_step coding.origin (leading_width T) at carry b)
-  leaf_one coding (Opening T k) at b = opening_says T at k (block_step 1 at [] b)
-  leaf_one coding (Content T total offset piece) at b = go (ltb 32 (total - offset))
-    where
-      next : ℕ → List ℕ → Read
-      next = content T path total (full_pieces (total - (offset + 32))) (offset + 32)
-
-      go : (test : Bool) →
-          OneSays (cond test (full_piece T path total offset next (block_step 32 at piece b))
-          (last_piece T path total offset (block_step (total - offset + tail T) at piece b)))
-      go true = full_says T total offset next (block_step 32 at piece b)
-      go false = last_says T total offset (block_step (total - offset + tail T) at piece b)
+  leaf_one coding (LeadingNumber T carry) at b = search (arith, headed_says)
+  leaf_one coding (Opening T k) at b = search (arith, opening_says)
+  leaf_one coding (Content T total offset piece) at b = search (arith, full_says, last_says)
 
 pub leaf_says : (coding : Coding) (path : List PathSegment) (leaf : Leaf) (at b : ℕ) →
     Says path (leaf_step coding path leaf at b)
@@ -184,13 +145,12 @@ quiet_bare n _ k = k.0
 -- lines, and then a reading that has none
 lines_alone : (n : ℕ) (lines : List Line) (r : Read) → IsEmptyResult n r →
     lines_of (with_front lines r) ≡ lines
-lines_alone n lines r k = lines_front lines r
-    ∙ (ap (λ ls. lines ++ ls) (quiet_bare n r k) ∙ append-nil lines)
+lines_alone n lines r k = search (arith, lines_front, quiet_bare, append-nil)
 
 lines_followed : (n : ℕ) (r : Read) (next : ℕ → List ℕ → Read) → IsOctetResult n r →
     IsEmptyResult n (next n []) →
     lines_of (followed r next) ≡ lines_of r
-lines_followed n (Done lines at rest) next h k = rw (h.1, h.2) (lines_alone n lines (next n []) k)
+lines_followed n (Done lines at rest) next h k = search (arith, lines_alone)
 lines_followed n r next h k = refl
 
 lines_within : (place : OpenPart) (r : Read) → lines_of (within place r) ≡ lines_of r
@@ -199,15 +159,8 @@ lines_within place r = refl
 
 lines_enclosed : (n : ℕ) (path : List PathSegment) (T : Ty) (inner : Coding) (end : ℕ) (r : Read) →
     IsOctetResult n r → lines_of (enclosed path T inner end r []) ≡ lines_of r
-lines_enclosed n path T inner end (Done lines at rest) h =
-    rw (h.1, h.2) (lines_alone n lines (rest_of path T (end - n) n [])
-    (rest_quiet n path T (end - n)))
-lines_enclosed n path T inner end (Short lines at outer leaf) h = go (ltb at end)
-  where
-    go : (test : Bool) → lines_of (cond test (Short lines at (Inside T inner end ∷ outer) leaf)
-        (Fault lines at kinds.EncapShort (cut_off leaf))) ≡ lines
-    go true = refl
-    go false = refl
+lines_enclosed n path T inner end (Done lines at rest) h = search (arith, lines_alone, rest_quiet)
+lines_enclosed n path T inner end (Short lines at outer leaf) h = search (arith)
 lines_enclosed n path T inner end (Fault lines at why S) h = refl
 
 lines_step : (coding : Coding) (path : List PathSegment) (outer : List OpenPart) (leaf : Leaf)
@@ -227,15 +180,15 @@ lines_step coding path (Part T i count ∷ outer) leaf at b =
 lines_step coding path (Member T i ∷ outer) leaf at b =
     lines_within (Member T i) (step coding (path ++ segment_of T i ∷ []) outer leaf at b)
     ∙ lines_step coding (path ++ segment_of T i ∷ []) outer leaf at b
-lines_step coding path (Inside T inner end ∷ outer) leaf at b =
-    let r = step inner (path ++ Held ∷ []) outer leaf at b in
-    lines_enclosed (at + 1) path T inner end r (step_now inner (path ++ Held ∷ []) outer leaf at b)
-    ∙ lines_step inner (path ++ Held ∷ []) outer leaf at b
+lines_step coding path (Inside T inner end ∷ outer) leaf at b = search (
+  arith,
+  lines_enclosed,
+  step_now,
+  lines_step inner (path ++ Held ∷ []) outer leaf at b,
+)
 
 -- The lines of a step are of its innermost part.
 pub step_of : (coding : Coding) (path : List PathSegment) (outer : List OpenPart) (leaf : Leaf)
     (at b : ℕ) →
     AreOf (path_in path outer) (step coding path outer leaf at b)
-step_of coding path outer leaf at b =
-    subst (λ ls. Each (IsOf (path_in path outer)) ls) (sym (lines_step coding path outer leaf at b))
-    (leaf_says (coding_in coding outer) (path_in path outer) leaf at b).are
+step_of coding path outer leaf at b = search (arith, lines_step, leaf_says)

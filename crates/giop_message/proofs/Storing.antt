@@ -34,8 +34,8 @@ wanted_octet body_type_ids.SystemException = 3
 said : (body_type_id : BodyTypeId) (octets : List ℕ) → IsPaddingOf octets body_type_id
     → get_or octets 0 0 ≡ wanted_octet body_type_id
 unfolding padding_octets
-said body_type_ids.Nothing octets e = ap (λ (xs : List ℕ). get_or xs 0 0) e.is
-said _ octets e = ap (λ (xs : List ℕ). get_or xs 0 0) e.is
+said body_type_ids.Nothing octets e = search (arith, get_or)
+said _ octets e = search (arith, get_or)
 
 pub nothing_again : (body_type_id : BodyTypeId) (octets : List ℕ) → IsPaddingOf octets body_type_id
     → get_or octets 0 0 ≡ 0 → body_type_ids.Nothing ≡ body_type_id
@@ -53,14 +53,10 @@ pub type_again : (body_type_id : BodyTypeId) (octets : List ℕ) (n : ℕ) →
     → ((m : ℕ) (rest : List ℕ) → m < 2 ^ 32 → drop 1 octets ≡ four m ++ rest → n ≡ m)
     → body_type_ids.Type (record { 0 = n }) ≡ body_type_id
 unfolding padding_octets
-type_again body_type_ids.Nothing octets n e first number =
-    absurd (omega (arith, said body_type_ids.Nothing octets e))
-type_again (body_type_ids.Type of) octets n e first number =
-    rw (number of.0 (replicate 203 0) e.range (ap (drop 1) e.is)) refl
-type_again body_type_ids.Exception octets n e first number =
-    absurd (omega (arith, said body_type_ids.Exception octets e))
-type_again body_type_ids.SystemException octets n e first number =
-    absurd (omega (arith, said body_type_ids.SystemException octets e))
+type_again body_type_ids.Nothing octets n e first number = search (arith, said)
+type_again (body_type_ids.Type of) octets n e first number = search (arith, replicate, drop)
+type_again body_type_ids.Exception octets n e first number = search (arith, said)
+type_again body_type_ids.SystemException octets n e first number = search (arith, said)
 
 pub exception_again : (body_type_id : BodyTypeId) (octets : List ℕ) →
     IsPaddingOf octets body_type_id
@@ -76,12 +72,9 @@ exception_again body_type_ids.SystemException octets e first =
 pub system_again : (body_type_id : BodyTypeId) (octets : List ℕ) → IsPaddingOf octets body_type_id
     → get_or octets 0 0 ≢ 0 → get_or octets 0 0 ≢ 1 → get_or octets 0 0 ≢ 2
     → body_type_ids.SystemException ≡ body_type_id
-system_again body_type_ids.Nothing octets e none type exception =
-    absurd (none (said body_type_ids.Nothing octets e))
-system_again (body_type_ids.Type of) octets e none type exception =
-    absurd (type (said (body_type_ids.Type of) octets e))
-system_again body_type_ids.Exception octets e none type exception =
-    absurd (exception (said body_type_ids.Exception octets e))
+system_again body_type_ids.Nothing octets e none type exception = search (arith, said)
+system_again (body_type_ids.Type of) octets e none type exception = search (arith, said)
+system_again body_type_ids.Exception octets e none type exception = search (arith, said)
 system_again body_type_ids.SystemException octets e none type exception = refl
 
 -- ---- a rest
@@ -89,8 +82,7 @@ system_again body_type_ids.SystemException octets e none type exception = refl
 pub rest_front : (octets : List ℕ) (r : Rest) → IsRestOf octets r
     → drop 0 octets ≡ eight r.offset ++ (held 32 r.held.items ++ replicate 167 0)
 unfolding rest_octets
-rest_front octets r e = e.is ∙ append_assoc (eight r.offset) (held 32 r.held.items)
-    (replicate 167 0)
+rest_front octets r e = search (arith, append_assoc, replicate)
 
 pub rest_held : (octets : List ℕ) (r : Rest) → IsRestOf octets r
     → drop 8 octets ≡ held 32 r.held.items ++ replicate 167 0
@@ -99,15 +91,15 @@ rest_held octets r e = behind 0 8 octets (eight r.offset) _ (rest_front octets r
 
 pub same_octets : (q r : Rest) → IsSameRest q r → rest_octets q ≡ rest_octets r
 unfolding rest_octets
-same_octets q r same = rw (same.offset, same.held) refl
+same_octets q r same = search (arith)
 
 -- ---- a message's own octets, and those behind them
 
 pub behind_own : (fixed : List ℕ) → length fixed ≡ 224 → length (drop 16 fixed) ≡ 208
-behind_own fixed long = omega (arith, length-drop 16 fixed)
+behind_own fixed long = search (arith, length-drop)
 
 pub of_own : (fixed : List ℕ) → length fixed ≡ 224 → length (take 16 fixed) ≡ 16
-of_own fixed long = length-take-le 16 fixed (omega arith)
+of_own fixed long = search (arith, length-take-le)
 
 pub both : (fixed : List ℕ) → drop 0 fixed ≡ take 16 fixed ++ drop 16 fixed
 both fixed = sym (take-append-drop 16 fixed)
@@ -121,7 +113,7 @@ pub record OwnFields (m : Message) (fixed : List ℕ) : Type 0 where
   pub id : drop 9 fixed ≡ optional (kept_id m.part m.id) ++ rest
 
 four_parts : (a b c d : List ℕ) → a ++ b ++ c ++ d ≡ a ++ (b ++ (c ++ d))
-four_parts a b c d = append_assoc (a ++ b) c d ∙ append_assoc a b (c ++ d)
+four_parts a b c d = search (arith, append_assoc)
 
 pub own_fields : (m : Message) (fixed : List ℕ) → IsOwnOf (take 16 fixed) m → OwnFields m fixed
 unfolding own_octets
@@ -144,14 +136,7 @@ own_fields m fixed own =
 
 pub own_long : (m : Message) → length (own_octets m) ≡ 16
 unfolding own_octets
-own_long m =
-    omega (
-      arith,
-      length-append (eight m.at ++ optional (kept_id m.part m.id)) (replicate 2 0),
-      length-append (eight m.at) (optional (kept_id m.part m.id)),
-      eight_long m.at,
-      optional_long (kept_id m.part m.id),
-    )
+own_long m = search (arith, length-append, replicate, eight_long, optional_long)
 
 pub same_own : (e m : Message) → e.at ≡ m.at → part_octet e.part ≡ part_octet m.part
     → kept_id e.part e.id ≡ kept_id m.part m.id → own_octets e ≡ own_octets m
@@ -186,29 +171,16 @@ cond_again false x y = refl
 -- What is stored of the request id is stored again.
 pub kept_again : (C : Table) (p q : Part) (id : Option ℕ) → GoesOn C p q
     → kept_id q (kept_id p id) ≡ kept_id p id
-kept_again C p q id on = rw (same_place C p q on) (cond_again (in_header p) None id)
+kept_again C p q id on = search (arith, same_place, cond_again)
 
 pub id_on : (C : Table) (p q : Part) (id given said : Option ℕ) → GoesOn C p q
     → given ≡ kept_id p id → id ≡ kept_id p said → given ≡ kept_id q said
-id_on C p q id given said on is was =
-    is
-    ∙ ap (kept_id p) was
-    ∙ cond_again (in_header p) None said
-    ∙ sym (ap (λ (b : Bool). cond b None said) (same_place C p q on))
+id_on C p q id given said on is was = search (arith, cond_again, said, cond, same_place)
 
 pub stands_on : (C : Table) (answers : Answers) (number : ℕ) (header s : List ℕ) (p q : Part)
     → GoesOn C p q → Stands C answers number header s p → Stands C answers number header s q
-stands_on C answers number header s (parts.Typed section d) (parts.Typed other e) on is =
-    rw on.0 record {
-      T = is.T;
-      before = is.before;
-      front = is.front;
-      octets = is.octets;
-      since = is.since;
-      is = is.is;
-      first = is.first;
-      reads = on.1.reads _ _ _ _ _ _ is.reads;
-    }
+stands_on C answers number header s (parts.Typed section d) (parts.Typed other e) on is = search
+    (arith)
 stands_on C answers number header s (parts.Padding body_type_id) (parts.Padding other) on is =
     rw on is
 stands_on C answers number header s (parts.Rest r) (parts.Rest other) on is =

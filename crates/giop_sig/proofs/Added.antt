@@ -15,7 +15,6 @@ use Rattle.giop_sig.specs.declared.types.TypeId.{TypeId}
 use Rattle.giop_sig.specs.declared.catalogue.Signature.{Signature}
 use Rattle.giop_sig.specs.Table.{Node, Operation, Exception, Table, op_id, operation_in, exception_in, members_at, no_operation, no_exception, with_type, with_operation, with_exception}
 use Rattle.giop_sig.specs.Trees.{AreTypes}
-use Rattle.giop_sig.specs.Builtin.{builtin_types}
 use Rattle.giop_sig.specs.HeaderTypes.{IsOperation, IsException, AreDistinct, IsTable}
 use Rattle.giop_sig.specs.Entries.{operation_view, exception_view, table_view}
 
@@ -23,37 +22,15 @@ use Rattle.giop_sig.specs.Entries.{operation_view, exception_view, table_view}
 
 call_stays : (types : List Node) (n : Node) (o : Operation) → IsOperation types o
     → IsOperation (types ++ n ∷ []) o
-call_stays types n o is =
-    let r = is.request in
-    let p = is.reply in
-    record {
-      short = is.short;
-      request = omega (arith, length-append types (n ∷ []));
-      reply =
-          omega (arith, length-append types (n ∷ []));
-    }
+call_stays types n o is = search (arith, length-append)
 
 raised_stays : (types : List Node) (n : Node) (e : Exception) → IsException types e
     → IsException (types ++ n ∷ []) e
-raised_stays types n e is = let m = is.members in
-    record { short = is.short; members = omega (arith, length-append types (n ∷ [])) }
+raised_stays types n e is = search (arith, length-append)
 
 pub type_added : (t : Table) (n : Node) → IsTable t → AreTypes (t.types ++ n ∷ [])
     → IsTable (with_type t n)
-type_added t n laws are = record {
-  types = are;
-  begins = let b = laws.begins in (
-    b.0 ++ n ∷ [],
-    ap (λ types. types ++ n ∷ []) b.1 ∙ append_assoc builtin_types b.0 (n ∷ []),
-  );
-  operations = λ k d lt. call_stays t.types n (get_or t.operations k d) (laws.operations k d lt);
-  exceptions = λ k d lt. raised_stays t.types n (get_or t.exceptions k d) (laws.exceptions k d lt);
-  operations_distinct = laws.operations_distinct;
-  exceptions_distinct = laws.exceptions_distinct;
-  operations_few = laws.operations_few;
-  exceptions_few = laws.exceptions_few;
-  declared_few = laws.declared_few;
-}
+type_added t n laws are = search (arith, append_assoc, call_stays, get_or, raised_stays)
 
 -- the fields after a type is added
 pub type_put : (types new : List Node) (os : List (ArrayVec ℕ × Signature))
@@ -67,33 +44,31 @@ type_put types new os es declared n laws is are =
 -- ---- a new key goes last
 
 ltb_both : (v : Bool) (a b : ℕ) → ltb a b ≡ v → ltb (1 + a) (suc b) ≡ v
-ltb_both true a b e = lt-ltb (1 + a) _ (let h = ltb-true a b e in omega arith)
-ltb_both false a b e = le-ltb (1 + a) _ (let h = ltb-false a b e in omega arith)
+ltb_both true a b e = search (arith, lt-ltb, ltb-true)
+ltb_both false a b e = search (arith, le-ltb, ltb-false)
 
 some_cons : {X : Type 0} (p : X → Bool) (x : X) (xs : List X) (v : Bool) → p x ≡ v
     → ltb (position_or_len p xs) (length xs) ≡ list_any p xs
     → ltb (position_or_len p (x ∷ xs)) (length (x ∷ xs)) ≡ (p x || list_any p xs)
-some_cons p x xs true e h = rw e (lt-ltb 0 _ (omega arith))
-some_cons p x xs false e h = rw e (ltb_both (ltb (position_or_len p xs) (length xs))
-    (position_or_len p xs) (length xs) refl ∙ h)
+some_cons p x xs true e h = search (arith, lt-ltb)
+some_cons p x xs false e h = search (arith, ltb_both, ltb)
 
 some_position : {X : Type 0} (p : X → Bool) (xs : List X)
     → ltb (position_or_len p xs) (length xs) ≡ list_any p xs
 some_position p [] = refl
-some_position p (x ∷ xs) = some_cons p x xs (p x) refl (some_position p xs)
+some_position p (x ∷ xs) = search (arith, some_cons, some_position p xs)
 
 none_by : (v : Bool) (i : ℕ) → cond v (Some i) None ≡ None → v ≡ false
 none_by true i e = absurd cc
 none_by false i e = refl
 
 none_any : {X : Type 0} (p : X → Bool) (xs : List X) → position p xs ≡ None → list_any p xs ≡ false
-none_any p xs e = sym (some_position p xs)
-    ∙ none_by (ltb (position_or_len p xs) (length xs)) (position_or_len p xs) e
+none_any p xs e = search (arith, some_position, none_by, ltb)
 
 pub list_any-map : {X Y : Type 0} (p : Y → Bool) (f : X → Y) (xs : List X)
     → list_any p (map f xs) ≡ list_any (λ x. p (f x)) xs
 list_any-map p f [] = refl
-list_any-map p f (x ∷ xs) = ap (λ b. p (f x) || b) (list_any-map p f xs)
+list_any-map p f (x ∷ xs) = search (arith, list_any-map p f xs)
 
 neither : (a b : Bool) → (a || b) ≡ false → (a ≡ false) × (b ≡ false)
 neither true b e = absurd cc
@@ -134,7 +109,7 @@ entries_put {V} view name_in es new key v name same named none is =
 any_at : {X : Type 0} (p : X → Bool) (xs : List X) (i : ℕ) (d : X) → list_any p xs ≡ false
     → i < length xs → p (get_or xs i d) ≡ false
 any_at p [] i d none lt = absurd (omega arith)
-any_at p (x ∷ xs) zero d none lt = (neither (p x) (list_any p xs) none).0
+any_at p (x ∷ xs) zero d none lt = search (arith, neither)
 any_at p (x ∷ xs) (suc i) d none lt = any_at p xs i d (neither (p x) (list_any p xs) none).1
     (omega arith)
 
@@ -151,9 +126,10 @@ distinct_by : {X : Type 0} (name_in : X → List ℕ) (d : X) (xs : List X) (x :
     → (i j : ℕ) → i < length (xs ++ x ∷ []) → j < length (xs ++ x ∷ [])
     → (i < length xs) ⊎ (length xs ≤ i) → (j < length xs) ⊎ (length xs ≤ j)
     → name_in (get_or (xs ++ x ∷ []) i d) ≡ name_in (get_or (xs ++ x ∷ []) j d) → i ≡ j
-distinct_by name_in d xs x before apart i j li lj (inl hi) (inl hj) e =
-    before i j hi hj (ap name_in (sym (get_or_append_left xs (x ∷ []) d i hi)) ∙ e
-    ∙ ap name_in (get_or_append_left xs (x ∷ []) d j hj))
+distinct_by name_in d xs x before apart i j li lj (inl hi) (inl hj) e = search (
+  arith,
+  get_or_append_left,
+)
 distinct_by name_in d xs x before apart i j li lj (inl hi) (inr hj) e =
     let last : j ≡ length xs = omega (arith, length-append xs (x ∷ [])) in
     absurd (apart i hi (ap name_in (sym (get_or_append_left xs (x ∷ []) d i hi)) ∙ e
@@ -164,8 +140,10 @@ distinct_by name_in d xs x before apart i j li lj (inr hi) (inl hj) e =
     absurd (apart j hj (ap name_in (sym (get_or_append_left xs (x ∷ []) d j hj)) ∙ sym e
     ∙ ap (λ k. name_in (get_or (xs ++ x ∷ []) k d)) last
     ∙ ap name_in (get_or-append_seam xs x [] d)))
-distinct_by name_in d xs x before apart i j li lj (inr hi) (inr hj) e =
-    omega (arith, length-append xs (x ∷ []))
+distinct_by name_in d xs x before apart i j li lj (inr hi) (inr hj) e = search (
+  arith,
+  length-append,
+)
 
 distinct_push : {X : Type 0} (name_in : X → List ℕ) (d : X) (xs : List X) (x : X)
     → AreDistinct name_in d xs → position (λ y. bytes_eq (name_in x) (name_in y)) xs ≡ None

@@ -1,5 +1,5 @@
 -- The built-in types are a table, shown by computed tests, and every catalogue begins with them.
-use Rattle.std.proofs.Common.{◌≡◌, ℕ, zero, suc, ◌+◌, ◌^◌, ◌<◌, ◌≤◌, Bool, true, false, ◌&&◌, ltb, leb, List, [], ◌∷◌, ◌++◌, length, get_or, Option, Some, None, refl, sym, ap, subst, ◌∙◌, take, drop, lit<, arith}
+use Rattle.std.proofs.Common.{◌≡◌, ℕ, zero, suc, ◌+◌, ◌^◌, ◌<◌, ◌≤◌, Bool, true, false, ◌&&◌, ltb, leb, List, [], ◌∷◌, ◌++◌, length, get_or, Option, Some, None, refl, sym, ap, ◌∙◌, take, drop, lit<, arith}
 use Rattle.std.specs.Prelude.{slice_get, IfSome}
 use Rattle.std.specs.Option.{option_map}
 use Rattle.std.specs.List.{AllByRecursion}
@@ -17,9 +17,9 @@ use Rattle.giop_sig.specs.Table.{Node, Part, Case, Table, node_in, IsFormed, IsI
 use Rattle.giop_sig.specs.Table as nodes
 use Rattle.giop_sig.specs.Trees.{grow, trees_after, type_in, tree, depth_of, AreTypes}
 use Rattle.giop_sig.specs.Builtin.{builtin_types}
-use Rattle.giop_sig.specs.HeaderTypes.{fixed_number, header_rows, header_number, cell_of, cell_in, IsTable}
+use Rattle.giop_sig.specs.HeaderTypes.{fixed_number, header_number, cell_of, cell_in, IsTable}
 use Rattle.giop_sig.proofs.TreeLaws.{tree_stays, tree_added}
-use Rattle.giop_sig.proofs.Formed.{SameNodes, formed_moved}
+use Rattle.giop_sig.proofs.Formed.{formed_moved}
 use Rattle.giop_sig.proofs.Depths.{depth_within}
 use Rattle.giop_sig.proofs.Solid.{fit_at}
 
@@ -52,26 +52,21 @@ switch_test types n i = ltb i n && scalar_test (node_in types i)
 
 switch_by : (types : List Node) (n i : ℕ) → switch_test types n i ≡ true → IsSwitch types n i
 unfolding switch_test
-switch_by types n i e =
-    let k = both (ltb i n) (scalar_test (node_in types i)) e in
-    record { below = ltb-true i n k.0; scalar = scalar_by (node_in types i) k.1 }
+switch_by types n i e = search (arith, both, ltb, ltb-true, scalar_by)
 
 inner_test : List Node → ℕ → ℕ → Bool
 inner_test types n i = ltb i n && takes_test (node_in types i)
 
 inner_by : (types : List Node) (n i : ℕ) → inner_test types n i ≡ true → IsInner types n i
 unfolding inner_test
-inner_by types n i e = let k = both (ltb i n) (takes_test (node_in types i)) e in
-    record { below = ltb-true i n k.0; takes = takes_by (node_in types i) k.1 }
+inner_by types n i e = search (arith, both, ltb, ltb-true, takes_by)
 
 part_test : List Node → ℕ → Part → Bool
 part_test types n p = inner_test types n p.type && leb (length p.name) 64
 
 part_by : (types : List Node) (n : ℕ) (p : Part) → part_test types n p ≡ true → IsPart types n p
 unfolding part_test
-part_by types n p e =
-    let k = both (inner_test types n p.type) (leb (length p.name) 64) e in
-    record { inner = inner_by types n p.type k.0; short = leb-true (length p.name) 64 k.1 }
+part_by types n p e = search (arith, both, leb, inner_by, leb-true)
 
 parts_test : List Node → ℕ → List Part → Bool
 parts_test types n [] = true
@@ -147,9 +142,7 @@ node_by types n (nodes.union switch cases selecteds.Refused) e =
 node_by types n (nodes.union switch cases (selecteds.Case i)) e = absurd cc
 node_by types n (nodes.union switch cases selecteds.Nothing) e = absurd cc
 node_by types n (nodes.sequence bound element) e = inner_by types n element e
-node_by types n (nodes.array count element) e =
-    let k = both (ltb 0 count) (inner_test types n element) e in
-    (ltb-true 0 count k.0, inner_by types n element k.1)
+node_by types n (nodes.array count element) e = search (arith, both, ltb, ltb-true, inner_by)
 node_by types n (nodes.encapsulation held) e = inner_by types n held e
 node_by types n (nodes.tagged special tag inner other) e =
     let k = both (switch_test types n tag.type) (parts_test types n (tag ∷ inner ∷ other ∷ [])) e in
@@ -165,9 +158,7 @@ table_by : (types : List Node) (n : ℕ) (xs : List Node) (i k : ℕ) → table_
     → i < length xs → k ≡ n + i → IsFormed types k (get_or xs i (nodes.prim Octet))
 unfolding table_test
 table_by types n [] i k e lt at = absurd (omega arith)
-table_by types n (x ∷ xs) zero k e lt at =
-    let b = both (node_test types n x) (table_test types (suc n) xs) e in
-    subst (λ m. IsFormed types m x) (omega arith) (node_by types n x b.0)
+table_by types n (x ∷ xs) zero k e lt at = search (arith, both, node_by)
 table_by types n (x ∷ xs) (suc i) k e lt at =
     let b = both (node_test types n x) (table_test types (suc n) xs) e in
     table_by types (suc n) xs i k b.1 (omega arith) (omega arith)
@@ -199,13 +190,13 @@ all_take_by : (xs : List Node) (i : ℕ) → all_take_test xs ≡ true → i < l
     → TakesOctet (node_in xs i)
 unfolding all_take_test
 all_take_by [] i e lt = absurd (omega arith)
-all_take_by (x ∷ xs) zero e lt = let k = both (takes_test x) (all_take_test xs) e in takes_by x k.0
+all_take_by (x ∷ xs) zero e lt = search (arith, both, takes_by)
 all_take_by (x ∷ xs) (suc i) e lt = let k = both (takes_test x) (all_take_test xs) e in
     all_take_by xs i k.1 (omega arith)
 
 builtin_takes : (i : ℕ) → i < BUILTIN_LEN → TakesOctet (node_in builtin_types i)
 unfolding all_take_test takes_test builtin_types
-builtin_takes i lt = all_take_by builtin_types i refl lt
+builtin_takes i lt = search (arith, all_take_by)
 
 -- ---- the table from its front
 
@@ -213,24 +204,24 @@ builtin_takes i lt = all_take_by builtin_types i refl lt
 pub next_builtin : (n : ℕ) → n < BUILTIN_LEN
     → take (n + 1) builtin_types ≡ take n builtin_types ++ node_in builtin_types n ∷ []
 unfolding builtin_types
-next_builtin n lt = take_more builtin_types n (nodes.prim Octet) lt
+next_builtin n lt = search (arith, take_more)
 
 -- the next built-in type can be added
 pub builtin_formed : (n : ℕ) (types : List Node) (node : Node) → n < BUILTIN_LEN
     → types ≡ take n builtin_types → node ≡ node_in builtin_types n
     → IsFormed types (length types) node
 unfolding builtin_types
-builtin_formed n types node lt front is =
-    let len : length types ≡ n = ap length front ∙ omega (arith, length-take n builtin_types) in
-    let same : SameNodes builtin_types types n =
-    λ i below. sym (ap (λ ts. node_in ts i) front
-    ∙ get_or-take n builtin_types i (nodes.prim Octet) below) in
-    subst (λ m. IsFormed types m node) (sym len) (formed_moved builtin_types types n node same
-    (subst (IsFormed builtin_types n) (sym is) (builtin_are.formed n lt)))
+builtin_formed n types node lt front is = search (
+  arith,
+  length-take,
+  get_or-take,
+  formed_moved,
+  builtin_are,
+)
 
 pub builtin_few : (n : ℕ) (types : List Node) → n < BUILTIN_LEN → types ≡ take n builtin_types
     → length types + 1 < 2 ^ 32
-builtin_few n types lt front = omega (arith, ap length front, length-take n builtin_types)
+builtin_few n types lt front = search (arith, length-take)
 
 pub builtin_shallow : (n : ℕ) (types : List Node) (node : Node) → n < BUILTIN_LEN
     → types ≡ take n builtin_types → node ≡ node_in builtin_types n
@@ -256,8 +247,7 @@ builtin_shallow n types node lt front is =
 
 pub builtin_known : (t : Table) (i : ℕ) → IsTable t → i < BUILTIN_LEN → i < length t.types
 unfolding builtin_types
-builtin_known t i laws lt = let b = laws.begins in
-    omega (arith, ap length b.1, length-append builtin_types b.0)
+builtin_known t i laws lt = search (arith, length-append)
 
 pub builtin_tree : (t : Table) (i : ℕ) → IsTable t → i < BUILTIN_LEN
     → tree t i ≡ type_in builtin_types i
@@ -267,8 +257,7 @@ builtin_tree t i laws lt = let b = laws.begins in
 
 pub builtin_fit : (t : Table) (i : ℕ) → IsTable t → i < BUILTIN_LEN → IsFit 24 (tree t i)
 unfolding builtin_types
-builtin_fit t i laws lt = subst (IsFit 24) (sym (builtin_tree t i laws lt))
-    (fit_at builtin_types i builtin_are lt (builtin_takes i lt))
+builtin_fit t i laws lt = search (arith, builtin_tree, fit_at, builtin_are, builtin_takes)
 
 -- ---- the header types
 
@@ -293,32 +282,32 @@ row_by : (cs : List (Option ℕ)) (i : ℕ) → row_test cs ≡ true
     → IfSome (cell_of (slice_get cs i)) (λ n. n < BUILTIN_LEN)
 unfolding row_test
 row_by [] i e = tt
-row_by (c ∷ cs) zero e = let k = both (cell_test c) (row_test cs) e in cell_by c k.0
+row_by (c ∷ cs) zero e = search (arith, both, cell_by)
 row_by (c ∷ cs) (suc i) e = let k = both (cell_test c) (row_test cs) e in row_by cs i k.1
 
 rows_by : (rs : List (List (Option ℕ))) (i minor : ℕ) → rows_test rs ≡ true
     → IfSome (cell_in (slice_get rs i) minor) (λ n. n < BUILTIN_LEN)
 unfolding rows_test
 rows_by [] i minor e = tt
-rows_by (r ∷ rs) zero minor e = let k = both (row_test r) (rows_test rs) e in row_by r minor k.0
+rows_by (r ∷ rs) zero minor e = search (arith, both, row_by)
 rows_by (r ∷ rs) (suc i) minor e = let k = both (row_test r) (rows_test rs) e in
     rows_by rs i minor k.1
 
 pub header_built_in : (minor kind : ℕ) → IfSome (header_number minor kind) (λ n. n < BUILTIN_LEN)
 unfolding rows_test row_test cell_test
-header_built_in minor kind = rows_by header_rows kind minor refl
+header_built_in minor kind = search (arith, rows_by)
 
 pub header_tree : (t : Table) (o : Option ℕ) → IsTable t → IfSome o (λ n. n < BUILTIN_LEN)
     → option_map (tree t) o ≡ option_map (type_in builtin_types) o
 unfolding builtin_types
 header_tree t None laws lt = refl
-header_tree t (Some n) laws lt = ap Some (builtin_tree t n laws lt)
+header_tree t (Some n) laws lt = search (arith, builtin_tree)
 
 -- what holds of a number holds of what has that number
 pub some_numbered : {X Y : Type 0} (P : Y → Type 0) (f : X → Y) (r : Option X) (o : Option Y)
     → option_map f r ≡ o → IfSome o P → IfSome r (λ x. P (f x))
 some_numbered P f None o e h = tt
-some_numbered P f (Some x) o e h = subst (λ o. IfSome o P) (sym e) h
+some_numbered P f (Some x) o e h = search (arith)
 
 pub some_known : (t : Table) (o : Option ℕ) → IsTable t → IfSome o (λ n. n < BUILTIN_LEN)
     → IfSome o (λ n. n < length t.types)

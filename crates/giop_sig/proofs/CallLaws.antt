@@ -1,6 +1,6 @@
 -- Operations, both ways: reading the spelling of one gives it or a rule that it breaks, and the
 -- text that was read spells it.
-use Rattle.std.proofs.Common.{◌≡◌, inl, ℕ, zero, suc, ◌+◌, ◌<◌, ◌≤◌, Bool, true, false, ltb, leb, List, [], ◌∷◌, ◌++◌, length, Option, Some, None, Result, Ok, append_assoc, refl, sym, ap, subst, ◌∙◌, arith}
+use Rattle.std.proofs.Common.{◌≡◌, inl, ℕ, zero, suc, ◌+◌, ◌<◌, ◌≤◌, Bool, true, false, ltb, leb, List, [], ◌∷◌, ◌++◌, length, Option, Some, None, Result, Ok, append_assoc, refl, sym, subst, ◌∙◌, arith}
 use Rattle.std.specs.Prelude.{codes}
 use Rattle.std.specs.Option.{is_some}
 use Rattle.std.proofs.lemmas.List.{length-append, append-nil}
@@ -18,7 +18,7 @@ use Rattle.giop_sig.specs.declared.read_calls.Direction.{Direction}
 use Rattle.giop_sig.specs.declared.read_calls.Direction.TheVariants as directions
 use Rattle.giop_sig.specs.Table.{Node, Part, operation_in}
 use Rattle.giop_sig.specs.Table as nodes
-use Rattle.giop_sig.specs.Grammar.{TypeExpr, Base, Text, Reference, Named, SequenceOf, EncapsulationOf, Param, base_word, direction_word, spell_bound, spell_most, spell_type, spell_item, spell_param, spell_more_params, spell_params, spell_return, Call}
+use Rattle.giop_sig.specs.Grammar.{TypeExpr, Base, Text, Reference, Named, SequenceOf, EncapsulationOf, Param, base_word, direction_word, spell_type, spell_item, spell_param, spell_more_params, spell_params, spell_return, Call}
 use Rattle.giop_sig.specs.Scopes.{Names, Scope, part, item_part, with_node, with_call, add_item, add_params, add_return, onto_request, onto_reply, declare}
 use Rattle.giop_sig.specs.Validity.{Kind, OfItem, OfItems, OfType, OfReturn, OfOperation, OfDeclaration, items_of}
 use Rattle.giop_sig.specs.TypeReading.{added, type_at}
@@ -55,34 +55,25 @@ no_void (Base prims.Float) names more free = refl
 no_void (Base prims.Double) names more free = refl
 no_void (Text o) names more free = refl
 no_void Reference names more free = refl
-no_void (Named w) names more free = is_not w (codes "void") free refl
+no_void (Named w) names more free = search (arith, is_not)
 no_void (SequenceOf e o) names more free = refl
 no_void (EncapsulationOf e) names more free = refl
 
 if_no_void : (text : List ℕ) (t : Token) (ts : List Token) → is_the_word (codes "void") t ≡ false
     → AreTokens text (t ∷ ts) → keyword_if (codes "void") text ≡ Ok None
-if_no_void text t ts differs h = if_other (is_the_word (codes "void")) text t ts h differs
+if_no_void text t ts differs h = search (arith, if_other)
 
 type_no_void : (e : TypeExpr) (names : Names) (text : List ℕ) (more : List Token)
     → OfType kinds.Syntax names e → AreTokens text (spell_type e more)
     → keyword_if (codes "void") text ≡ Ok None
 type_no_void (Base p) names text more free h =
     if_no_void text (word (base_word p)) more (no_void (Base p) names more free) h
-type_no_void (Text o) names text more free h =
-    if_no_void text (word (codes "string")) (spell_bound o more) (no_void (Text o) names more free)
-    h
-type_no_void Reference names text more free h =
-    if_no_void text (word (codes "Object")) more (no_void Reference names more free) h
+type_no_void (Text o) names text more free h = search (arith, if_no_void, no_void)
+type_no_void Reference names text more free h = search (arith, if_no_void, no_void)
 type_no_void (Named w) names text more free h =
     if_no_void text (word w) more (no_void (Named w) names more free) h
-type_no_void (SequenceOf e o) names text more free h =
-    if_no_void text (word (codes "sequence"))
-    (mark marks.OpenAngle ∷ spell_type e (spell_most o (mark marks.CloseAngle ∷ more)))
-    (no_void (SequenceOf e o) names more free) h
-type_no_void (EncapsulationOf e) names text more free h =
-    if_no_void text (word (codes "encapsulation"))
-    (mark marks.OpenAngle ∷ spell_type e (mark marks.CloseAngle ∷ more))
-    (no_void (EncapsulationOf e) names more free) h
+type_no_void (SequenceOf e o) names text more free h = search (arith, if_no_void, no_void)
+type_no_void (EncapsulationOf e) names text more free h = search (arith, if_no_void, no_void)
 
 abbrev made_return : Scope → Option TypeExpr → List ℕ → ReturnRead
 made_return s o rest = ((add_return s o).0, (add_return s o).1, rest)
@@ -112,9 +103,8 @@ operation_keeps s w short few new _ = tt
 -- the operations are those of the scope before
 operation_same : (s t : Scope) (w : List ℕ) → t.table.operations ≡ s.table.operations → (k : Kind)
     → OfOperation k s w → OfOperation k t w
-operation_same s t w same kinds.Duplicate h =
-    ap (λ os. operation_in (record s.table { operations = os }) w) same ∙ h
-operation_same s t w same kinds.Limit h = (h.0, let few = h.1 in omega (arith, ap length same))
+operation_same s t w same kinds.Duplicate h = search (arith)
+operation_same s t w same kinds.Limit h = search (arith)
 operation_same s t w same _ h = tt
 
 long_name : (types : List Node) (s : Scope) (text w : List ℕ) (more : List Token) (v : Bool)
@@ -226,15 +216,7 @@ made_on : (w : ParameterLists) (s : Scope) (p : Param) (ps : List Param) (rule :
     → Out (made_params (way_on w s p) (add_item s p.item).0 ps) rule types more r
     → Out (made_params w s (p ∷ ps)) rule types more r
 unfolding add_params
-made_on w s p ps rule types more r o =
-    let t = add_params (add_item s p.item).0 ps in
-    let one = item_part p.item (add_item s p.item) in
-    subst (λ qs. Out {X = ParamsRead} (λ rest.
-    (t.0, qs, w.reply ++ onto_reply p.direction one t.2, rest)) rule types more r)
-    (request_on p.direction one w.request t.1)
-    (subst (λ rs. Out {X = ParamsRead} (λ rest.
-    (t.0, in_request p.direction one w.request ++ t.1, rs, rest)) rule types more r)
-    (reply_on p.direction one w.reply t.2) o)
+made_on w s p ps rule types more r o = search (arith, request_on, reply_on)
 
 -- the last parameter ends the reading
 last_reads : (at n : ℕ) (w : ParameterLists) (s : Scope) (p : Param) (rule : Kind → Type 0)
@@ -244,18 +226,7 @@ last_reads : (at n : ℕ) (w : ParameterLists) (s : Scope) (p : Param) (rule : K
     (add_params (add_item s p.item).0 []).0.table.types more
     (then_run at n (made_param w s p [] rest))
 unfolding add_params
-last_reads at n w s p rule rest more m keeps =
-    let one = item_part p.item (add_item s p.item) in
-    let t = (add_item s p.item).0 in
-    subst (λ qs. Out {X = ParamsRead} (λ rest.
-    (t, qs, in_reply p.direction one w.reply ++ [], rest)) rule t.table.types more
-    (Ok (t, in_request p.direction one w.request, in_reply p.direction one w.reply, rest)))
-    (sym (append-nil (in_request p.direction one w.request)))
-    (subst (λ rs. Out {X = ParamsRead} (λ rest. (t, in_request p.direction one w.request, rs, rest))
-    rule t.table.types more
-    (Ok (t, in_request p.direction one w.request, in_reply p.direction one w.reply, rest)))
-    (sym (append-nil (in_reply p.direction one w.reply)))
-    (good rest m keeps))
+last_reads at n w s p rule rest more m keeps = search (arith, append-nil, good)
 
 param_named : (at : ℕ) (w : ParameterLists) (s : Scope) (names : Names) (p : Param)
     (ps : List Param)
@@ -313,10 +284,7 @@ none_reads : (returned : List Part) (s : Scope) (names : Names) (rest : List ℕ
     → Out (made_params (no_parameters returned) s []) (λ k. OfItems k names 255 [] (items_of []))
     (add_params s []).0.table.types more (Ok (s, [], returned, rest))
 unfolding OfItems add_params
-none_reads returned s names rest more m =
-    subst (λ rs. Out {X = ParamsRead} (λ rest. (s, [], rs, rest)) (λ k. Unit {0}) s.table.types more
-    (Ok (s, [], returned, rest)))
-    (sym (append-nil returned)) (good rest m (λ k. tt))
+none_reads returned s names rest more m = search (arith, append-nil, good)
 
 pub list_reads : (ps : List Param) (at : ℕ) (returned : List Part) (s : Scope) (names : Names)
     (text : List ℕ) (more : List Token) → s.names ≡ names → 0 < size s

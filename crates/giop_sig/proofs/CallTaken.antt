@@ -13,7 +13,7 @@ use Rattle.giop_tokens.specs.declared.fault.SigFaultKind.TheVariants as kinds
 use Rattle.giop_tokens.specs.declared.marks.Mark.TheVariants as marks
 use Rattle.giop_tokens.specs.Tokens.{Token, word, mark, AreTokens}
 use Rattle.giop_tokens.specs.Reading.{◌>>=◌}
-use Rattle.giop_tokens.specs.Readers.{word_at, mark_at, mark_if, keyword_if}
+use Rattle.giop_tokens.specs.Readers.{mark_at, mark_if, keyword_if}
 use Rattle.giop_tokens.proofs.ReaderLaws.{bind_ok, ok_is, Takes, word_takes, mark_takes, mark_if_takes, keyword_if_takes, operation_name_word}
 use Rattle.giop_sig.specs.declared.read_calls.Direction.{Direction}
 use Rattle.giop_sig.specs.declared.read_calls.Direction.TheVariants as directions
@@ -71,8 +71,7 @@ return_by at s text x None h e =
 pub return_takes : (at : ℕ) (s : Scope) (text : List ℕ) (x : ReturnRead)
     → return_at at s text ≡ Ok x → TakenReturn s text x
 unfolding return_at
-return_takes at s text x e = let c = bind_ok (keyword_if (codes "void") text)
-    (return_after at s text) x e in return_by at s text x c.0 c.1 c.2
+return_takes at s text x e = search (arith, bind_ok, return_by)
 
 -- ---- the name
 
@@ -106,12 +105,9 @@ direction_by : (w : List ℕ) (d : Direction) (a b c : Bool) → bytes_eq w (cod
     → cond a (Some directions.In)
     (cond b (Some directions.Out) (cond c (Some directions.Inout) None))
     ≡ Some d → w ≡ direction_word d
-direction_by w d true b c p q r e = let same : directions.In ≡ d = cc in
-    (bytes_eq-Decides w (codes "in")).0 p ∙ ap direction_word same
-direction_by w d false true c p q r e = let same : directions.Out ≡ d = cc in
-    (bytes_eq-Decides w (codes "out")).0 q ∙ ap direction_word same
-direction_by w d false false true p q r e = let same : directions.Inout ≡ d = cc in
-    (bytes_eq-Decides w (codes "inout")).0 r ∙ ap direction_word same
+direction_by w d true b c p q r e = search (arith, bytes_eq-Decides)
+direction_by w d false true c p q r e = search (arith, bytes_eq-Decides)
+direction_by w d false false true p q r e = search (arith, bytes_eq-Decides)
 direction_by w d false false false p q r e = absurd cc
 
 as_by : (text w rest : List ℕ) (x : Direction × List ℕ) (o : Option Direction) → direction_of w ≡ o
@@ -128,19 +124,17 @@ as_by text w rest x (Some d) h t e =
 pub direction_takes : (text : List ℕ) (x : Direction × List ℕ) → direction_at text ≡ Ok x
     → Takes text (word (direction_word x.0)) x.1
 unfolding direction_at
-direction_takes text x e =
-    let a = bind_ok (word_at text) (λ w. as_direction text w.1 (direction_of w.0)) x e in
-    as_by text (a.0).0 (a.0).1 x (direction_of (a.0).0) refl (word_takes text a.0 a.1) a.2
+direction_takes text x e = search (arith, bind_ok, as_by, word_takes)
 
 -- a member more, or none
 request_more : (d : Direction) (p : Part) (ps : List Part)
     → length (in_request d p ps) ≤ length ps + 1
 request_more directions.Out p ps = omega arith
-request_more _ p ps = omega (arith, length-append ps (p ∷ []))
+request_more _ p ps = search (arith, length-append)
 
 reply_more : (d : Direction) (p : Part) (ps : List Part) → length (in_reply d p ps) ≤ length ps + 1
 reply_more directions.In p ps = omega arith
-reply_more _ p ps = omega (arith, length-append ps (p ∷ []))
+reply_more _ p ps = search (arith, length-append)
 
 request_parts : (s : Scope) (d : Direction) (p : Part) (ps : List Part) → AreParts s ps
     → IsPart s.table.types (length s.table.types) p → AreParts s (in_request d p ps)
@@ -249,17 +243,7 @@ behind_by at n w s text d i m x (Some r) t a h e run on =
     let last : params_run at n (i.0, v, r) ≡ Ok x =
     ap (then_run at n) (ok_is (false, (i.0, v, r)) m e) ∙ run in
     param_on w s text r d i x t a h (on v i.0 r last)
-behind_by at n w s text d i m x None t a h e run on =
-    let v = with_param w d.0 i.1 in
-    let r = bind_ok (mark_at marks.CloseParenthesis i.2) (λ r. Ok (true, (i.0, v, r))) m e in
-    let last : Ok (i.0, in_request d.0 i.1 w.request, in_reply d.0 i.1 w.reply, r.0) ≡ Ok x =
-    ap (then_run at n) (ok_is (true, (i.0, v, r.0)) m r.2) ∙ run in
-    subst (TakenParams w s text) (ok_is (
-      i.0,
-      in_request d.0 i.1 w.request,
-      in_reply d.0 i.1 w.reply,
-      r.0,
-    ) x last) (last_param w s text r.0 d i t a r.1)
+behind_by at n w s text d i m x None t a h e run on = search (arith, bind_ok, ok_is, last_param)
 
 pub params_takes : (at n : ℕ) (w : ParameterLists) (s : Scope) (text : List ℕ) (x : ParamsRead)
     → params_run at n (s, w, text) ≡ Ok x → TakenParams w s text x
@@ -314,16 +298,13 @@ list_by at returned s text x None h e =
 pub list_takes : (at : ℕ) (returned : List Part) (s : Scope) (text : List ℕ) (x : ParamsRead)
     → params_at at returned s text ≡ Ok x → TakenList returned s text x
 unfolding params_at
-list_takes at returned s text x e =
-    let c = bind_ok (mark_if marks.CloseParenthesis text) (params_after at returned s text) x e in
-    list_by at returned s text x c.0 c.1 c.2
+list_takes at returned s text x e = search (arith, bind_ok, list_by)
 
 -- ---- what the code asks
 
 pub still_uncalled : (s t : Scope) (w : List ℕ) → Grows s t → operation_in s.table w ≡ None
     → operation_in t.table w ≡ None
-still_uncalled s t w g e = ap (λ os. operation_in (record s.table { operations = os }) w)
-    g.operations ∙ e
+still_uncalled s t w g e = search (arith)
 
 -- the structs of an operation can be added
 pub record CallReady (s : Scope) (m : ParamsRead) : Type 0 where
@@ -349,16 +330,13 @@ call_ready a b s text o t m e f is =
 pub parts_on : (at : ℕ) (s : Scope) (n : Node) (p : AddedType) (ps : List Part) →
     added at s n ≡ Ok p
     → (length ps ≤ 256) × AreParts s ps → (length ps ≤ 256) × AreParts p.0 ps
-parts_on at s n p ps e both = (both.0, parts_stay s p.0 ps (added_grows at s n p e) both.1)
+parts_on at s n p ps e both = search (arith, parts_stay, added_grows)
 
 pub calls_grow : (at : ℕ) (s : Scope) (m : ParamsRead) (q p : AddedType) (n : Node) → CallReady s m
     → added at m.0 (nodes.members m.1) ≡ Ok q → added at q.0 n ≡ Ok p → Grows s p.0
-calls_grow at s m q p n ready e f = grows_on s q.0 p.0
-    (grows_on s m.0 q.0 ready.grows (added_grows at m.0 (nodes.members m.1) q e))
-    (added_grows at q.0 n p f)
+calls_grow at s m q p n ready e f = search (arith, grows_on, added_grows)
 
 -- a type that was there is there after another is added
 pub below_on : (at : ℕ) (s : Scope) (n : Node) (p : AddedType) (i : ℕ) → added at s n ≡ Ok p
     → i < length s.table.types → i < length (p.0).table.types
-below_on at s n p i e lt = let g = (added_grows at s n p e).types in
-    omega (arith, ap length g.1, length-append s.table.types g.0)
+below_on at s n p i e lt = search (arith, added_grows, length-append)

@@ -20,19 +20,22 @@ use Rattle.giop_sig.proofs.NumberLaws.{number_same, number_self}
 
 none_before : {X : Type 0} (p : X → Bool) (xs : List X) (x : X)
     → position p (xs ++ x ∷ []) ≡ None → position p xs ≡ None
-none_before p xs x e = let push = position_or_len_push p xs x in let within =
-    prefix_len-le-length (λ y. not (p y)) xs in grind (arith, common_steps, push, within)
+none_before p xs x e = search (arith, position_or_len_push, prefix_len-le-length, not, common_steps)
 
 none_last : {X : Type 0} (p : X → Bool) (xs : List X) (x : X)
     → position p (xs ++ x ∷ []) ≡ None → p x ≡ true → ⊥
-none_last p xs x e t = let push = position_or_len_push p xs x in let within =
-    prefix_len-le-length (λ y. not (p y)) xs in grind (arith, common_steps, push, within)
+none_last p xs x e t = search (arith, position_or_len_push, prefix_len-le-length, not, common_steps)
 
 before_or_last : {X : Type 0} (p : X → Bool) (xs : List X) (x : X) (i : ℕ)
     → position p (xs ++ x ∷ []) ≡ Some i
     → (position p xs ≡ Some i) ⊎ ((p x ≡ true) × (i ≡ length xs))
-before_or_last p xs x i e = let push = position_or_len_push p xs x in let within =
-    prefix_len-le-length (λ y. not (p y)) xs in grind (arith, common_steps, push, within)
+before_or_last p xs x i e = search (
+  arith,
+  position_or_len_push,
+  prefix_len-le-length,
+  not,
+  common_steps,
+)
 
 -- ---- the labels of one case
 
@@ -41,7 +44,7 @@ own_there_by : (n : Number) (i : ℕ) (m : Number) (ns : List Number) (b : Bool)
     Contains (map (placed i) ns) (placed i n))
     → list_any (λ label. same_number label n) (m ∷ ns) ≡ true
     → Contains (map (placed i) (m ∷ ns)) (placed i n)
-own_there_by n i m ns true same on e = (0, omega arith, ap (placed i) (number_same m n same))
+own_there_by n i m ns true same on e = search (arith, number_same)
 own_there_by n i m ns false same on e =
     let c = on (subst (λ b. (b || list_any (λ label. same_number label n) ns) ≡ true) same e) in
     (suc c.0, omega (arith, c.1), c.2)
@@ -57,14 +60,17 @@ own_selects : (i : ℕ) (ns : List Number) (k : ℕ) (d : PlacedLabel) → k < l
     → list_any (λ label. same_number label (get_or (map (placed i) ns) k d).number) ns ≡ true
 own_selects i [] k d lt = absurd (omega arith)
 own_selects i (m ∷ ns) zero d lt = rw (number_self m) refl
-own_selects i (m ∷ ns) (suc k) d lt =
-    let rest = own_selects i ns k d (omega arith) in
-    grind (arith, common_steps, rest)
+own_selects i (m ∷ ns) (suc k) d lt = search (
+  arith,
+  common_steps,
+  own_selects i ns k d (omega
+      arith),
+)
 
 -- ---- the labels of all cases
 
 pub no_labels : AreLabels [] []
-no_labels = record { each = λ k d lt. absurd (omega arith); whole = λ n i e. absurd cc }
+no_labels = search (arith)
 
 pub one_case_more : (cs : List Case) (c : Case) (ls : List PlacedLabel) → AreLabels cs ls
     → AreLabels (cs ++ c ∷ []) (ls ++ map (placed (length cs)) c.labels)
@@ -112,11 +118,7 @@ in_any_order cs ls ms same is = record {
 
 pub rise_weakly : (ls : List PlacedLabel) → Rise ls →
     IsNonDecreasingBy (λ (l : PlacedLabel). key_of l.number) ls
-rise_weakly ls rise i j d le lt = ⊎_elim
-    (λ below. omega (arith, rise i j d below lt))
-    (λ above. let same : i ≡ j = omega arith in
-    omega (arith, ap (λ k. key_of (get_or ls k d).number) same))
-    (cases_lt i j)
+rise_weakly ls rise i j d le lt = search (arith, get_or, cases_lt)
 
 -- the first so many rise
 abbrev pub RiseTo : List PlacedLabel → ℕ → Type 0
@@ -146,20 +148,13 @@ rise_further ls n e some lt above rise i j d less within inside = ⊎_elim
 one_place : (ls : List PlacedLabel) (i j : ℕ) (d : PlacedLabel) → Rise ls → i < length ls →
     j < length ls
     → key_of (get_or ls i d).number ≡ key_of (get_or ls j d).number → i ≡ j
-one_place ls i j d rise li lj same = ⊎_elim
-    (λ lt. absurd (omega (arith, rise i j d lt lj)))
-    (λ ge. ⊎_elim
-    (λ lt. absurd (omega (arith, rise j i d lt li)))
-    (λ le. omega arith)
-    (cases_lt j i))
-    (cases_lt i j)
+one_place ls i j d rise li lj same = search (arith, cases_lt)
 
 found_by : (cs : List Case) (ls : List PlacedLabel) (at : ℕ) (n : Number) (d : PlacedLabel)
     (o : Option ℕ)
     → AreLabels cs ls → Rise ls → at < length ls → (get_or ls at d).number ≡ n
     → case_with n cs ≡ o → Some (get_or ls at d).place ≡ o
-found_by cs ls at n d None is rise lt same e =
-    absurd (is.each at d lt (subst (λ m. case_with m cs ≡ None) (sym same) e))
+found_by cs ls at n d None is rise lt same e = search (arith)
 found_by cs ls at n d (Some i) is rise lt same e =
     let c = is.whole n i e in
     let there : get_or ls c.0 d ≡ placed i n = get_or_default ls c.0 d (placed i n) c.1 ∙ c.2 in
@@ -171,9 +166,7 @@ pub found : (cs : List Case) (ls : List PlacedLabel) (at : ℕ) (n : Number) (d 
     AreLabels cs ls
     → Rise ls → at < length ls → same_number (get_or ls at d).number n ≡ true
     → Some (get_or ls at d).place ≡ case_with n cs
-found cs ls at n d is rise lt same =
-    found_by cs ls at n d (case_with n cs) is rise lt (number_same (get_or ls at d).number n same)
-    refl
+found cs ls at n d is rise lt same = search (arith, found_by, number_same, get_or)
 
 none_by : (cs : List Case) (ls : List PlacedLabel) (at : ℕ) (n : Number) (o : Option ℕ) →
     AreLabels cs ls
@@ -202,13 +195,7 @@ none_by cs ls at n (Some i) is rise below above other e =
 other_by : (ls : List PlacedLabel) (at : ℕ) (n : Number) (e d : PlacedLabel)
     → (at < length ls → same_number (get_or ls at e).number n ≡ false)
     → at < length ls → (get_or ls at d).number ≡ n → ⊥
-other_by ls at n e d other lt same =
-    let read : (get_or ls at e).number ≡ n =
-    ap (λ (l : PlacedLabel). l.number) (get_or_default ls at e d lt) ∙ same in
-    let self : same_number (get_or ls at e).number n ≡ true =
-    subst (λ m. same_number m n ≡ true) (sym read) (number_self n) in
-    let no = other lt in
-    absurd cc
+other_by ls at n e d other lt same = search (arith, get_or, get_or_default, number_self)
 
 pub not_found : (cs : List Case) (ls : List PlacedLabel) (at : ℕ) (n : Number) (e : PlacedLabel) →
     AreLabels cs ls

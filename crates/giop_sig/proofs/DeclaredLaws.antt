@@ -1,6 +1,6 @@
 -- Structs and exceptions, both ways: reading the spelling of one gives it or a rule that it breaks,
 -- and the text that was read spells it.
-use Rattle.std.proofs.Common.{◌≡◌, ℕ, ◌<◌, ◌≤◌, true, false, List, [], ◌∷◌, length, None, Ok, refl, sym, subst, arith}
+use Rattle.std.proofs.Common.{◌≡◌, ℕ, ◌<◌, ◌≤◌, false, List, [], ◌∷◌, length, None, Ok, refl, sym, subst, arith}
 use Rattle.std.specs.Prelude.{codes}
 use Rattle.std.specs.Option.{is_some}
 use Rattle.std.proofs.lemmas.Bool.{false≢true}
@@ -12,7 +12,7 @@ use Rattle.giop_tokens.specs.Readers.{mark_at}
 use Rattle.giop_tokens.proofs.ReaderLaws.{bind_ok, ok_is, Takes, mark_again, mark_if_again, mark_takes, repository_again, repository_few}
 use Rattle.giop_sig.specs.Table.{Node, exception_in}
 use Rattle.giop_sig.specs.Table as nodes
-use Rattle.giop_sig.specs.Grammar.{Item, spell_length, spell_items, Declaration, Structure, DeclaredException, spell}
+use Rattle.giop_sig.specs.Grammar.{Item, spell_items, Declaration, Structure, DeclaredException, spell}
 use Rattle.giop_sig.specs.Scopes.{Scope, AddedType, with_named, with_raised, add_items, add_struct_type, declare}
 use Rattle.giop_sig.specs.Validity.{Kind, OfSome, OfItems, OfRepository, OfDeclaration}
 use Rattle.giop_sig.specs.Outcomes.{refused}
@@ -32,10 +32,14 @@ filled_reads : (types : List Node) (is : List Item) (text : List ℕ) (more : Li
 filled_reads types [] text more h =
     rw (filled_end text h.0 (mark_if_again marks.CloseBrace text more h))
     (broken (refused kinds.Empty text) (λ none. none))
-filled_reads types (i ∷ is) text more h =
-    rw (filled_on text (if_apart marks.CloseBrace text (spell_items (i ∷ is) more)
-    (type_apart i.type (word i.name ∷ spell_length i.length
-    (mark marks.Semicolon ∷ spell_items is more))) h)) (good text h (some_keeps i is))
+filled_reads types (i ∷ is) text more h = search (
+  arith,
+  filled_on,
+  if_apart,
+  type_apart,
+  good,
+  some_keeps,
+)
 
 -- ---- structs
 

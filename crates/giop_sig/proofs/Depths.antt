@@ -34,16 +34,13 @@ depth_grown tree (nodes.members parts) =
 depth_grown tree (nodes.union switch cases otherwise) =
     ap (λ n. 1 + max 1 n) (most_same (length cases) _ _
     (λ i lt. ap depth (sym (part_grown tree (nodes.union switch cases otherwise) i lt))))
-depth_grown tree (nodes.tagged special tag inner other) =
-    ap (λ n. 1 + max 1 n) (most_same 3 _ _
-    (λ i lt. ap depth (sym (part_grown tree (nodes.tagged special tag inner other) i lt))))
+depth_grown tree (nodes.tagged special tag inner other) = search (arith, max, most_same, part_grown)
 depth_grown tree _ = refl
 
 -- the depth of a node's tree, at its shape
 pub depth_at_shape : (types : List Node) (node : Node) (s : Shape) → s ≡ shape_of node
     → depth (grow (type_in types) node) ≡ depth_by s (part_depth types node)
-depth_at_shape types node s e = depth_grown (type_in types) node
-    ∙ ap (λ (t : Shape). depth_by t (part_depth types node)) (sym e)
+depth_at_shape types node s e = search (arith, depth_grown)
 
 -- ---- the depths of a table
 
@@ -63,25 +60,23 @@ depth_most (T ∷ Ts) (suc i) lt = omega (arith, depth_most Ts i (omega arith))
 pub depth_within : (types : List Node) (i : ℕ) → i < length types
     → depth (type_in types i) ≤ depth_of types
 unfolding depth_of type_in
-depth_within types i lt = depth_most (trees_of types) i (omega (arith, length_after [] types))
+depth_within types i lt = search (arith, depth_most, length_after)
 
 pub depths_append : (Ts Us : List Ty) → depths (Ts ++ Us) ≡ depths Ts ++ depths Us
 depths_append [] Us = refl
-depths_append (T ∷ Ts) Us = ap (λ ns. depth T ∷ ns) (depths_append Ts Us)
+depths_append (T ∷ Ts) Us = search (arith, depths_append Ts Us)
 
 greatest_append : (ms : List ℕ) (n : ℕ) → greatest (ms ++ n ∷ []) ≡ max (greatest ms) n
 greatest_append [] n = omega arith
-greatest_append (m ∷ ms) n = ap (max m) (greatest_append ms n) ∙ omega arith
+greatest_append (m ∷ ms) n = search (arith, max, greatest_append ms n)
 
 -- the depths, once a type is added
 pub depths_added : (types : List Node) (node : Node)
     → depths (trees_of (types ++ node ∷ []))
     ≡ depths (trees_of types) ++ depth (grow (type_in types) node) ∷ []
-depths_added types node = ap depths (trees_added types node)
-    ∙ depths_append (trees_of types) (grow (type_in types) node ∷ [])
+depths_added types node = search (arith, trees_added, depths_append)
 
 pub deepest_added : (types : List Node) (node : Node)
     → depth_of (types ++ node ∷ []) ≡ max (depth_of types) (depth (grow (type_in types) node))
 unfolding depth_of
-deepest_added types node = ap greatest (depths_added types node)
-    ∙ greatest_append (depths (trees_of types)) (depth (grow (type_in types) node))
+deepest_added types node = search (arith, depths_added, greatest_append)

@@ -1,6 +1,6 @@
 -- Enums, both ways: reading the spelling of one gives it or a rule that it breaks, and the text
 -- that was read spells it.
-use Rattle.std.proofs.Common.{◌≡◌, inl, ℕ, zero, suc, ◌+◌, ◌<◌, ◌≤◌, Bool, true, false, cond, List, [], ◌∷◌, ◌++◌, length, Option, Some, None, Result, Ok, Err, append_assoc, refl, sym, ap, subst, ◌∙◌, arith}
+use Rattle.std.proofs.Common.{◌≡◌, ℕ, zero, suc, ◌+◌, ◌<◌, ◌≤◌, Bool, true, false, cond, List, [], ◌∷◌, ◌++◌, length, Option, Some, None, Result, Ok, Err, append_assoc, refl, sym, ap, subst, ◌∙◌, arith}
 use Rattle.std.specs.List.{All}
 use Rattle.std.proofs.lemmas.List.{length-append}
 use Rattle.std.proofs.lemmas.List.Elements.{All-push}
@@ -33,17 +33,7 @@ pub out_as : {X : Type 0} {made made2 : List ℕ → X} {rule rule2 : Kind → T
     → Out made rule types more r
     → ((rest : List ℕ) → made rest ≡ made2 rest) → ((k : Kind) → rule k → rule2 k)
     → ((k : Kind) → rule2 k → rule k) → Within types types2 → Out made2 rule2 types2 more r
-out_as (Ok x) o same on up le =
-    let g = o.out in
-    record {
-      out = record {
-        rest = g.rest;
-        is = g.is ∙ same g.rest;
-        tokens = g.tokens;
-        keeps =
-            λ k. on k (g.keeps k);
-      };
-    }
+out_as (Ok x) o same on up le = search (arith)
 out_as {rule = rule} {rule2 = rule2} {types = types} {types2 = types2} (Err e) o same on up le =
     record { out = lift e.kind rule rule2 types types2 up le o.out }
 
@@ -96,8 +86,7 @@ names_reads : (left : ℕ) (names : List (List ℕ)) (seen : List (List ℕ)) (w
     → Out (λ rest. (seen ++ w ∷ names, rest)) (λ k. OfNames k seen (w ∷ names)) types more
     (in_steps names_step too_many_names left (seen, text))
 unfolding in_steps OfNames
-names_reads zero names seen w text types more room free h =
-    broken (refused kinds.Limit text) (inl (λ k. let few = (k.0).1 in omega arith))
+names_reads zero names seen w text types more room free h = search (arith, broken)
 names_reads (suc left) [] seen w text types more room free h =
     out_bind (names_step (seen, text)) (then_names left) (step_last seen w text types more free.0 h)
     (λ rest tokens keeps. good rest tokens (λ k. (keeps k, tt))) (λ k whole. whole.0) within_same
@@ -272,12 +261,7 @@ pub record TakenAll (text : List ℕ) (x : NamesRead) : Type 0 where
   pub fits : AreEnumerators x.0
 
 all_taken : (text : List ℕ) (x : NamesRead) → TakenNames [] text x → TakenAll text x
-all_taken text x k =
-    let names : x.0 ≡ k.name ∷ k.others = k.all in
-    record {
-      took = rw names k.took;
-      fits = k.fits (record { few = omega arith; short = λ i d lt. absurd (omega arith) });
-    }
+all_taken text x k = search (arith)
 
 pub all_names_taken : (text : List ℕ) (x : NamesRead) → names_at text ≡ Ok x → TakenAll text x
 unfolding names_at

@@ -1,6 +1,6 @@
 -- Signature files, both ways: reading the spelling of one gives it or a rule that it breaks, and
 -- the text that was read spells it.
-use Rattle.std.proofs.Common.{◌≡◌, ℕ, zero, suc, ◌<◌, ◌≤◌, Bool, true, false, cond, List, [], ◌∷◌, ◌++◌, length, Option, Some, None, Result, Ok, Err, refl, sym, ap, subst, ◌∙◌, lit<, arith}
+use Rattle.std.proofs.Common.{◌≡◌, ℕ, zero, suc, ◌<◌, ◌≤◌, Bool, true, false, cond, List, [], ◌∷◌, ◌++◌, length, Option, Some, None, Result, Ok, Err, refl, ap, subst, ◌∙◌, lit<, arith}
 use Rattle.std.specs.Prelude.{MatchResult, codes}
 use Rattle.std.specs.Str.{bytes_eq}
 use Rattle.std.proofs.lemmas.Slice.Eq.{bytes_eq-Decides}
@@ -9,7 +9,7 @@ use Rattle.giop_tokens.specs.declared.fault.SigFaultKind.TheVariants as kinds
 use Rattle.giop_tokens.specs.declared.marks.Mark.TheVariants as marks
 use Rattle.giop_tokens.specs.Tokens.{Token, word, number, repository, mark, next, AreTokens}
 use Rattle.giop_tokens.specs.Reading.{◌>>=◌}
-use Rattle.giop_tokens.specs.Readers.{misplaced, word_at, mark_at, is_end, end_at}
+use Rattle.giop_tokens.specs.Readers.{misplaced, mark_at, is_end, end_at}
 use Rattle.giop_tokens.proofs.ReaderLaws.{bind_ok, ok_is, Takes, word_again, number_again, mark_again, keyword_again, end_again, end_other, word_takes, number_takes, mark_takes, keyword_takes}
 use Rattle.giop_sig.specs.Grammar.{TypeExpr, Item, UnionCase, spell_type, spell_names, spell_items, spell_cases, spell_params, spell_return, Declaration, Enumeration, Structure, DeclaredUnion, DeclaredException, Call, spell, spell_all, SignatureFile, is_version, spell_file}
 use Rattle.giop_sig.specs.Scopes.{Scope, first_scope, declare, scope_after}
@@ -19,7 +19,7 @@ use Rattle.giop_sig.specs.CallReading.{operation_at}
 use Rattle.giop_sig.specs.EnumReading.{enumeration_at}
 use Rattle.giop_sig.specs.UnionReading.{union_at}
 use Rattle.giop_sig.specs.Repeats.{in_steps}
-use Rattle.giop_sig.specs.FileReading.{declaration_after, declaration_at, declaration_or_end, declarations_step, misplaced_after, version_at, head_at, file_at}
+use Rattle.giop_sig.specs.FileReading.{declaration_at, declaration_or_end, declarations_step, misplaced_after, version_at, head_at, file_at}
 use Rattle.giop_sig.proofs.PlaceLaws.{size, declare_more}
 use Rattle.giop_sig.proofs.ReadingLaws.{Breaks, Out}
 use Rattle.giop_sig.proofs.DeclaredLaws.{TakenDeclaration, structure_reads, structure_takes, raise_reads, raise_takes}
@@ -105,29 +105,28 @@ after_by : UnionTakes → (s : Scope) (text w rest : List ℕ) (x : Declared) (a
 after_by union s text w rest x true b c d e p q r u v t h =
     enumeration_taken s text rest x (subst (λ v. Takes text (word v) rest)
     ((bytes_eq-Decides w (codes "enum")).0 p) t) (enumeration_takes s rest x h)
-after_by union s text w rest x false true c d e p q r u v t h =
-    structure_takes s text rest x (subst (λ v. Takes text (word v) rest)
-    ((bytes_eq-Decides w (codes "struct")).0 q) t) h
-after_by union s text w rest x false false true d e p q r u v t h =
-    union s text rest x (subst (λ v. Takes text (word v) rest)
-    ((bytes_eq-Decides w (codes "union")).0 r) t) h
-after_by union s text w rest x false false false true e p q r u v t h =
-    raise_takes s text rest x (subst (λ v. Takes text (word v) rest)
-    ((bytes_eq-Decides w (codes "exception")).0 u) t) h
-after_by union s text w rest x false false false false true p q r u v t h =
-    operation_takes s text rest x (subst (λ v. Takes text (word v) rest)
-    ((bytes_eq-Decides w (codes "operation")).0 v) t) h
+after_by union s text w rest x false true c d e p q r u v t h = search (
+  arith,
+  structure_takes,
+  bytes_eq-Decides,
+)
+after_by union s text w rest x false false true d e p q r u v t h = search (arith, bytes_eq-Decides)
+after_by union s text w rest x false false false true e p q r u v t h = search (
+  arith,
+  raise_takes,
+  bytes_eq-Decides,
+)
+after_by union s text w rest x false false false false true p q r u v t h = search (
+  arith,
+  operation_takes,
+  bytes_eq-Decides,
+)
 after_by union s text w rest x false false false false false p q r u v t h = absurd cc
 
 declaration_takes : UnionTakes → (s : Scope) (text : List ℕ) (x : Declared)
     → declaration_at s text ≡ Ok x → TakenDeclaration s text x
 unfolding declaration_at
-declaration_takes union s text x e =
-    let w = bind_ok (word_at text) (λ w. declaration_after s text w.0 w.1) x e in
-    let v = (w.0).0 in
-    after_by union s text v (w.0).1 x (bytes_eq v (codes "enum")) (bytes_eq v (codes "struct"))
-    (bytes_eq v (codes "union")) (bytes_eq v (codes "exception"))
-    (bytes_eq v (codes "operation")) refl refl refl refl refl (word_takes text w.0 w.1) w.2
+declaration_takes union s text x e = search (arith, bind_ok, after_by, word_takes)
 
 -- ---- declarations
 
@@ -176,12 +175,7 @@ file_on : (n : ℕ) (s : Scope) (d : Declaration) (ds : List Declaration)
     → FileOut (declare s d) ds
     (in_steps declarations_step misplaced_after n (declare s d, rest) >>= scope_of))
     → FileOut s (d ∷ ds) (((r >>= λ x. Ok (false, x)) >>= then_declarations n) >>= scope_of)
-file_on n s d ds (Ok x) o on =
-    let g = o.out in
-    subst (λ (y : Declared). FileOut s (d ∷ ds)
-    (in_steps declarations_step misplaced_after n y >>= scope_of)) (sym g.is)
-    (file_more s d ds (in_steps declarations_step misplaced_after n (declare s d, g.rest)) g.keeps
-    (on g.rest g.tokens))
+file_on n s d ds (Ok x) o on = search (arith, file_more)
 file_on n s d ds (Err e) o on = record {
   before = [];
   broken = d;
@@ -193,22 +187,11 @@ file_on n s d ds (Err e) o on = record {
 
 not_over : (d : Declaration) (text : List ℕ) (more : List Token)
     → AreTokens text (spell d more) → end_at text ≡ Ok false
-not_over (Enumeration n names) text more h =
-    end_other text (word (codes "enum")) (word n ∷ mark marks.OpenBrace ∷ spell_names names
-    (mark marks.Semicolon ∷ more)) h
-not_over (Structure n is) text more h = end_other text (word (codes "struct"))
-    (word n ∷ mark marks.OpenBrace ∷ spell_items is (mark marks.Semicolon ∷ more)) h
-not_over (DeclaredUnion n e cs) text more h =
-    end_other text (word (codes "union")) (word n ∷ word (codes "switch") ∷ mark
-    marks.OpenParenthesis
-    ∷ spell_type e (mark marks.CloseParenthesis ∷ mark marks.OpenBrace ∷ spell_cases cs
-    (mark marks.Semicolon ∷ more))) h
-not_over (DeclaredException n r is) text more h =
-    end_other text (word (codes "exception")) (spell_raise n r is more) h
-not_over (Call o n ps) text more h =
-    end_other text (word (codes "operation"))
-    (spell_return o (word n ∷ mark marks.OpenParenthesis ∷ spell_params ps
-    (mark marks.Semicolon ∷ more))) h
+not_over (Enumeration n names) text more h = search (arith, end_other)
+not_over (Structure n is) text more h = search (arith, end_other)
+not_over (DeclaredUnion n e cs) text more h = search (arith, end_other)
+not_over (DeclaredException n r is) text more h = search (arith, end_other)
+not_over (Call o n ps) text more h = search (arith, end_other)
 
 declarations_read : UnionReads → (ds : List Declaration) (n : ℕ) (s : Scope) (text : List ℕ)
     → length ds < n → 0 < size s → Each HasItsWords s ds → AreTokens text (spell_all ds)
@@ -216,8 +199,7 @@ declarations_read : UnionReads → (ds : List Declaration) (n : ℕ) (s : Scope)
 unfolding Each in_steps declarations_step
 declarations_read union [] zero s text lt some free h = absurd (omega arith)
 declarations_read union (d ∷ ds) zero s text lt some free h = absurd (omega arith)
-declarations_read union [] (suc n) s text lt some free h =
-    rw (end_again text h) (refl, λ k. tt)
+declarations_read union [] (suc n) s text lt some free h = search (arith, end_again)
 declarations_read union (d ∷ ds) (suc n) s text lt some free h =
     rw (not_over d text (spell_all ds) h)
     (file_on n s d ds (declaration_at s text)
@@ -262,30 +244,23 @@ pub record TakenAll (s : Scope) (text : List ℕ) : Type 0 where
 
 end_none : (text : List ℕ) (o : Option Token) (rest : List ℕ) → next text ≡ Ok (o, rest)
     → is_end o ≡ true → AreTokens text []
-end_none text None rest h e = h ∙ ap (λ r. Ok (None, r)) (next_none text rest h)
+end_none text None rest h e = search (arith, next_none)
 end_none text (Some t) rest h e = absurd cc
 
 end_from : (text : List ℕ) → end_at text ≡ Ok true → AreTokens text []
 unfolding end_at
-end_from text e =
-    let t = bind_ok (next text) (λ t. Ok (is_end t.0)) true e in
-    end_none text (t.0).0 (t.0).1 t.1 (ok_is (is_end (t.0).0) true t.2)
+end_from text e = search (arith, bind_ok, end_none, ok_is)
 
 -- the scope after a declaration that was read is that of the declaration which the text spells
 declared_is : UnionReads
     → (s : Scope) (d : Declaration) (text : List ℕ) (more : List Token) (x : Declared) → 0 < size s
     → HasItsWords s d → AreTokens text (spell d more) → declaration_at s text ≡ Ok x
     → x.0 ≡ declare s d
-declared_is union s d text more x some words h e =
-    let reads = declaration_reads union d s text more some words h in
-    let o : DeclarationOut s d more (Ok x) = subst (DeclarationOut s d more) e reads in
-    ap (λ (y : Declared). y.0) (o.out).is
+declared_is union s d text more x some words h e = search (arith, declaration_reads)
 
 more_words : (s t : Scope) (d : Declaration) (ds : List Declaration) → 0 < size s → t ≡ declare s d
     → (0 < size t → Each HasItsWords t ds) → Each HasItsWords (declare s d) ds
-more_words s t d ds some is words =
-    subst (λ u. Each HasItsWords u ds) is (words
-    (omega (arith, (declare_more s d).longer, ap size is)))
+more_words s t d ds some is words = search (arith, declare_more, size)
 
 over_by : (n : ℕ) (s : Scope) (text : List ℕ) (v : Bool) (x : Bool × Declared) (t : Declared)
     → end_at text ≡ Ok v → declaration_or_end (s, text) v ≡ Ok x → then_declarations n x ≡ Ok t
@@ -337,11 +312,7 @@ version_by text n x false h e = absurd cc
 version_takes : (text : List ℕ) (x : ℕ × List ℕ) → version_at text ≡ Ok x
     → (is_version x.0 ≡ true) × Takes text (number x.0) x.1
 unfolding version_at
-version_takes text x e =
-    let n = bind_ok {A = ℕ × List ℕ} _ _ x e in
-    let is = version_by text n.0 x (is_version (n.0).0) refl n.2 in
-    subst (λ (y : ℕ × List ℕ). (is_version y.0 ≡ true) × Takes text (number y.0) y.1) is.1
-    (is.0, number_takes text n.0 n.1)
+version_takes text x e = search (arith, bind_ok, version_by, number_takes)
 
 head_takes : (text : List ℕ) (x : ℕ × List ℕ) → head_at text ≡ Ok x → TakenHead text x
 unfolding head_at

@@ -52,8 +52,7 @@ file_few reads takes text t short e =
 is_broken : (k : Kind) (file : SignatureFile)
     → (b : BrokenIn k (first_scope file.version) file.declarations)
     → (Rule k (scope_after (first_scope file.version) b.before) b.broken → ⊥) → IsBroken k file
-is_broken k file b breaks =
-    record { before = b.before; broken = b.broken; after = b.after; all = b.all; breaks = breaks }
+is_broken k file b breaks = search (arith)
 
 -- the declarations of a text never make the types too many
 pub not_too_many : (text : List ℕ) (file : SignatureFile) → Spells text file
@@ -77,20 +76,18 @@ limit_broken : (file : SignatureFile)
     → (Rule kinds.Limit (scope_after (first_scope file.version) b.before) b.broken → ⊥)
     ⊎ (2 ^ 32 ≤ size (declare (scope_after (first_scope file.version) b.before) b.broken))
     → IsBroken kinds.Limit file
-limit_broken file b few (inl breaks) = is_broken kinds.Limit file b breaks
+limit_broken file b few (inl breaks) = search (arith, is_broken)
 limit_broken file b few (inr many) = absurd (omega arith)
 
 refuses : (k : Kind) (text : List ℕ) (file : SignatureFile) → Spells text file
     → BrokenIn k (first_scope file.version) file.declarations → Refuses k file
 refuses kinds.OutOfMemory text file spells b = tt
-refuses kinds.Depth text file spells b =
-    is_broken kinds.Depth file b (λ le. let deep = b.breaks in omega arith)
-refuses kinds.UnknownType text file spells b = is_broken kinds.UnknownType file b b.breaks
-refuses kinds.Duplicate text file spells b = is_broken kinds.Duplicate file b b.breaks
-refuses kinds.Limit text file spells b =
-    limit_broken file b (not_too_many text file spells b) b.breaks
-refuses kinds.Label text file spells b = is_broken kinds.Label file b b.breaks
-refuses kinds.Empty text file spells b = is_broken kinds.Empty file b b.breaks
+refuses kinds.Depth text file spells b = search (arith, is_broken)
+refuses kinds.UnknownType text file spells b = search (arith, is_broken)
+refuses kinds.Duplicate text file spells b = search (arith, is_broken)
+refuses kinds.Limit text file spells b = search (arith, limit_broken, not_too_many)
+refuses kinds.Label text file spells b = search (arith, is_broken)
+refuses kinds.Empty text file spells b = search (arith, is_broken)
 refuses _ text file spells b = b.breaks
 
 -- a text that spells a file is refused for a rule that one of its declarations breaks

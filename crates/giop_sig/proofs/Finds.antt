@@ -1,6 +1,6 @@
 -- Looking up by name: the index in a list of keys is that in the table's list; for operations and
 -- exceptions.
-use Rattle.std.proofs.Common.{◌≡◌, ℕ, zero, suc, ◌+◌, ◌<◌, ◌≤◌, Bool, cond, not, List, [], ◌∷◌, length, map, get_or, Option, Some, None, refl, sym, ap, subst, ◌∙◌, arith}
+use Rattle.std.proofs.Common.{◌≡◌, ℕ, zero, suc, ◌<◌, ◌≤◌, Bool, cond, not, List, [], ◌∷◌, length, map, get_or, Option, Some, None, refl, sym, ap, ◌∙◌, arith}
 use Rattle.std.specs.Prelude.{slice_get}
 use Rattle.std.specs.List.{position, position_or_len}
 use Rattle.std.specs.Option.{option_map}
@@ -13,18 +13,17 @@ use Rattle.arrayvec.specs.ArrayVec.{ArrayVec}
 use Rattle.giop_sig.specs.declared.types.TypeId.{TypeId}
 use Rattle.giop_sig.specs.declared.catalogue.Signature.{Signature}
 use Rattle.giop_sig.specs.Table.{Operation, Exception, Table, op_id, type_id, no_operation, no_exception, operation_in, exception_in, members_at}
-use Rattle.giop_sig.specs.HeaderTypes.{IsOperation, IsException, IsTable}
+use Rattle.giop_sig.specs.HeaderTypes.{IsTable}
 use Rattle.giop_sig.specs.Entries.{operation_view, exception_view}
 
 position_or_len-map : {X Y : Type 0} (p : Y → Bool) (f : X → Y) (xs : List X)
     → position_or_len p (map f xs) ≡ position_or_len (λ x. p (f x)) xs
 position_or_len-map p f [] = refl
-position_or_len-map p f (x ∷ xs) = ap (λ n. cond (not (p (f x))) (1 + n) 0)
-    (position_or_len-map p f xs)
+position_or_len-map p f (x ∷ xs) = search (arith, cond, not, position_or_len-map p f xs)
 
 pub position-map : {X Y : Type 0} (p : Y → Bool) (f : X → Y) (xs : List X)
     → position p (map f xs) ≡ position (λ x. p (f x)) xs
-position-map p f xs = rw (position_or_len-map p f xs, length-map xs f) refl
+position-map p f xs = search (arith, position_or_len-map, length-map)
 
 -- a name of a key is found where the key is
 place_of : {K V X : Type 0} (items : K → List ℕ) (view : K × V → X) (name_in : X → List ℕ)
@@ -74,7 +73,7 @@ operation_found es t key name r view same is =
 read_map : {X Y : Type 0} (f : X → Y) (xs : List X) (i : ℕ) (x : X) (d : Y)
     → slice_get xs i ≡ Some x → get_or (map f xs) i d ≡ f x
 read_map f [] i x d e = absurd cc
-read_map f (y ∷ xs) zero x d e = let same : y ≡ x = cc in ap f same
+read_map f (y ∷ xs) zero x d e = search (arith)
 read_map f (y ∷ xs) (suc i) x d e = read_map f xs i x d e
 
 inside_by : {X : Type 0} (xs : List X) (i : ℕ) (x : X) → slice_get xs i ≡ Some x → i < length xs
@@ -87,20 +86,13 @@ pub signature_known : (es : List (ArrayVec ℕ × Signature)) (view t : Table) (
     (e : ArrayVec ℕ × Signature) → IsTable view → view ≡ t → view.operations ≡ map operation_view es
     → slice_get es i ≡ Some e
     → (e.1.request.0 < length t.types) × (e.1.reply.0 < length t.types)
-signature_known es view t i e laws same kept at =
-    let lt : i < length view.operations = omega (
-      arith,
-      ap length kept,
-      length-map es operation_view,
-      inside_by es i e at,
-    ) in
-    let call = laws.operations i no_operation lt in
-    let is : get_or view.operations i no_operation ≡ operation_view e =
-    ap (λ (os : List Operation). get_or os i no_operation) kept
-    ∙ read_map operation_view es i e no_operation at in
-    let known = subst (IsOperation view.types) is call in
-    subst (λ (u : Table). (e.1.request.0 < length u.types) × (e.1.reply.0 < length u.types)) same
-    (known.request, known.reply)
+signature_known es view t i e laws same kept at = search (
+  arith,
+  length-map,
+  inside_by,
+  get_or,
+  read_map,
+)
 
 -- ---- exceptions
 
@@ -142,14 +134,4 @@ exception_found es t key name i e view same is at =
 pub exception_known : (es : List (ArrayVec ℕ × TypeId)) (t : Table) (i : ℕ)
     (e : ArrayVec ℕ × TypeId) → IsTable t → map exception_view es ≡ t.exceptions
     → slice_get es i ≡ Some e → e.1.0 < length t.types
-exception_known es t i e laws view at =
-    let lt : i < length t.exceptions = omega (
-      arith,
-      ap length view,
-      length-map es exception_view,
-      inside_by es i e at,
-    ) in
-    let is : get_or t.exceptions i no_exception ≡ exception_view e =
-    ap (λ (xs : List Exception). get_or xs i no_exception) (sym view)
-    ∙ read_map exception_view es i e no_exception at in
-    (subst (IsException t.types) is (laws.exceptions i no_exception lt)).members
+exception_known es t i e laws view at = search (arith, length-map, inside_by, get_or, read_map)

@@ -4,27 +4,25 @@ use Rattle.std.specs.Prelude.{slice_get, IfSome}
 use Rattle.std.specs.List.{AllByRecursion}
 use Rattle.std.proofs.lemmas.List.{get_or_append_left, length-map}
 use Rattle.std.proofs.lemmas.List.Elements.{recursion_from_All}
-use Rattle.giop_cdr.specs.declared.prim.Primitive.TheVariants.{Octet}
 use Rattle.giop_sig.specs.declared.entries.Entry.{Entry}
 use Rattle.giop_sig.specs.declared.entries.Entry.TheVariants as entries
 use Rattle.giop_sig.specs.Types.{HasPlace, HasMember, IsUnion}
-use Rattle.giop_sig.specs.Table.{Node, Part, Case, node_in, part_at, type_of, name_of, name_at, switch_at, shape_of, case_part, IsFormed, IsPart, IsInner, IsSwitch, TakesOctet, IsScalarNode}
+use Rattle.giop_sig.specs.Table.{Node, Part, Case, node_in, part_at, type_of, name_of, name_at, switch_at, shape_of, case_part, IsFormed, IsPart, IsInner, IsSwitch}
 use Rattle.giop_sig.specs.Table as nodes
-use Rattle.giop_sig.specs.UnionCases.{part_view}
 use Rattle.giop_sig.specs.Views.{node_view, IsSized}
 use Rattle.giop_sig.proofs.TreeLaws.{OnPart, case_read}
 use Rattle.giop_sig.proofs.Nodes.{part_there}
 
 on_some : (P : Part → Type 0) (o : Option Part) (p : Part) → o ≡ Some p → OnPart P o → P p
 on_some P None p e h = absurd cc
-on_some P (Some q) p e h = let same : q ≡ p = cc in subst P same h
+on_some P (Some q) p e h = search (arith)
 
 -- the part that is read in a place
 part_in : (types : List Node) (n : ℕ) (ps : List Part) (i : ℕ)
     → AllByRecursion (IsPart types n) ps → i < length ps
     → IsPart types n (record { name = name_of (slice_get ps i); type = type_of (slice_get ps i) })
 part_in types n [] i all lt = absurd (omega arith)
-part_in types n (p ∷ ps) zero all lt = record { inner = all.0.inner; short = all.0.short }
+part_in types n (p ∷ ps) zero all lt = search (arith)
 part_in types n (p ∷ ps) (suc i) all lt = part_in types n ps i all.1 (omega arith)
 
 -- the part at a place is one that the whole can have
@@ -41,8 +39,7 @@ part_formed types n (nodes.union switch cases otherwise) i formed has =
 part_formed types n (nodes.sequence bound element) i formed has = formed
 part_formed types n (nodes.array count element) i formed has = formed.1
 part_formed types n (nodes.encapsulation held) i formed has = formed
-part_formed types n (nodes.tagged special tag inner other) i formed has =
-    (part_in types n (tag ∷ inner ∷ other ∷ []) i (formed.1, (formed.2, (formed.3, tt))) has).inner
+part_formed types n (nodes.tagged special tag inner other) i formed has = search (arith, part_in)
 part_formed types n _ i formed has = absurd has
 
 -- the names of parts are short
@@ -75,16 +72,17 @@ names_short (x ∷ xs) (suc n) all = names_short xs n all.1
 
 pub enum_name_short : (types : List Node) (i : ℕ) (node : Node) (n : ℕ) → IsFormed types i node
     → IfSome (name_at node n) (λ name. length name ≤ 64)
-enum_name_short types i (nodes.enumeration names) n formed =
-    names_short names n (recursion_from_All (λ name. length name ≤ 64) names formed.1)
+enum_name_short types i (nodes.enumeration names) n formed = search (
+  arith,
+  names_short,
+  recursion_from_All,
+)
 enum_name_short types i _ n formed = tt
 
 -- an entry that is formed can be counted
 pub sized : (types : List Node) (n : ℕ) (e : Entry) → IsFormed types n (node_view e) → IsSized e
-sized types n (entries.Enumeration names) formed =
-    omega (arith, formed.0, length-map names.items (λ x. x.items))
-sized types n (entries.Members parts) formed =
-    omega (arith, formed.0, length-map parts.items part_view)
+sized types n (entries.Enumeration names) formed = search (arith, length-map)
+sized types n (entries.Members parts) formed = search (arith, length-map)
 sized types n (entries.Union switch cases otherwise) formed = formed.1
 sized types n _ formed = tt
 
@@ -95,57 +93,38 @@ SameNodes types others n = (i : ℕ) → i < n → node_in types i ≡ node_in o
 
 inner_moved : (types others : List Node) (n i : ℕ) → SameNodes types others n
     → IsInner types n i → IsInner others n i
-inner_moved types others n i same is = record {
-  below = is.below;
-  takes =
-      subst TakesOctet (same i is.below) is.takes;
-}
+inner_moved types others n i same is = search (arith)
 
 part_moved : (types others : List Node) (n : ℕ) (p : Part) → SameNodes types others n
     → IsPart types n p → IsPart others n p
-part_moved types others n p same is = record {
-  inner =
-      inner_moved types others n p.type same is.inner;
-  short = is.short;
-}
+part_moved types others n p same is = search (arith, inner_moved)
 
 switch_moved : (types others : List Node) (n i : ℕ) → SameNodes types others n
     → IsSwitch types n i → IsSwitch others n i
-switch_moved types others n i same is = record {
-  below = is.below;
-  scalar =
-      subst IsScalarNode (same i is.below) is.scalar;
-}
+switch_moved types others n i same is = search (arith)
 
 -- whether a node can have a number depends on the nodes of smaller numbers alone
 pub formed_moved : (types others : List Node) (n : ℕ) (node : Node) → SameNodes types others n
     → IsFormed types n node → IsFormed others n node
 formed_moved types others n (nodes.enumeration names) same formed = formed
-formed_moved types others n (nodes.members parts) same formed =
-    (formed.0, λ k d lt. part_moved types others n (get_or parts k d) same (formed.1 k d lt))
-formed_moved types others n (nodes.union switch cases otherwise) same formed = (
-  switch_moved types others n switch same formed.0,
-  formed.1,
-  λ k d lt. part_moved types others n (get_or cases k d).part same (formed.2 k d lt),
-  formed.3,
+formed_moved types others n (nodes.members parts) same formed = search (arith, part_moved, get_or)
+formed_moved types others n (nodes.union switch cases otherwise) same formed = search (
+  arith,
+  switch_moved,
+  part_moved,
+  get_or,
 )
-formed_moved types others n (nodes.sequence bound element) same formed =
-    inner_moved types others n element same formed
-formed_moved types others n (nodes.array count element) same formed =
-    (formed.0, inner_moved types others n element same formed.1)
-formed_moved types others n (nodes.encapsulation held) same formed =
-    inner_moved types others n held same formed
-formed_moved types others n (nodes.tagged special tag inner other) same formed = (
-  switch_moved types others n tag.type same formed.0,
-  part_moved types others n tag same formed.1,
-  part_moved types others n inner same formed.2,
-  part_moved types others n other same formed.3,
+formed_moved types others n (nodes.sequence bound element) same formed = search (arith, inner_moved)
+formed_moved types others n (nodes.array count element) same formed = search (arith, inner_moved)
+formed_moved types others n (nodes.encapsulation held) same formed = search (arith, inner_moved)
+formed_moved types others n (nodes.tagged special tag inner other) same formed = search (
+  arith,
+  switch_moved,
+  part_moved,
 )
 formed_moved types others n _ same formed = tt
 
 -- and stays so when types are added after them
 pub formed_stays : (types more : List Node) (n : ℕ) (node : Node) → n ≤ length types
     → IsFormed types n node → IsFormed (types ++ more) n node
-formed_stays types more n node le formed =
-    formed_moved types (types ++ more) n node
-    (λ i lt. sym (get_or_append_left types more (nodes.prim Octet) i (omega arith))) formed
+formed_stays types more n node le formed = search (arith, formed_moved, get_or_append_left)

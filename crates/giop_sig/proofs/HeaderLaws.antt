@@ -1,5 +1,5 @@
 -- The request id is the first member of the headers that begin with it.
-use Rattle.std.proofs.Common.{◌≡◌, ℕ, zero, suc, inl, inr, Option, Some, None, refl, sym, subst}
+use Rattle.std.proofs.Common.{arith, ◌≡◌, ℕ, zero, suc, inl, inr, Option, Some, None, refl, sym, subst}
 use Rattle.std.specs.Prelude.{IfSome}
 use Rattle.std.specs.Option.{option_map}
 use Rattle.giop_sig.specs.Types.{Ty}
@@ -31,7 +31,7 @@ id_first minor kind (inr cancel) = subst (λ k. IfSome (header_type minor k) Beg
 some_of_map : {X : Type 0} (P : Ty → Type 0) (f : X → Ty) (r : Option X) (o : Option Ty)
     → option_map f r ≡ o → IfSome o P → IfSome r (λ x. P (f x))
 some_of_map P f None o e h = tt
-some_of_map P f (Some x) o e h = subst (λ o. IfSome o P) (sym e) h
+some_of_map P f (Some x) o e h = search (arith)
 
 pub id_found : {X : Type 0} (t : Table) (f : X → ℕ) (r : Option X) (minor kind : ℕ) → IsTable t
     → option_map f r ≡ header_number minor kind → IdStandsFirst minor kind

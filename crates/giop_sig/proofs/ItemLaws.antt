@@ -14,13 +14,12 @@ use Rattle.giop_tokens.specs.Readers.{mark_at, mark_if}
 use Rattle.giop_tokens.specs.Names.{too_long, identifier_at}
 use Rattle.giop_tokens.proofs.ReaderLaws.{mark_again, mark_if_again, identifier_again, identifier_long}
 use Rattle.giop_sig.specs.Table.{Node, Part}
-use Rattle.giop_sig.specs.Table as nodes
 use Rattle.giop_sig.specs.Grammar.{TypeExpr, Base, Item, spell_length, spell_type, spell_item, spell_items}
 use Rattle.giop_sig.specs.Scopes.{Names, Scope, part, item_part, place, add_array, add_item, add_items}
 use Rattle.giop_sig.specs.Validity.{Kind, IsFree, is_among, OfNewName, OfSome, OfItem, OfItems, OfDeclared}
 use Rattle.giop_sig.specs.Outcomes.{refused}
 use Rattle.giop_sig.specs.TypeReading.{enclosed_at, type_at}
-use Rattle.giop_sig.specs.ItemReading.{new_name_at, declared_at, array_type, ItemRead, item_at, Members, member_at, member_step, too_many_members, MembersRead, members_read, members_run, filled_at}
+use Rattle.giop_sig.specs.ItemReading.{new_name_at, declared_at, array_type, ItemRead, item_at, Members, member_at, member_step, MembersRead, members_run, filled_at}
 use Rattle.giop_sig.proofs.PlaceLaws.{size, within_same, length_more, item_more, item_names, items_more}
 use Rattle.giop_sig.proofs.ReadingLaws.{Out, good, broken, out_bind, out_more, Apart, if_apart}
 use Rattle.giop_sig.proofs.SizeReads.{enclosed_reads}
@@ -61,10 +60,8 @@ pub unused_reads : {rule : Kind → Type 0} {types : List Node} {more : List Tok
     → (full ≡ true → rule kinds.Limit → ⊥) → (known ≡ false → full ≡ false → (k : Kind) → rule k)
     → Out {X = List ℕ × List ℕ} (λ rest. (w, rest)) rule types more
     (unused known full text (w, rest))
-unused_reads true full text w rest m double many keeps =
-    broken (refused kinds.Duplicate text) (double refl)
-unused_reads false true text w rest m double many keeps =
-    broken (refused kinds.Limit text) (inl (many refl))
+unused_reads true full text w rest m double many keeps = search (arith, broken)
+unused_reads false true text w rest m double many keeps = search (arith, broken)
 unused_reads false false text w rest m double many keeps = good rest m (keeps refl refl)
 
 -- what follows an identifier that isn't too long
@@ -130,9 +127,7 @@ array_reads : (at : ℕ) (s : Scope) (e : ℕ) (o : Option ℕ) (rule : Kind →
     (add_array o (s, e)).0.table.types more
     (array_type at s e o >>= λ p. Ok (p.0, part w p.1, rest))
 array_reads at s e None rule w rest more m keeps = good rest m keeps
-array_reads at s e (Some n) rule w rest more m keeps =
-    added_bind at s (nodes.array n e) (λ p. Ok (p.0, part w p.1, rest)) within_same
-    (good rest m keeps)
+array_reads at s e (Some n) rule w rest more m keeps = search (arith, added_bind, within_same, good)
 
 abbrev pub made_item : Scope → Item → List ℕ → ItemRead
 made_item s i rest = ((add_item s i).0, item_part i (add_item s i), rest)
@@ -203,10 +198,7 @@ made_members parts s is rest = ((add_items s is).0, parts ++ (add_items s is).1,
 run_on : (at n : ℕ) (m : Members) → mark_if marks.CloseBrace m.3 ≡ Ok None
     → members_run at (suc n) m ≡ (member_at at m >>= then_run at n)
 unfolding member_step
-run_on at n m h =
-    let one : (member_step at m >>= then_run at n) ≡ (member_at at m >>= then_run at n) =
-    rw h refl in
-    step_first (member_step at) too_many_members members_read n m ∙ one
+run_on at n m h = search (arith, then_run, step_first)
 
 run_end : (at n : ℕ) (m : Members) (rest : List ℕ) → mark_if marks.CloseBrace m.3 ≡ Ok (Some rest)
     → members_run at (suc n) m ≡ Ok (m.0, m.2, rest)
@@ -218,10 +210,7 @@ closes : (seen : List (List ℕ)) (parts : List Part) (s : Scope) (names : Names
     → Out (made_members parts s []) (λ k. OfItems k names 256 seen [])
     (add_items s []).0.table.types more (Ok (s, parts, rest))
 unfolding OfItems add_items
-closes seen parts s names rest more m =
-    subst (λ ps. Out {X = MembersRead} (λ rest. (s, ps, rest)) (λ k. Unit {0}) s.table.types more
-    (Ok (s, parts, rest)))
-    (sym (append-nil parts)) (good rest m (λ k. tt))
+closes seen parts s names rest more m = search (arith, append-nil, good)
 
 made_on : (parts : List Part) (s : Scope) (i : Item) (is : List Item) (names : Names)
     (seen : List (List ℕ)) (more : List Token) (r : Result MembersRead Refusal)

@@ -101,12 +101,12 @@ array_grows : (at : ℕ) (s : Scope) (element : ℕ) (o : Option ℕ) (p : Added
     → array_type at s element o ≡ Ok p → Grows s p.0
 array_grows at s element None p e = subst (λ (q : AddedType). Grows s q.0) (ok_is (s, element) p e)
     (grows_none s)
-array_grows at s element (Some n) p e = added_grows at s (nodes.array n element) p e
+array_grows at s element (Some n) p e = search (arith, added_grows)
 
 array_sound : (at : ℕ) (s : Scope) (element : ℕ) (o : Option ℕ) (p : AddedType)
     → array_type at s element o ≡ Ok p → Sound (s, element) → Sound p
-array_sound at s element None p e is = subst Sound (ok_is (s, element) p e) is
-array_sound at s element (Some n) p e is = sound_added at s (nodes.array n element) p e is.scope tt
+array_sound at s element None p e is = search (arith, ok_is)
+array_sound at s element (Some n) p e is = search (arith, sound_added)
 
 pub record TakenItem (s : Scope) (most : ℕ) (seen : List (List ℕ)) (text : List ℕ)
     (x : ItemRead) : Type 0 where
@@ -158,10 +158,10 @@ AreParts s ps = All (IsPart s.table.types (length s.table.types)) ps
 
 part_stays : (s t : Scope) (p : Part) → Grows s t → IsPart s.table.types (length s.table.types) p
     → IsPart t.table.types (length t.table.types) p
-part_stays s t p g is = record { inner = grows_known s t p.type g is.inner; short = is.short }
+part_stays s t p g is = search (arith, grows_known)
 
 pub parts_stay : (s t : Scope) (ps : List Part) → Grows s t → AreParts s ps → AreParts t ps
-parts_stay s t ps g all = λ k d lt. part_stays s t (get_or ps k d) g (all k d lt)
+parts_stay s t ps g all = search (arith, part_stays, get_or)
 
 pub record SoundMembers (x : MembersRead) : Type 0 where
   pub scope : IsScope x.0
@@ -234,12 +234,7 @@ member_by : (at n : ℕ) (seen : List (List ℕ)) (parts : List Part) (s : Scope
     → members_run at n (s, seen, parts, text) ≡ Ok x → TakenMembers n seen parts s text x)
     → TakenMembers (suc n) seen parts s text x
 unfolding member_at
-member_by at n seen parts s text m x (Some r) h e run on =
-    let last : Ok (s, parts, r) ≡ Ok x = ap (then_run at n)
-    (ok_is (true, (s, seen, parts, r)) m e)
-    ∙ run in
-    subst (TakenMembers (suc n) seen parts s text) (ok_is (s, parts, r) x last)
-    (closes n seen parts s text r h)
+member_by at n seen parts s text m x (Some r) h e run on = search (arith, ok_is, closes)
 member_by at n seen parts s text m x None h e run on =
     let i = bind_ok _ _ m e in
     let r = bind_ok _ _ m i.2 in
@@ -270,13 +265,12 @@ filled_by text x (Some r) h e = absurd cc
 pub filled_takes : (text x : List ℕ) → filled_at text ≡ Ok x
     → (text ≡ x) × (mark_if marks.CloseBrace text ≡ Ok None)
 unfolding filled_at
-filled_takes text x e = let c = bind_ok (mark_if marks.CloseBrace text) (unless_closed text) x e in
-    filled_by text x c.0 c.1 c.2
+filled_takes text x e = search (arith, bind_ok, filled_by)
 
 -- ---- what the code asks
 
 pub no_parts : (s : Scope) → AreParts s []
-no_parts s = λ k d lt. absurd (omega arith)
+no_parts s = search (arith)
 
 -- members that were read can be a struct's
 pub struct_formed : (at : ℕ) (s : Scope) (text : List ℕ) (m : MembersRead)
@@ -291,8 +285,7 @@ members_grow at s text m e = (members_takes at 257 [] [] s text m e).grows
 
 pub exception_grows : (at : ℕ) (s : Scope) (text : List ℕ) (m : MembersRead) (p : AddedType)
     → members_at at s text ≡ Ok m → added at m.0 (nodes.members m.1) ≡ Ok p → Grows s p.0
-exception_grows at s text m p e put = grows_on s m.0 p.0 (members_grow at s text m e)
-    (added_grows at m.0 (nodes.members m.1) p put)
+exception_grows at s text m p e put = search (arith, grows_on, members_grow, added_grows)
 
 some_octet : (ps : List Part) → 0 < length ps → TakesOctet (nodes.members ps)
 some_octet [] lt = absurd (omega arith)
@@ -310,7 +303,7 @@ struct_takes at s o f m fill e =
 -- a name that was new is still new
 pub still_new : (s t : Scope) (w : List ℕ) → Grows s t → lookup (bytes_eq w) s.names.known ≡ None
     → lookup (bytes_eq w) t.names.known ≡ None
-still_new s t w g e = ap (λ ns. lookup (bytes_eq w) ns.known) g.names ∙ e
+still_new s t w g e = search (arith)
 
 pub record RepositoryTaken (s : Scope) (text : List ℕ) (x : List ℕ × List ℕ) : Type 0 where
   pub short : length x.0 ≤ 128
@@ -320,25 +313,20 @@ pub record RepositoryTaken (s : Scope) (text : List ℕ) (x : List ℕ × List �
 pub new_repository_takes : (s : Scope) (text : List ℕ) (x : List ℕ × List ℕ)
     → new_repository_at s text ≡ Ok x → RepositoryTaken s text x
 unfolding new_repository_at
-new_repository_takes s text x e =
-    let a = bind_ok _ _ x e in
-    let known = exception_in s.table (a.0).0 in
-    let u = unused_is (is_some known) false text a.0 x a.2 in
-    subst (RepositoryTaken s text) u.0
-    (record {
-      short = repository_few text a.0 a.1;
-      new = none_of known u.1;
-      front = repository_takes text a.0 a.1;
-    })
+new_repository_takes s text x e = search (
+  arith,
+  bind_ok,
+  unused_is,
+  repository_few,
+  none_of,
+  repository_takes,
+)
 
 -- an id that was new is still new
 pub still_different : (s t : Scope) (r : List ℕ) → Grows s t → exception_in s.table r ≡ None
     → exception_in t.table r ≡ None
-still_different s t r g e = ap (λ es. exception_in (record s.table { exceptions = es }) r)
-    g.exceptions ∙ e
+still_different s t r g e = search (arith)
 
 pub added_below : (at : ℕ) (s : Scope) (n : Node) (p : AddedType) → added at s n ≡ Ok p
     → p.1 < length (p.0).table.types
-added_below at s n p e =
-    subst (λ (q : AddedType). q.1 < length (q.0).table.types) (sym (added_is at s n p e))
-    (omega (arith, length-append s.table.types (n ∷ [])))
+added_below at s n p e = search (arith, added_is, length-append)

@@ -2,7 +2,6 @@
 use Rattle.std.proofs.Common.{◌≡◌, ℕ, zero, suc, ◌<◌, Bool, true, false, cond, leb, pos, negsuc, List, [], ◌∷◌, map, get_or, Option, Some, None, eqb-true, refl, sym, ap, subst, ◌∙◌, arith}
 use Rattle.std.specs.List.{list_any, AllByRecursion, position}
 use Rattle.std.specs.Str.{bytes_eq}
-use Rattle.std.proofs.Math.IntN.{+ℤ_idl}
 use Rattle.std.proofs.lemmas.Bool.{eq-eqb}
 use Rattle.std.proofs.lemmas.List.Quantifiers.{position-Some}
 use Rattle.std.proofs.lemmas.Slice.Eq.{bytes_eq-Decides}
@@ -43,7 +42,7 @@ value_same (Truth v) (Enumerator w) e = absurd cc
 value_same (Enumerator v) (Plain w) e = absurd cc
 value_same (Enumerator v) (Below w) e = absurd cc
 value_same (Enumerator v) (Truth w) e = absurd cc
-value_same (Enumerator v) (Enumerator w) e = ap Enumerator ((bytes_eq-Decides v w).0 e)
+value_same (Enumerator v) (Enumerator w) e = search (arith, bytes_eq-Decides)
 
 value_self : (v : Value) → same_value v v ≡ true
 value_self (Plain n) = eq-eqb n n refl
@@ -73,53 +72,48 @@ within false m n e = absurd cc
 
 from_below : (n : ℕ) → 0 < n → value_from (numbers.Signed (below n)) ≡ Below n
 from_below zero lt = absurd (omega arith)
-from_below (suc n) lt = ap (λ z. value_from (numbers.Signed z)) (+ℤ_idl (negsuc n))
+from_below (suc n) lt = search (arith, negsuc)
 
 plain_again : (m n : Number) (most k : ℕ) → value_from m ≡ Plain k
     → if_at_most most k m ≡ Some n → value_from n ≡ Plain k
-plain_again m n most k is e = ap value_from (sym (within (leb k most) m n e)) ∙ is
+plain_again m n most k is e = search (arith, within, leb)
 
 below_again : (n : Number) (most k : ℕ) → 0 < k
     → if_at_most most k (numbers.Signed (below k)) ≡ Some n → value_from n ≡ Below k
-below_again n most k lt e = ap value_from (sym (within (leb k most) (numbers.Signed (below k)) n e))
-    ∙ from_below k lt
+below_again n most k lt e = search (arith, within, leb, from_below)
 
 prim_again : (p : Primitive) (v : Value) (n : Number) → IsAbove v
     → label_number (nodes.prim p) v ≡ Some n → value_from n ≡ v
 prim_again prims.Octet v n above e = absurd cc
-prim_again prims.Char (Plain k) n above e = plain_again (numbers.Char k) n 255 k refl e
+prim_again prims.Char (Plain k) n above e = search (arith, plain_again)
 prim_again prims.Char (Below k) n above e = absurd cc
 prim_again prims.Char (Truth k) n above e = absurd cc
 prim_again prims.Char (Enumerator k) n above e = absurd cc
 prim_again prims.Boolean (Plain k) n above e = absurd cc
 prim_again prims.Boolean (Below k) n above e = absurd cc
-prim_again prims.Boolean (Truth k) n above e = let same : numbers.Truth k ≡ n = cc in
-    ap value_from (sym same)
+prim_again prims.Boolean (Truth k) n above e = search (arith)
 prim_again prims.Boolean (Enumerator k) n above e = absurd cc
-prim_again prims.Short (Plain k) n above e = plain_again (numbers.Signed (pos k)) n 32767 k refl e
+prim_again prims.Short (Plain k) n above e = search (arith, plain_again, pos)
 prim_again prims.Short (Below k) n above e = below_again n 32768 k above e
 prim_again prims.Short (Truth k) n above e = absurd cc
 prim_again prims.Short (Enumerator k) n above e = absurd cc
-prim_again prims.UShort (Plain k) n above e = plain_again (numbers.Unsigned k) n 65535 k refl e
+prim_again prims.UShort (Plain k) n above e = search (arith, plain_again)
 prim_again prims.UShort (Below k) n above e = absurd cc
 prim_again prims.UShort (Truth k) n above e = absurd cc
 prim_again prims.UShort (Enumerator k) n above e = absurd cc
-prim_again prims.Long (Plain k) n above e =
-    plain_again (numbers.Signed (pos k)) n 2147483647 k refl e
-prim_again prims.Long (Below k) n above e = below_again n 2147483648 k above e
+prim_again prims.Long (Plain k) n above e = search (arith, plain_again, pos)
+prim_again prims.Long (Below k) n above e = search (arith, below_again)
 prim_again prims.Long (Truth k) n above e = absurd cc
 prim_again prims.Long (Enumerator k) n above e = absurd cc
-prim_again prims.ULong (Plain k) n above e = plain_again (numbers.Unsigned k) n 4294967295 k refl e
+prim_again prims.ULong (Plain k) n above e = search (arith, plain_again)
 prim_again prims.ULong (Below k) n above e = absurd cc
 prim_again prims.ULong (Truth k) n above e = absurd cc
 prim_again prims.ULong (Enumerator k) n above e = absurd cc
-prim_again prims.LongLong (Plain k) n above e =
-    plain_again (numbers.Signed (pos k)) n 9223372036854775807 k refl e
-prim_again prims.LongLong (Below k) n above e = below_again n 9223372036854775808 k above e
+prim_again prims.LongLong (Plain k) n above e = search (arith, plain_again, pos)
+prim_again prims.LongLong (Below k) n above e = search (arith, below_again)
 prim_again prims.LongLong (Truth k) n above e = absurd cc
 prim_again prims.LongLong (Enumerator k) n above e = absurd cc
-prim_again prims.ULongLong (Plain k) n above e =
-    plain_again (numbers.Unsigned k) n 18446744073709551615 k refl e
+prim_again prims.ULongLong (Plain k) n above e = search (arith, plain_again)
 prim_again prims.ULongLong (Below k) n above e = absurd cc
 prim_again prims.ULongLong (Truth k) n above e = absurd cc
 prim_again prims.ULongLong (Enumerator k) n above e = absurd cc
@@ -130,13 +124,7 @@ numbered_is : (names : List (List ℕ)) (w : List ℕ) (o : Option ℕ) (n : Num
     → position (bytes_eq w) names ≡ o → numbered o ≡ Some n
     → (i : ℕ) × (n ≡ numbers.Unsigned i) × (w ≡ get_or names i [])
 numbered_is names w None n p e = absurd cc
-numbered_is names w (Some i) n p e =
-    let same : n ≡ numbers.Unsigned i = cc in (
-      i,
-      same,
-      (bytes_eq-Decides w (get_or names i [])).0
-          (position-Some (bytes_eq w) names i [] p).1,
-    )
+numbered_is names w (Some i) n p e = search (arith, bytes_eq-Decides, get_or, position-Some)
 
 unsigned_same : (i j : ℕ) → numbers.Unsigned i ≡ numbers.Unsigned j → i ≡ j
 unsigned_same i j e = cc
@@ -144,17 +132,13 @@ unsigned_same i j e = cc
 enumerators_again : (names : List (List ℕ)) (v w : List ℕ) (n : Number)
     → numbered (position (bytes_eq v) names) ≡ Some n
     → numbered (position (bytes_eq w) names) ≡ Some n → v ≡ w
-enumerators_again names v w n e f =
-    let a = numbered_is names v (position (bytes_eq v) names) n refl e in
-    let b = numbered_is names w (position (bytes_eq w) names) n refl f in
-    a.2 ∙ ap (λ i. get_or names i []) (unsigned_same a.0 b.0 (sym a.1 ∙ b.1)) ∙ sym b.2
+enumerators_again names v w n e f = search (arith, numbered_is, get_or, unsigned_same)
 
 values_again : (node : Node) (v w : Value) (n : Number) → IsAbove v → IsAbove w
     → label_number node v ≡ Some n → label_number node w ≡ Some n → v ≡ w
-values_again (nodes.prim p) v w n above also e f =
-    sym (prim_again p v n above e) ∙ prim_again p w n also f
-values_again (nodes.enumeration names) (Enumerator v) (Enumerator w) n above also e f =
-    ap Enumerator (enumerators_again names v w n e f)
+values_again (nodes.prim p) v w n above also e f = search (arith, prim_again)
+values_again (nodes.enumeration names) (Enumerator v) (Enumerator w) n above also e f = search
+    (arith, enumerators_again)
 values_again (nodes.enumeration names) (Enumerator v) (Plain w) n above also e f = absurd cc
 values_again (nodes.enumeration names) (Enumerator v) (Below w) n above also e f = absurd cc
 values_again (nodes.enumeration names) (Enumerator v) (Truth w) n above also e f = absurd cc
@@ -209,4 +193,4 @@ pub any_marks : (node : Node) (x : Label) (seen : List Label) → IsKept node x
     → list_any (λ s. same_mark s (mark_of node x)) (map (mark_of node) seen)
     ≡ list_any (same_label x) seen
 any_marks node x [] k all = refl
-any_marks node x (y ∷ ys) k all = rw (same_marks node x y k all.0, any_marks node x ys k all.1) refl
+any_marks node x (y ∷ ys) k all = search (arith, same_marks, any_marks node x ys k all.1)

@@ -1,5 +1,5 @@
 -- Reading the spelling of a case's labels gives their numbers, or a rule that they break.
-use Rattle.std.proofs.Common.{◌≡◌, inl, ℕ, zero, suc, ◌+◌, ◌<◌, ◌≤◌, Bool, true, false, cond, ◌||◌, ltb, leb, List, [], ◌∷◌, ◌++◌, map, length, Option, Some, None, Result, Ok, Err, append_assoc, ltb-true, ltb-false, leb-true, leb-false, refl, sym, subst, ◌∙◌, arith}
+use Rattle.std.proofs.Common.{◌≡◌, ℕ, zero, suc, ◌+◌, ◌<◌, ◌≤◌, Bool, true, false, cond, ◌||◌, ltb, leb, List, [], ◌∷◌, ◌++◌, map, length, Option, Some, None, Result, Ok, Err, append_assoc, ltb-true, ltb-false, leb-true, leb-false, refl, sym, subst, arith}
 use Rattle.std.specs.Prelude.{codes}
 use Rattle.std.specs.List.{list_any, AllByRecursion}
 use Rattle.std.specs.Str.{bytes_eq}
@@ -17,7 +17,7 @@ use Rattle.giop_tokens.specs.Readers.{is_the_word, mark_at, keyword_if}
 use Rattle.giop_tokens.specs.Names.{is_reserved}
 use Rattle.giop_tokens.proofs.ReaderLaws.{if_other, mark_again, keyword_again, keyword_if_again}
 use Rattle.giop_sig.specs.Table.{Node}
-use Rattle.giop_sig.specs.Grammar.{TypeExpr, Base, Text, Reference, Named, SequenceOf, EncapsulationOf, base_word, Value, Plain, Below, Truth, Enumerator, Label, Default, Of, spell_bound, spell_most, spell_type, spell_value, spell_label, spell_labels}
+use Rattle.giop_sig.specs.Grammar.{TypeExpr, Base, Text, Reference, Named, SequenceOf, EncapsulationOf, base_word, Value, Plain, Below, Truth, Enumerator, Label, Default, Of, spell_type, spell_value, spell_label, spell_labels}
 use Rattle.giop_sig.specs.Scopes.{Names, label_number, label_numbers, has_default}
 use Rattle.giop_sig.specs.Validity.{Kind, IsFree, OfType, OfEnumerator, OfFit, OfValueName, OfLabelValue, same_label, OfNewLabel, OfLabel, OfLabels}
 use Rattle.giop_sig.specs.Outcomes.{refused}
@@ -41,19 +41,21 @@ enumerator_by : (w text rest : List ℕ) (types : List Node) (more : List Token)
     → ltb 64 (length w) ≡ v → IsFree w → AreTokens rest more
     → Out {X = Value × List ℕ} (λ rest. (Enumerator w, rest)) (λ k. OfEnumerator k w) types more
     (cond v (Err (refused kinds.Limit text)) (Ok (Enumerator w, rest)))
-enumerator_by w text rest types more true e free m =
-    broken (refused kinds.Limit text) (inl
-    (λ short. let long = ltb-true 64 (length w) e in omega arith))
-enumerator_by w text rest types more false e free m =
-    good rest m (enumerator_keeps w free (ltb-false 64 (length w) e))
+enumerator_by w text rest types more true e free m = search (arith, broken, ltb-true)
+enumerator_by w text rest types more false e free m = search (
+  arith,
+  good,
+  enumerator_keeps,
+  ltb-false,
+)
 
 not_true : (w : List ℕ) → IsFree w → bytes_eq w (codes "true") ≡ false
 unfolding is_reserved
-not_true w free = is_not w (codes "true") free refl
+not_true w free = search (arith, is_not)
 
 not_false : (w : List ℕ) → IsFree w → bytes_eq w (codes "false") ≡ false
 unfolding is_reserved
-not_false w free = is_not w (codes "false") free refl
+not_false w free = search (arith, is_not)
 
 value_reads : (v : Value) (text : List ℕ) (types : List Node) (more : List Token)
     → OfValueName kinds.Syntax v → AreTokens text (spell_value v more)
@@ -63,9 +65,13 @@ value_reads (Plain n) text types more free h = rw h.1 (good h.0 h.2 (λ k. tt))
 value_reads (Below n) text types more free h = rw h.1 (good h.0 h.2 (λ k. tt))
 value_reads (Truth true) text types more free h = rw h.1 (good h.0 h.2 (λ k. tt))
 value_reads (Truth false) text types more free h = rw h.1 (good h.0 h.2 (λ k. tt))
-value_reads (Enumerator w) text types more free h =
-    rw (h.1, not_true w free, not_false w free, free)
-    (enumerator_by w text h.0 types more (ltb 64 (length w)) refl free h.2)
+value_reads (Enumerator w) text types more free h = search (
+  arith,
+  not_true,
+  not_false,
+  enumerator_by,
+  ltb,
+)
 
 fit_keeps : (node : Node) (v : Value) (n : Number) → label_number node v ≡ Some n
     → (k : Kind) → OfFit k node v
@@ -81,10 +87,8 @@ fit_by : (node : Node) (v : Value) (text rest : List ℕ) (types : List Node) (m
     → ((k : Kind) → OfValueName k v)
     → Out {X = LabelRead} (λ rest. (label_number node v, rest))
     (λ k. OfValueName k v × OfFit k node v) types more (fitting text rest o)
-fit_by node v text rest types more None e m keeps =
-    broken (refused kinds.Label text) (λ k. no_fit (label_number node v) e k.1)
-fit_by node v text rest types more (Some n) e m keeps =
-    rw e (good rest m (λ k. (keeps k, fit_keeps node v n e k)))
+fit_by node v text rest types more None e m keeps = search (arith, broken, no_fit)
+fit_by node v text rest types more (Some n) e m keeps = search (arith, good, fit_keeps)
 
 number_reads : (node : Node) (v : Value) (text : List ℕ) (types : List Node) (more : List Token)
     → OfValueName kinds.Syntax v → AreTokens text (spell_value v more)
@@ -115,11 +119,8 @@ fresh_by : (node : Node) (seen : List Label) (l : Label) (text rest : List ℕ) 
     (cond a (Err (refused kinds.Duplicate text))
     (cond b (Err (refused kinds.Limit text)) (Ok (mark_of node l)))
     >>= λ m. mark_at marks.Colon rest >>= λ r. Ok (m, r))
-fresh_by node seen l text rest types more true b p q m =
-    broken (refused kinds.Duplicate text) (λ k. false≢true (sym k ∙ p))
-fresh_by node seen l text rest types more false true p q m =
-    broken (refused kinds.Limit text) (inl
-    (λ k. let many = leb-true 1024 (length seen) q in omega arith))
+fresh_by node seen l text rest types more true b p q m = search (arith, broken, false≢true)
+fresh_by node seen l text rest types more false true p q m = search (arith, broken, leb-true)
 fresh_by node seen l text rest types more false false p q m =
     rw (mark_again marks.Colon rest more m)
     (good m.0 m.2 (new_keeps seen l (leb-false 1024 (length seen) q) p))
@@ -139,12 +140,11 @@ fresh_reads node seen l text rest types more kept all m =
 -- the word of the default isn't that of a value
 not_case : (text : List ℕ) (ts : List Token) → AreTokens text (word (codes "default") ∷ ts)
     → keyword_if (codes "case") text ≡ Ok None
-not_case text ts h = if_other (is_the_word (codes "case")) text (word (codes "default")) ts h refl
+not_case text ts h = search (arith, if_other)
 
 not_default : (text : List ℕ) (ts : List Token) → AreTokens text (word (codes "case") ∷ ts)
     → keyword_if (codes "default") text ≡ Ok None
-not_default text ts h = if_other (is_the_word (codes "default")) text (word (codes "case")) ts h
-    refl
+not_default text ts h = search (arith, if_other)
 
 -- a value below zero that a text spells isn't 0
 value_above : (v : Value) (text : List ℕ) (more : List Token)
@@ -159,12 +159,12 @@ IsAboveLabel (Of v) = IsAbove v
 pub label_above : (l : Label) (text : List ℕ) (more : List Token)
     → AreTokens text (spell_label l more) → IsAboveLabel l
 label_above Default text more h = tt
-label_above (Of v) text more h = value_above v h.0 (mark marks.Colon ∷ more) h.2
+label_above (Of v) text more h = search (arith, value_above)
 
 pub label_kept : (node : Node) (l : Label) → IsAboveLabel l
     → OfLabelValue kinds.Label node l → IsKept node l
 label_kept node Default above fit = tt
-label_kept node (Of v) above fit = let f = fit.1 in (f.0, f.1, above)
+label_kept node (Of v) above fit = search (arith)
 
 label_reads : (node : Node) (seen : List Label) (l : Label) (text : List ℕ) (types : List Node)
     (more : List Token) → AllByRecursion (IsKept node) seen → OfLabel kinds.Syntax node seen l
@@ -205,22 +205,21 @@ no_label text w ts a b h = rw (
 not_label : (text w : List ℕ) (ts : List Token) → IsFree w → AreTokens text (word w ∷ ts)
     → begins_label text ≡ Ok false
 unfolding is_reserved
-not_label text w ts free h = no_label text w ts (is_not w (codes "case") free refl)
-    (is_not w (codes "default") free refl) h
+not_label text w ts free h = search (arith, no_label, is_not)
 
 no_base : (p : Primitive) (text : List ℕ) (ts : List Token)
     → AreTokens text (word (base_word p) ∷ ts) → begins_label text ≡ Ok false
-no_base prims.Octet text ts h = no_label text (codes "octet") ts refl refl h
-no_base prims.Char text ts h = no_label text (codes "char") ts refl refl h
-no_base prims.Boolean text ts h = no_label text (codes "boolean") ts refl refl h
-no_base prims.Short text ts h = no_label text (codes "short") ts refl refl h
-no_base prims.UShort text ts h = no_label text (codes "ushort") ts refl refl h
-no_base prims.Long text ts h = no_label text (codes "long") ts refl refl h
-no_base prims.ULong text ts h = no_label text (codes "ulong") ts refl refl h
-no_base prims.LongLong text ts h = no_label text (codes "longlong") ts refl refl h
-no_base prims.ULongLong text ts h = no_label text (codes "ulonglong") ts refl refl h
-no_base prims.Float text ts h = no_label text (codes "float") ts refl refl h
-no_base prims.Double text ts h = no_label text (codes "double") ts refl refl h
+no_base prims.Octet text ts h = search (arith, no_label)
+no_base prims.Char text ts h = search (arith, no_label)
+no_base prims.Boolean text ts h = search (arith, no_label)
+no_base prims.Short text ts h = search (arith, no_label)
+no_base prims.UShort text ts h = search (arith, no_label)
+no_base prims.Long text ts h = search (arith, no_label)
+no_base prims.ULong text ts h = search (arith, no_label)
+no_base prims.LongLong text ts h = search (arith, no_label)
+no_base prims.ULongLong text ts h = search (arith, no_label)
+no_base prims.Float text ts h = search (arith, no_label)
+no_base prims.Double text ts h = search (arith, no_label)
 
 -- a type doesn't begin with a label
 pub type_no_label : (e : TypeExpr) (names : Names) (text : List ℕ) (more : List Token)
@@ -228,16 +227,11 @@ pub type_no_label : (e : TypeExpr) (names : Names) (text : List ℕ) (more : Lis
     → begins_label text ≡ Ok false
 unfolding OfType
 type_no_label (Base p) names text more free h = no_base p text more h
-type_no_label (Text o) names text more free h =
-    no_label text (codes "string") (spell_bound o more) refl refl h
-type_no_label Reference names text more free h = no_label text (codes "Object") more refl refl h
+type_no_label (Text o) names text more free h = search (arith, no_label)
+type_no_label Reference names text more free h = search (arith, no_label)
 type_no_label (Named w) names text more free h = not_label text w more free h
-type_no_label (SequenceOf e o) names text more free h =
-    no_label text (codes "sequence") (mark marks.OpenAngle ∷ spell_type e
-    (spell_most o (mark marks.CloseAngle ∷ more))) refl refl h
-type_no_label (EncapsulationOf e) names text more free h =
-    no_label text (codes "encapsulation") (mark marks.OpenAngle ∷ spell_type e
-    (mark marks.CloseAngle ∷ more)) refl refl h
+type_no_label (SequenceOf e o) names text more free h = search (arith, no_label)
+type_no_label (EncapsulationOf e) names text more free h = search (arith, no_label)
 
 -- a label does
 label_begins : (l : Label) (text : List ℕ) (more : List Token) → AreTokens text (spell_label l more)
@@ -277,10 +271,14 @@ with_one : (node : Node) (seen : List Label) (own : List Number) (default : Bool
     (text rest : List ℕ) (l : Label) → IsKept node l
     → with_label (marks_of node seen, own, default, text) (mark_of node l, rest)
     ≡ labelled node seen own default (l ∷ []) rest
-with_one node seen own default text rest Default kept =
-    rw (map-append (mark_of node) seen (Default ∷ []), append-nil own, or_true default) refl
-with_one node seen own default text rest (Of v) kept =
-    rw (map-append (mark_of node) seen (Of v ∷ []), kept.1, or_false default) refl
+with_one node seen own default text rest Default kept = search (
+  arith,
+  map-append,
+  mark_of,
+  append-nil,
+  or_true,
+)
+with_one node seen own default text rest (Of v) kept = search (arith, map-append, mark_of, or_false)
 
 numbers_cons : (node : Node) (l : Label) (ls : List Label) → IsKept node l
     → label_numbers node (l ∷ []) ++ label_numbers node ls ≡ label_numbers node (l ∷ ls)
@@ -296,20 +294,18 @@ labelled_on : (node : Node) (seen : List Label) (own : List Number) (default : B
     (ls : List Label) (rest : List ℕ) → IsKept node l
     → labelled node (seen ++ l ∷ []) (own ++ label_numbers node (l ∷ []))
     (default || has_default (l ∷ [])) ls rest ≡ labelled node seen own default (l ∷ ls) rest
-labelled_on node seen own default l ls rest kept =
-    rw (
-      append_assoc seen (l ∷ []) ls,
-      append_assoc own (label_numbers node (l ∷ [])) (label_numbers node ls),
-      numbers_cons node l ls kept,
-      or_assoc default (has_default (l ∷ [])) (has_default ls),
-      default_cons l ls,
-    ) refl
+labelled_on node seen own default l ls rest kept = search (
+  arith,
+  append_assoc,
+  numbers_cons,
+  or_assoc,
+  default_cons,
+)
 
 labelled_end : (node : Node) (seen : List Label) (own : List Number) (default : Bool)
     (rest : List ℕ) → (marks_of node seen, own, default, rest)
     ≡ labelled node seen own default [] rest
-labelled_end node seen own default rest =
-    rw (append-nil seen, append-nil own, or_false default) refl
+labelled_end node seen own default rest = search (arith, append-nil, or_false)
 
 step_on : (node : Node) (seen : List Label) (own : List Number) (default : Bool) (l : Label)
     (text : List ℕ) (types : List Node) (more : List Token) → AllByRecursion (IsKept node) seen

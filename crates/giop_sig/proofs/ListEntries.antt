@@ -1,5 +1,5 @@
 -- The line of an entry, cut at its first space.
-use Rattle.std.proofs.Common.{◌≡◌, ℕ, ◌+◌, ◌^◌, ◌<◌, Bool, false, eqb, List, [], ◌∷◌, take, drop, refl, sym, subst, arith}
+use Rattle.std.proofs.Common.{◌≡◌, ℕ, ◌+◌, ◌^◌, ◌<◌, Bool, false, eqb, List, [], ◌∷◌, take, drop, refl, arith}
 use Rattle.std.specs.Fmt.{decimal}
 use Rattle.std.specs.Char.{digit_value}
 use Rattle.std.specs.Str.Parse.{AllDigits}
@@ -13,7 +13,7 @@ abbrev pub is_space : ℕ → Bool
 is_space b = eqb b 32
 
 no_space : (b : ℕ) → digit_value b < 10 → is_space b ≡ false
-no_space b h = let k = digit_from_value b h in ne_eqb b 32 (λ e. omega (arith, k))
+no_space b h = search (arith, digit_from_value, ne_eqb)
 
 digits_no_space : (ds : List ℕ) → AllDigits 10 ds → NonePass is_space ds
 digits_no_space [] h = tt
@@ -27,8 +27,7 @@ entry_cut line e h parts =
     refl).digits) refl
 
 pub no_entry : (line : List ℕ) → NonePass is_space line → IsEntryLine line → ⊥
-no_entry line none h = let e = none_cut is_space (decimal h.0.id) 32 h.0.name
-    (subst (λ (xs : List ℕ). NonePass is_space xs) h.2 none) in absurd cc
+no_entry line none h = search (arith, none_cut)
 
 -- what stands before and after the first space of an entry's line
 pub entry_parts : (line : List ℕ) (k : ℕ) → CutAt is_space line k → (h : IsEntryLine line)
@@ -38,8 +37,8 @@ entry_parts line k c h = cut_is is_space line (decimal h.0.id) 32 h.0.name k
 
 pub no_number : (line : List ℕ) (k : ℕ) → CutAt is_space line k
     → ((n : ℕ) → n < 2 ^ 32 → take k line ≡ decimal n → ⊥) → IsEntryLine line → ⊥
-no_number line k c none h = none h.0.id h.1.id (entry_parts line k c h).0
+no_number line k c none h = search (arith, entry_parts)
 
 pub no_name : (line : List ℕ) (k : ℕ) → CutAt is_space line k
     → (IsName (drop (k + 1) line) → ⊥) → IsEntryLine line → ⊥
-no_name line k c none h = none (subst IsName (sym (entry_parts line k c h).1) h.1.name)
+no_name line k c none h = search (arith, entry_parts)

@@ -1,7 +1,7 @@
 -- The operation that is stored with a request id, entry by entry.
-use Rattle.std.proofs.Common.{◌≡◌, ℕ, Bool, true, false, cond, ◌&&◌, ◌||◌, eqb, nat_eq, List, [], ◌∷◌, ◌++◌, map, Option, Some, None, refl, sym, ap, ◌∙◌}
+use Rattle.std.proofs.Common.{arith, ◌≡◌, ℕ, Bool, true, false, cond, ◌&&◌, ◌||◌, eqb, nat_eq, List, [], ◌∷◌, ◌++◌, map, Option, Some, None, refl, sym, ap, ◌∙◌}
 use Rattle.std.specs.Prelude.{option_and_then}
-use Rattle.std.specs.List.{list_all, list_any, IsDistinct}
+use Rattle.std.specs.List.{list_any, IsDistinct}
 use Rattle.std.specs.Map.{lookup, keys_of}
 use Rattle.std.specs.Option.{is_some, option_map}
 use Rattle.std.specs.Str.{bytes_eq}
@@ -30,10 +30,10 @@ FindsOne find = (m n : List ℕ) (i : OpId) → find m ≡ Some i → find n ≡
 
 number_taken : (o : Option ℕ) (i : OpId) → option_map as_operation o ≡ Some i → o ≡ Some i.0
 number_taken None i e = absurd cc
-number_taken (Some k) i e = ap (option_map (λ (x : OpId). x.0)) e
+number_taken (Some k) i e = search (arith)
 
 finds_one : (find : List ℕ → Option ℕ) → IsOneToOne find → FindsOne (finding find)
-finds_one find one m n i p q = one m n i.0 (number_taken (find m) i p) (number_taken (find n) i q)
+finds_one find one m n i p q = search (arith, number_taken)
 
 number_back : (o : Option ℕ) → option_map (λ (x : OpId). x.0) (option_map as_operation o) ≡ o
 number_back None = refl
@@ -53,16 +53,16 @@ names_one e q false h = rw h refl
 names_cons : (f : Entry) (es : List Entry) (e : Entry) (q : ℕ) (v : Bool) → eqb q f.id ≡ v
     → names_of (es ++ e ∷ []) q ≡ names_of es q ++ cond (eqb q e.id) (e.name ∷ []) []
     → names_of (f ∷ (es ++ e ∷ [])) q ≡ names_of (f ∷ es) q ++ cond (eqb q e.id) (e.name ∷ []) []
-names_cons f es e q true h rest = rw h (ap (λ (ns : List (List ℕ)). f.name ∷ ns) rest)
+names_cons f es e q true h rest = search (arith)
 names_cons f es e q false h rest = rw h rest
 
 pub names_more : (es : List Entry) (e : Entry) (q : ℕ)
     → names_of (es ++ e ∷ []) q ≡ names_of es q ++ cond (eqb q e.id) (e.name ∷ []) []
-names_more [] e q = names_one e q (eqb q e.id) refl
-names_more (f ∷ es) e q = names_cons f es e q (eqb q f.id) refl (names_more es e q)
+names_more [] e q = search (arith, names_one, eqb)
+names_more (f ∷ es) e q = search (arith, names_cons, eqb, names_more es e q)
 
 same_op : (a b : OpId) → eqb a.0 b.0 ≡ true → a ≡ b
-same_op a b e = ap (λ k. record { 0 = k }) (eqb-true a.0 b.0 e)
+same_op a b e = search (arith, eqb-true)
 
 eqb_self : (k : ℕ) → eqb k k ≡ true
 eqb_self k = eq-eqb k k refl
@@ -78,8 +78,7 @@ joined_apart : (find : List ℕ → Option OpId) → FindsOne find → (m n : Li
 joined_apart find one m n ne None None p q = refl
 joined_apart find one m n ne None (Some b) p q = refl
 joined_apart find one m n ne (Some a) None p q = refl
-joined_apart find one m n ne (Some a) (Some b) p q =
-    apart_by (eqb a.0 b.0) find one m n a b p q ne refl
+joined_apart find one m n ne (Some a) (Some b) p q = search (arith, apart_by, eqb)
 
 joined_same : (x : Option OpId) → x ≡ joined (Some x) x
 joined_same None = refl
@@ -93,8 +92,7 @@ joined_by : (find : List ℕ → Option OpId) → FindsOne find
     → (all : Bool) (m n : List ℕ) (v : Bool) → bytes_eq m n ≡ v
     → option_and_then find (cond (all && (bytes_eq m n && true)) (Some m) None)
     ≡ joined (Some (option_and_then find (cond all (Some m) None))) (find n)
-joined_by find one true m n true e = rw e
-    (joined_same (find m) ∙ ap (λ k. joined (Some (find m)) (find k)) ((bytes_eq-Decides m n).0 e))
+joined_by find one true m n true e = search (arith, joined_same, bytes_eq-Decides)
 joined_by find one true m n false e =
     rw e (joined_apart find one m n (λ same.
     absurd (false≢true (sym e ∙ (bytes_eq-Decides m n).1 same))) (find m) (find n) refl refl)
@@ -103,30 +101,22 @@ joined_by find one false m n v e = joined_none (find n)
 pub joined_more : (find : List ℕ → Option OpId) → FindsOne find → (ns : List (List ℕ)) (n : List ℕ)
     → kept_by find (ns ++ n ∷ []) ≡ Some (joined (kept_by find ns) (find n))
 joined_more find one [] n = refl
-joined_more find one (m ∷ ms) n =
-    ap (λ b. Some (option_and_then find (cond b (Some m) None)))
-    (list_all-append (bytes_eq m) ms (n ∷ []))
-    ∙ ap Some (joined_by find one (list_all (bytes_eq m) ms) m n (bytes_eq m n) refl)
+joined_more find one (m ∷ ms) n = search (arith, cond, list_all-append, joined_by)
 
 kept_more_by : (find : List ℕ → Option OpId) → FindsOne find
     → (es : List Entry) (e : Entry) (q : ℕ) (v : Bool) → eqb e.id q ≡ v
     → kept_by find (names_of es q ++ cond (eqb q e.id) (e.name ∷ []) [])
     ≡ cond (eqb e.id q) (Some (joined (kept_by find (names_of es e.id)) (find e.name)))
     (kept_by find (names_of es q))
-kept_more_by find one es e q true h =
-    let same : e.id ≡ q = eqb-true e.id q h in
-    rw (h, eq-eqb q e.id (sym same)) (joined_more find one (names_of es q) e.name
-    ∙ ap (λ k. Some (joined (kept_by find (names_of es k)) (find e.name))) (sym same))
-kept_more_by find one es e q false h = rw (h, ne_eqb q e.id (λ same. eqb-false e.id q h (sym same)))
-    (ap (kept_by find) (append-nil (names_of es q)))
+kept_more_by find one es e q true h = search (arith, eqb-true, eq-eqb, joined_more)
+kept_more_by find one es e q false h = search (arith, ne_eqb, eqb-false, append-nil)
 
 pub kept_more : (find : List ℕ → Option OpId) → FindsOne find
     → (es : List Entry) (e : Entry) (q : ℕ)
     → kept_by find (names_of (es ++ e ∷ []) q)
     ≡ cond (eqb e.id q) (Some (joined (kept_by find (names_of es e.id)) (find e.name)))
     (kept_by find (names_of es q))
-kept_more find one es e q = ap (kept_by find) (names_more es e q)
-    ∙ kept_more_by find one es e q (eqb e.id q) refl
+kept_more find one es e q = search (arith, names_more, kept_more_by, eqb)
 
 pub flat_kept : (find : List ℕ → Option OpId) (ns : List (List ℕ))
     → flat (kept_by find ns) ≡ option_and_then find (the_one ns)
@@ -144,7 +134,7 @@ some_by find e es q false h rest = rw h rest
 some_kept : (find : List ℕ → Option OpId) (es : List Entry) (q : ℕ)
     → is_some (kept_by find (names_of es q)) ≡ list_any (nat_eq q) (map (λ e. e.id) es)
 some_kept find [] q = refl
-some_kept find (e ∷ es) q = some_by find e es q (eqb q e.id) refl (some_kept find es q)
+some_kept find (e ∷ es) q = search (arith, some_by, eqb, some_kept find es q)
 
 pub is_of : (find : List ℕ → Option ℕ) (es : List Entry) (kept : List (ℕ × Option OpId))
     → IsDistinct nat_eq (keys_of kept)
@@ -167,8 +157,10 @@ pub kept_step : (find : List ℕ → Option ℕ) → IsOneToOne find
     → ((q : ℕ) → lookup (nat_eq q) old ≡ kept_by (finding find) (names_of es q))
     → ((q : ℕ) → lookup (nat_eq q) new ≡ cond (eqb e.id q) (Some w) (lookup (nat_eq q) old))
     → (q : ℕ) → lookup (nat_eq q) new ≡ kept_by (finding find) (names_of (es ++ e ∷ []) q)
-kept_step find one es e old new w is before after q =
-    after q ∙ ap (λ x. cond (eqb e.id q) (Some w) x) (before q)
-    ∙ ap (λ x. cond (eqb e.id q) (Some x) (kept_by (finding find) (names_of es q)))
-    (is ∙ ap (λ k. joined k (finding find e.name)) (before e.id))
-    ∙ sym (kept_more (finding find) (finds_one find one) es e q)
+kept_step find one es e old new w is before after q = search (
+  arith,
+  cond,
+  eqb,
+  kept_more,
+  finds_one,
+)

@@ -25,7 +25,7 @@ module _ {X : Type 0} (p : X → Bool) where
       ⊎ ((front : List X) × (y : X) × (back : List X) × Cut xs front y back)
 
   cuts_on : (x : X) (xs : List X) → p x ≡ false → Cuts xs → Cuts (x ∷ xs)
-  cuts_on x xs e (inl h) = inl ((e, h.0), rw e (omega (arith, h.1)))
+  cuts_on x xs e (inl h) = search (arith)
   cuts_on x xs e (inr h) = inr (
     x ∷ h.0,
     h.1,
@@ -50,7 +50,7 @@ module _ {X : Type 0} (p : X → Bool) where
 
   pub cuts : (xs : List X) → Cuts xs
   cuts [] = inl (tt, refl)
-  cuts (x ∷ xs) = cuts_cons x xs (p x) refl (cuts xs)
+  cuts (x ∷ xs) = search (arith, cuts_cons, cuts xs)
 
   place_on : (x : X) (xs : List X) (n : ℕ) → p x ≡ false → position_or_len p xs ≡ n →
       position_or_len p (x ∷ xs) ≡ suc n
@@ -59,8 +59,7 @@ module _ {X : Type 0} (p : X → Bool) where
   place_made : (front : List X) (y : X) (back : List X) → NonePass front → p y ≡ true →
       position_or_len p (front ++ y ∷ back) ≡ length front
   place_made [] y back none e = rw e refl
-  place_made (x ∷ front) y back none e = place_on x (front ++ y ∷ back) (length front) none.0
-      (place_made front y back none.1 e)
+  place_made (x ∷ front) y back none e = search (arith, place_on, place_made front y back none.1 e)
 
   pub cut_made : (xs front : List X) (y : X) (back : List X) → xs ≡ front ++ y ∷ back →
       NonePass front → p y ≡ true → Cut xs front y back
@@ -86,7 +85,7 @@ module _ {X : Type 0} (p : X → Bool) where
 
   inside_of : (xs front : List X) (y : X) (back : List X) → Cut xs front y back →
       length front < length xs
-  inside_of xs front y back c = omega (arith, ap length c.parts, length-append front (y ∷ back))
+  inside_of xs front y back c = search (arith, length-append)
 
   cut_at : (xs front : List X) (y : X) (back : List X) → Cut xs front y back →
       CutAt xs (length front)
@@ -130,12 +129,8 @@ module _ {X : Type 0} (p : X → Bool) where
   found_by : (xs : List X) → Cuts xs → MatchOption
       (cond (ltb (position_or_len p xs) (length xs)) (Some (position_or_len p xs)) None)
       (NonePass xs) (CutAt xs)
-  found_by xs (inl h) = rw (h.1, le-ltb (length xs) (length xs) (omega arith)) h.0
-  found_by xs (inr h) = rw (
-    h.3.place,
-    lt-ltb (length h.0) (length xs)
-        (inside_of xs h.0 h.1 h.2 h.3),
-  ) (cut_at xs h.0 h.1 h.2 h.3)
+  found_by xs (inl h) = search (arith, le-ltb)
+  found_by xs (inr h) = search (arith, lt-ltb, inside_of, cut_at)
 
   pub found : (xs : List X) (r : Option ℕ) →
       r ≡ cond (ltb (position_or_len p xs) (length xs)) (Some (position_or_len p xs)) None
@@ -143,7 +138,7 @@ module _ {X : Type 0} (p : X → Bool) where
   found xs r e = rw e (found_by xs (cuts xs))
 
 pub to_end : {X : Type 0} (n : ℕ) (xs : List X) → take (length xs - n) (drop n xs) ≡ drop n xs
-to_end n xs = take_all (length xs - n) (drop n xs) (omega (arith, length-drop n xs))
+to_end n xs = search (arith, take_all, drop, length-drop)
 
 -- ---- lines
 
@@ -154,16 +149,15 @@ on_line b bs ls e h = rw (e, h) refl
 pub lines_cut : (front : List ℕ) (y : ℕ) (back : List ℕ) → NonePass is_lf front → is_lf y ≡ true
     → lines (front ++ y ∷ back) ≡ front ∷ lines back
 lines_cut [] y back none e = rw e refl
-lines_cut (b ∷ front) y back none e = on_line b (front ++ y ∷ back) (front ∷ lines back) none.0
-    (lines_cut front y back none.1 e)
+lines_cut (b ∷ front) y back none e = search (arith, on_line, lines_cut front y back none.1 e)
 
 pub lines_only : (b : ℕ) (bs : List ℕ) → NonePass is_lf (b ∷ bs) → lines (b ∷ bs) ≡ (b ∷ bs) ∷ []
 lines_only b [] none = on_line b [] [] none.0 refl
-lines_only b (d ∷ bs) none = on_line b (d ∷ bs) ((d ∷ bs) ∷ []) none.0 (lines_only d bs none.1)
+lines_only b (d ∷ bs) none = search (arith, on_line, lines_only d bs none.1)
 
 pub lines_at : (bs : List ℕ) (k : ℕ) → CutAt is_lf bs k
     → lines bs ≡ take k bs ∷ lines (drop (k + 1) bs)
-lines_at bs k c = ap lines c.parts ∙ lines_cut (take k bs) c.first (drop (k + 1) bs) c.none c.passes
+lines_at bs k c = search (arith, lines_cut, take, drop)
 
 pub lines_one : (bs : List ℕ) → 0 < length bs → NonePass is_lf bs → lines bs ≡ bs ∷ []
 lines_one [] some none = absurd (omega arith)

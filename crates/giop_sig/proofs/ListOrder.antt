@@ -1,6 +1,6 @@
 -- What is stored of a request list is a function of its entries: ids in the order of their first
 -- entries.
-use Rattle.std.proofs.Common.{◌≡◌, ℕ, Bool, true, false, cond, not, ◌||◌, eqb, nat_eq, List, [], ◌∷◌, ◌++◌, map, filter, Option, Some, None, refl, sym, ap, ◌∙◌, subst}
+use Rattle.std.proofs.Common.{arith, ◌≡◌, ℕ, Bool, true, false, cond, not, eqb, nat_eq, List, [], ◌∷◌, ◌++◌, map, filter, Option, Some, None, refl, sym, ap, ◌∙◌, subst}
 use Rattle.std.specs.Prelude.{option_and_then}
 use Rattle.std.specs.List.{list_any, IsDistinct, AllByRecursion}
 use Rattle.std.specs.Map.{lookup, keys_of}
@@ -26,65 +26,37 @@ with_id ids x = cond (list_any (nat_eq x) ids) ids (ids ++ x ∷ [])
 any_other : (x k : ℕ) (ids : List ℕ) → eqb x k ≡ false
     → list_any (nat_eq x) (filter (is_other k) ids) ≡ list_any (nat_eq x) ids
 any_other x k [] apart = refl
-any_other x k (y ∷ ids) apart = by (eqb y k) refl (any_other x k ids apart)
-  where
-    by : (v : Bool) → eqb y k ≡ v
-        → list_any (nat_eq x) (filter (is_other k) ids) ≡ list_any (nat_eq x) ids
-        → list_any (nat_eq x) (cond (not (eqb y k)) (y ∷ filter (is_other k) ids)
-        (filter (is_other k) ids))
-        ≡ (eqb x y || list_any (nat_eq x) ids)
-    by true e rest =
-        let same : y ≡ k = eqb-true y k e in
-        rw (e, same, apart) rest
-    by false e rest = rw e (ap (λ b. eqb x y || b) rest)
+any_other x k (y ∷ ids) apart = search (
+  arith,
+  eqb,
+  nat_eq,
+  filter,
+  cond,
+  not,
+  eqb-true,
+  any_other
+      x k ids apart,
+)
 
 with_other : (x k : ℕ) (ids : List ℕ)
     → k ∷ filter (is_other k) (with_id ids x) ≡ with_id (k ∷ filter (is_other k) ids) x
-with_other x k ids = by (eqb x k) refl (list_any (nat_eq x) ids) refl
-  where
-    by : (v : Bool) → eqb x k ≡ v → (w : Bool) → list_any (nat_eq x) ids ≡ w
-        → k ∷ filter (is_other k) (with_id ids x) ≡ with_id (k ∷ filter (is_other k) ids) x
-    by true e true m = rw (e, m) refl
-    by true e false m =
-        rw (m, e, filter-append (is_other k) ids (x ∷ []), e)
-        (ap (λ xs. k ∷ xs) (append-nil (filter (is_other k) ids)))
-    by false e true m = rw (m, e, any_other x k ids e, m) refl
-    by false e false m = rw (
-      m,
-      e,
-      any_other x k ids e,
-      m,
-      filter-append (is_other k) ids (x ∷ []),
-      e,
-    ) refl
+with_other x k ids = search (arith, eqb, nat_eq, filter, filter-append, append-nil, any_other)
 
 pub ids_more : (es : List Entry) (e : Entry) → ids_of (es ++ e ∷ []) ≡ with_id (ids_of es) e.id
 ids_more [] e = refl
-ids_more (f ∷ es) e =
-    ap (λ ids. f.id ∷ filter (is_other f.id) ids) (ids_more es e) ∙ with_other e.id f.id (ids_of es)
+ids_more (f ∷ es) e = search (arith, filter, with_other, ids_more es e)
 
 -- ---- the map, with one more entry
 
 keys_insert : (es : List (ℕ × Option OpId)) (k : ℕ) (v : Option OpId)
     → keys_of (insert_entry nat_eq es k v) ≡ with_id (keys_of es) k
 keys_insert [] k v = refl
-keys_insert (e ∷ es) k v = by (eqb k e.0) refl (list_any (nat_eq k) (keys_of es)) refl
-    (keys_insert es k v)
-  where
-    by : (x : Bool) → eqb k e.0 ≡ x → (y : Bool) → list_any (nat_eq k) (keys_of es) ≡ y
-        → keys_of (insert_entry nat_eq es k v) ≡ with_id (keys_of es) k
-        → keys_of (insert_entry nat_eq (e ∷ es) k v) ≡ with_id (keys_of (e ∷ es)) k
-    by true a y b rest = rw a refl
-    by false a true b rest = rw (a, b) (ap (λ ks. e.0 ∷ ks)
-        (rest ∙ ap (λ c. cond c (keys_of es) (keys_of es ++ k ∷ [])) b))
-    by false a false b rest = rw (a, b) (ap (λ ks. e.0 ∷ ks)
-        (rest ∙ ap (λ c. cond c (keys_of es) (keys_of es ++ k ∷ [])) b))
+keys_insert (e ∷ es) k v = search (arith, eqb, nat_eq, cond, keys_insert es k v)
 
 pub keys_step : (es : List Entry) (e : Entry) (old new : List (ℕ × Option OpId)) (v : Option OpId)
     → keys_of old ≡ ids_of es → new ≡ insert_entry nat_eq old e.id v →
     keys_of new ≡ ids_of (es ++ e ∷ [])
-keys_step es e old new v keys is =
-    ap keys_of is ∙ keys_insert old e.id v ∙ ap (λ ids. with_id ids e.id) keys ∙ sym (ids_more es e)
+keys_step es e old new v keys is = search (arith, keys_insert, ids_more)
 
 -- ---- the whole map
 

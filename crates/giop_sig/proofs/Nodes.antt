@@ -1,12 +1,12 @@
 -- A node and its tree agree on a type's form, names, parts and selection.
-use Rattle.std.proofs.Common.{◌≡◌, ℕ, zero, suc, ◌<◌, Bool, true, false, cond, nat_lt, List, [], ◌∷◌, length, Some, None, refl, sym, ap, ◌∙◌, arith, lt-ltb, le-ltb}
+use Rattle.std.proofs.Common.{◌≡◌, ℕ, zero, suc, ◌<◌, Bool, true, false, cond, nat_lt, List, [], ◌∷◌, length, Some, None, refl, arith, lt-ltb, le-ltb}
 use Rattle.std.proofs.lemmas.Bool.{ltb-true, ltb-false}
 use Rattle.std.specs.Prelude.{slice_get}
 use Rattle.giop_cdr.specs.declared.number.Number.{Number}
-use Rattle.giop_sig.specs.Types.{Cases, Plain, Enum, Ty, Single, Text, Octets, Struct, Union, Sequence, Array, shape_in, HasShape, HasMember, HasPlace, part_of, name_in, enum_name_in, switch_of, select_in, interpreted_in, Tag, Encapsulation}
-use Rattle.giop_sig.specs.Table.{Node, Part, Case, shape_of, part_at, type_of, name_of, name_at, switch_at, selected, case_part}
+use Rattle.giop_sig.specs.Types.{Cases, Enum, Ty, Single, Struct, Union, Sequence, Array, shape_in, HasShape, HasMember, HasPlace, part_of, name_in, enum_name_in, switch_of, select_in, interpreted_in, Tag, Encapsulation}
+use Rattle.giop_sig.specs.Table.{Node, Part, Case, shape_of, part_at, type_of, name_of, name_at, selected, case_part}
 use Rattle.giop_sig.specs.Table as nodes
-use Rattle.giop_sig.specs.Trees.{grow, selected_by, name_or}
+use Rattle.giop_sig.specs.Trees.{grow, name_or}
 
 pub shape_grown : (tree : ℕ → Ty) (node : Node) → shape_in (grow tree node) ≡ shape_of node
 shape_grown tree (nodes.prim p) = refl
@@ -15,8 +15,8 @@ shape_grown tree _ = refl
 pub has_shape : (T : Ty) → HasShape T (shape_in T)
 has_shape (Single (Enum count names)) = (names, refl)
 has_shape (Struct count names parts) = (names, parts, refl)
-has_shape (Union (Cases count) scalar select names cases) = (scalar, select, names, cases, refl)
-has_shape (Union Tag scalar select names cases) = (scalar, select, names, cases, refl)
+has_shape (Union (Cases count) scalar select names cases) = search (arith)
+has_shape (Union Tag scalar select names cases) = search (arith)
 has_shape (Encapsulation T) = (T, refl)
 has_shape (Sequence bound T) = (T, refl)
 has_shape (Array count T) = (T, refl)
@@ -41,8 +41,7 @@ part_there (nodes.union switch cases otherwise) i has = case_below cases i has
 part_there (nodes.sequence bound element) i has = (nodes.element_part element, refl)
 part_there (nodes.array count element) i has = (nodes.element_part element, refl)
 part_there (nodes.encapsulation held) i has = (nodes.element_part held, refl)
-part_there (nodes.tagged special tag inner other) i has =
-    read_below (tag ∷ inner ∷ other ∷ []) i has
+part_there (nodes.tagged special tag inner other) i has = search (arith, read_below)
 part_there _ i has = absurd has
 
 pub part_grown : (tree : ℕ → Ty) (node : Node) (i : ℕ) → HasPlace (shape_of node) i
@@ -53,8 +52,7 @@ part_grown tree (nodes.union switch cases otherwise) i has = let p = case_below 
 part_grown tree (nodes.sequence bound element) i has = refl
 part_grown tree (nodes.array count element) i has = refl
 part_grown tree (nodes.encapsulation held) i has = refl
-part_grown tree (nodes.tagged special tag inner other) i has =
-    let p = read_below (tag ∷ inner ∷ other ∷ []) i has in rw (p.1) refl
+part_grown tree (nodes.tagged special tag inner other) i has = search (arith, read_below)
 part_grown tree _ i has = absurd has
 
 pub name_grown : (tree : ℕ → Ty) (node : Node) (i : ℕ) → HasMember (shape_of node) i
@@ -65,16 +63,14 @@ name_grown tree (nodes.tagged special tag inner other) i has = refl
 name_grown tree _ i has = absurd has
 
 ltb_suc_by : (v : Bool) (a b : ℕ) → nat_lt a b ≡ v → nat_lt (suc a) (suc b) ≡ v
-ltb_suc_by true a b e = lt-ltb (suc a) (suc b) (let h = ltb-true a b e in omega arith)
-ltb_suc_by false a b e = le-ltb (suc a) (suc b) (let h = ltb-false a b e in omega arith)
+ltb_suc_by true a b e = search (arith, lt-ltb, ltb-true)
+ltb_suc_by false a b e = search (arith, le-ltb, ltb-false)
 
 names_read : (names : List (List ℕ)) (n : ℕ)
     → slice_get names n ≡ cond (nat_lt n (length names)) (Some (name_or (slice_get names n))) None
-names_read [] n = rw (le-ltb n 0 (omega arith)) refl
-names_read (x ∷ xs) zero = rw (lt-ltb 0 (suc (length xs)) (omega arith)) refl
-names_read (x ∷ xs) (suc n) =
-    names_read xs n ∙ ap (λ b. cond b (Some (name_or (slice_get xs n))) None)
-    (sym (ltb_suc_by (nat_lt n (length xs)) n (length xs) refl))
+names_read [] n = search (arith, le-ltb)
+names_read (x ∷ xs) zero = search (arith, lt-ltb)
+names_read (x ∷ xs) (suc n) = search (arith, cond, ltb_suc_by, nat_lt, names_read xs n)
 
 pub enum_name_grown : (tree : ℕ → Ty) (node : Node) (n : ℕ)
     → name_at node n ≡ enum_name_in (grow tree node) n
@@ -85,8 +81,6 @@ enum_name_grown tree _ n = refl
 pub select_grown : (tree : ℕ → Ty) (node : Node) (number : Number) (n : ℕ)
     → interpreted_in (switch_of (grow tree node)) n ≡ Some number
     → selected node number ≡ select_in (grow tree node) n
-select_grown tree (nodes.union switch cases otherwise) number n e =
-    ap (selected_by (selected (nodes.union switch cases otherwise))) (sym e)
-select_grown tree (nodes.tagged special tag inner other) number n e =
-    ap (selected_by (selected (nodes.tagged special tag inner other))) (sym e)
+select_grown tree (nodes.union switch cases otherwise) number n e = search (arith)
+select_grown tree (nodes.tagged special tag inner other) number n e = search (arith)
 select_grown tree _ number n e = refl

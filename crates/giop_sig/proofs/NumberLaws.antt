@@ -1,5 +1,5 @@
 -- Numbers that are called the same are one, and a number is the same as itself.
-use Rattle.std.proofs.Common.{◌≡◌, Bool, true, false, eqb-true, refl, ap}
+use Rattle.std.proofs.Common.{arith, ◌≡◌, Bool, true, false, eqb-true, refl}
 use Rattle.std.proofs.lemmas.Bool.{eq-eqb}
 use Rattle.std.proofs.lemmas.Bool.Decides.{Decides-int_eq}
 use mathlib.Core.Bool.{beq}
@@ -18,31 +18,31 @@ beq_self true = refl
 beq_self false = refl
 
 pub number_same : (m n : Number) → same_number m n ≡ true → m ≡ n
-number_same (numbers.Unsigned m) (numbers.Unsigned n) e = ap numbers.Unsigned (eqb-true m n e)
+number_same (numbers.Unsigned m) (numbers.Unsigned n) e = search (arith, eqb-true)
 number_same (numbers.Unsigned m) (numbers.Signed n) e = absurd cc
 number_same (numbers.Unsigned m) (numbers.Bits n) e = absurd cc
 number_same (numbers.Unsigned m) (numbers.Truth n) e = absurd cc
 number_same (numbers.Unsigned m) (numbers.Char n) e = absurd cc
 number_same (numbers.Signed m) (numbers.Unsigned n) e = absurd cc
-number_same (numbers.Signed m) (numbers.Signed n) e = ap numbers.Signed ((Decides-int_eq m n).0 e)
+number_same (numbers.Signed m) (numbers.Signed n) e = search (arith)
 number_same (numbers.Signed m) (numbers.Bits n) e = absurd cc
 number_same (numbers.Signed m) (numbers.Truth n) e = absurd cc
 number_same (numbers.Signed m) (numbers.Char n) e = absurd cc
 number_same (numbers.Bits m) (numbers.Unsigned n) e = absurd cc
 number_same (numbers.Bits m) (numbers.Signed n) e = absurd cc
-number_same (numbers.Bits m) (numbers.Bits n) e = ap numbers.Bits (eqb-true m n e)
+number_same (numbers.Bits m) (numbers.Bits n) e = search (arith, eqb-true)
 number_same (numbers.Bits m) (numbers.Truth n) e = absurd cc
 number_same (numbers.Bits m) (numbers.Char n) e = absurd cc
 number_same (numbers.Truth m) (numbers.Unsigned n) e = absurd cc
 number_same (numbers.Truth m) (numbers.Signed n) e = absurd cc
 number_same (numbers.Truth m) (numbers.Bits n) e = absurd cc
-number_same (numbers.Truth m) (numbers.Truth n) e = ap numbers.Truth (beq_true m n e)
+number_same (numbers.Truth m) (numbers.Truth n) e = search (arith, beq_true)
 number_same (numbers.Truth m) (numbers.Char n) e = absurd cc
 number_same (numbers.Char m) (numbers.Unsigned n) e = absurd cc
 number_same (numbers.Char m) (numbers.Signed n) e = absurd cc
 number_same (numbers.Char m) (numbers.Bits n) e = absurd cc
 number_same (numbers.Char m) (numbers.Truth n) e = absurd cc
-number_same (numbers.Char m) (numbers.Char n) e = ap numbers.Char (eqb-true m n e)
+number_same (numbers.Char m) (numbers.Char n) e = search (arith, eqb-true)
 
 pub number_self : (n : Number) → same_number n n ≡ true
 number_self (numbers.Unsigned n) = eq-eqb n n refl

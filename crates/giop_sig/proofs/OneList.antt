@@ -1,7 +1,6 @@
 -- A text is one request list at most, and a text that is a list is not refused.
-use Rattle.std.proofs.Common.{◌≡◌, ℕ, ◌<◌, List, [], ◌∷◌, ◌++◌, map, length, inl, inr, refl, sym, ap, subst, ◌∙◌, arith}
+use Rattle.std.proofs.Common.{◌≡◌, ℕ, ◌<◌, List, [], ◌∷◌, ◌++◌, map, length, inl, inr, refl, arith}
 use Rattle.std.specs.Prelude.{Result, Ok, Err, IfOk, IfErr}
-use Rattle.std.specs.Fmt.{decimal}
 use Rattle.std.specs.List.{AllByRecursion}
 use Rattle.std.proofs.lemmas.Fmt.{decimal_injective}
 use Rattle.std.proofs.lemmas.List.Elements.{recursion_from_All}
@@ -14,13 +13,7 @@ use Rattle.giop_sig.proofs.ListLines.{cut_same}
 use Rattle.giop_sig.proofs.ListEntries.{is_space, entry_cut}
 
 one_entry : (e f : Entry) → IsEntry e → IsEntry f → line_of e ≡ line_of f → e ≡ f
-one_entry e f p q h =
-    let same = cut_same is_space (line_of e) (decimal e.id) 32 e.name (decimal f.id) 32 f.name
-    (entry_cut (line_of e) e p refl) (entry_cut (line_of e) f q h) in
-    let id : e.id ≡ f.id = decimal_injective e.id f.id (let a = p.id in omega arith)
-    (let b = q.id in omega arith) same.0 in
-    ap (λ (x : ℕ × List ℕ). record { id = x.0; name = x.1 })
-    (ap (λ (i : ℕ). (i, e.name)) id ∙ ap (λ (n : List ℕ). (f.id, n)) same.1)
+one_entry e f p q h = search (arith, cut_same, is_space, entry_cut, decimal_injective)
 
 one_by : (es fs : List Entry) → AllByRecursion IsEntry es → AllByRecursion IsEntry fs
     → map line_of es ≡ map line_of fs → es ≡ fs
@@ -35,8 +28,7 @@ one_by (e ∷ es) (f ∷ fs) p q h =
     cc
 
 pub one_list : (text : List ℕ) (es fs : List Entry) → Lists text es → Lists text fs → es ≡ fs
-one_list text es fs p q = one_by es fs (recursion_from_All IsEntry es p.entries)
-    (recursion_from_All IsEntry fs q.entries) (sym p.spelled ∙ q.spelled)
+one_list text es fs p q = search (arith, one_by, recursion_from_All)
 
 -- the k-th line of a list is an entry's
 line_at : (es : List Entry) (before : List (List ℕ)) (line : List ℕ) (after : List (List ℕ))
@@ -44,7 +36,7 @@ line_at : (es : List Entry) (before : List (List ℕ)) (line : List ℕ) (after 
     → IsEntryLine line × (length before < length es)
 line_at [] [] line after p h = absurd cc
 line_at [] (b ∷ before) line after p h = absurd cc
-line_at (e ∷ es) [] line after p h = let is : line ≡ line_of e = cc in ((e, p.0, is), omega arith)
+line_at (e ∷ es) [] line after p h = search (arith)
 line_at (e ∷ es) (b ∷ before) line after p h =
     let tail : map line_of es ≡ before ++ line ∷ after = cc in
     let k = line_at es before line after p.1 tail in
@@ -52,15 +44,12 @@ line_at (e ∷ es) (b ∷ before) line after p h =
 
 reached : (text : List ℕ) (es fs : List Entry) (line : List ℕ) (k : ℕ) → Lists text es
     → ReachesLine text fs line k → IsEntryLine line × (length fs < length es)
-reached text es fs line k p r =
-    let a = line_at es (map line_of fs) line r.rest.0 (recursion_from_All IsEntry es p.entries)
-    (sym p.spelled ∙ r.rest.1) in
-    (a.0, omega (arith, a.1, length-map fs line_of))
+reached text es fs line k p r = search (arith, line_at, map, recursion_from_All, length-map)
 
 pub refused_for_memory : (text : List ℕ) (es : List Entry) (k : ℕ) (kind : ListFaultKind)
     → Lists text es → IsRefusedAs text k kind → kind ≡ OutOfMemory
 refused_for_memory text es k Syntax p h = absurd (h.4 (reached text es h.0 h.1 k p h.2).0)
-refused_for_memory text es k Limit p (inl h) = absurd (omega (arith, h.0, p.octets))
+refused_for_memory text es k Limit p (inl h) = search (arith)
 refused_for_memory text es k Limit p (inr h) =
     absurd (omega (arith, (reached text es h.0 h.1 k p h.2).1, h.3, p.count))
 refused_for_memory text es k OutOfMemory p h = refl
@@ -69,12 +58,12 @@ pub only_for_memory : {T : Type 0} (text : List ℕ) (es : List Entry) (r : Resu
     → Lists text es → IfErr r (λ f. IsRefusedAs text f.line f.kind)
     → IfErr r (λ f. f.kind ≡ OutOfMemory)
 only_for_memory text es (Ok x) p h = tt
-only_for_memory text es (Err f) p h = refused_for_memory text es f.line f.kind p h
+only_for_memory text es (Err f) p h = search (arith, refused_for_memory)
 
 -- what is so of the list that a text is, and of a result, is so of any list that the text is
 pub of_list : {T : Type 0} (Q P : List Entry → T → Type 0) (text : List ℕ) (es : List Entry)
     (r : Result T ListFault)
     → Lists text es → IfOk r (λ x. (fs : List Entry) × Lists text fs × Q fs x × P fs x) →
     IfOk r (λ x. P es x)
-of_list Q P text es (Ok x) p h = subst (λ fs. P fs x) (one_list text h.0 es h.1 p) h.3
+of_list Q P text es (Ok x) p h = search (arith, one_list)
 of_list Q P text es (Err f) p h = tt

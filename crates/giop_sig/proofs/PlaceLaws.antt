@@ -1,5 +1,5 @@
 -- Adding the types of a declaration keeps the names of a scope, and only adds types.
-use Rattle.std.proofs.Common.{◌≡◌, ℕ, suc, ◌<◌, ◌≤◌, Bool, true, false, cond, eqb, List, [], ◌∷◌, ◌++◌, length, Option, Some, None, refl, ap, ◌∙◌, arith}
+use Rattle.std.proofs.Common.{◌≡◌, ℕ, suc, ◌<◌, ◌≤◌, Bool, true, false, cond, eqb, List, [], ◌∷◌, ◌++◌, length, Option, Some, None, refl, ap, arith}
 use Rattle.std.proofs.lemmas.List.{length-append}
 use Rattle.std.proofs.lemmas.Bool.{eqb-true}
 use Rattle.giop_sig.specs.Types.{Ty, depth}
@@ -24,31 +24,23 @@ pub record Within (types more : List Node) : Type 0 where
   pub deeper : depth_of types ≤ depth_of more
 
 pub within_same : {types : List Node} → Within types types
-within_same = record { longer = omega arith; deeper = omega arith }
+within_same = search (arith)
 
 pub within_on : {a b c : List Node} → Within a b → Within b c → Within a c
-within_on first second = record {
-  longer = let f = first.longer in let s = second.longer in omega arith;
-  deeper = let f = first.deeper in let s = second.deeper in omega arith;
-}
+within_on first second = search (arith)
 
 -- the second scope has no fewer types than the first, and is no less deep
 abbrev pub Grown : Scope → Scope → Type 0
 Grown s t = Within s.table.types t.table.types
 
 pub node_more : (s : Scope) (n : Node) → Grown s (with_node s n).0
-node_more s n = record {
-  longer = omega (arith, length-append s.table.types (n ∷ []));
-  deeper = omega (arith, deepest_added s.table.types n);
-}
+node_more s n = search (arith, length-append, deepest_added)
 
 pub place_more : (s : Scope) (e : TypeExpr) → Grown s (place s e).0
 unfolding place
-place_more s (Text (Some n)) = node_more s (nodes.text (Some n))
-place_more s (SequenceOf e bound) =
-    let p = place s e in within_on (place_more s e) (node_more p.0 (sequence_node bound p.1))
-place_more s (EncapsulationOf e) =
-    let p = place s e in within_on (place_more s e) (node_more p.0 (nodes.encapsulation p.1))
+place_more s (Text (Some n)) = search (arith, node_more)
+place_more s (SequenceOf e bound) = search (arith, within_on, node_more, place_more s e)
+place_more s (EncapsulationOf e) = search (arith, within_on, node_more, place_more s e)
 place_more s _ = within_same
 
 pub place_names : (s : Scope) (e : TypeExpr) → (place s e).0.names ≡ s.names
@@ -65,7 +57,7 @@ place_names s (EncapsulationOf e) = place_names s e
 
 pub length_more : (o : Option ℕ) (p : AddedType) → Grown p.0 (add_array o p).0
 length_more None p = within_same
-length_more (Some n) p = node_more p.0 (nodes.array n p.1)
+length_more (Some n) p = search (arith, node_more)
 
 length_names : (o : Option ℕ) (p : AddedType) → (add_array o p).0.names ≡ p.0.names
 length_names None p = refl
@@ -75,7 +67,7 @@ pub item_more : (s : Scope) (i : Item) → Grown s (add_item s i).0
 item_more s i = within_on (place_more s i.type) (length_more i.length (place s i.type))
 
 pub item_names : (s : Scope) (i : Item) → (add_item s i).0.names ≡ s.names
-item_names s i = length_names i.length (place s i.type) ∙ place_names s i.type
+item_names s i = search (arith, length_names, place_names)
 
 pub items_more : (s : Scope) (is : List Item) → Grown s (add_items s is).0
 unfolding add_items
@@ -133,7 +125,7 @@ structs_more s a b = within_on (node_more s a) (node_more (with_node s a).0 b)
 
 pub declare_more : (s : Scope) (d : Declaration) → Grown s (declare s d)
 unfolding declare
-declare_more s (Enumeration n names) = node_more s (nodes.enumeration names)
+declare_more s (Enumeration n names) = search (arith, node_more)
 declare_more s (Structure n is) = struct_more s is
 declare_more s (DeclaredUnion n e cs) =
     let p = place s e in
@@ -163,17 +155,15 @@ nest _ = 0
 -- only what adds no type has the number 0
 nest_none : (s : Scope) (e : TypeExpr) → 0 < size s → (place s e).1 ≡ 0 → nest e ≡ 0
 unfolding place
-nest_none s (SequenceOf e bound) some zeroth =
-    absurd (omega (arith, (place_more s e).longer, zeroth))
-nest_none s (EncapsulationOf e) some zeroth =
-    absurd (omega (arith, (place_more s e).longer, zeroth))
+nest_none s (SequenceOf e bound) some zeroth = search (arith, place_more)
+nest_none s (EncapsulationOf e) some zeroth = search (arith, place_more)
 nest_none s _ some zeroth = refl
 
 sequence_depth : (f : ℕ → Ty) (bound : Option ℕ) (n k : ℕ) (v : Bool) → eqb n 0 ≡ v
     → (n ≡ 0 → k ≡ 0) → k ≤ depth (f n)
     → suc k ≤ depth (grow f (cond v (nodes.octets bound) (nodes.sequence bound n)))
 unfolding depth
-sequence_depth f bound n k true is leaf le = let z = leaf (eqb-true n 0 is) in omega arith
+sequence_depth f bound n k true is leaf le = search (arith, eqb-true)
 sequence_depth f bound n k false is leaf le = omega arith
 
 held_depth : (f : ℕ → Ty) (n k : ℕ) → k ≤ depth (f n)
@@ -191,23 +181,14 @@ nest_depth s (SequenceOf e bound) some =
     sequence_depth (type_in types) bound (place s e).1 (nest e) (eqb (place s e).1 0) refl
     (nest_none s e some) (nest_depth s e some) in
     omega (arith, more, ap depth (tree_added types node))
-nest_depth s (EncapsulationOf e) some =
-    let types = (place s e).0.table.types in
-    let node = nodes.encapsulation (place s e).1 in
-    let more : suc (nest e) ≤ depth (grow (type_in types) node)
-    = held_depth (type_in types) (place s e).1 (nest e) (nest_depth s e some) in
-    omega (arith, more, ap depth (tree_added types node))
+nest_depth s (EncapsulationOf e) some = search (arith, held_depth, tree_added, nest_depth s e some)
 nest_depth s _ some = omega arith
 
 -- a node that was added is no deeper than the deepest
 last_within : (s : Scope) (node : Node)
     → depth (type_in (with_node s node).0.table.types (with_node s node).1)
     ≤ deepest (with_node s node).0
-last_within s node =
-    let types = s.table.types in
-    let last : length types < length (types ++ node ∷ []) =
-    omega (arith, length-append types (node ∷ [])) in
-    depth_within (types ++ node ∷ []) (length types) last
+last_within s node = search (arith, length-append, depth_within)
 
 -- the table is at least that deep
 pub nest_deepest : (s : Scope) (e : TypeExpr) → 0 < size s → 0 < nest e

@@ -1,6 +1,6 @@
 -- The forms of the laws of reading, from a spelling to what is read and from a text that was read
 -- to its spelling; and two readings one after the other.
-use Rattle.std.proofs.Common.{◌≡◌, ℕ, ◌^◌, ◌<◌, ◌≤◌, ◌⊎◌, inl, inr, false, List, [], ◌∷◌, length, None, Result, Ok, Err, refl, sym, subst, arith}
+use Rattle.std.proofs.Common.{◌≡◌, ℕ, ◌^◌, ◌<◌, ◌≤◌, ◌⊎◌, inl, inr, false, List, [], ◌∷◌, length, None, Result, Ok, Err, sym, subst, arith}
 use Rattle.std.specs.Prelude.{MatchResult}
 use Rattle.giop_tokens.specs.declared.fault.Refusal.{Refusal}
 use Rattle.giop_tokens.specs.declared.fault.SigFaultKind.TheVariants as kinds
@@ -34,11 +34,11 @@ pub lift : (k : Kind) (rule whole : Kind → Type 0) (types more : List Node)
 lift kinds.Token rule whole types more up le b = b
 lift kinds.Syntax rule whole types more up le b = b
 lift kinds.OutOfMemory rule whole types more up le b = b
-lift kinds.Depth rule whole types more up le b = let deeper = le.deeper in omega arith
-lift kinds.UnknownType rule whole types more up le b = λ h. b (up kinds.UnknownType h)
+lift kinds.Depth rule whole types more up le b = search (arith)
+lift kinds.UnknownType rule whole types more up le b = search (arith)
 lift kinds.Duplicate rule whole types more up le b = λ h. b (up kinds.Duplicate h)
-lift kinds.Limit rule whole types more up le (inl b) = inl (λ h. b (up kinds.Limit h))
-lift kinds.Limit rule whole types more up le (inr b) = let longer = le.longer in inr (omega arith)
+lift kinds.Limit rule whole types more up le (inl b) = search (arith)
+lift kinds.Limit rule whole types more up le (inr b) = search (arith)
 lift kinds.Label rule whole types more up le b = λ h. b (up kinds.Label h)
 lift kinds.Empty rule whole types more up le b = λ h. b (up kinds.Empty h)
 
@@ -58,15 +58,7 @@ pub record Out {X : Type 0} (made : List ℕ → X) (rule : Kind → Type 0) (ty
 pub good : {X : Type 0} {made : List ℕ → X} {rule : Kind → Type 0} {types : List Node}
     {more : List Token} (rest : List ℕ) → AreTokens rest more → ((k : Kind) → rule k)
     → Out made rule types more (Ok (made rest))
-good rest tokens keeps = record {
-  out = record {
-    rest = rest;
-    is = refl;
-    tokens = tokens;
-    keeps =
-        keeps;
-  };
-}
+good rest tokens keeps = search (arith)
 
 pub broken : {X : Type 0} {made : List ℕ → X} {rule : Kind → Type 0} {types : List Node}
     {more : List Token} (e : Refusal) → Breaks e.kind rule types → Out made rule types more (Err e)
@@ -89,16 +81,7 @@ good_more : {X : Type 0} {made : List ℕ → X} {rule whole : Kind → Type 0} 
     {more : List Token} (r : Result X Refusal) → Out made rule types more r
     → ((k : Kind) → rule k → whole k) → ((k : Kind) → whole k → rule k)
     → Out made whole types more r
-good_more (Ok x) o on up = let g = o.out in
-    record {
-      out = record {
-        rest = g.rest;
-        is = g.is;
-        tokens = g.tokens;
-        keeps =
-            λ k. on k (g.keeps k);
-      };
-    }
+good_more (Ok x) o on up = search (arith)
 good_more {rule = rule} {whole = whole} {types = types} (Err e) o on up =
     record { out = lift e.kind rule whole types types up within_same o.out }
 
@@ -126,5 +109,5 @@ Apart m (t ∷ ts) = is_the_mark m t ≡ false
 
 pub if_apart : (m : Mark) (text : List ℕ) (ts : List Token) → Apart m ts → AreTokens text ts
     → mark_if m text ≡ Ok None
-if_apart m text [] apart h = if_ended (is_the_mark m) text h
-if_apart m text (t ∷ ts) apart h = if_other (is_the_mark m) text t ts h apart
+if_apart m text [] apart h = search (arith, if_ended)
+if_apart m text (t ∷ ts) apart h = search (arith, if_other)

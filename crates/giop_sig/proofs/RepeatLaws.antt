@@ -21,10 +21,7 @@ module _ {S : Type 0} (step : S → Result (Bool × S) Refusal) (limit : S → R
 
   pub ends : i < most → (x : Bool × S) → step s ≡ Ok x → x.0 ≡ true → total ≡ Ok x.1
   unfolding in_steps
-  ends lt x h c =
-      let k : most - i ≡ suc (most - (i + 1)) = omega arith in
-      let one : in_steps step limit (most - i) s ≡ Ok x.1 = rw (k, h, c) refl in
-      sym so_far ∙ one
+  ends lt x h c = search (arith)
 
   pub fails : i < most → (e : ParseStop) → Stops e (step s) → Stops e total
   unfolding in_steps
@@ -36,10 +33,7 @@ module _ {S : Type 0} (step : S → Result (Bool × S) Refusal) (limit : S → R
 
   pub limited : most ≤ i → total ≡ Err (limit s)
   unfolding in_steps
-  limited le =
-      let k : most - i ≡ 0 = omega arith in
-      let one : in_steps step limit (most - i) s ≡ Err (limit s) = rw k refl in
-      sym so_far ∙ one
+  limited le = search (arith)
 
 -- what stops a reading stops what is made of it
 pub stops_on : {X Y : Type 0} (e : ParseStop) (r : Result X Refusal) (f : X → Result Y Refusal)
@@ -58,5 +52,4 @@ pub step_first : {S Y : Type 0} (step : S → Result (Bool × S) Refusal) (limit
     → (in_steps step limit (suc left) s >>= make)
     ≡ (step s >>= λ x. cond x.0 (Ok x.1) (in_steps step limit left x.1) >>= make)
 unfolding in_steps
-step_first step limit make left s =
-    bind_bind (step s) (λ x. cond x.0 (Ok x.1) (in_steps step limit left x.1)) make
+step_first step limit make left s = search (arith, bind_bind, cond)

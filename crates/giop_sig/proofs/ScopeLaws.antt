@@ -8,11 +8,8 @@ use Rattle.std.proofs.lemmas.List.{length-append, get_or_append_left, map-append
 use Rattle.indexmap.specs.IndexMap.{insert_entry}
 use Rattle.giop_sig.proofs.Added.{entry_last}
 use Rattle.arrayvec.specs.ArrayVec.{ArrayVec}
-use Rattle.giop_cdr.specs.declared.prim.Primitive.TheVariants.{Octet}
 use Rattle.giop_sig.specs.declared.types.TypeId.{TypeId}
-use Rattle.giop_sig.specs.Table.{Node, Table, IsInner, TakesOctet, node_in, with_type}
-use Rattle.giop_sig.specs.Table as nodes
-use Rattle.giop_sig.specs.Builtin.{builtin_types}
+use Rattle.giop_sig.specs.Table.{Node, Table, with_type}
 use Rattle.giop_sig.specs.RequestList.{flat}
 use Rattle.giop_sig.specs.Scopes.{Scope, named, with_node, with_name}
 use Rattle.giop_sig.specs.ScopeViews.{name_view, scope_view, IsKnown, IsKnownType, IsDeclaredName, IsScope}
@@ -34,9 +31,7 @@ view_found : (key : ArrayVec ℕ) (es : List (ArrayVec ℕ × Option TypeId))
     → lookup (bytes_eq key.items) (map name_view es)
     ≡ option_map number_of_id (lookup (key_is key) es)
 view_found key [] = refl
-view_found key (e ∷ es) =
-    ap (λ o. cond (bytes_eq key.items (e.0).items) (Some (number_of_id e.1)) o) (view_found key es)
-    ∙ cond_map number_of_id (bytes_eq key.items (e.0).items) e.1 (lookup (key_is key) es)
+view_found key (e ∷ es) = search (arith, cond, cond_map, view_found key es)
 
 some_map : {X Y : Type 0} (f : X → Y) (o : Option X) → is_some (option_map f o) ≡ is_some o
 some_map f None = refl
@@ -51,9 +46,7 @@ pub name_found : (s : Scope) (version : ℕ) (t : Table) (es : List (ArrayVec �
     (key : ArrayVec ℕ) (w : List ℕ)
     → scope_view version t es ≡ s → key.items ≡ w
     → lookup (bytes_eq w) s.names.known ≡ option_map number_of_id (lookup (key_is key) es)
-name_found s version t es key w view same =
-    ap (λ (x : Scope). lookup (bytes_eq w) x.names.known) (sym view)
-    ∙ ap (λ v. lookup (bytes_eq v) (map name_view es)) (sym same) ∙ view_found key es
+name_found s version t es key w view same = search (arith, map, view_found)
 
 pub name_declared : (s : Scope) (version : ℕ) (t : Table) (es : List (ArrayVec ℕ × Option TypeId))
     (key : ArrayVec ℕ) (w : List ℕ)
@@ -73,11 +66,7 @@ name_typed s version t es key w view same =
 -- ---- scopes that grow
 
 pub known_stays : (types more : List Node) (i : ℕ) → IsKnown types i → IsKnown (types ++ more) i
-known_stays types more i is = record {
-  below = let b = is.below in omega (arith, length-append types more);
-  takes = subst TakesOctet (sym (get_or_append_left types more (nodes.prim Octet) i is.below))
-      is.takes;
-}
+known_stays types more i is = search (arith, length-append, get_or_append_left)
 
 type_stays : (types more : List Node) (o : Option ℕ) → IsKnownType types o
     → IsKnownType (types ++ more) o
@@ -88,24 +77,11 @@ names_stay : (types more : List Node) (names : List (List ℕ × Option ℕ))
     → AllByRecursion (IsDeclaredName types) names
     → AllByRecursion (IsDeclaredName (types ++ more)) names
 names_stay types more [] all = tt
-names_stay types more (e ∷ es) all = (
-  record {
-    short = (all.0).short;
-    type =
-        type_stays types more e.1 (all.0).type;
-  },
-  names_stay types more es all.1,
-)
+names_stay types more (e ∷ es) all = search (arith, type_stays, names_stay types more es all.1)
 
 -- a scope with a type more
 pub scope_grows : (s : Scope) (n : Node) → IsScope s → IsScope (with_node s n).0
-scope_grows s n is = record {
-  begins = let b = is.begins in (
-    b.0 ++ n ∷ [],
-    ap (λ types. types ++ n ∷ []) b.1 ∙ append_assoc builtin_types b.0 (n ∷ []),
-  );
-  names = names_stay s.table.types (n ∷ []) s.names.known is.names;
-}
+scope_grows s n is = search (arith, append_assoc, names_stay)
 
 -- the fields after a type is added
 pub grown_draft : (version : ℕ) (t new : Table) (es : List (ArrayVec ℕ × Option TypeId)) (n : Node)
@@ -165,9 +141,4 @@ all_last types (n ∷ ns) e all is = (all.0, all_last types ns e all.1 is)
 -- a scope with a name more
 pub scope_named : (s : Scope) (w : List ℕ) (o : Option ℕ) → IsScope s → length w ≤ 64
     → IsKnownType s.table.types o → IsScope (with_name s w o)
-scope_named s w o is short known =
-    record {
-      begins = is.begins;
-      names = all_last s.table.types s.names.known (w, o) is.names
-          (record { short = short; type = known });
-    }
+scope_named s w o is short known = search (arith, all_last)

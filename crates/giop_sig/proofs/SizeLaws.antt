@@ -5,19 +5,19 @@ use Rattle.giop_tokens.specs.declared.marks.Mark.TheVariants as marks
 use Rattle.giop_tokens.specs.Tokens.{Token, word, mark}
 use Rattle.giop_sig.specs.Table.{Node, node_at}
 use Rattle.giop_sig.specs.Table as nodes
-use Rattle.giop_sig.specs.Grammar.{TypeExpr, Base, Text, Reference, Named, SequenceOf, EncapsulationOf, spell_most, spell_type, Item, spell_length, spell_item, spell_items, spell_labels, UnionCase, spell_cases, Param, spell_more_params, spell_params, spell_return, Declaration, Enumeration, Structure, DeclaredUnion, DeclaredException, Call, spell, spell_all}
+use Rattle.giop_sig.specs.Grammar.{TypeExpr, Text, SequenceOf, EncapsulationOf, spell_most, spell_type, Item, spell_length, spell_item, spell_items, spell_labels, UnionCase, spell_cases, Param, spell_more_params, spell_params, spell_return, Declaration, Enumeration, Structure, DeclaredUnion, DeclaredException, Call, spell, spell_all}
 use Rattle.giop_sig.specs.Scopes.{Scope, AddedType, with_node, sequence_node, place, add_array, add_item, add_items, add_cases, default_from, add_params, add_return, declare, scope_after}
 use Rattle.giop_sig.proofs.PlaceLaws.{size}
 use Rattle.giop_sig.proofs.SpellLaws.{most, names, label, labels}
 
 one_more : (s : Scope) (n : Node) → size (with_node s n).0 ≤ suc (size s)
-one_more s n = omega (arith, length-append s.table.types (n ∷ []))
+one_more s n = search (arith, length-append)
 
 -- a type has one token more than types, at least
 typed : (s : Scope) (e : TypeExpr) (more : List Token)
     → size (place s e).0 + length more < size s + length (spell_type e more)
 unfolding place
-typed s (Text (Some n)) more = omega (arith, one_more s (nodes.text (Some n)))
+typed s (Text (Some n)) more = search (arith, one_more)
 typed s (SequenceOf e o) more =
     let p = place s e in
     omega (
@@ -33,7 +33,7 @@ typed s _ more = omega arith
 lengthened : (p : AddedType) (o : Option ℕ) (more : List Token)
     → size (add_array o p).0 + length more ≤ size p.0 + length (spell_length o more)
 lengthened p None more = omega arith
-lengthened p (Some n) more = omega (arith, one_more p.0 (nodes.array n p.1))
+lengthened p (Some n) more = search (arith, one_more)
 
 item : (s : Scope) (i : Item) (more : List Token)
     → size (add_item s i).0 + length more ≤ size s + length (spell_item i more)
@@ -81,11 +81,7 @@ params : (s : Scope) (ps : List Param) (more : List Token)
     → size (add_params s ps).0 + length more ≤ size s + length (spell_params ps more)
 unfolding add_params
 params s [] more = omega arith
-params s (p ∷ ps) more = omega (
-  arith,
-  item s p.item (spell_more_params ps more),
-  more_params (add_item s p.item).0 ps more,
-)
+params s (p ∷ ps) more = search (arith, item, more_params)
 
 returned : (s : Scope) (o : Option TypeExpr) (more : List Token)
     → size (add_return s o).0 + length more ≤ size s + length (spell_return o more)

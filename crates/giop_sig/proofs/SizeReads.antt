@@ -1,5 +1,5 @@
 -- Reading the spelling of a length or a bound gives it, or a rule that it breaks.
-use Rattle.std.proofs.Common.{◌≡◌, ℕ, ◌^◌, ◌<◌, inl, Bool, true, false, cond, eqb, ltb, List, ◌∷◌, Option, Some, None, Ok, Err, refl, arith}
+use Rattle.std.proofs.Common.{◌≡◌, ℕ, ◌^◌, ◌<◌, Bool, true, false, cond, eqb, ltb, List, ◌∷◌, Option, Some, None, Ok, Err, refl, arith}
 use Rattle.std.proofs.lemmas.Bool.{eqb-true, eqb-false, ltb-true, ltb-false}
 use Rattle.giop_tokens.specs.declared.fault.SigFaultKind.TheVariants as kinds
 use Rattle.giop_tokens.specs.declared.marks.Mark.{Mark}
@@ -26,13 +26,15 @@ size_by : (types : List Node) (text rest : List ℕ) (n : ℕ) (more : List Toke
     → Out {X = ℕ × List ℕ} (λ rest. (n, rest)) (λ k. OfSize k n) types more
     (cond a (Err (refused kinds.Empty text))
     (cond b (Err (refused kinds.Limit text)) (Ok (n, rest))))
-size_by types text rest n more true b p q m =
-    broken (refused kinds.Empty text) (λ h. let z = eqb-true n 0 p in omega arith)
-size_by types text rest n more false true p q m =
-    broken (refused kinds.Limit text) (inl (λ h. let z = ltb-true 4294967295 n q in omega arith))
-size_by types text rest n more false false p q m =
-    good rest m (size_keeps n (let z = eqb-false n 0 p in omega arith)
-    (let z = ltb-false 4294967295 n q in omega arith))
+size_by types text rest n more true b p q m = search (arith, broken, eqb-true)
+size_by types text rest n more false true p q m = search (arith, broken, ltb-true)
+size_by types text rest n more false false p q m = search (
+  arith,
+  good,
+  size_keeps,
+  eqb-false,
+  ltb-false,
+)
 
 size_reads : (types : List Node) (text : List ℕ) (n : ℕ) (more : List Token)
     → AreTokens text (number n ∷ more)

@@ -1,11 +1,11 @@
 -- A length or a bound that was read: the text that was read spells it.
-use Rattle.std.proofs.Common.{◌≡◌, ℕ, Bool, true, false, cond, eqb, ltb, List, ◌∷◌, Option, Some, None, Ok, Err, subst}
+use Rattle.std.proofs.Common.{arith, ◌≡◌, ℕ, Bool, true, false, cond, eqb, ltb, List, ◌∷◌, Option, Some, None, Ok, Err, subst}
 use Rattle.giop_tokens.specs.declared.fault.SigFaultKind.TheVariants as kinds
 use Rattle.giop_tokens.specs.declared.marks.Mark.{Mark}
 use Rattle.giop_tokens.specs.declared.marks.Mark.TheVariants as marks
 use Rattle.giop_tokens.specs.Tokens.{number, mark}
 use Rattle.giop_tokens.specs.Reading.{◌>>=◌}
-use Rattle.giop_tokens.specs.Readers.{number_at, mark_at, mark_if}
+use Rattle.giop_tokens.specs.Readers.{mark_at, mark_if}
 use Rattle.giop_tokens.proofs.ReaderLaws.{bind_ok, ok_is, Takes, number_takes, mark_takes, mark_if_takes}
 use Rattle.giop_sig.specs.Grammar.{spell_between, spell_most}
 use Rattle.giop_sig.specs.Validity.{OfBound}
@@ -23,19 +23,12 @@ size_by text n x false false e = ok_is n x e
 size_takes : (text : List ℕ) (x : ℕ × List ℕ) → size_at text ≡ Ok x
     → Takes text (number x.0) x.1
 unfolding size_at
-size_takes text x e =
-    let a = bind_ok _ _ x e in
-    subst (λ y. Takes text (number y.0) y.1)
-    (size_by text a.0 x (eqb (a.0).0 0) (ltb 4294967295 (a.0).0) a.2)
-    (number_takes text a.0 a.1)
+size_takes text x e = search (arith, bind_ok, size_by, eqb, ltb, number_takes)
 
 within_by : (before close : Mark) (text : List ℕ) (o : Option (List ℕ)) (x : Option ℕ × List ℕ)
     → mark_if before text ≡ Ok o → size_within close text o ≡ Ok x
     → Took (spell_between before close x.0) (Unit {0}) text x.1
-within_by before close text None x h e =
-    subst (λ (y : Option ℕ × List ℕ). Took (spell_between before close y.0) (Unit {0}) text y.1)
-    (ok_is (None, text) x e)
-    (record { free = tt; front = λ more m. m })
+within_by before close text None x h e = search (arith, ok_is)
 within_by before close text (Some inner) x h e =
     let n = bind_ok (size_at inner) (λ n. mark_at close n.1 >>= λ r. Ok (Some n.0, r)) x e in
     let r = bind_ok (mark_at close (n.0).1) (λ r. Ok (Some (n.0).0, r)) x n.2 in
@@ -58,9 +51,7 @@ enclosed_takes before close text x e =
 behind_by : (text : List ℕ) (o : Option (List ℕ)) (x : Option ℕ × List ℕ)
     → mark_if marks.Comma text ≡ Ok o → size_after text o ≡ Ok x
     → Took (spell_most x.0) (Unit {0}) text x.1
-behind_by text None x h e =
-    subst (λ (y : Option ℕ × List ℕ). Took (spell_most y.0) (Unit {0}) text y.1)
-    (ok_is (None, text) x e) (record { free = tt; front = λ more m. m })
+behind_by text None x h e = search (arith, ok_is)
 behind_by text (Some inner) x h e =
     let n = bind_ok (size_at inner) (λ n. Ok (Some n.0, n.1)) x e in
     subst (λ (y : Option ℕ × List ℕ). Took (spell_most y.0) (Unit {0}) text y.1)
@@ -75,8 +66,7 @@ behind_by text (Some inner) x h e =
 pub most_takes : (text : List ℕ) (x : Option ℕ × List ℕ) → most_at text ≡ Ok x
     → Took (spell_most x.0) (Unit {0}) text x.1
 unfolding most_at
-most_takes text x e = let a = bind_ok (mark_if marks.Comma text) (λ inner. size_after text inner) x
-    e in behind_by text a.0 x a.1 a.2
+most_takes text x e = search (arith, bind_ok, behind_by)
 
 -- the rule that names are not reserved asks nothing of sizes
 pub bound_free : (o : Option ℕ) → OfBound kinds.Syntax o

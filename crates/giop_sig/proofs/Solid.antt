@@ -1,16 +1,14 @@
 -- Every type of a table but the empty struct takes at least one octet, and a reader has room for
 -- it.
-use Rattle.std.proofs.Common.{◌≡◌, ℕ, zero, suc, ◌<◌, ◌≤◌, max, Bool, true, false, cond, List, [], ◌∷◌, length, Option, Some, None, refl, sym, ap, subst, ◌∙◌, ◌⊎◌, inl, inr, arith}
-use Rattle.std.specs.List.{list_any}
+use Rattle.std.proofs.Common.{◌≡◌, ℕ, zero, suc, ◌<◌, ◌≤◌, max, Bool, true, false, cond, List, [], ◌∷◌, length, Option, Some, None, refl, sym, subst, ◌⊎◌, inl, inr, arith}
 use Rattle.std.proofs.lemmas.List.Quantifiers.{position-Some}
 use Rattle.std.proofs.lemmas.Bool.{cases_lt}
 use Rattle.giop_cdr.specs.declared.number.Number.{Number}
-use Rattle.giop_cdr.specs.declared.number.Number.TheVariants as numbers
 use Rattle.giop_sig.specs.declared.types.Selected.{Selected}
 use Rattle.giop_sig.specs.declared.types.Selected.TheVariants as selecteds
 use Rattle.giop_sig.specs.Types.{places_of, interpreted_by, Ty, Single, Text, Octets, Struct, Union, Sequence, Array, depth, most, HasMember, HasPlace, part_of, Encapsulation}
-use Rattle.giop_sig.specs.Fits.{IsSolid, IsFit, IsEmptyStruct, IsRoot}
-use Rattle.giop_sig.specs.Table.{Node, Part, Case, node_in, shape_of, part_at, type_of, selected, case_with, case_or, same_number, no_case, IsFormed, IsInner, IsCaseBelow, TakesOctet}
+use Rattle.giop_sig.specs.Fits.{IsSolid, IsFit, IsRoot}
+use Rattle.giop_sig.specs.Table.{Node, Part, Case, node_in, shape_of, selected, case_or, IsFormed, IsInner, IsCaseBelow, TakesOctet}
 use Rattle.giop_sig.specs.Table as nodes
 use Rattle.giop_sig.specs.Trees.{grow, scalar_of, selected_by, type_in, AreTypes}
 use Rattle.giop_sig.proofs.TreeLaws.{tree_of_parts}
@@ -25,28 +23,31 @@ case_of_below : (count : ℕ) (found : Option ℕ) (otherwise : Selected) (i : �
     → case_or found otherwise ≡ selecteds.Case i → i < count
 case_of_below count (Some k) otherwise i found below e = let same : k ≡ i = cc in let lt =
     found k refl in omega arith
-case_of_below count None otherwise i found below e = subst (IsCaseBelow count) e below
+case_of_below count None otherwise i found below e = search (arith)
 
 tag_below : (v : Bool) (i : ℕ)
     → cond v (selecteds.Case 1) (selecteds.Case 2) ≡ selecteds.Case i → i < 3
-tag_below true i e = let same : 1 ≡ i = cc in omega arith
-tag_below false i e = let same : 2 ≡ i = cc in omega arith
+tag_below true i e = search (arith)
+tag_below false i e = search (arith)
 
 pub selected_below : (types : List Node) (n : ℕ) (node : Node) (number : Number) (i : ℕ)
     → IsFormed types n node → selected node number ≡ selecteds.Case i → HasMember (shape_of node) i
-selected_below types n (nodes.union switch cases otherwise) number i formed e =
-    case_of_below (length cases) (case_with number cases) otherwise i
-    (λ k at. (position-Some (λ c. list_any (λ label. same_number label number) c.labels) cases k
-    no_case at).0) formed.3 e
-selected_below types n (nodes.tagged special tag inner other) number i formed e =
-    tag_below (same_number (numbers.Unsigned special) number) i e
+selected_below types n (nodes.union switch cases otherwise) number i formed e = search (
+  arith,
+  case_of_below,
+  position-Some,
+)
+selected_below types n (nodes.tagged special tag inner other) number i formed e = search (
+  arith,
+  tag_below,
+)
 selected_below types n _ number i formed e = absurd cc
 
 taken_below : (types : List Node) (n : ℕ) (node : Node) (o : Option Number)
     (i : ℕ) → IsFormed types n node
     → selected_by (selected node) o ≡ selecteds.Case i → HasMember (shape_of node) i
 taken_below types n node None i formed e = absurd cc
-taken_below types n node (Some number) i formed e = selected_below types n node number i formed e
+taken_below types n node (Some number) i formed e = search (arith, selected_below)
 
 -- ---- solid types
 
@@ -60,9 +61,7 @@ InnerSolid types n = (i : ℕ) → IsInner types n i → IsSolid (type_in types 
 part_solid : (types : List Node) (n : ℕ) (node : Node) (i : ℕ)
     → IsFormed types n node → InnerSolid types n
     → HasPlace (shape_of node) i → IsSolid (part_of (grow (type_in types) node) i)
-part_solid types n node i formed inner has =
-    subst IsSolid (part_grown (type_in types) node i has)
-    (inner (type_of (part_at node i)) (part_formed types n node i formed has))
+part_solid types n node i formed inner has = search (arith, part_grown, part_formed)
 
 grown_solid : (types : List Node) (n : ℕ) (node : Node) → IsFormed types n node → TakesOctet node
     → InnerSolid types n → IsSolid (grow (type_in types) node)
@@ -76,13 +75,12 @@ grown_solid types n (nodes.union switch cases otherwise) formed takes inner = (
   λ i lt. part_solid types n (nodes.union switch cases otherwise) i formed inner lt,
 )
 grown_solid types n (nodes.sequence bound element) formed takes inner = inner element formed
-grown_solid types n (nodes.array count element) formed takes inner =
-    (formed.0, inner element formed.1)
+grown_solid types n (nodes.array count element) formed takes inner = search (arith)
 grown_solid types n (nodes.encapsulation held) formed takes inner = inner held formed
-grown_solid types n (nodes.tagged special tag one other) formed takes inner = (
-  λ k i e. taken_below types n (nodes.tagged special tag one other)
-      (interpreted_by (scalar_of (type_in types tag.type)) k) i formed e,
-  λ i lt. part_solid types n (nodes.tagged special tag one other) i formed inner lt,
+grown_solid types n (nodes.tagged special tag one other) formed takes inner = search (
+  arith,
+  taken_below,
+  part_solid,
 )
 grown_solid types n _ formed takes inner = tt
 
@@ -97,14 +95,14 @@ solid_below types (suc fuel) i are lt known takes =
 
 pub solid_at : (types : List Node) (i : ℕ) → AreTypes types → i < length types
     → TakesOctet (node_in types i) → IsSolid (type_in types i)
-solid_at types i are known takes = solid_below types (suc i) i are (omega arith) known takes
+solid_at types i are known takes = search (arith, solid_below)
 
 -- ---- room for a type
 
 most_last : (n : ℕ) (f : ℕ → ℕ) (i : ℕ) → (i < n → f i ≤ most n f) → i < suc n → (i < n) ⊎ (n ≤ i)
     → f i ≤ max (most n f) (f n)
 most_last n f i rest lt (inl h) = omega (arith, rest h)
-most_last n f i rest lt (inr h) = let e : i ≡ n = omega arith in omega (arith, ap f e)
+most_last n f i rest lt (inr h) = search (arith)
 
 most_above : (n : ℕ) (f : ℕ → ℕ) (i : ℕ) → i < n → f i ≤ most n f
 most_above zero f i lt = absurd (omega arith)
@@ -139,9 +137,7 @@ fit_by (Array count T) (suc d) solid le = (solid.0, fit_by T d solid.1 (omega ar
 
 pub fit_at : (types : List Node) (i : ℕ) → AreTypes types → i < length types
     → TakesOctet (node_in types i) → IsFit 24 (type_in types i)
-fit_at types i are known takes =
-    fit_by (type_in types i) 24 (solid_at types i are known takes)
-    (let shallow = are.shallow in omega (arith, depth_within types i known))
+fit_at types i are known takes = search (arith, fit_by, solid_at, depth_within)
 
 takes_or_empty : (node : Node) → TakesOctet node ⊎ (node ≡ nodes.members [])
 takes_or_empty (nodes.members []) = inr refl
@@ -150,10 +146,4 @@ takes_or_empty _ = inl tt
 -- each type of a table fits at the root of a message
 pub root_at : (types : List Node) (i : ℕ) → AreTypes types → i < length types
     → IsRoot (type_in types i)
-root_at types i are known = by (takes_or_empty (node_in types i))
-  where
-    by : TakesOctet (node_in types i) ⊎ (node_in types i ≡ nodes.members []) →
-        IsRoot (type_in types i)
-    by (inl takes) = inl (fit_at types i are known takes)
-    by (inr e) = inr (subst IsEmptyStruct (sym (tree_of_parts types i are known
-        ∙ ap (grow (type_in types)) e)) tt)
+root_at types i are known = search (arith, takes_or_empty, fit_at, tree_of_parts)

@@ -1,5 +1,5 @@
 -- The entry at a type's number agrees with the table and its tree.
-use Rattle.std.proofs.Common.{◌≡◌, ℕ, ◌<◌, ◌≤◌, List, length, Some, sym, ap, subst, ◌∙◌, arith}
+use Rattle.std.proofs.Common.{◌≡◌, ℕ, ◌<◌, ◌≤◌, List, length, Some, arith}
 use Rattle.std.specs.Prelude.{IfSome}
 use Rattle.giop_cdr.specs.declared.number.Number.{Number}
 use Rattle.giop_sig.specs.declared.types.Shape.{Shape}
@@ -24,46 +24,35 @@ pub record Entered (t : Table) (i : ℕ) (node : Node) : Type 0 where
 
 pub entered : (view t : Table) (i : ℕ) (node : Node) → IsTable view → view ≡ t → i < length t.types
     → node ≡ node_at view i → Entered t i node
-entered view t i node laws same known is =
-    let types = subst (λ (u : Table). AreTypes u.types) same laws.types in
-    let at : node ≡ node_at t i = is ∙ ap (λ (u : Table). node_at u i) same in
-    record {
-      types = types;
-      known = known;
-      is = at;
-      tree =
-          tree_of_parts t.types i types known ∙ ap (grow (type_in t.types)) (sym at);
-    }
+entered view t i node laws same known is = search (arith, tree_of_parts)
 
 formed_at : (t : Table) (i : ℕ) (node : Node) → Entered t i node → IsFormed t.types i node
-formed_at t i node e = let formed = e.types.formed i e.known in
-    subst (IsFormed t.types i) (sym e.is) formed
+formed_at t i node e = search (arith)
 
 -- the node's shape is the tree's
 pub shape_entered : (t : Table) (i : ℕ) (node : Node) → Entered t i node
     → shape_of node ≡ shape_in (tree t i)
-shape_entered t i node e = sym (ap shape_in e.tree ∙ shape_grown (type_in t.types) node)
+shape_entered t i node e = search (arith, shape_grown)
 
 pub has_shape_entered : (t : Table) (i : ℕ) (node : Node) (s : Shape) → Entered t i node
     → s ≡ shape_of node → HasShape (tree t i) s
-has_shape_entered t i node s e is = subst (HasShape (tree t i))
-    (sym (is ∙ shape_entered t i node e)) (has_shape (tree t i))
+has_shape_entered t i node s e is = search (arith, shape_entered, has_shape)
 
 pub root_entered : (t : Table) (i : ℕ) (node : Node) → Entered t i node → IsRoot (tree t i)
-root_entered t i node e = root_at t.types i e.types e.known
+root_entered t i node e = search (arith, root_at)
 
 -- a place of the tree is one of the node
 pub place_entered : (t : Table) (i k : ℕ) (node : Node) → Entered t i node
     → HasPlace (shape_in (tree t i)) k → HasPlace (shape_of node) k
-place_entered t i k node e has = subst (λ s. HasPlace s k) (sym (shape_entered t i node e)) has
+place_entered t i k node e has = search (arith, shape_entered)
 
 pub member_entered : (t : Table) (i k : ℕ) (node : Node) → Entered t i node
     → HasMember (shape_in (tree t i)) k → HasMember (shape_of node) k
-member_entered t i k node e has = subst (λ s. HasMember s k) (sym (shape_entered t i node e)) has
+member_entered t i k node e has = search (arith, shape_entered)
 
 pub union_entered : (t : Table) (i : ℕ) (node : Node) → Entered t i node
     → IsUnion (shape_in (tree t i)) → IsUnion (shape_of node)
-union_entered t i node e is = subst IsUnion (sym (shape_entered t i node e)) is
+union_entered t i node e is = search (arith, shape_entered)
 
 -- the part at a place
 pub part_below : (t : Table) (i k p : ℕ) (node : Node) → Entered t i node
@@ -75,57 +64,41 @@ part_below t i k p node e has is = let below =
 pub part_tree : (t : Table) (i k p : ℕ) (node : Node) → Entered t i node
     → HasPlace (shape_in (tree t i)) k → p ≡ type_of (part_at node k)
     → tree t p ≡ part_of (tree t i) k
-part_tree t i k p node e has is = ap (tree t) is
-    ∙ part_grown (type_in t.types) node k (place_entered t i k node e has)
-    ∙ ap (λ T. part_of T k) (sym e.tree)
+part_tree t i k p node e has is = search (arith, part_grown, place_entered)
 
 pub name_tree : (t : Table) (i k : ℕ) (node : Node) (name : List ℕ) → Entered t i node
     → HasMember (shape_in (tree t i)) k → name ≡ name_of (part_at node k)
     → name ≡ name_in (tree t i) k
-name_tree t i k node name e has is = is ∙ name_grown (type_in t.types) node k
-    (member_entered t i k node e has) ∙ ap (λ T. name_in T k) (sym e.tree)
+name_tree t i k node name e has is = search (arith, name_grown, member_entered)
 
 pub name_within : (t : Table) (i k : ℕ) (node : Node) (name : List ℕ) → Entered t i node
     → HasMember (shape_in (tree t i)) k → name ≡ name_of (part_at node k) → length name ≤ 64
-name_within t i k node name e has is =
-    subst (λ (xs : List ℕ). length xs ≤ 64) (sym is)
-    (name_short t.types i node k (formed_at t i node e) (member_entered t i k node e has))
+name_within t i k node name e has is = search (arith, name_short, formed_at, member_entered)
 
 -- the name of an enum's number
 pub enum_name_tree : (t : Table) (i n : ℕ) (node : Node) → Entered t i node
     → name_at node n ≡ enum_name_in (tree t i) n
-enum_name_tree t i n node e = enum_name_grown (type_in t.types) node n
-    ∙ ap (λ T. enum_name_in T n) (sym e.tree)
+enum_name_tree t i n node e = search (arith, enum_name_grown)
 
 pub enum_name_within : (t : Table) (i n : ℕ) (node : Node) → Entered t i node
     → IfSome (name_at node n) (λ name. length name ≤ 64)
-enum_name_within t i n node e = enum_name_short t.types i node n (formed_at t i node e)
+enum_name_within t i n node e = search (arith, enum_name_short, formed_at)
 
 -- the discriminator
 pub switch_below : (t : Table) (i s : ℕ) (node : Node) → Entered t i node
     → IsUnion (shape_in (tree t i)) → s ≡ switch_at node → s < i
-switch_below t i s node e is at = let below =
-    (switch_formed t.types i node (formed_at t i node e) (union_entered t i node e is)).below in
-    omega (arith, at)
+switch_below t i s node e is at = search (arith, switch_formed, formed_at, union_entered)
 
 pub switch_tree : (t : Table) (i s : ℕ) (node : Node) → Entered t i node
     → IsUnion (shape_in (tree t i)) → s ≡ switch_at node → tree t s ≡ switch_of (tree t i)
-switch_tree t i s node e is at =
-    ap (tree t) at ∙ switch_grown t.types i node (formed_at t i node e) e.types
-    (let k = e.known in omega arith) (union_entered t i node e is)
-    ∙ ap switch_of (sym e.tree)
+switch_tree t i s node e is at = search (arith, switch_grown, formed_at, union_entered)
 
 pub select_tree : (t : Table) (i : ℕ) (node : Node) (number : Number) (s : Selected)
     → Entered t i node → s ≡ selected node number
     → (n : ℕ) → interpreted_in (switch_of (tree t i)) n ≡ Some number → s ≡ select_in (tree t i) n
-select_tree t i node number s e is n taken =
-    is ∙ select_grown (type_in t.types) node number n
-    (ap (λ T. interpreted_in (switch_of T) n) (sym e.tree) ∙ taken)
-    ∙ ap (λ T. select_in T n) (sym e.tree)
+select_tree t i node number s e is n taken = search (arith, select_grown)
 
 pub select_place : (t : Table) (i : ℕ) (node : Node) (number : Number) (s : Selected)
     → Entered t i node → s ≡ selected node number
     → (k : ℕ) → s ≡ selecteds.Case k → HasMember (shape_in (tree t i)) k
-select_place t i node number s e is k at =
-    subst (λ x. HasMember x k) (shape_entered t i node e)
-    (selected_below t.types i node number k (formed_at t i node e) (sym is ∙ at))
+select_place t i node number s e is k at = search (arith, shape_entered, selected_below, formed_at)

@@ -1,7 +1,6 @@
 -- A text has no more tokens than octets.
-use Rattle.std.proofs.Common.{◌≡◌, ℕ, ◌+◌, ◌<◌, ◌≤◌, Bool, true, false, cond, eqb, List, [], ◌∷◌, length, drop, Option, Some, None, Ok, refl, sym, ap, arith}
+use Rattle.std.proofs.Common.{◌≡◌, ℕ, ◌<◌, ◌≤◌, Bool, true, false, cond, eqb, List, [], ◌∷◌, length, drop, Option, Some, None, Ok, ap, arith}
 use Rattle.std.specs.Prelude.{slice_index, option_map}
-use Rattle.std.specs.List.{prefix_len}
 use Rattle.std.proofs.lemmas.List.{length-drop}
 use Rattle.giop_tokens.specs.Marks.{mark_of}
 use Rattle.giop_tokens.specs.Tokens.{Token, mark, is_word, is_id, gap_step, or_stop, gap, run, past, number_of, word_token, below_zero, repository_token, as_token, first, next, AreTokens}
@@ -21,17 +20,14 @@ gap_shorter (b ∷ bs) c = stop_shorter (gap_step c b (slice_index bs 0)) b bs (
 token_rest : (text : List ℕ) (o : Option Token) (after : List ℕ) (t : Token) (rest : List ℕ)
     → as_token text o after ≡ Ok (Some t, rest) → after ≡ rest
 token_rest text None after t rest e = absurd cc
-token_rest text (Some s) after t rest e =
-    ap (λ (x : Option Token × List ℕ). x.1) (ok_is (Some s, after) (Some t, rest) e)
+token_rest text (Some s) after t rest e = search (arith, ok_is)
 
 past_by : (is : ℕ → Bool) (b : ℕ) (bs : List ℕ) → is b ≡ true
     → length (past is (b ∷ bs)) < length (b ∷ bs)
-past_by is b bs e =
-    let some : prefix_len is (b ∷ bs) ≡ 1 + prefix_len is bs = rw e refl in
-    omega (arith, some, length-drop (prefix_len is (b ∷ bs)) (b ∷ bs))
+past_by is b bs e = search (arith, length-drop)
 
 past_shorter : (is : ℕ → Bool) (bs : List ℕ) → length (past is bs) ≤ length bs
-past_shorter is bs = omega (arith, length-drop (prefix_len is bs) bs)
+past_shorter is bs = search (arith, length-drop)
 
 first_by : (b : ℕ) (bs : List ℕ) (t : Token) (rest : List ℕ) (p q r : Bool) → is_word b ≡ p
     → cond p (as_token (b ∷ bs) (word_token (run is_word (b ∷ bs))) (past is_word (b ∷ bs)))
@@ -47,13 +43,7 @@ first_by b bs t rest true q r word e =
       ap length (token_rest (b ∷ bs) (word_token (run is_word (b ∷ bs))) (past is_word (b ∷ bs)) t
           rest e),
     )
-first_by b bs t rest false true r word e =
-    omega (
-      arith,
-      past_shorter is_word bs,
-      ap length (token_rest (b ∷ bs) (below_zero (number_of (run is_word bs))) (past is_word bs) t
-          rest e),
-    )
+first_by b bs t rest false true r word e = search (arith, past_shorter, token_rest)
 first_by b bs t rest false false true word e =
     omega (
       arith,
@@ -62,34 +52,27 @@ first_by b bs t rest false false true word e =
       ap length (token_rest (b ∷ bs) (repository_token (run is_id bs) (past is_id bs))
           (drop 1 (past is_id bs)) t rest e),
     )
-first_by b bs t rest false false false word e =
-    omega (arith, ap length (token_rest (b ∷ bs) (option_map mark (mark_of b)) bs t rest e))
+first_by b bs t rest false false false word e = search (arith, token_rest)
 
 first_shorter : (text : List ℕ) (t : Token) (rest : List ℕ) → first text ≡ Ok (Some t, rest)
     → length rest < length text
 unfolding first
-first_shorter [] t rest e = let d : None ≡ Some t =
-    ap (λ (x : Option Token × List ℕ). x.0) (ok_is (None, []) (Some t, rest) e) in absurd cc
-first_shorter (b ∷ bs) t rest e = first_by b bs t rest (is_word b) (eqb b 45) (eqb b 34) refl e
+first_shorter [] t rest e = search (arith, ok_is)
+first_shorter (b ∷ bs) t rest e = search (arith, first_by, eqb)
 
 next_shorter : (text : List ℕ) (t : Token) (rest : List ℕ) → next text ≡ Ok (Some t, rest)
     → length rest < length text
 unfolding next
-next_shorter text t rest e = omega (
-  arith,
-  gap_shorter text false,
-  first_shorter (gap false text) t rest e,
-)
+next_shorter text t rest e = search (arith, gap_shorter, first_shorter)
 
 pub tokens_few : (ts : List Token) (text : List ℕ) → AreTokens text ts → length ts ≤ length text
 tokens_few [] text h = omega arith
-tokens_few (t ∷ ts) text h = omega (arith, next_shorter text t h.0 h.1, tokens_few ts h.0 h.2)
+tokens_few (t ∷ ts) text h = search (arith, next_shorter, tokens_few ts h.0 h.2)
 
 none_rest : (text : List ℕ) (o : Option Token) (after rest : List ℕ)
     → as_token text o after ≡ Ok (None, rest) → ⊥
 none_rest text None after rest e = absurd cc
-none_rest text (Some s) after rest e = let d : Some s ≡ None =
-    ap (λ (x : Option Token × List ℕ). x.0) (ok_is (Some s, after) (None, rest) e) in absurd cc
+none_rest text (Some s) after rest e = search (arith, ok_is)
 
 none_by : (b : ℕ) (bs rest : List ℕ) (p q r : Bool)
     → cond p (as_token (b ∷ bs) (word_token (run is_word (b ∷ bs))) (past is_word (b ∷ bs)))
@@ -97,21 +80,17 @@ none_by : (b : ℕ) (bs rest : List ℕ) (p q r : Bool)
     (cond r (as_token (b ∷ bs) (repository_token (run is_id bs) (past is_id bs))
     (drop 1 (past is_id bs))) (as_token (b ∷ bs) (option_map mark (mark_of b))
     bs))) ≡ Ok (None, rest) → ⊥
-none_by b bs rest true q r e = none_rest (b ∷ bs) (word_token (run is_word (b ∷ bs)))
-    (past is_word (b ∷ bs)) rest e
-none_by b bs rest false true r e = none_rest (b ∷ bs) (below_zero (number_of (run is_word bs)))
-    (past is_word bs) rest e
-none_by b bs rest false false true e = none_rest (b ∷ bs)
-    (repository_token (run is_id bs) (past is_id bs)) (drop 1 (past is_id bs)) rest e
-none_by b bs rest false false false e = none_rest (b ∷ bs) (option_map mark (mark_of b)) bs rest e
+none_by b bs rest true q r e = search (arith, none_rest)
+none_by b bs rest false true r e = search (arith, none_rest)
+none_by b bs rest false false true e = search (arith, none_rest, drop)
+none_by b bs rest false false false e = search (arith, none_rest)
 
 first_none : (text rest : List ℕ) → first text ≡ Ok (None, rest) → rest ≡ []
 unfolding first
-first_none [] rest e = sym (ap (λ (x : Option Token × List ℕ). x.1)
-    (ok_is (None, []) (None, rest) e))
-first_none (b ∷ bs) rest e = absurd (none_by b bs rest (is_word b) (eqb b 45) (eqb b 34) e)
+first_none [] rest e = search (arith, ok_is)
+first_none (b ∷ bs) rest e = search (arith, none_by, eqb)
 
 -- nothing is left at the end of a text
 pub next_none : (text rest : List ℕ) → next text ≡ Ok (None, rest) → rest ≡ []
 unfolding next
-next_none text rest e = first_none (gap false text) rest e
+next_none text rest e = search (arith, first_none)

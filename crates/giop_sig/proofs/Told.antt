@@ -1,5 +1,5 @@
 -- The line of a refusal: 0 only where memory was refused.
-use Rattle.std.proofs.Common.{◌≡◌, ◌↔◌, ℕ, List, refl, sym, subst, arith}
+use Rattle.std.proofs.Common.{◌≡◌, ◌↔◌, ℕ, List, refl, arith}
 use Rattle.giop_tokens.specs.declared.fault.Refusal.{Refusal}
 use Rattle.giop_tokens.specs.declared.fault.SigFault.{SigFault}
 use Rattle.giop_tokens.specs.declared.fault.SigFaultKind.{SigFaultKind}
@@ -13,7 +13,7 @@ HasLine f = (f.line ≡ 0) ↔ (f.kind ≡ kinds.OutOfMemory)
 told : (text : List ℕ) (k : SigFaultKind) (left : ℕ)
     → HasLine (fault_of text (record { kind = k; left = left }))
 told text kinds.OutOfMemory left = (λ e. refl, λ e. refl)
-told text _ left = (λ e. absurd (omega arith), λ e. absurd cc)
+told text _ left = search (arith)
 
 pub has_line : (text : List ℕ) (r : Refusal) (f : SigFault) → f ≡ fault_of text r → HasLine f
-has_line text r f is = subst HasLine (sym is) (told text r.kind r.left)
+has_line text r f is = search (arith, told)

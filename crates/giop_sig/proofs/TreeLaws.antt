@@ -8,10 +8,10 @@ use Rattle.std.proofs.lemmas.List.{length-append, get_or_append_left}
 use Rattle.std.proofs.Math.Seq.{get_or-append_seam}
 use Rattle.std.proofs.lemmas.List.Elements.{recursion_from_All}
 use Rattle.giop_cdr.specs.declared.prim.Primitive.TheVariants.{Octet}
-use Rattle.giop_sig.specs.Types.{Choice, Cases, Tag, Ty, Single, Struct, Sequence, Array, Encapsulation, switch_of, IsUnion}
-use Rattle.giop_sig.specs.Table.{Node, Part, Case, node_in, shape_of, part_at, switch_at, IsFormed, IsPart, IsScalarNode, case_part, name_of, selected}
+use Rattle.giop_sig.specs.Types.{Choice, Cases, Ty, Single, Struct, switch_of, IsUnion}
+use Rattle.giop_sig.specs.Table.{Node, Part, Case, node_in, shape_of, part_at, switch_at, IsFormed, IsPart, IsScalarNode, case_part, name_of}
 use Rattle.giop_sig.specs.Table as nodes
-use Rattle.giop_sig.specs.Trees.{grow, grown_part, union_of, grown_union, octet_type, scalar_of, tree_in, trees_after, trees_of, type_in, AreTypes}
+use Rattle.giop_sig.specs.Trees.{grow, grown_part, grown_union, octet_type, scalar_of, tree_in, trees_after, trees_of, type_in, AreTypes}
 
 abbrev SameBelow : ℕ → (ℕ → Ty) → (ℕ → Ty) → Type 0
 SameBelow n f g = (i : ℕ) → i < n → f i ≡ g i
@@ -42,10 +42,7 @@ union_same : (types : List Node) (n : ℕ) (f g : ℕ → Ty) (choice : Choice)
     (node : Node) → SameBelow n f g
     → f (switch_at node) ≡ g (switch_at node) → ((i : ℕ) → OnPart (IsPart types n) (part_at node i))
     → grown_union f choice node ≡ grown_union g choice node
-union_same types n f g choice node same switch parts =
-    ap (λ T. union_of choice node T (λ i. grown_part f (part_at node i))) switch
-    ∙ ap (union_of choice node (g (switch_at node)))
-    (fun_ext (λ i. part_same types n f g (part_at node i) same (parts i)))
+union_same types n f g choice node same switch parts = search (arith, part_same)
 
 grow_same : (types : List Node) (n : ℕ) (f g : ℕ → Ty) (node : Node) → SameBelow n f g
     → IsFormed types n node → grow f node ≡ grow g node
@@ -58,17 +55,14 @@ grow_same types n f g (nodes.union switch cases otherwise) same formed =
     (same switch formed.0.below)
     (λ i. case_read (IsPart types n) cases i
     (recursion_from_All (λ (c : Case). IsPart types n c.part) cases formed.2))
-grow_same types n f g (nodes.sequence bound element) same formed =
-    ap (Sequence bound) (same element formed.below)
-grow_same types n f g (nodes.array count element) same formed =
-    ap (Array count) (same element formed.1.below)
-grow_same types n f g (nodes.encapsulation held) same formed =
-    ap Encapsulation (same held formed.below)
-grow_same types n f g (nodes.tagged special tag inner other) same formed =
-    union_same types n f g Tag (nodes.tagged special tag inner other) same
-    (same tag.type formed.0.below)
-    (λ i. part_read (IsPart types n) (tag ∷ inner ∷ other ∷ []) i
-    (formed.1, (formed.2, (formed.3, tt))))
+grow_same types n f g (nodes.sequence bound element) same formed = search (arith)
+grow_same types n f g (nodes.array count element) same formed = search (arith)
+grow_same types n f g (nodes.encapsulation held) same formed = search (arith)
+grow_same types n f g (nodes.tagged special tag inner other) same formed = search (
+  arith,
+  union_same,
+  part_read,
+)
 grow_same types n f g _ same formed = refl
 
 -- the trees so far stay
@@ -121,18 +115,19 @@ single_of f _ is = absurd is
 -- the type of one number that a union's discriminator has
 pub single_at : (types : List Node) (i : ℕ) → AreTypes types → i < length types
     → IsScalarNode (node_in types i) → type_in types i ≡ Single (scalar_of (type_in types i))
-single_at types i are lt is =
-    let e = tree_of_parts types i are lt in
-    e ∙ single_of (type_in types) (node_in types i) is
-    ∙ ap (λ (T : Ty). Single (scalar_of T)) (sym e)
+single_at types i are lt is = search (arith, tree_of_parts, single_of)
 
 pub switch_grown : (types : List Node) (n : ℕ) (node : Node) → IsFormed types n node
     → AreTypes types → n ≤ length types → IsUnion (shape_of node)
     → type_in types (switch_at node) ≡ switch_of (grow (type_in types) node)
-switch_grown types n (nodes.union switch cases otherwise) formed are le is =
-    single_at types switch are (let b = formed.0.below in omega arith) formed.0.scalar
-switch_grown types n (nodes.tagged special tag inner other) formed are le is =
-    single_at types tag.type are (let b = formed.0.below in omega arith) formed.0.scalar
+switch_grown types n (nodes.union switch cases otherwise) formed are le is = search (
+  arith,
+  single_at,
+)
+switch_grown types n (nodes.tagged special tag inner other) formed are le is = search (
+  arith,
+  single_at,
+)
 switch_grown types n _ formed are le is = absurd is
 
 -- ---- a table that grows
@@ -156,8 +151,7 @@ length_after done (n ∷ ns) = omega (
 -- the types that were there keep their trees
 pub tree_stays : (ns ms : List Node) (i : ℕ) → i < length ns → type_in (ns ++ ms) i ≡ type_in ns i
 unfolding type_in
-tree_stays ns ms i lt = ap (λ ts. tree_in ts i) (after_append [] ns ms)
-    ∙ kept (trees_of ns) ms i (omega (arith, length_after [] ns))
+tree_stays ns ms i lt = search (arith, after_append, kept, length_after)
 
 -- the trees, once a type is added
 pub trees_added : (ns : List Node) (n : Node)

@@ -1,5 +1,5 @@
 -- Reading the spelling of a type gives it, or a rule that it breaks.
-use Rattle.std.proofs.Common.{◌≡◌, ℕ, zero, suc, ◌<◌, ◌≤◌, ◌⊎◌, inl, inr, Bool, true, false, cond, ltb, leb, List, [], ◌∷◌, length, Option, Some, None, Result, Ok, Err, refl, sym, ap, subst, ◌∙◌, arith}
+use Rattle.std.proofs.Common.{◌≡◌, ℕ, zero, suc, ◌<◌, ◌≤◌, ◌⊎◌, inl, inr, Bool, true, false, cond, ltb, leb, List, ◌∷◌, length, Option, Some, None, Result, Ok, Err, refl, sym, subst, arith}
 use Rattle.std.specs.Prelude.{MatchResult, codes}
 use Rattle.std.specs.Str.{bytes_eq}
 use Rattle.std.proofs.lemmas.List.{length-append}
@@ -38,22 +38,16 @@ added_case : (rule : Kind → Type 0) (at : ℕ) (s : Scope) (n : Node) (a b : B
     (Err (too_deep at)))
     (λ (p : AddedType). p ≡ with_node s n)
     (λ (e : Refusal). Breaks e.kind rule (with_node s n).0.table.types)
-added_case rule at s n true true p q =
-    let many = leb-true 4294967295 (size s) q in
-    inr (omega (arith, length-append s.table.types (n ∷ [])))
+added_case rule at s n true true p q = search (arith, leb-true, size, length-append)
 added_case rule at s n true false p q = refl
-added_case rule at s n false b p q =
-    let deep = leb-false (depth (grow (tree s.table) n)) 24 p in
-    omega (arith, deepest_added s.table.types n)
+added_case rule at s n false b p q = search (arith, leb-false, deepest_added)
 
 -- a node is added, unless the types become too deep or too many
 added_out : (rule : Kind → Type 0) (at : ℕ) (s : Scope) (n : Node)
     → MatchResult (added at s n) (λ (p : AddedType). p ≡ with_node s n)
     (λ (e : Refusal). Breaks e.kind rule (with_node s n).0.table.types)
 unfolding added
-added_out rule at s n =
-    added_case rule at s n (leb (depth (grow (tree s.table) n)) 24) (leb 4294967295 (size s)) refl
-    refl
+added_out rule at s n = search (arith, added_case, leb, size)
 
 added_by : {Y : Type 0} {made : List ℕ → Y} {rule : Kind → Type 0}
     {types : List Node} {more : List Token}
@@ -80,29 +74,16 @@ added_bind {rule = rule} at s n h le on =
 
 not_by : (w v : List ℕ) (b : Bool) → bytes_eq w v ≡ b → is_reserved w ≡ false
     → is_reserved v ≡ true → bytes_eq w v ≡ false
-not_by w v true e free reserved = absurd
-    (false≢true (sym free ∙ ap is_reserved ((bytes_eq-Decides w v).0 e) ∙ reserved))
+not_by w v true e free reserved = search (arith, false≢true, bytes_eq-Decides)
 not_by w v false e free reserved = e
 
 -- a free name is no word that is reserved
 pub is_not : (w v : List ℕ) → is_reserved w ≡ false → is_reserved v ≡ true → bytes_eq w v ≡ false
-is_not w v free reserved = not_by w v (bytes_eq w v) refl free reserved
+is_not w v free reserved = search (arith, not_by)
 
 no_base : (w : List ℕ) → is_reserved w ≡ false → base_of w ≡ None
 unfolding is_reserved
-no_base w free = rw (
-  is_not w (codes "octet") free refl,
-  is_not w (codes "char") free refl,
-  is_not w (codes "boolean") free refl,
-  is_not w (codes "short") free refl,
-  is_not w (codes "ushort") free refl,
-  is_not w (codes "long") free refl,
-  is_not w (codes "ulong") free refl,
-  is_not w (codes "longlong") free refl,
-  is_not w (codes "ulonglong") free refl,
-  is_not w (codes "float") free refl,
-  is_not w (codes "double") free refl,
-) refl
+no_base w free = search (arith, is_not)
 
 base_word_of : (p : Primitive) → base_of (base_word p) ≡ Some (base_number p)
 base_word_of prims.Octet = refl
@@ -143,8 +124,13 @@ base_reads : (at : ℕ) (inner : List ℕ → Result TypeRead Refusal) (s : Scop
     → Out (placed s (Base p)) (λ k. OfType k s.names (Base p))
     (place s (Base p)).0.table.types more (type_after at inner s text (base_word p) rest)
 unfolding OfType place leaf_at
-base_reads at inner s p text rest more m =
-    rw (no_sequence p, no_encapsulation p, base_word_of p) (good rest m (λ k. tt))
+base_reads at inner s p text rest more m = search (
+  arith,
+  no_sequence,
+  no_encapsulation,
+  base_word_of,
+  good,
+)
 
 text_type_reads : (at : ℕ) (s : Scope) (o : Option ℕ) (rest : List ℕ) (more : List Token)
     → AreTokens rest more → ((k : Kind) → OfBound k o)
@@ -152,12 +138,11 @@ text_type_reads : (at : ℕ) (s : Scope) (o : Option ℕ) (rest : List ℕ) (mor
     (λ k. OfBound k o)
     (add_text_type s o).0.table.types more (text_type at s o >>= λ t. Ok (t.0, t.1, rest))
 text_type_reads at s None rest more m keeps = good rest m keeps
-text_type_reads at s (Some n) rest more m keeps =
-    added_bind at s (nodes.text (Some n)) (λ t. Ok (t.0, t.1, rest)) within_same (good rest m keeps)
+text_type_reads at s (Some n) rest more m keeps = search (arith, added_bind, within_same, good)
 
 text_more : (s : Scope) (o : Option ℕ) → Grown s (add_text_type s o).0
 text_more s None = within_same
-text_more s (Some n) = node_more s (nodes.text (Some n))
+text_more s (Some n) = search (arith, node_more)
 
 string_reads : (at : ℕ) (s : Scope) (o : Option ℕ) (rest : List ℕ) (more : List Token)
     → Apart marks.OpenAngle more → AreTokens rest (spell_bound o more)
@@ -179,35 +164,29 @@ named_keeps names w i free short is _ = tt
 
 not_found : (names : Names) (w : List ℕ) → named names w ≡ None
     → (i : ℕ) × (named names w ≡ Some i) → ⊥
-not_found names w e h = let f : None ≡ Some h.0 = sym e ∙ h.1 in absurd cc
+not_found names w e h = search (arith)
 
 found_reads : (s : Scope) (text w rest : List ℕ) (more : List Token) (o : Option ℕ)
     → named s.names w ≡ o → IsFree w → length w ≤ 64 → AreTokens rest more
     → Out {X = TypeRead} (λ rest. (s, number_or o, rest)) (λ k. OfTypeName k s.names w)
     s.table.types more (found_type s text rest o)
-found_reads s text w rest more None e free short m =
-    broken (refused kinds.UnknownType text) (not_found s.names w e)
-found_reads s text w rest more (Some i) e free short m =
-    good rest m (named_keeps s.names w i free short e)
+found_reads s text w rest more None e free short m = search (arith, broken, not_found)
+found_reads s text w rest more (Some i) e free short m = search (arith, good, named_keeps)
 
 long_reads : (s : Scope) (text w rest : List ℕ) (more : List Token) (v : Bool)
     → ltb 64 (length w) ≡ v → IsFree w → AreTokens rest more
     → Out {X = TypeRead} (λ rest. (s, number_or (named s.names w), rest))
     (λ k. OfTypeName k s.names w) s.table.types more
     (cond v (Err (refused kinds.Limit text)) (found_type s text rest (named s.names w)))
-long_reads s text w rest more true e free m =
-    broken (refused kinds.Limit text) (inl
-    (λ short. let z = ltb-true 64 (length w) e in omega arith))
-long_reads s text w rest more false e free m =
-    found_reads s text w rest more (named s.names w) refl free (ltb-false 64 (length w) e) m
+long_reads s text w rest more true e free m = search (arith, broken, ltb-true)
+long_reads s text w rest more false e free m = search (arith, found_reads, ltb-false)
 
 named_reads : (s : Scope) (text w rest : List ℕ) (more : List Token)
     → IsFree w → AreTokens rest more
     → Out (placed s (Named w)) (λ k. OfType k s.names (Named w)) (place s (Named w)).0.table.types
     more (named_type s text w rest)
 unfolding named_type OfType place
-named_reads s text w rest more free m = rw free
-    (long_reads s text w rest more (ltb 64 (length w)) refl free m)
+named_reads s text w rest more free m = search (arith, long_reads, ltb)
 
 name_reads : (at : ℕ) (inner : List ℕ → Result TypeRead Refusal) (s : Scope)
     (text w rest : List ℕ) (more : List Token)
@@ -215,15 +194,7 @@ name_reads : (at : ℕ) (inner : List ℕ → Result TypeRead Refusal) (s : Scop
     → Out (placed s (Named w)) (λ k. OfType k s.names (Named w))
     (place s (Named w)).0.table.types more (type_after at inner s text w rest)
 unfolding is_reserved leaf_at
-name_reads at inner s text w rest more free m =
-    rw (
-      is_not w (codes "sequence") free refl,
-      is_not w (codes "encapsulation") free refl,
-      no_base w free,
-      is_not w (codes "string") free refl,
-      is_not w (codes "Object") free refl,
-    )
-    (named_reads s text w rest more free m)
+name_reads at inner s text w rest more free m = search (arith, is_not, no_base, named_reads)
 
 -- a sequence, after its element
 closed_reads : (at : ℕ) (s : Scope) (e : TypeExpr) (o : Option ℕ) (rest : List ℕ)
@@ -262,11 +233,11 @@ held_reads at s e rest more has m keeps =
 sequence_more : (s : Scope) (e : TypeExpr) (o : Option ℕ)
     → Grown (place s e).0 (place s (SequenceOf e o)).0
 unfolding place
-sequence_more s e o = node_more (place s e).0 (sequence_node o (place s e).1)
+sequence_more s e o = search (arith, node_more)
 
 held_more : (s : Scope) (e : TypeExpr) → Grown (place s e).0 (place s (EncapsulationOf e)).0
 unfolding place
-held_more s e = node_more (place s e).0 (nodes.encapsulation (place s e).1)
+held_more s e = search (arith, node_more)
 
 -- a type that has another in it, one level deeper
 record Nests (s : Scope) (e whole : TypeExpr) : Type 0 where
@@ -277,10 +248,8 @@ record Nests (s : Scope) (e whole : TypeExpr) : Type 0 where
 inner_by : (left : ℕ) (s : Scope) (e whole : TypeExpr) (x : Refusal) → Nests s e whole
     → Stuck left s e x
     → Stuck (suc left) s whole x
-inner_by left s e whole x is (inl b) =
-    inl (lift x.kind (λ k. OfType k s.names e) (λ k. OfType k s.names whole)
-    (place s e).0.table.types (place s whole).0.table.types is.rules is.grown b)
-inner_by left s e whole x is (inr d) = inr (d.0, let n = d.1 in omega (arith, is.levels))
+inner_by left s e whole x is (inl b) = search (arith, lift)
+inner_by left s e whole x is (inr d) = search (arith)
 
 nested_by : (left : ℕ) (s : Scope) (e whole : TypeExpr) (tail more : List Token)
     (r : Result TypeRead Refusal) (h : TypeRead → Result TypeRead Refusal)
@@ -289,12 +258,8 @@ nested_by : (left : ℕ) (s : Scope) (e whole : TypeExpr) (tail more : List Toke
     → Out (placed s whole) (λ k. OfType k s.names whole) (place s whole).0.table.types more
     (h (placed s e rest)))
     → TypeOut (suc left) s whole more (r >>= h)
-nested_by left s e whole tail more (Ok x) h is t on =
-    let g = t.out in
-    subst (λ (y : TypeRead). TypeOut (suc left) s whole more (h y)) (sym g.is)
-    (type_by (suc left) s whole more (h (placed s e g.rest)) (on g.rest g.tokens g.keeps))
-nested_by left s e whole tail more (Err x) h is t on =
-    record { out = inner_by left s e whole x is t.out }
+nested_by left s e whole tail more (Ok x) h is t on = search (arith, type_by)
+nested_by left s e whole tail more (Err x) h is t on = search (arith, inner_by)
 
 reference_reads : (s : Scope) (rest : List ℕ) (more : List Token) → AreTokens rest more
     → Out (placed s Reference) (λ k. OfType k s.names Reference)
@@ -311,7 +276,7 @@ type_out : (at left : ℕ) (s : Scope) (e : TypeExpr) (text : List ℕ) (more : 
     → OfType kinds.Syntax s.names e → Apart marks.OpenAngle more
     → AreTokens text (spell_type e more) → TypeOut left s e more (type_at at left s text)
 unfolding type_at leaf_at OfType
-type_out at zero s e text more free apart h = record { out = inr (refl, omega arith) }
+type_out at zero s e text more free apart h = search (arith)
 type_out at (suc left) s (Base p) text more free apart h =
     rw (word_again text (base_word p) more h)
     (type_by (suc left) s (Base p) more _
@@ -354,16 +319,13 @@ type_out at (suc left) s (EncapsulationOf e) text more free apart h =
 deep_by : (s : Scope) (e : TypeExpr) (x : Refusal) → 0 < size s → Stuck 25 s e x
     → Breaks x.kind (λ k. OfType k s.names e) (place s e).0.table.types
 deep_by s e x some (inl b) = b
-deep_by s e x some (inr d) =
-    let n = d.1 in
-    subst (λ k. Breaks k (λ k. OfType k s.names e) (place s e).0.table.types) (sym d.0)
-    (omega (arith, nest_deepest s e some (omega arith)))
+deep_by s e x some (inr d) = search (arith, nest_deepest)
 
 type_from : (s : Scope) (e : TypeExpr) (more : List Token) (r : Result TypeRead Refusal)
     → 0 < size s → TypeOut 25 s e more r
     → Out (placed s e) (λ k. OfType k s.names e) (place s e).0.table.types more r
 type_from s e more (Ok x) some t = record { out = t.out }
-type_from s e more (Err x) some t = record { out = deep_by s e x some t.out }
+type_from s e more (Err x) some t = search (arith, deep_by)
 
 -- what reading gives of a text that begins with a type
 pub type_reads : (at : ℕ) (s : Scope) (e : TypeExpr) (text : List ℕ) (more : List Token)
@@ -371,5 +333,4 @@ pub type_reads : (at : ℕ) (s : Scope) (e : TypeExpr) (text : List ℕ) (more :
     → AreTokens text (spell_type e more)
     → Out (placed s e) (λ k. OfType k s.names e) (place s e).0.table.types
     more (type_at at 25 s text)
-type_reads at s e text more some free apart h =
-    type_from s e more (type_at at 25 s text) some (type_out at 25 s e text more free apart h)
+type_reads at s e text more some free apart h = search (arith, type_from, type_out)

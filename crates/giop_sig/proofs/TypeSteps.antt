@@ -17,6 +17,6 @@ pub type_at-step : (at left : ℕ) (s : Scope) (text : List ℕ) → 0 < left
     ≡ (word_at text >>= λ w. type_after at (type_at at (left - 1) s) s text w.0 w.1)
 unfolding type_at
 type_at-step at zero s text h = absurd (omega arith)
-type_at-step at (suc left) s text h = let e : suc left - 1 ≡ left = omega arith in rw e refl
+type_at-step at (suc left) s text h = search (arith)
 
 pub ruleset type_steps = (type_at-none, type_at-step)

@@ -1,5 +1,5 @@
 -- A type that was read: the text that was read spells it, and it can be a part of others.
-use Rattle.std.proofs.Common.{◌≡◌, ℕ, zero, suc, ◌<◌, Bool, true, false, cond, eqb, ltb, leb, List, [], ◌∷◌, ◌++◌, length, Option, Some, None, Result, Ok, Err, append_assoc, refl, sym, ap, subst, ◌∙◌, lit<, arith}
+use Rattle.std.proofs.Common.{◌≡◌, ℕ, zero, suc, ◌<◌, Bool, true, false, cond, eqb, ltb, leb, List, [], ◌∷◌, ◌++◌, Option, Some, None, Result, Ok, Err, append_assoc, refl, sym, subst, lit<, arith}
 use Rattle.std.specs.Prelude.{codes}
 use Rattle.std.specs.List.{AllByRecursion}
 use Rattle.std.specs.Map.{lookup}
@@ -17,16 +17,14 @@ use Rattle.giop_tokens.specs.Tokens.{word, mark, AreTokens}
 use Rattle.giop_tokens.specs.Readers.{misplaced, word_at, mark_at}
 use Rattle.giop_tokens.specs.Names.{is_reserved}
 use Rattle.giop_tokens.proofs.ReaderLaws.{bind_ok, ok_is, Takes, word_takes, mark_takes}
-use Rattle.giop_sig.specs.Types.{depth}
 use Rattle.giop_sig.specs.Table.{Node, node_in, TakesOctet}
 use Rattle.giop_sig.specs.Table as nodes
-use Rattle.giop_sig.specs.Trees.{grow, tree}
 use Rattle.giop_sig.specs.Builtin.{builtin_types}
 use Rattle.giop_sig.specs.RequestList.{flat}
 use Rattle.giop_sig.specs.Grammar.{TypeExpr, Base, Text, Reference, Named, SequenceOf, EncapsulationOf, base_word, spell_most, spell_type}
 use Rattle.giop_sig.specs.Scopes.{has_encapsulations, Scope, AddedType, named, base_number, with_node, sequence_node}
 use Rattle.giop_sig.specs.Validity.{OfType}
-use Rattle.giop_sig.specs.ScopeViews.{IsKnown, IsKnownType, IsDeclaredName, IsScope}
+use Rattle.giop_sig.specs.ScopeViews.{IsKnown, IsDeclaredName, IsScope}
 use Rattle.giop_sig.specs.Outcomes.{refused}
 use Rattle.giop_sig.specs.TypeReading.{too_deep, too_many_types, added, TypeRead, base_of, text_type, text_at, after_element, sequence_at, after_encapsulated, held_at, encapsulation_at, found_type, named_type, leaf_after, leaf_at, type_after, type_at}
 use Rattle.giop_sig.proofs.SizeTaken.{enclosed_takes, most_takes, bound_free}
@@ -44,27 +42,10 @@ pub record Grows (s t : Scope) : Type 0 where
   pub declared : t.table.declared ≡ s.table.declared
 
 pub grows_none : (s : Scope) → Grows s s
-grows_none s = record {
-  types = ([], sym (append-nil s.table.types));
-  names = refl;
-  operations =
-      refl;
-  exceptions = refl;
-  declared = refl;
-}
+grows_none s = search (arith, append-nil)
 
 pub grows_on : (r s t : Scope) → Grows r s → Grows s t → Grows r t
-grows_on r s t a b = record {
-  types = (
-    (a.types).0 ++ (b.types).0,
-    (b.types).1 ∙ ap (λ ns. ns ++ (b.types).0) (a.types).1
-        ∙ append_assoc r.table.types (a.types).0 (b.types).0,
-  );
-  names = b.names ∙ a.names;
-  operations = b.operations ∙ a.operations;
-  exceptions = b.exceptions ∙ a.exceptions;
-  declared = b.declared ∙ a.declared;
-}
+grows_on r s t a b = search (arith, append_assoc)
 
 pub grows_known : (s t : Scope) (i : ℕ) → Grows s t → IsKnown s.table.types i
     → IsKnown t.table.types i
@@ -72,37 +53,24 @@ grows_known s t i g is = subst (λ ns. IsKnown ns i) (sym (g.types).1)
     (known_stays s.table.types (g.types).0 i is)
 
 pub node_grows : (s : Scope) (n : Node) → Grows s (with_node s n).0
-node_grows s n = record {
-  types = (n ∷ [], refl);
-  names = refl;
-  operations = refl;
-  exceptions =
-      refl;
-  declared = refl;
-}
+node_grows s n = search (arith)
 
 -- a node that was added can be a part
 pub node_known : (s : Scope) (n : Node) → TakesOctet n
     → IsKnown (with_node s n).0.table.types (with_node s n).1
-node_known s n takes = record {
-  below = omega (arith, length-append s.table.types (n ∷ []));
-  takes = subst TakesOctet (sym (get_or-append_seam s.table.types n [] (nodes.prim prims.Octet)))
-      takes;
-}
+node_known s n takes = search (arith, length-append, get_or-append_seam)
 
 added_by : (at : ℕ) (s : Scope) (n : Node) (x : AddedType) (a b : Bool)
     → cond a (cond b (Err (too_many_types at)) (Ok (with_node s n))) (Err (too_deep at)) ≡ Ok x
     → x ≡ with_node s n
 added_by at s n x true true e = absurd cc
-added_by at s n x true false e = sym (ok_is (with_node s n) x e)
+added_by at s n x true false e = search (arith, ok_is)
 added_by at s n x false b e = absurd cc
 
 pub added_is : (at : ℕ) (s : Scope) (n : Node) (x : AddedType)
     → added at s n ≡ Ok x → x ≡ with_node s n
 unfolding added
-added_is at s n x e =
-    added_by at s n x (leb (depth (grow (tree s.table) n)) 24)
-    (leb 4294967295 (length s.table.types)) e
+added_is at s n x e = search (arith, added_by, leb)
 
 -- a scope after a type, whose number can be a part's
 pub record Sound (p : AddedType) : Type 0 where
@@ -111,7 +79,7 @@ pub record Sound (p : AddedType) : Type 0 where
 
 -- one node more keeps this
 pub sound_node : (s : Scope) (n : Node) → IsScope s → TakesOctet n → Sound (with_node s n)
-sound_node s n is takes = record { scope = scope_grows s n is; known = node_known s n takes }
+sound_node s n is takes = search (arith, scope_grows, node_known)
 
 pub sound_added : (at : ℕ) (s : Scope) (n : Node) (x : AddedType) → added at s n ≡ Ok x
     → IsScope s → TakesOctet n → Sound x
@@ -119,8 +87,7 @@ sound_added at s n x e is takes = subst Sound (sym (added_is at s n x e)) (sound
 
 pub added_grows : (at : ℕ) (s : Scope) (n : Node) (x : AddedType) → added at s n ≡ Ok x →
     Grows s x.0
-added_grows at s n x e = subst (λ (p : AddedType). Grows s p.0) (sym (added_is at s n x e))
-    (node_grows s n)
+added_grows at s n x e = search (arith, added_is, node_grows)
 
 -- ---- types
 
@@ -138,11 +105,7 @@ built types more k e lt takes = subst (λ ns. IsKnown ns k) (sym e)
 
 same_known : (s : Scope) (k : ℕ) → IsScope s → k < BUILTIN_LEN
     → TakesOctet (node_in builtin_types k) → Sound (s, k)
-same_known s k is lt takes = record {
-  scope = is;
-  known =
-      built s.table.types (is.begins).0 k (is.begins).1 lt takes;
-}
+same_known s k is lt takes = search (arith, built)
 
 base_sound : (s : Scope) (p : Primitive) → IsScope s → Sound (s, base_number p)
 unfolding builtin_types
@@ -165,14 +128,13 @@ BaseWord w k = (p : Primitive) × (w ≡ base_word p) × (base_number p ≡ k)
 pick_by : (p : Primitive) (w : List ℕ) (k : ℕ) (o : Option ℕ) (v : Bool)
     → bytes_eq w (base_word p) ≡ v → cond v (Some (base_number p)) o ≡ Some k
     → (o ≡ Some k → BaseWord w k) → BaseWord w k
-pick_by p w k o true same e on = let number : base_number p ≡ k = cc in
-    (p, (bytes_eq-Decides w (base_word p)).0 same, number)
+pick_by p w k o true same e on = search (arith, bytes_eq-Decides)
 pick_by p w k o false same e on = on e
 
 pick : (p : Primitive) (w : List ℕ) (k : ℕ) (o : Option ℕ)
     → cond (bytes_eq w (base_word p)) (Some (base_number p)) o ≡ Some k
     → (o ≡ Some k → BaseWord w k) → BaseWord w k
-pick p w k o e on = pick_by p w k o (bytes_eq w (base_word p)) refl e on
+pick p w k o e on = search (arith, pick_by)
 
 base_from : (w : List ℕ) (k : ℕ) → base_of w ≡ Some k → BaseWord w k
 base_from w k e =
@@ -197,15 +159,14 @@ base_took s text w rest k t b = record {
 text_type_sound : (at : ℕ) (s : Scope) (b : Option ℕ) (p : AddedType)
     → text_type at s b ≡ Ok p → IsScope s → Sound p
 unfolding builtin_types
-text_type_sound at s None p e is = subst Sound (ok_is (s, STRING) p e)
-    (same_known s STRING is (lit< tt) tt)
-text_type_sound at s (Some n) p e is = sound_added at s (nodes.text (Some n)) p e is tt
+text_type_sound at s None p e is = search (arith, ok_is, same_known, lit<)
+text_type_sound at s (Some n) p e is = search (arith, sound_added)
 
 text_type_grows : (at : ℕ) (s : Scope) (b : Option ℕ) (p : AddedType)
     → text_type at s b ≡ Ok p → Grows s p.0
 text_type_grows at s None p e = subst (λ (q : AddedType). Grows s q.0) (ok_is (s, STRING) p e)
     (grows_none s)
-text_type_grows at s (Some n) p e = added_grows at s (nodes.text (Some n)) p e
+text_type_grows at s (Some n) p e = search (arith, added_grows)
 
 text_took : (at : ℕ) (s : Scope) (text w rest : List ℕ) (x : TypeRead) → Takes text (word w) rest
     → w ≡ codes "string" → text_at at s rest ≡ Ok x → TakenType s text x
@@ -312,7 +273,7 @@ found_known : (types : List Node) (names : List (List ℕ × Option ℕ)) (w : L
     (e : List ℕ × Option ℕ) → bytes_eq w e.0 ≡ v → IsDeclaredName types e
     → (flat (lookup (bytes_eq w) names) ≡ Some k → IsKnown types k)
     → flat (cond v (Some e.1) (lookup (bytes_eq w) names)) ≡ Some k → IsKnown types k
-found_known types names w k true e same is rest h = subst (IsKnownType types) h is.type
+found_known types names w k true e same is rest h = search (arith)
 found_known types names w k false e same is rest h = rest h
 
 named_known : (types : List Node) (names : List (List ℕ × Option ℕ)) (w : List ℕ) (k : ℕ)
@@ -342,22 +303,19 @@ named_by : (s : Scope) (text w rest : List ℕ) (x : TypeRead) (a b : Bool) → 
     ≡ Ok x → TakenType s text x
 named_by s text w rest x true b free t e = absurd cc
 named_by s text w rest x false true free t e = absurd cc
-named_by s text w rest x false false free t e =
-    found_by s text w rest x (named s.names w) refl free t e
+named_by s text w rest x false false free t e = search (arith, found_by)
 
 named_took : (s : Scope) (text w rest : List ℕ) (x : TypeRead) → Takes text (word w) rest
     → named_type s text w rest ≡ Ok x → TakenType s text x
 unfolding named_type
-named_took s text w rest x t e = named_by s text w rest x (is_reserved w) (ltb 64 (length w)) refl t
-    e
+named_took s text w rest x t e = search (arith, named_by, ltb)
 
 leaf_by : (at : ℕ) (s : Scope) (text w rest : List ℕ) (x : TypeRead) → Takes text (word w) rest
     → (a b : Bool) → bytes_eq w (codes "string") ≡ a → bytes_eq w (codes "Object") ≡ b
     → cond a (text_at at s rest) (cond b (Ok (s, IOR, rest)) (named_type s text w rest)) ≡ Ok x
     → TakenType s text x
 unfolding OfType builtin_types
-leaf_by at s text w rest x t true b p q e =
-    text_took at s text w rest x t ((bytes_eq-Decides w (codes "string")).0 p) e
+leaf_by at s text w rest x t true b p q e = search (arith, text_took, bytes_eq-Decides)
 leaf_by at s text w rest x t false true p q e =
     subst (TakenType s text) (ok_is (s, IOR, rest) x e) (record {
       expr = Reference;
@@ -369,7 +327,7 @@ leaf_by at s text w rest x t false true p q e =
       grows = grows_none s;
       sound = λ is. same_known s IOR is (lit< tt) tt;
     })
-leaf_by at s text w rest x t false false p q e = named_took s text w rest x t e
+leaf_by at s text w rest x t false false p q e = search (arith, named_took)
 
 leaf_took : (at : ℕ) (s : Scope) (text w rest : List ℕ) (x : TypeRead) (o : Option ℕ)
     → Takes text (word w) rest → base_of w ≡ o → leaf_after at s text w rest o ≡ Ok x
@@ -377,9 +335,7 @@ leaf_took : (at : ℕ) (s : Scope) (text w rest : List ℕ) (x : TypeRead) (o : 
 leaf_took at s text w rest x (Some k) t b e =
     subst (TakenType s text) (ok_is (s, k, rest) x e)
     (base_took s text w rest k t (base_from w k b))
-leaf_took at s text w rest x None t b e =
-    leaf_by at s text w rest x t (bytes_eq w (codes "string")) (bytes_eq w (codes "Object")) refl
-    refl e
+leaf_took at s text w rest x None t b e = search (arith, leaf_by)
 
 after_took : (at : ℕ) (inner : List ℕ → Result TypeRead Refusal) (s : Scope)
     (text w rest : List ℕ) (x : TypeRead)
@@ -390,13 +346,17 @@ after_took : (at : ℕ) (inner : List ℕ → Result TypeRead Refusal) (s : Scop
     (leaf_at at s text w rest)) ≡ Ok x
     → TakenType s text x
 unfolding leaf_at
-after_took at inner s text w rest x takes t true b p q e =
-    sequence_took at inner s text w rest x takes t ((bytes_eq-Decides w (codes "sequence")).0 p) e
-after_took at inner s text w rest x takes t false true p q e =
-    let same = (bytes_eq-Decides w (codes "encapsulation")).0 q in
-    encapsulation_took at inner s text w rest x (has_encapsulations s.names) takes t same refl e
-after_took at inner s text w rest x takes t false false p q e =
-    leaf_took at s text w rest x (base_of w) t refl e
+after_took at inner s text w rest x takes t true b p q e = search (
+  arith,
+  sequence_took,
+  bytes_eq-Decides,
+)
+after_took at inner s text w rest x takes t false true p q e = search (
+  arith,
+  bytes_eq-Decides,
+  encapsulation_took,
+)
+after_took at inner s text w rest x takes t false false p q e = search (arith, leaf_took)
 
 pub type_takes : (at left : ℕ) (s : Scope) (text : List ℕ) (x : TypeRead)
     → type_at at left s text ≡ Ok x → TakenType s text x

@@ -1,6 +1,6 @@
 -- A union that was read: the code may add it to the table, and the text that was read spells its
 -- declaration.
-use Rattle.std.proofs.Common.{◌≡◌, ℕ, ◌+◌, Bool, true, false, cond, List, [], ◌∷◌, length, Ok, Err, refl, sym, ap, subst, ◌∙◌, arith}
+use Rattle.std.proofs.Common.{◌≡◌, ℕ, ◌+◌, Bool, true, false, cond, List, [], ◌∷◌, length, Ok, Err, sym, ap, subst, ◌∙◌, arith}
 use Rattle.std.specs.Prelude.{codes}
 use Rattle.std.proofs.lemmas.List.{length-append}
 use Rattle.giop_tokens.specs.declared.fault.SigFaultKind.TheVariants as kinds
@@ -14,7 +14,7 @@ use Rattle.giop_sig.specs.Scopes.{Scope, place, with_named}
 use Rattle.giop_sig.specs.Validity.{OfType, IsDiscriminator, OfCases, OfDeclaration, placed_node}
 use Rattle.giop_sig.specs.ScopeViews.{IsScope}
 use Rattle.giop_sig.specs.Outcomes.{refused}
-use Rattle.giop_sig.specs.TypeReading.{TypeRead, added, type_at}
+use Rattle.giop_sig.specs.TypeReading.{TypeRead, added}
 use Rattle.giop_sig.specs.ItemReading.{Declared}
 use Rattle.giop_sig.specs.UnionReading.{CasesRead, cases_at, can_switch, switch_at, union_at}
 use Rattle.giop_sig.proofs.TypeTaken.{Grows, grows_on, TakenType, type_takes}
@@ -37,26 +37,13 @@ record TakenSwitch (s : Scope) (text : List ℕ) (x : TypeRead) : Type 0 where
 switch_by : (s : Scope) (text : List ℕ) (t x : TypeRead) (v : Bool)
     → can_switch (node_at (t.0).table t.1) ≡ v → TakenType s text t
     → cond v (Ok t) (Err (refused kinds.Label text)) ≡ Ok x → TakenSwitch s text x
-switch_by s text t x true p k e =
-    subst (TakenSwitch s text) (ok_is t x e) (record {
-      expr = k.expr;
-      took = k.took;
-      grows = k.grows;
-      scope = λ is. (k.sound is).scope;
-      is =
-          discriminates (node_at (t.0).table t.1) p;
-    })
+switch_by s text t x true p k e = search (arith, ok_is, discriminates)
 switch_by s text t x false p k e = absurd cc
 
 switch_taken : (at : ℕ) (s : Scope) (text : List ℕ) (x : TypeRead)
     → switch_at at s text ≡ Ok x → TakenSwitch s text x
 unfolding switch_at
-switch_taken at s text x e =
-    let t = bind_ok (type_at at 25 s text)
-    (λ t. cond (can_switch (node_at (t.0).table t.1)) (Ok t) (Err (refused kinds.Label text))) x
-    e in
-    switch_by s text t.0 x (can_switch (node_at ((t.0).0).table (t.0).1)) refl
-    (type_takes at 25 s text t.0 t.1) t.2
+switch_taken at s text x e = search (arith, bind_ok, cond, switch_by, type_takes)
 
 -- ---- what the code asks
 

@@ -1,8 +1,7 @@
 -- Reading the spelling of a union's cases gives them, or a rule that they break.
-use Rattle.std.proofs.Common.{◌≡◌, ℕ, zero, suc, ◌+◌, ◌<◌, ◌≤◌, Bool, true, false, cond, List, [], ◌∷◌, ◌++◌, length, Option, Some, None, Result, Ok, refl, sym, ap, subst, ◌∙◌, arith}
+use Rattle.std.proofs.Common.{◌≡◌, ℕ, zero, suc, ◌+◌, ◌<◌, ◌≤◌, Bool, true, false, cond, List, [], ◌∷◌, ◌++◌, length, Option, Some, None, Result, Ok, refl, sym, subst, ◌∙◌, arith}
 use Rattle.std.specs.List.{AllByRecursion}
 use Rattle.std.proofs.lemmas.List.{length-append, get_or_append_left}
-use Rattle.giop_cdr.specs.declared.prim.Primitive.TheVariants as prims
 use Rattle.giop_tokens.specs.declared.fault.Refusal.{Refusal}
 use Rattle.giop_tokens.specs.declared.fault.SigFaultKind.TheVariants as kinds
 use Rattle.giop_tokens.specs.declared.marks.Mark.TheVariants as marks
@@ -11,9 +10,8 @@ use Rattle.giop_tokens.specs.Reading.{◌>>=◌}
 use Rattle.giop_tokens.specs.Readers.{mark_at, mark_if}
 use Rattle.giop_tokens.proofs.ReaderLaws.{mark_again, mark_if_again}
 use Rattle.giop_sig.specs.declared.types.Selected.{Selected}
-use Rattle.giop_sig.specs.Table.{Case, Node, node_at, node_in}
-use Rattle.giop_sig.specs.Table as nodes
-use Rattle.giop_sig.specs.Grammar.{TypeExpr, Base, Text, Reference, Named, SequenceOf, EncapsulationOf, Item, Label, Default, Of, UnionCase, spell_length, spell_item, spell_labels, spell_cases}
+use Rattle.giop_sig.specs.Table.{Case, Node, node_at}
+use Rattle.giop_sig.specs.Grammar.{TypeExpr, Text, SequenceOf, EncapsulationOf, Item, Label, Default, Of, UnionCase, spell_length, spell_item, spell_labels, spell_cases}
 use Rattle.giop_sig.specs.Scopes.{Names, Scope, AddedType, has_default, labels_of, union_case, place, add_array, add_item}
 use Rattle.giop_sig.specs.Validity.{OfItem, OfLabels, OfCases}
 use Rattle.giop_sig.specs.ItemReading.{item_at}
@@ -80,25 +78,21 @@ case_reads at switch node s labels names cases otherwise c text more same some a
 
 pub place_grows : (s : Scope) (e : TypeExpr) → Grows s (place s e).0
 unfolding place
-place_grows s (Text (Some n)) = node_grows s (nodes.text (Some n))
-place_grows s (SequenceOf e bound) = grows_on s (place s e).0 (place s (SequenceOf e bound)).0
-    (place_grows s e) (node_grows (place s e).0 _)
-place_grows s (EncapsulationOf e) = grows_on s (place s e).0 (place s (EncapsulationOf e)).0
-    (place_grows s e) (node_grows (place s e).0 _)
+place_grows s (Text (Some n)) = search (arith, node_grows)
+place_grows s (SequenceOf e bound) = search (arith, grows_on, node_grows, place_grows s e)
+place_grows s (EncapsulationOf e) = search (arith, grows_on, node_grows, place_grows s e)
 place_grows s _ = grows_none s
 
 length_grows : (s : Scope) (o : Option ℕ) (p : AddedType) → Grows s p.0 → Grows s (add_array o p).0
 length_grows s None p g = g
-length_grows s (Some n) p g = grows_on s p.0 (add_array (Some n) p).0 g
-    (node_grows p.0 (nodes.array n p.1))
+length_grows s (Some n) p g = search (arith, grows_on, node_grows)
 
 pub item_grows : (s : Scope) (i : Item) → Grows s (add_item s i).0
-item_grows s i = length_grows s i.length (place s i.type) (place_grows s i.type)
+item_grows s i = search (arith, length_grows, place_grows)
 
 pub node_stays : (s t : Scope) (i : ℕ) → Grows s t → i < size s
     → node_at t.table i ≡ node_at s.table i
-node_stays s t i g lt = ap (λ types. node_in types i) (g.types).1
-    ∙ get_or_append_left s.table.types (g.types).0 (nodes.prim prims.Octet) i lt
+node_stays s t i g lt = search (arith, get_or_append_left)
 
 -- ---- cases, one after the other
 

@@ -1,5 +1,5 @@
 -- Reading the spelling of a union, after its word, gives the union or a rule that it breaks.
-use Rattle.std.proofs.Common.{◌≡◌, ℕ, ◌+◌, ◌<◌, Bool, true, false, cond, ltb, List, [], ◌∷◌, ◌++◌, length, Ok, Err, append_assoc, ltb-true, ltb-false, refl, sym, ap, subst, ◌∙◌, arith}
+use Rattle.std.proofs.Common.{◌≡◌, ℕ, ◌+◌, ◌<◌, Bool, true, false, cond, ltb, List, [], ◌∷◌, ◌++◌, length, Ok, Err, append_assoc, ltb-true, ltb-false, refl, ap, subst, ◌∙◌, arith}
 use Rattle.std.specs.Prelude.{codes}
 use Rattle.std.proofs.lemmas.List.{length-append, append-nil, get_or_past}
 use Rattle.giop_cdr.specs.declared.prim.Primitive.TheVariants as prims
@@ -44,7 +44,7 @@ default_by false i cs = refl
 default_on : (otherwise : Selected) (i : ℕ) (c : UnionCase) (cs : List UnionCase)
     → default_or (chosen otherwise (has_default (labels_of c)) i) (i + 1) cs
     ≡ default_or otherwise i (c ∷ cs)
-default_on selecteds.Nothing i c cs = default_by (has_default (labels_of c)) i cs
+default_on selecteds.Nothing i c cs = search (arith, default_by)
 default_on _ i c cs = refl
 
 default_end : (otherwise : Selected) (i : ℕ) → otherwise ≡ default_or otherwise i []
@@ -63,13 +63,7 @@ made_is : (cs : List UnionCase) (node : Node) (s : Scope) (labels : List Label)
     → MakesCases node s cases otherwise (length names) cs
     (made_cases node s labels names cases otherwise cs)
 unfolding made_cases add_cases
-made_is [] node s labels names cases otherwise =
-    record {
-      scope = refl;
-      cases-are = sym (append-nil cases);
-      otherwise-is =
-          default_end otherwise (length names);
-    }
+made_is [] node s labels names cases otherwise = search (arith, append-nil, default_end)
 made_is (c ∷ cs) node s labels names cases otherwise =
     let t = (add_item s c.item).0 in
     let one = union_case node c (add_item s c.item) in
@@ -142,8 +136,7 @@ switch_keeps node is _ = tt
 below_by : (s : Scope) (i : ℕ) (v : Bool) → ltb i (size s) ≡ v
     → IsDiscriminator (node_at s.table i) → i < size s
 below_by s i true e is = ltb-true i (size s) e
-below_by s i false e is = absurd (subst IsDiscriminator
-    (get_or_past s.table.types i (nodes.prim prims.Octet) (ltb-false i (size s) e)) is)
+below_by s i false e is = search (arith, get_or_past, ltb-false, size)
 
 pub below_size : (s : Scope) (i : ℕ) → IsDiscriminator (node_at s.table i) → i < size s
 below_size s i is = below_by s i (ltb i (size s)) refl is
@@ -154,14 +147,8 @@ switch_by : (s : Scope) (e : TypeExpr) (text rest : List ℕ) (more : List Token
     → Out (placed s e) (λ k. OfType k s.names e × OfSwitch k (placed_node (place s e)))
     (place s e).0.table.types more
     (cond v (Ok ((place s e).0, (place s e).1, rest)) (Err (refused kinds.Label text)))
-switch_by s e text rest more true p m keeps =
-    good rest m (λ k. (
-      keeps k,
-      switch_keeps (placed_node (place s e))
-          (discriminates (placed_node (place s e)) p) k,
-    ))
-switch_by s e text rest more false p m keeps =
-    broken (refused kinds.Label text) (λ k. no_discriminator (placed_node (place s e)) p k.1)
+switch_by s e text rest more true p m keeps = search (arith, good, switch_keeps, discriminates)
+switch_by s e text rest more false p m keeps = search (arith, broken, no_discriminator)
 
 switch_reads : (at : ℕ) (s : Scope) (e : TypeExpr) (text : List ℕ) (more : List Token) → 0 < size s
     → OfType kinds.Syntax s.names e → Apart marks.OpenAngle more
@@ -184,14 +171,7 @@ kept_union switch x = with_node x.0 (nodes.union switch (x.1).cases (x.1).otherw
 
 kept_is : (cs : List UnionCase) (p : AddedType) (node : Node) → node_at (p.0).table p.1 ≡ node
     → kept_union p.1 (made_cases node p.0 [] [] [] selecteds.Nothing cs) ≡ add_choice_type cs p
-kept_is cs p node same =
-    let k = made_is cs node p.0 [] [] [] selecteds.Nothing in
-    let x = add_cases p.0 node cs in
-    let one : kept_union p.1 (made_cases node p.0 [] [] [] selecteds.Nothing cs)
-    ≡ with_node x.0 (nodes.union p.1 x.1 (default_from 0 cs)) =
-    rw (k.scope, k.cases-are, k.otherwise-is) refl in
-    one ∙ ap (λ n. with_node (add_cases p.0 n cs).0
-    (nodes.union p.1 (add_cases p.0 n cs).1 (default_from 0 cs))) (sym same)
+kept_is cs p node same = search (arith, made_is, made_cases)
 
 choice_reads : (n : List ℕ) (switch : TypeExpr) (cases : List UnionCase) (s : Scope) (text : List ℕ)
     (more : List Token) → 0 < size s → OfDeclaration kinds.Syntax s (DeclaredUnion n switch cases)

@@ -17,9 +17,9 @@ use Rattle.giop_tokens.specs.Names.{is_reserved}
 use Rattle.giop_tokens.proofs.ReaderLaws.{bind_ok, ok_is, mark_takes, mark_if_takes, keyword_takes, keyword_if_takes}
 use Rattle.giop_sig.specs.declared.types.Selected.{Selected}
 use Rattle.giop_sig.specs.declared.types.Selected.TheVariants as selecteds
-use Rattle.giop_sig.specs.Table.{Case, Node, node_at, IsPart, IsCaseBelow}
-use Rattle.giop_sig.specs.Grammar.{Value, Plain, Below, Truth, Enumerator, Label, Default, Of, UnionCase, spell_item, spell_value, spell_label, spell_labels, spell_cases}
-use Rattle.giop_sig.specs.Scopes.{Scope, label_number, labels_of}
+use Rattle.giop_sig.specs.Table.{Case, Node, IsPart, IsCaseBelow}
+use Rattle.giop_sig.specs.Grammar.{Value, Truth, Enumerator, Label, Default, Of, UnionCase, spell_item, spell_value, spell_label, spell_labels, spell_cases}
+use Rattle.giop_sig.specs.Scopes.{Scope, labels_of}
 use Rattle.giop_sig.specs.Validity.{OfItem, OfValueName, OfLabel, OfLabels, OfCases}
 use Rattle.giop_sig.specs.ScopeViews.{IsScope}
 use Rattle.giop_sig.specs.Outcomes.{refused}
@@ -44,45 +44,22 @@ word_taken : (text w rest : List ℕ) (x : Value × List ℕ) (a b c d : Bool)
     (cond b (Ok (Truth false, rest))
     (cond c (Err (misplaced text))
     (cond d (Err (refused kinds.Limit text)) (Ok (Enumerator w, rest))))) ≡ Ok x → TakenValue text x
-word_taken text w rest x true b c d p q r h e =
-    let is : w ≡ codes "true" = (bytes_eq-Decides w (codes "true")).0 p in
-    subst (TakenValue text) (ok_is (Truth true, rest) x e)
-    (record {
-      free = tt;
-      front = λ more m.
-          (rest, h ∙ ap (λ v. Ok (Some (word v), rest)) is, m);
-    })
-word_taken text w rest x false true c d p q r h e =
-    let is : w ≡ codes "false" = (bytes_eq-Decides w (codes "false")).0 q in
-    subst (TakenValue text) (ok_is (Truth false, rest) x e)
-    (record {
-      free = tt;
-      front = λ more m.
-          (rest, h ∙ ap (λ v. Ok (Some (word v), rest)) is, m);
-    })
+word_taken text w rest x true b c d p q r h e = search (arith, bytes_eq-Decides, ok_is)
+word_taken text w rest x false true c d p q r h e = search (arith, bytes_eq-Decides, ok_is)
 word_taken text w rest x false false true d p q r h e = absurd cc
 word_taken text w rest x false false false true p q r h e = absurd cc
-word_taken text w rest x false false false false p q r h e =
-    subst (TakenValue text) (ok_is (Enumerator w, rest) x e)
-    (record { free = r; front = λ more m. (rest, h, m) })
+word_taken text w rest x false false false false p q r h e = search (arith, ok_is)
 
 token_taken : (text : List ℕ) (t : Option Token) (rest : List ℕ) (x : Value × List ℕ)
     → next text ≡ Ok (t, rest) → token_value text t rest ≡ Ok x → TakenValue text x
-token_taken text (Some (word w)) rest x h e =
-    word_taken text w rest x (bytes_eq w (codes "true")) (bytes_eq w (codes "false"))
-    (is_reserved w) (ltb 64 (length w)) refl refl refl h e
-token_taken text (Some (number n)) rest x h e =
-    subst (TakenValue text) (ok_is (Plain n, rest) x e)
-    (record { free = tt; front = λ more m. (rest, h, m) })
-token_taken text (Some (negative n)) rest x h e =
-    subst (TakenValue text) (ok_is (Below n, rest) x e)
-    (record { free = tt; front = λ more m. (rest, h, m) })
+token_taken text (Some (word w)) rest x h e = search (arith, word_taken, ltb)
+token_taken text (Some (number n)) rest x h e = search (arith, ok_is)
+token_taken text (Some (negative n)) rest x h e = search (arith, ok_is)
 token_taken text _ rest x h e = absurd cc
 
 value_taken : (text : List ℕ) (x : Value × List ℕ) → value_at text ≡ Ok x → TakenValue text x
 unfolding value_at
-value_taken text x e = let t = bind_ok (next text) (λ t. token_value text t.0 t.1) x e in
-    token_taken text (t.0).0 (t.0).1 x t.1 t.2
+value_taken text x e = search (arith, bind_ok, token_taken)
 
 -- a value, and what follows it
 record TakenNumber (text rest : List ℕ) : Type 0 where
@@ -92,15 +69,12 @@ record TakenNumber (text rest : List ℕ) : Type 0 where
 fitting_by : (text : List ℕ) (v : Value × List ℕ) (o : Option Number) (x : LabelRead)
     → TakenValue text v → fitting text v.1 o ≡ Ok x → TakenNumber text x.1
 fitting_by text v None x t e = absurd cc
-fitting_by text v (Some n) x t e = subst (λ (y : LabelRead). TakenNumber text y.1)
-    (ok_is (Some n, v.1) x e) (record { value = v.0; taken = t })
+fitting_by text v (Some n) x t e = search (arith, ok_is)
 
 number_taken : (node : Node) (text : List ℕ) (x : LabelRead)
     → number_of_value node text ≡ Ok x → TakenNumber text x.1
 unfolding number_of_value
-number_taken node text x e =
-    let v = bind_ok (value_at text) (λ v. fitting text v.1 (label_number node v.0)) x e in
-    fitting_by text v.0 (label_number node (v.0).0) x (value_taken text v.0 v.1) v.2
+number_taken node text x e = search (arith, bind_ok, fitting_by, value_taken)
 
 record TakenLabel (text rest : List ℕ) : Type 0 where
   label : Label
@@ -109,7 +83,7 @@ record TakenLabel (text rest : List ℕ) : Type 0 where
 
 label_rest_is : (text : List ℕ) (m : Mark) (rest : List ℕ) (x : LabelRead) → (m, rest) ≡ x
     → TakenLabel text rest → TakenLabel text x.1
-label_rest_is text m rest x e t = subst (λ (y : LabelRead). TakenLabel text y.1) e t
+label_rest_is text m rest x e t = search (arith)
 
 label_taken_by : (node : Node) (seen : List Mark) (text : List ℕ) (o : Option (List ℕ))
     (x : LabelRead) → keyword_if (codes "case") text ≡ Ok o
@@ -142,9 +116,7 @@ label_taken_by node seen text None x h e =
 label_taken : (node : Node) (seen : List Mark) (text : List ℕ) (x : LabelRead)
     → label_at node seen text ≡ Ok x → TakenLabel text x.1
 unfolding label_at
-label_taken node seen text x e = let o =
-    bind_ok (keyword_if (codes "case") text) (label_by node seen text) x e in
-    label_taken_by node seen text o.0 x o.1 o.2
+label_taken node seen text x e = search (arith, bind_ok, label_taken_by)
 
 -- ---- the labels of a case
 
@@ -159,7 +131,7 @@ with_label_rest ls None rest = refl
 with_label_rest ls (Some n) rest = refl
 
 not_both : (text : List ℕ) → begins_label text ≡ Ok false → begins_label text ≡ Ok true → ⊥
-not_both text e f = let same : false ≡ true = ok_is false true (sym e ∙ f) in absurd cc
+not_both text e f = search (arith, ok_is)
 
 no_labels : (text : List ℕ) → begins_label text ≡ Ok false → TakenLabels text text
 unfolding OfLabels
@@ -186,9 +158,7 @@ labels_taken_by : (node : Node) (left : ℕ) (ls : LabelsRead) (b : Bool) (s : B
     → in_steps (labels_step node) too_many_labels left ls ≡ Ok x → TakenLabels ls.3 x.3)
     → begins_label ls.3 ≡ Ok b → label_or_end node ls b ≡ Ok s
     → then_labels node left s ≡ Ok x → TakenLabels ls.3 x.3
-labels_taken_by node left ls false s x on h e f =
-    let last : Ok ls ≡ Ok x = ap (then_labels node left) (ok_is (true, ls) s e) ∙ f in
-    subst (λ (y : LabelsRead). TakenLabels ls.3 y.3) (ok_is ls x last) (no_labels ls.3 h)
+labels_taken_by node left ls false s x on h e f = search (arith, then_labels, ok_is, no_labels)
 labels_taken_by node left ls true s x on h e f =
     let l = bind_ok (label_at node ls.0 ls.3) (λ l. Ok (false, with_label ls l)) s e in
     let next = with_label ls l.0 in
@@ -216,27 +186,17 @@ record TakenSome (text rest : List ℕ) : Type 0 where
 
 some_labels : (text rest : List ℕ) → begins_label text ≡ Ok true
     → TakenLabels text rest → TakenSome text rest
-some_labels text rest h t =
-    let k = t.some h in
-    record {
-      first = k.0;
-      others = k.1;
-      free = λ node seen. subst (OfLabels kinds.Syntax node seen) k.2 (t.free node seen);
-      front = λ more m. subst (λ ls. AreTokens text (spell_labels ls more)) k.2 (t.front more m);
-    }
+some_labels text rest h t = search (arith)
 
 labels_taken_or : (node : Node) (seen : List Mark) (text : List ℕ) (b : Bool) (x : LabelsRead)
     → begins_label text ≡ Ok b → labels_by node seen text b ≡ Ok x → TakenSome text x.3
 labels_taken_or node seen text false x h e = absurd cc
-labels_taken_or node seen text true x h e =
-    some_labels text x.3 h (labels_run_taken node 1025 (seen, [], false, text) x e)
+labels_taken_or node seen text true x h e = search (arith, some_labels, labels_run_taken)
 
 labels_taken : (node : Node) (seen : List Mark) (text : List ℕ) (x : LabelsRead)
     → labels_at node seen text ≡ Ok x → TakenSome text x.3
 unfolding labels_at
-labels_taken node seen text x e = let b =
-    bind_ok (begins_label text) (labels_by node seen text) x e in
-    labels_taken_or node seen text b.0 x b.1 b.2
+labels_taken node seen text x e = search (arith, bind_ok, labels_taken_or)
 
 -- ---- cases
 
@@ -310,14 +270,7 @@ case_made x ls i rest t u e = record {
 
 case_taken : (at switch : ℕ) (x y : CasesRead) → case_at at switch x ≡ Ok y → TakenCase x y
 unfolding case_at
-case_taken at switch x y e =
-    let ls = bind_ok _ _ y e in
-    let i = bind_ok {A = ItemRead} _ _ y ls.2 in
-    let r = bind_ok (mark_at marks.Semicolon (i.0).2)
-    (λ rest. Ok ((i.0).0, with_case x.1 ls.0 (i.0).1, rest)) y i.2 in
-    subst (TakenCase x) (ok_is ((i.0).0, with_case x.1 ls.0 (i.0).1, r.0) y r.2)
-    (case_made x ls.0 i.0 r.0 (labels_taken (node_at (x.0).table switch) (x.1).labels x.2 ls.0 ls.1)
-    (item_takes at 256 (x.1).names x.0 (ls.0).3 i.0 i.1) r.1)
+case_taken at switch x y e = search (arith, bind_ok, ok_is, case_made, labels_taken, item_takes)
 
 -- ---- cases, one after the other
 
@@ -364,10 +317,12 @@ cases_taken_by : (at switch left : ℕ) (x : CasesRead) (o : Option (List ℕ)) 
     → in_steps (cases_step at switch) too_many_cases left x ≡ Ok z → TakenCases x z)
     → mark_if marks.CloseBrace x.2 ≡ Ok o → case_or_end at switch x o ≡ Ok s
     → then_cases at switch left s ≡ Ok z → TakenCases x z
-cases_taken_by at switch left x (Some rest) s z on h e f =
-    subst (TakenCases x) (ok_is (x.0, x.1, rest) z
-    (ap (then_cases at switch left) (ok_is (true, (x.0, x.1, rest)) s e) ∙ f))
-    (no_more x rest h)
+cases_taken_by at switch left x (Some rest) s z on h e f = search (
+  arith,
+  ok_is,
+  then_cases,
+  no_more,
+)
 cases_taken_by at switch left x None s z on h e f =
     let c = bind_ok (case_at at switch x) (λ c. Ok (false, c)) s e in
     one_more x c.0 z (case_taken at switch x c.0 c.1)
@@ -395,12 +350,7 @@ pub record TakenUnionCases (s : Scope) (text : List ℕ) (x : CasesRead) : Type 
   pub below : IsScope s → IsCaseBelow (length (x.1).cases) (x.1).otherwise
 
 sound_none : (s : Scope) → SoundCases s no_cases
-sound_none s = record {
-  parts = λ k d lt. absurd (omega arith);
-  few = omega arith;
-  same = refl;
-  below = tt;
-}
+sound_none s = search (arith)
 
 pub cases_taken : (at switch : ℕ) (s : Scope) (text : List ℕ) (x : CasesRead)
     → cases_at at switch s text ≡ Ok x → TakenUnionCases s text x

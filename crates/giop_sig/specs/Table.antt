@@ -61,9 +61,6 @@ shape_of (array count element) = shapes.Array count
 shape_of (encapsulation held) = shapes.Encapsulation
 shape_of (tagged special tag inner other) = shapes.Tagged
 
-abbrev pub no_case : Case
-no_case = record { labels = []; part = record { name = []; type = 0 } }
-
 abbrev pub case_part : Option Case → Option Part
 case_part None = None
 case_part (Some c) = Some c.part

@@ -1,5 +1,5 @@
 -- Lists that grow at the end.
-use Rattle.std.proofs.Common.{◌≡◌, ℕ, Bool, true, false, cond, List, [], ◌∷◌, ◌++◌, length, map, refl, ap, subst, ◌∙◌, append_assoc, Option, Some, None}
+use Rattle.std.proofs.Common.{arith, ◌≡◌, ℕ, Bool, true, false, cond, List, [], ◌∷◌, ◌++◌, length, map, refl, ap, ◌∙◌, append_assoc, Option, Some, None}
 use Rattle.std.proofs.lemmas.List.{append-nil, map_push}
 use Rattle.std.specs.List.{filter, list_any, AllByRecursion as Each}
 use Rattle.std.specs.Prelude.{◌||◌}
@@ -10,8 +10,12 @@ use Rattle.giop_stream.specs.HeaderOctets.{fronts, wrong, wrong_or, first_wrong,
 grown : {A : Type 0} (P : List A → Type 0) → ((xs : List A) (x : A) → P xs → P (xs ++ x ∷ [])) →
     (done more : List A) → P done → P (done ++ more)
 grown P more_of done [] h = rw append-nil h
-grown P more_of done (x ∷ xs) h = subst P (append_assoc done (x ∷ []) xs)
-    (grown P more_of (done ++ x ∷ []) xs (more_of done x h))
+grown P more_of done (x ∷ xs) h = search (
+  arith,
+  append_assoc,
+  grown P more_of (done ++ x ∷ []) xs
+      (more_of done x h),
+)
 
 pub by_growth : {A : Type 0} (P : List A → Type 0) → P [] →
     ((xs : List A) (x : A) → P xs → P (xs ++ x ∷ [])) → (xs : List A) → P xs
@@ -58,12 +62,12 @@ first_none (g ∷ fs) f e = none_goes (wrong g) (length g) (first_wrong fs)
 pub offence_stays : (xs : List ℕ) (x : ℕ) (found : ℕ × StreamFault) →
     first_wrong_octet xs ≡ Some found → first_wrong_octet (xs ++ x ∷ []) ≡ Some found
 unfolding first_wrong_octet
-offence_stays xs x found e = rw (fronts_push xs x) (first_some (fronts xs) (xs ++ x ∷ []) found e)
+offence_stays xs x found e = search (arith, fronts_push, first_some)
 
 pub offence_comes : (xs : List ℕ) (x : ℕ) → first_wrong_octet xs ≡ None →
     first_wrong_octet (xs ++ x ∷ []) ≡ wrong_last (xs ++ x ∷ [])
 unfolding first_wrong_octet
-offence_comes xs x e = rw (fronts_push xs x) (first_none (fronts xs) (xs ++ x ∷ []) e)
+offence_comes xs x e = search (arith, fronts_push, first_none)
 
 -- A filter that keeps all, or none; two filters in either order.
 pub filter_keeps : {A : Type 0} (test : A → Bool) (xs : List A) → Each (λ x. test x ≡ true) xs →
@@ -79,7 +83,7 @@ filter_drops test (x ∷ xs) h = rw h.0 (filter_drops test xs h.1)
 swap_by : {A : Type 0} (p q : A → Bool) (x : A) (xs : List A) →
     filter p (filter q xs) ≡ filter q (filter p xs)
     → (a b : Bool) → p x ≡ a → q x ≡ b → filter p (filter q (x ∷ xs)) ≡ filter q (filter p (x ∷ xs))
-swap_by {A} p q x xs ih true true e f = simp (e, f) (ap (λ (ys : List A). x ∷ ys) ih)
+swap_by {A} p q x xs ih true true e f = search (arith)
 swap_by p q x xs ih true false e f = simp (e, f) ih
 swap_by p q x xs ih false true e f = simp (e, f) ih
 swap_by p q x xs ih false false e f = simp (e, f) ih
@@ -87,7 +91,7 @@ swap_by p q x xs ih false false e f = simp (e, f) ih
 pub filter_swap : {A : Type 0} (p q : A → Bool) (xs : List A) →
     filter p (filter q xs) ≡ filter q (filter p xs)
 filter_swap p q [] = refl
-filter_swap p q (x ∷ xs) = swap_by p q x xs (filter_swap p q xs) (p x) (q x) refl refl
+filter_swap p q (x ∷ xs) = search (arith, swap_by, filter_swap p q xs)
 
 pub each_append : {A : Type 0} (P : A → Type 0) (xs ys : List A) → Each P xs → Each P ys →
     Each P (xs ++ ys)
@@ -112,8 +116,7 @@ filter_by P false x ys h k = k
 pub each_filter : {A : Type 0} (P : A → Type 0) (test : A → Bool) (xs : List A) → Each P xs →
     Each P (filter test xs)
 each_filter P test [] h = tt
-each_filter P test (x ∷ xs) h = filter_by P (test x) x (filter test xs) h.0
-    (each_filter P test xs h.1)
+each_filter P test (x ∷ xs) h = search (arith, filter_by, each_filter P test xs h.1)
 
 pub map_agree : {A B : Type 0} (f g : A → B) (xs : List A) → Each (λ x. f x ≡ g x) xs →
     map f xs ≡ map g xs
@@ -127,8 +130,7 @@ any_by false c d e h = h
 pub any_append : {A : Type 0} (test : A → Bool) (xs ys : List A) →
     list_any test (xs ++ ys) ≡ (list_any test xs || list_any test ys)
 any_append test [] ys = refl
-any_append test (x ∷ xs) ys = any_by (test x) (list_any test (xs ++ ys)) (list_any test xs)
-    (list_any test ys) (any_append test xs ys)
+any_append test (x ∷ xs) ys = search (arith, any_by, any_append test xs ys)
 
 pub all_by : {A : Type 0} (P : A → Type 0) → ((x : A) → P x) → (xs : List A) → Each P xs
 all_by P h [] = tt

@@ -1,25 +1,24 @@
 -- Answers that agree with a correspondent at each header that ends in octets after a stream.
-use Rattle.std.proofs.Common.{inl, inr, ◌⊎◌, ◌≡◌, ℕ, ◌<◌, Bool, true, false, List, [], ◌∷◌, ◌++◌, length, flat_map, refl, sym, ap, subst, ◌∙◌, append-nil, Option, Some, None, arith}
-use Rattle.std.specs.Prelude.{nat_lt, is_none, ◌==◌, ◌&&◌, if◌then◌else◌, option_to_list}
+use Rattle.std.proofs.Common.{inl, inr, ◌⊎◌, ◌≡◌, ℕ, ◌<◌, Bool, true, false, List, [], ◌∷◌, ◌++◌, length, flat_map, refl, sym, ap, subst, ◌∙◌, append-nil, Some, None, arith}
+use Rattle.std.specs.Prelude.{◌==◌, if◌then◌else◌}
 use Rattle.std.specs.List.{AllByRecursion as Each}
 use Rattle.std.proofs.lemmas.Bool.{cases_lt, eq-eqb, eqb-true}
-use Rattle.giop_checkpoint.specs.declared.fault.StreamFault.{StreamFault}
 use Rattle.giop_sig.specs.Table.{Table}
 use Rattle.giop_decode.specs.Noted.{Noted}
 use Rattle.giop_message.specs.Signatures.{Answer, Answers, signatures_of}
-use Rattle.giop_message.specs.HeaderEnds.{HeaderEnd, CallEvent, Header_end, Exception_end, header_noted, header_ends, call_event, after_event, AgreesAtEnds}
+use Rattle.giop_message.specs.HeaderEnds.{HeaderEnd, CallEvent, Header_end, Exception_end, header_noted, call_event, after_event, AgreesAtEnds}
 use Rattle.giop_message.proofs.MessageLaws.{header_noted_before, one_octet, is_causal}
 use Rattle.giop_stream.specs.Rules.{Rules, rules_by}
 use Rattle.giop_stream.specs.HeaderOctets.{fronts}
 use Rattle.giop_stream.specs.Framing.{Message, with_payload, limit, cut, messages}
-use Rattle.giop_stream.specs.Events.{EventKind, MessageKey, Event, Open, message_key, opener_of, goes_past, events_of_octet, events_of, opened, events_from, events, open_after, joined}
+use Rattle.giop_stream.specs.Events.{MessageKey, Event, Open, message_key, events_of_octet, events_of, opened, events_from, events, open_after, joined}
 use Rattle.giop_stream.specs.OpenSlots.{octets_of, tracked_after}
 use Rattle.giop_stream.specs.Effects.{with_octet}
 use Rattle.giop_stream.specs.Octet.{Octet, AfterStop, Ends, Held, Of, octet_of}
 use Rattle.giop_stream.specs.PayloadOwner.{owner_of_octet}
-use Rattle.giop_stream.specs.EngineState.{opener_key, owner_of_next}
+use Rattle.giop_stream.specs.EngineState.{owner_of_next}
 use Rattle.giop_stream.specs.Shares.{continued}
-use Rattle.giop_stream.specs.HeaderEndsOfStream.{run_header_ends, owner_header_ends, current_header_ends, header_ends_at, header_ends_from}
+use Rattle.giop_stream.specs.HeaderEndsOfStream.{header_ends_at, header_ends_from}
 use Rattle.giop_stream.specs.AnswersAgree.{AnswersAgree}
 use Rattle.giop_stream.proofs.Lists.{each_append, each_weaker, all_by}
 use Rattle.giop_stream.proofs.Cuts.Cutting.{of_parts, parts_by, stopped_at}
@@ -47,11 +46,7 @@ module _ (P : MessageKey → Type 0) (most : ℕ) where
       go : (fs : List (List ℕ)) → Each (λ e. P e.subject)
           (flat_map (λ front. events_of_octet most still_open (with_payload m front)) fs)
       go [] = tt
-      go (f ∷ fs) =
-          each_append (λ e. P e.subject) (events_of_octet most still_open (with_payload m f)) _
-          (events_of_octet_each most (λ e. P e.subject) still_open (with_payload m f) (λ what. own)
-          (each_weaker (λ o. P o.opener) (λ (o : Open). (what : EventKind) → P o.opener)
-          (λ o h what. h) still_open openers)) (go fs)
+      go (f ∷ fs) = search (arith, each_append, events_of_octet_each, each_weaker, go fs)
 
   of_messages : (still_open : List Open) (ms : List Message) → Each (λ o. P o.opener) still_open →
       Each (λ m. P (message_key m)) ms
@@ -78,20 +73,7 @@ pub owner_takes : (most : ℕ) (still_open : List Open) (m : Message) (x : ℕ) 
     owner_of_octet still_open (with_octet m x) ≡ Some w
     → joined w.number (events_of_octet most still_open (with_octet m x)) ≡ x ∷ []
 unfolding owner_of_octet more_of continued
-owner_takes most still_open m x w owner =
-    octet_joined most w.number still_open m m.payload x ∙ go (goes_past (with_octet m x)) owner
-  where
-    other : (o : Option Open) → opener_key o ≡ Some w → continued w.number o (x ∷ []) ≡ x ∷ []
-    other None k = absurd cc
-    other (Some o) k = let same : o.opener.number ≡ w.number = cc in
-        rw (eq-eqb o.opener.number w.number same) refl
-
-    go : (b : Bool) → (if b then opener_key (opener_of still_open (with_octet m x)) else Some
-        (message_key m)) ≡ Some w
-        → (if b then continued w.number (opener_of still_open (with_octet m x)) (x ∷ []) else
-        (if m.number == w.number then x ∷ [] else [])) ≡ x ∷ []
-    go true k = other (opener_of still_open (with_octet m x)) k
-    go false k = let same : m.number ≡ w.number = cc in rw (eq-eqb m.number w.number same) refl
+owner_takes most still_open m x w owner = search (arith, octet_joined, eq-eqb)
 
 module _ (C : Table) (most : ℕ) where
   abbrev R : Answers → Rules
@@ -112,15 +94,13 @@ module _ (C : Table) (most : ℕ) where
     where
       none : messages (cut (p ++ x ∷ [])) ≡ messages (cut p) → (more : List Event)
           × (events most (p ++ x ∷ []) ≡ events most p ++ more)
-      none same = ([], ap (events_from most []) same ∙ sym (append-nil (events most p)))
+      none same = search (arith, append-nil)
 
       go : (o : Octet) → Then (R a) p x o → (more : List Event)
           × (events most (p ++ x ∷ []) ≡ events most p ++ more)
       go AfterStop h = none (ap messages h.2.cut_is)
       go (Ends fault) h = none (ap messages h.1.cut_is)
-      go (Held front) h =
-          none (ap messages h.2.cut_is ∙ sym (ap (λ (o : Option Message). (cut p).whole
-          ++ option_to_list o) h.1))
+      go (Held front) h = search (arith, none)
       go (Of now) h = (_, h.1.grows)
 
   -- ---- answers that agree for a longer stream, for a front of it; and one after the other
@@ -139,10 +119,7 @@ module _ (C : Table) (most : ℕ) where
           ≡ joined e.subject.number (events most p) ++ joined e.subject.number more
           → AgreeAt (p ++ x ∷ []) a b e.subject → AgreeAt p a b e.subject
       one e more longer (inl k) = inl k
-      one e more longer (inr k) =
-          inr (header_noted_before e.subject.header (joined e.subject.number (events most p))
-          (joined e.subject.number more)
-          (ap (header_noted e.subject.header) (sym longer) ∙ k))
+      one e more longer (inr k) = search (arith, header_noted_before)
 
   agree_both : (p : List ℕ) (a b c : Answers) → AnswersAgree most p a b → AnswersAgree most p b c →
       AnswersAgree most p a c
@@ -161,24 +138,13 @@ module _ (C : Table) (most : ℕ) where
       go (e ∷ es) h k = (one e h.0 k.0, go es h.1 k.1)
 
   agree_self : (p : List ℕ) (a : Answers) → AnswersAgree most p a a
-  agree_self p a =
-      all_by (λ (e : Event). AgreeAt p a a e.subject) (λ e. inl refl) (events most p)
+  agree_self p a = search (arith, all_by)
 
   -- the same headers end in the next octet
   ends_agree : (p : List ℕ) (x : ℕ) (a b : Answers) → AnswersAgree most p a b →
       header_ends_at (R a) p x ≡ header_ends_at (R b) p x
   unfolding header_ends_at tracked_after
-  ends_agree p x a b h = ap (λ (z : List HeaderEnd). if is_none (cut p).stop
-      && nat_lt (length p) limit then z else []) (here (cut p).current)
-    where
-      here : (o : Option Message) → current_header_ends (R a) p o (x ∷ [])
-          ≡ current_header_ends (R b) p o (x ∷ [])
-      here None = refl
-      here (Some m) =
-          ap (λ (known : ℕ → Option (List ℕ)).
-          owner_header_ends (record { still_open = open_after most p; known = known })
-          (owner_of_next (open_after most p) m) (x ∷ []))
-          (known_agree C a b most p h)
+  ends_agree p x a b h = search (arith, known_agree)
 
   -- ---- the header that ends in the next octet
 
@@ -207,69 +173,7 @@ module _ (C : Table) (most : ℕ) where
 
   ends_case : (a : Answers) (p : List ℕ) (x : ℕ) → Here a p x
   unfolding tracked_after
-  ends_case a p x = by_stop (cut p).stop refl
-    where
-      by_octets : (m : Message) (w : MessageKey) (s : List ℕ) → (cut p).stop ≡ None →
-          length p < limit → (cut p).current ≡ Some m
-          → owner_of_next (open_after most p) m ≡ Some w → octets_of (R a) p w.number ≡ Some s
-          → header_ends_at (R a) p x ≡ header_ends w.number w.header s (x ∷ []) → Here a p x
-      by_octets m w s free room current owner known is = elim (one_octet w.number w.header s x) [
-        | inl none ↦ inl (is ∙ none)
-        | inr some ↦ elim some [
-          | inl h ↦
-              inr (inl (record {
-                m = m;
-                w = w;
-                s = s;
-                n = h.0;
-                free = free;
-                room = room;
-                current = current;
-                owner = owner;
-                known = known;
-                before = h.1;
-                now = h.2;
-                ends = is ∙ h.3;
-              }))
-          | inr h ↦ inr (inr (record { number = w.number; name = h.0; ends = is ∙ h.1 }))
-        ]
-      ]
-
-      by_known : (m : Message) (w : MessageKey) → (cut p).stop ≡ None → length p < limit →
-          (cut p).current ≡ Some m
-          → owner_of_next (open_after most p) m ≡ Some w
-          → header_ends_at (R a) p x ≡ run_header_ends w (octets_of (R a) p w.number) (x ∷ [])
-          → (o : Option (List ℕ)) → octets_of (R a) p w.number ≡ o → Here a p x
-      by_known m w free room current owner is None e =
-          inl (is ∙ ap (λ o. run_header_ends w o (x ∷ [])) e)
-      by_known m w free room current owner is (Some s) e =
-          by_octets m w s free room current owner e (is ∙ ap (λ o. run_header_ends w o (x ∷ [])) e)
-
-      by_owner : (m : Message) → (cut p).stop ≡ None → length p < limit → (cut p).current ≡ Some m
-          → header_ends_at (R a) p x ≡ owner_header_ends (tracked_after (R a) p)
-          (owner_of_next (open_after most p) m) (x ∷ [])
-          → (o : Option MessageKey) → owner_of_next (open_after most p) m ≡ o → Here a p x
-      by_owner m free room current is None e =
-          inl (is ∙ ap (λ o. owner_header_ends (tracked_after (R a) p) o (x ∷ [])) e)
-      by_owner m free room current is (Some w) e =
-          by_known m w free room current e (is
-          ∙ ap (λ o. owner_header_ends (tracked_after (R a) p) o (x ∷ [])) e)
-          (octets_of (R a) p w.number) refl
-
-      by_current : (cut p).stop ≡ None → length p < limit → (o : Option Message) →
-          (cut p).current ≡ o → Here a p x
-      by_current free room None e = inl (at_none (R a) p x e)
-      by_current free room (Some m) e =
-          by_owner m free room e (at_free (R a) p x free room
-          ∙ ap (λ o. current_header_ends (R a) p o (x ∷ [])) e)
-          (owner_of_next (open_after most p) m) refl
-
-      by_stop : (o : Option (ℕ × StreamFault)) → (cut p).stop ≡ o → Here a p x
-      by_stop (Some found) e = inl (at_stop (R a) p x found e)
-      by_stop None e = elim (cases_lt (length p) limit) [
-        | inl room ↦ by_current e room (cut p).current refl
-        | inr full ↦ inl (at_limit (R a) p x full)
-      ]
+  ends_case a p x = search (arith, one_octet, at_none, at_free, at_stop, cases_lt, at_limit)
 
   module _ (a : Answers) (p : List ℕ) (x : ℕ) (h : EndsHere a p x) where
     -- its message then has the octet
@@ -305,8 +209,7 @@ module _ (C : Table) (most : ℕ) where
 
         go : AgreeAt (p ++ x ∷ []) b c h.w → b h.w.number ≡ c h.w.number
         go (inl k) = k
-        go (inr k) = absurd (let no : None ≡ Some h.n =
-            sym k ∙ (ap (header_noted h.w.header) joined_then ∙ h.now) in cc)
+        go (inr k) = search (arith, joined_then)
 
     -- another answer for it makes no difference before it
     abbrev put : Answer → Answers
@@ -329,12 +232,7 @@ module _ (C : Table) (most : ℕ) where
             e.subject.number))
             ⊎ (header_noted e.subject.header (joined e.subject.number (events most p)) ≡ None)
         go e k false is = inl (rw is refl)
-        go e k true is =
-            let number = eqb-true e.subject.number h.w.number is in
-            let both : Some e.subject.header ≡ Some h.w.header =
-            sym k ∙ (ap (header_of_number (messages (cut p))) number ∙ of_w) in
-            let header : e.subject.header ≡ h.w.header = cc in
-            inr (rw (header, number, octets_are (R a) p h.w.number h.s h.known) h.before)
+        go e k true is = search (arith, eqb-true, header_of_number, of_w, octets_are)
 
   -- ---- the answers
 

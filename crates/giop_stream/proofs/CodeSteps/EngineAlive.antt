@@ -85,14 +85,9 @@ module _ (R : Rules) (laws : IsStreamable R.reading) (p : List ℕ) (x : ℕ) (s
 
   pub alive_then : (o : Octet) → Then R p x o → IsAlive R (p ++ x ∷ [])
   unfolding stopped_at of_parts
-  alive_then AfterStop h st m cur name few =
-      absurd (let no : Some h.0 ≡ None = sym h.1
-      ∙ (ap (λ (c : Cut). c.stop) (sym h.2.cut_is) ∙ st) in cc)
-  alive_then (Ends fault) h st m cur name few =
-      absurd (let no : Some (suc (length p), fault) ≡ None =
-      ap (λ (c : Cut). c.stop) (sym h.1.cut_is) ∙ st in cc)
-  alive_then (Held front) h st m cur name few =
-      absurd (let no : None ≡ Some m = ap (λ (c : Cut). c.current) (sym h.2.cut_is) ∙ cur in cc)
+  alive_then AfterStop h st m cur name few = search (arith)
+  alive_then (Ends fault) h st m cur name few = search (arith)
+  alive_then (Held front) h st m cur name few = search (arith)
   alive_then (Of now) h st m cur name few =
       let one = h.1 in
       let adds = one.adds in
@@ -148,20 +143,11 @@ mute_rules most = record { reading = mute; most = most }
 
 mute_causal : IsCausal mute
 unfolding mute
-mute_causal = record { earlier = λ number header xs more k h. refl }
+mute_causal = search (arith)
 
 silent_streamable : IsStreamable mute
 unfolding mute
-silent_streamable = record {
-  named = record { named = λ number header xs name few. tt };
-  ordered = record { ordered = λ number header xs k. inl refl };
-  closing = record {
-    closed = λ number header xs. inr (inl refl);
-    over =
-        λ number header xs x no. absurd cc;
-    one_rest = λ number header xs x no. absurd cc;
-  };
-}
+silent_streamable = search (arith)
 
 pub few_open : (most : ℕ) (p : List ℕ) → length (open_after most p) ≤ most
 unfolding IsFew

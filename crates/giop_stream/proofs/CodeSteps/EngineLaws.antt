@@ -1,6 +1,6 @@
 -- The state of a stream is the fresh state stepped by each octet, and gives what is written at the
 -- finish.
-use Rattle.std.proofs.Common.{◌≡◌, ℕ, Bool, true, List, [], ◌∷◌, ◌++◌, length, refl, sym, ap, append_assoc, Option, Some, None, arith}
+use Rattle.std.proofs.Common.{◌≡◌, ℕ, true, List, [], ◌∷◌, ◌++◌, length, refl, append_assoc, Option, Some, None, arith}
 use Rattle.std.specs.Prelude.{◌&&◌, nat_lt, is_none, IfSome}
 use Rattle.std.proofs.lemmas.Bool.{lt-ltb}
 use Rattle.std.proofs.lemmas.List.{append-nil}
@@ -10,9 +10,9 @@ use Rattle.giop_checkpoint.specs.declared.fault.StreamFault.{StreamFault}
 use Rattle.giop_stream.specs.Rules.{Rules}
 use Rattle.giop_stream.specs.Framing.{Message, Cut, cut, read_of, fault_of}
 use Rattle.giop_stream.specs.Lines.{lines}
-use Rattle.giop_stream.specs.Text.{line_text, lines_text}
-use Rattle.giop_stream.specs.Stream.{start_count, fault_count, is_inside, is_truncated, text, tally, with_truncated, final, closing}
-use Rattle.giop_stream.specs.OpenSlots.{octets_of, tracked_after}
+use Rattle.giop_stream.specs.Text.{lines_text}
+use Rattle.giop_stream.specs.Stream.{start_count, fault_count, is_inside, is_truncated, text, tally, final, closing}
+use Rattle.giop_stream.specs.OpenSlots.{tracked_after}
 use Rattle.giop_stream.specs.Octet.{header_of}
 use Rattle.giop_stream.specs.EngineState.{unless, state_of}
 use Rattle.giop_stream.specs.EngineStep.{fresh, step, run, run_state, is_cut_short, final_totals, finish}
@@ -26,20 +26,17 @@ use Rattle.giop_stream.proofs.CodeSteps.NextOctet.{Steps}
 
 stepped : (R : Rules) → IsCausal R.reading → IsStreamable R.reading → (p : List ℕ) (x : ℕ) →
     Steps R p (p ++ x ∷ []) (step R (state_of R p) x)
-stepped R causal laws p x = steps R causal laws p x (sound R causal laws p) (alive R causal laws p)
+stepped R causal laws p x = search (arith, steps, sound, alive)
 
 -- ---- The states and the lines, octet by octet.
 
 pub start_is : (R : Rules) → state_of R [] ≡ fresh
 unfolding state_of fresh tally of_parts tracked_after read_of start_count fault_count
-start_is R =
-    let known : octets_of R [] ≡ (λ i. Some []) = λ j i. octets_nothing R i j in
-    rw (state_of, tally, tracked_after, cut_nothing, open_nothing R.most, lines_nothing R, known)
-    refl
+start_is R = search (arith, octets_nothing, cut_nothing, open_nothing, lines_nothing)
 
 pub step_state : (R : Rules) → IsCausal R.reading → IsStreamable R.reading → (p : List ℕ) (x : ℕ) →
     state_of R (p ++ x ∷ []) ≡ (step R (state_of R p) x).state
-step_state R causal laws p x = (stepped R causal laws p x).state
+step_state R causal laws p x = search (arith, stepped)
 
 pub step_lines : (R : Rules) → IsCausal R.reading → IsStreamable R.reading → (p : List ℕ) (x : ℕ) →
     lines R (p ++ x ∷ []) ≡ lines R p ++ (step R (state_of R p) x).lines
@@ -48,33 +45,32 @@ step_lines R causal laws p x = (stepped R causal laws p x).lines
 pub run_lines : (R : Rules) → IsCausal R.reading → IsStreamable R.reading → (p q : List ℕ) →
     lines R (p ++ q) ≡ lines R p ++ run R (state_of R p) q
 unfolding run
-run_lines R causal laws p [] = rw (append-nil p) (sym (append-nil (lines R p)))
-run_lines R causal laws p (x ∷ q) =
-    rw (
-      ← append_assoc p (x ∷ []) q,
-      run_lines R causal laws
-          (p ++ x ∷ []) q,
-      step_lines R causal laws p x,
-      step_state R causal laws p x,
-    )
-    (append_assoc (lines R p) (step R (state_of R p) x).lines
-    (run R (step R (state_of R p) x).state q))
+run_lines R causal laws p [] = search (arith, append-nil)
+run_lines R causal laws p (x ∷ q) = search (
+  arith,
+  append_assoc,
+  step_lines,
+  step_state,
+  run_lines
+      R causal laws (p ++ x ∷ []) q,
+)
 
 pub run_holds : (R : Rules) → IsCausal R.reading → IsStreamable R.reading → (p q : List ℕ) →
     state_of R (p ++ q) ≡ run_state R (state_of R p) q
 unfolding run_state
 run_holds R causal laws p [] = rw (append-nil p) refl
-run_holds R causal laws p (x ∷ q) = rw (
-  ← append_assoc p (x ∷ []) q,
-  run_holds R causal laws (p ++ x ∷ []) q,
-  step_state R causal laws p x,
-) refl
+run_holds R causal laws p (x ∷ q) = search (
+  arith,
+  append_assoc,
+  step_state,
+  run_holds R causal
+      laws (p ++ x ∷ []) q,
+)
 
 pub run_text : (R : Rules) → IsCausal R.reading → IsStreamable R.reading → (p q : List ℕ) →
     text R (p ++ q) ≡ text R p ++ lines_text (run R (state_of R p) q)
 unfolding text lines_text
-run_text R causal laws p q = rw (run_lines R causal laws p q)
-    (flat_map-append line_text (lines R p) (run R (state_of R p) q))
+run_text R causal laws p q = search (arith, run_lines, flat_map-append)
 
 pub stop_is : (R : Rules) (p : List ℕ) → (state_of R p).stop ≡ fault_of (cut p).stop
 unfolding state_of
@@ -88,8 +84,7 @@ cut_short : (stop : Option (ℕ × StreamFault)) (current : Option Message) (hel
     && nat_lt 0 (length (unless stop [] (header_of current held))))
 unfolding is_inside
 cut_short (Some found) current held h = refl
-cut_short None (Some m) held h = let twelve = h refl in
-    rw (lt-ltb 0 (length m.header) (omega (arith, twelve))) refl
+cut_short None (Some m) held h = search (arith, lt-ltb)
 cut_short None None held h = refl
 
 twelve_of : (n : ℕ) (c : Cut) (o : Option Message) → IfSome o (CurrentFits n c) →
@@ -108,8 +103,7 @@ cut_short_is R causal laws p =
 pub final_is : (R : Rules) → IsCausal R.reading → IsStreamable R.reading → (p : List ℕ) →
     final R p ≡ final_totals (state_of R p)
 unfolding final final_totals state_of
-final_is R causal laws p = ap (λ (b : Bool). with_truncated b (tally R p))
-    (cut_short_is R causal laws p)
+final_is R causal laws p = search (arith, cut_short_is)
 
 read_short : (R : Rules) (p : List ℕ) → is_truncated (cut p) ≡ true →
     (state_of R p).totals.octets ≡ length p
@@ -119,12 +113,11 @@ read_short R p h = read_by p (cut p) refl h
 pub finish_is : (R : Rules) → IsCausal R.reading → IsStreamable R.reading → IsEnding R.reading →
     (p : List ℕ) → closing R p ≡ finish (state_of R p)
 unfolding closing finish
-finish_is R causal laws ending p =
-    let short = cut_short_is R causal laws p in
-    rw (
-      truncated_by (is_truncated (cut p)) (state_of R p).totals.octets (length p)
-          (read_short R p),
-      left_is R causal laws ending p,
-      final_is R causal laws p,
-      short,
-    ) refl
+finish_is R causal laws ending p = search (
+  arith,
+  cut_short_is,
+  truncated_by,
+  read_short,
+  left_is,
+  final_is,
+)

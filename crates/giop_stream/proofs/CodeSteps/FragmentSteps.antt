@@ -2,7 +2,7 @@
 -- stream with them, and that the code does their steps. They write the start, the request id, and
 -- what its last octet does.
 use Rattle.std.proofs.Common.{◌≡◌, ℕ, suc, ◌+◌, ◌^◌, ◌<◌, ◌≤◌, true, List, [], ◌∷◌, ◌++◌, length, refl, sym, ap, subst, ◌∙◌, append_assoc, append-nil, length-append, take_all, Option, Some, None, Result, arith}
-use Rattle.std.specs.Prelude.{◌==◌, OnOk}
+use Rattle.std.specs.Prelude.{OnOk}
 use Rattle.std.proofs.lemmas.Bool.{and_parts, eqb-true, le-ltb, ne_eqb}
 use Rattle.std.proofs.lemmas.List.{length_push}
 use Rattle.giop_cdr.specs.Numbers.{num}
@@ -11,7 +11,7 @@ use Rattle.giop_sig.specs.Table.{Table}
 use Rattle.giop_decode.specs.Noted.{Noted}
 use Rattle.giop_message.specs.Headers.{minor, kind, order, size, is_fragment}
 use Rattle.giop_message.specs.MessageReader.{IsCausal}
-use Rattle.giop_message.specs.Signatures.{Answers, signatures_of}
+use Rattle.giop_message.specs.Signatures.{Answers}
 use Rattle.giop_message.specs.ReaderOfTable.{message_reader}
 use Rattle.giop_message.specs.HeaderEnds.{HeaderEnd, Header_end, ends_between, header_noted, raised, header_ends, header_event, call_event}
 use Rattle.giop_message.proofs.MessageLaws.{is_causal}
@@ -19,7 +19,7 @@ use Rattle.giop_stream.specs.declared.current.Current.{Current}
 use Rattle.giop_stream.specs.declared.fragment.Continuation.{Continuation}
 use Rattle.giop_stream.specs.HeaderOctets.{wrong}
 use Rattle.giop_stream.specs.Rules.{Rules, rules_by}
-use Rattle.giop_stream.specs.Framing.{Message, Cut, with_payload, limit, cut, messages}
+use Rattle.giop_stream.specs.Framing.{Message, with_payload, limit, cut, messages}
 use Rattle.giop_stream.specs.Kinds.{refused}
 use Rattle.giop_stream.specs.Events.{Takes, MessageKey, Open, changed, message_key, id, events_at_header, events_of_octet, open_after}
 use Rattle.giop_stream.specs.Lines.{Line, lines}
@@ -70,14 +70,12 @@ right_at_twelve header twelve = rw twelve refl
 
 fragment_is : (header : List ℕ) → is_fragment header ≡ true → (minor header ≡ 2) × (kind header ≡ 7)
 unfolding is_fragment
-fragment_is header f =
-    let both = and_parts (minor header == 2) (kind header == 7) f in
-    (eqb-true (minor header) 2 both.0, eqb-true (kind header) 7 both.1)
+fragment_is header f = search (arith, and_parts, eqb-true)
 
 -- it is not refused
 fragment_stands : (header : List ℕ) → is_fragment header ≡ true → refused header ≡ None
 unfolding refused
-fragment_stands header f = let is = fragment_is header f in rw (is.0, is.1) refl
+fragment_stands header f = search (arith, fragment_is)
 
 -- and the correspondent is told nothing of it
 fragment_tells : (C : Table) (number : ℕ) (header : List ℕ) (n : Noted) → kind header ≡ 7 →
@@ -111,7 +109,7 @@ module _ (C : Table) (l : Answers) (w : MessageKey) (says : SaysId w.header) whe
       length xs + length q ≤ 3 → IsNotOpen w.number c.still_open
       → IsQuietRun c (run_effect C l at c (Some w) q)
   unfolding run_effect tracked_at changed
-  quiet_run [] xs at c known few apart = record { lines = refl; slots = refl }
+  quiet_run [] xs at c known few apart = search (arith)
   quiet_run (x ∷ q) xs at c known few apart =
       let e = event (suc at) w (Takes x) in
       let one = effect_to C l (suc at) c (Some w) (Takes x) in
@@ -146,7 +144,7 @@ module _ (C : Table) (l : Answers) (most : ℕ) (p : List ℕ) (x : ℕ) (q : Li
   R = rules_by C l most
 
   causal : IsCausal R.reading
-  causal = is_causal (λ number. signatures_of C (l number))
+  causal = search (arith, is_causal)
 
   so : IsSound R p
   so = sound R causal (in_turn C l) p
@@ -166,7 +164,7 @@ module _ (C : Table) (l : Answers) (most : ℕ) (p : List ℕ) (x : ℕ) (q : Li
 
   pub count : length (messages (cut p)) ≡ length (cut p).whole
   unfolding messages
-  count = rw none (ap length (append-nil (cut p).whole))
+  count = search (arith, append-nil)
 
   abbrev begun : Effect
   begun = effects R.reading c₀ (events_of_octet most c₀.still_open first)
@@ -187,38 +185,32 @@ module _ (C : Table) (l : Answers) (most : ℕ) (p : List ℕ) (x : ℕ) (q : Li
       (ap (effects R.reading c₀) goes ∙ effects_none R.reading c₀))
     where
       known : c₀.known first.number ≡ Some []
-      known = so.unknown (suc (length (cut p).whole)) (omega (arith, count))
+      known = search (arith, so, count)
 
       header_is : effects R.reading c₀ (events_at_header first) ≡
           record { tracked = c₀; lines = starts first ∷ [] }
-      header_is = header_begins R.reading c₀ first [] known (fragment_stands header fragment)
+      header_is = search (arith, header_begins, known, fragment_stands)
 
       goes : end_events c₀.still_open first ≡ []
-      goes = rw (ne_eqb 0 (size header) (λ e. omega (arith, e, sized))) refl
+      goes = search (arith, ne_eqb)
 
   begun_cut : cut p₁ ≡ of_parts (cut p).whole (Some first) [] None
-  begun_cut = first_adds.cut_is ∙ goes_on (cut p).whole first (omega (arith, sized))
+  begun_cut = search (arith, first_adds, goes_on)
 
   begun_tracked : tracked_after R p₁ ≡ c₀
-  begun_tracked = first_adds.tracked_after ∙ ap (λ (b : Effect). b.tracked) begun_is
+  begun_tracked = search (arith, first_adds, begun_is)
 
   begun_lines : lines R p₁ ≡ lines R p ++ starts first ∷ []
-  begun_lines = first_adds.lines ∙ ap (λ (b : Effect). lines R p ++ b.lines) begun_is
+  begun_lines = search (arith, first_adds, begun_is)
 
   within : Within p₁ first (length q)
   unfolding of_parts
-  within = record {
-    free = ap (λ (c : Cut). c.stop) begun_cut;
-    current = ap (λ (c : Cut). c.current) begun_cut;
-    apart = λ less. omega (arith, three);
-    before_last = omega (arith, three, sized);
-    room = omega (arith, room, three, length_push p x);
-  }
+  within = search (arith, begun_cut, length_push)
 
   -- ---- With the request id but its last octet.
 
   run : IsRun C l most p₁ first q
-  run = run_is C l most q p₁ first within
+  run = search (arith, run_is, within)
 
   abbrev p₄ : List ℕ
   p₄ = p₁ ++ q
@@ -230,7 +222,7 @@ module _ (C : Table) (l : Answers) (most : ℕ) (p : List ℕ) (x : ℕ) (q : Li
   m₄ = with_payload first q
 
   own : owner_of_next (open_after most p₁) first ≡ Some (message_key first)
-  own = owner_early (open_after most p₁) first (omega arith)
+  own = search (arith, owner_early)
 
   quiet : IsQuietRun c₀ (run_effect C l (length p₁) c₀ (Some (message_key first)) q)
   unfolding tracked_after
@@ -242,16 +234,10 @@ module _ (C : Table) (l : Answers) (most : ℕ) (p : List ℕ) (x : ℕ) (q : Li
       (λ o k same. omega (arith, k, same, count)) (open_after most p) so.numbers)
 
   pub same_slots : slots_at c₄ ≡ slots_at c₀
-  same_slots =
-      ap slots_at (run.tracked_after ∙ (λ j.
-      (run_effect C l (length p₁) (begun_tracked j) (own j) q).tracked)) ∙ quiet.slots
+  same_slots = search (arith, run, begun_tracked, own, quiet)
 
   pub started : lines R p₄ ≡ lines R p ++ starts first ∷ []
-  started =
-      run.lines ∙ ((λ j. begun_lines j ++ (run_effect C l (length p₁) (begun_tracked j) (own j)
-      q).lines)
-      ∙ (ap (λ (ls : List Line). (lines R p ++ starts first ∷ []) ++ ls) quiet.lines
-      ∙ append-nil (lines R p ++ starts first ∷ [])))
+  started = search (arith, run, begun_lines, begun_tracked, own, quiet, append-nil)
 
   so₄ : IsSound R p₄
   so₄ = sound R causal (in_turn C l) p₄
@@ -261,7 +247,7 @@ module _ (C : Table) (l : Answers) (most : ℕ) (p : List ℕ) (x : ℕ) (q : Li
       (so₄.fits run.within.free).current
 
   pub many : length p₄ ≡ length p + 4
-  many = omega (arith, length-append p₁ q, length_push p x, three)
+  many = search (arith, length-append, length_push)
 
   pub before_last : (now : Current) → now.number ≡ suc (length (cut p).whole) →
       now.header ≡ header → now.place ≡ length p + 5
@@ -302,13 +288,10 @@ module _ (C : Table) (l : Answers) (most : ℕ) (p : List ℕ) (x : ℕ) (q : Li
       (le-ltb limit (suc (length p₄)) (omega (arith, room, many)))
 
   pub all_octets : p₄ ++ d ∷ [] ≡ p ++ (x ∷ (q ++ d ∷ []))
-  all_octets = append_assoc p₁ q (d ∷ []) ∙ append_assoc p (x ∷ []) (q ++ d ∷ [])
+  all_octets = search (arith, append_assoc)
 
   pub grows : lines R (p ++ (x ∷ (q ++ d ∷ []))) ≡ lines R p ++ all_do.lines
-  grows =
-      ap (lines R) (sym all_octets) ∙ (paid.lines
-      ∙ (ap (λ (ls : List Line). ls ++ last_does.lines) started
-      ∙ append_assoc (lines R p) (starts first ∷ []) last_does.lines))
+  grows = search (arith, all_octets, paid, started, append_assoc)
 
   -- the correspondent is told nothing
   pub tells_none : AreUntold C (header_ends_from R p (x ∷ (q ++ d ∷ [])))
@@ -342,7 +325,7 @@ module _ (C : Table) (l : Answers) (most : ℕ) (s : State) (reached : IsReached
   x = is.last
 
   pub runs_free : (cut p).stop ≡ None
-  runs_free = runs_on C l most s reached m h free
+  runs_free = search (arith, runs_on)
 
   pub no_message : (cut p).current ≡ None
   no_message = no_current C l most s reached m h free (omega (arith, is.eleven))
@@ -352,11 +335,11 @@ module _ (C : Table) (l : Answers) (most : ℕ) (s : State) (reached : IsReached
       ∙ ap (λ (o : Option Message). header_of o (cut p).held) no_message
 
   pub all_come : m.totals.octets ≡ length p
-  all_come = all_read C l most s reached m h free
+  all_come = search (arith, all_read)
 
   -- the octets of the request id before the last one, and that
   pub parts : (q : List ℕ) × ((d : ℕ) × (is.id ≡ q ++ d ∷ []))
-  parts = octets_are is.id (omega (arith, is.four))
+  parts = search (arith, octets_are)
 
   abbrev q : List ℕ
   q = parts.0
@@ -365,26 +348,26 @@ module _ (C : Table) (l : Answers) (most : ℕ) (s : State) (reached : IsReached
   d = parts.1.0
 
   pub three : length q ≡ 3
-  three = omega (arith, is.four, ap length parts.1.1, length_push q d)
+  three = search (arith, parts, length_push)
 
   pub full : length ((cut p).held ++ x ∷ []) ≡ 12
-  full = omega (arith, length_push (cut p).held x, ap length held, is.eleven)
+  full = search (arith, length_push, held)
 
   header_as : m.header ++ x ∷ [] ≡ (cut p).held ++ x ∷ []
-  header_as = ap (λ (z : List ℕ). z ++ x ∷ []) held
+  header_as = search (arith, held)
 
   pub fragment : is_fragment ((cut p).held ++ x ∷ []) ≡ true
-  fragment = subst (λ (z : List ℕ). is_fragment z ≡ true) header_as is.fragment
+  fragment = search (arith, header_as)
 
   pub sized : 4 ≤ size ((cut p).held ++ x ∷ [])
-  sized = subst (λ (z : List ℕ). 4 ≤ size z) header_as is.sized
+  sized = search (arith, header_as)
 
   pub within_limit : length p + 5 ≤ limit
   unfolding limit
   within_limit = omega (arith, room, all_come)
 
   come : octets ≡ x ∷ (q ++ d ∷ [])
-  come = is.parts ∙ ap (λ (z : List ℕ). x ∷ z) parts.1.1
+  come = search (arith, parts)
 
   abbrev pub tracked : Tracked
   tracked = c₄ C l most p x q d runs_free no_message three full fragment sized within_limit
@@ -426,11 +409,19 @@ module _ (C : Table) (l : Answers) (most : ℕ) (s : State) (reached : IsReached
       → Writes result before after (lines_text effect.lines) →
       OnOk result (Shows C l f (state_of R' (p ++ octets)))
       → Does C l result before after f (runs R' s octets)
-  continuation_does result before after f text shows =
-      does_run C l most s reached m h octets effect.lines result before after f
-      (ap (λ (z : List ℕ). lines R' (p ++ z)) come
-      ∙ grows C l most p x q d runs_free no_message three full fragment sized within_limit) text
-      shows
+  continuation_does result before after f text shows = search (
+    arith,
+    does_run,
+    come,
+    grows,
+    runs_free,
+    no_message,
+    three,
+    full,
+    fragment,
+    sized,
+    within_limit,
+  )
 
   pub continuation_shows : (b f : FramingView) (k : ℕ) → f ≡ settled b k →
       b.totals.messages ≡ m.totals.messages + 1

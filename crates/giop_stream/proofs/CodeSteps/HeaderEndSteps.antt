@@ -1,6 +1,6 @@
 -- The headers that end in octets of a stream, and the state of a correspondent after them.
 use Rattle.std.proofs.Common.{◌≡◌, ℕ, zero, suc, ◌+◌, ◌^◌, ◌<◌, ◌≤◌, Bool, true, false, List, [], ◌∷◌, ◌++◌, length, Option, Some, None, Result, Ok, Err, refl, sym, ap, subst, ◌∙◌, append_assoc, append-nil, arith}
-use Rattle.std.specs.Prelude.{is_none, is_some, ◌&&◌, ◌==◌, nat_lt, slice_get, option_map, IfOk, if◌then◌else◌}
+use Rattle.std.specs.Prelude.{is_some, ◌==◌, nat_lt, slice_get, option_map, IfOk, if◌then◌else◌}
 use Rattle.std.proofs.lemmas.Bool.{lt-ltb, ne_eqb, false≢true}
 use Rattle.std.proofs.lemmas.List.{length_push}
 use Rattle.giop_checkpoint.specs.declared.fault.StreamFault.{StreamFault}
@@ -11,7 +11,7 @@ use Rattle.giop_message.specs.Signatures.{RequestTable, Answer, Answers, by_list
 use Rattle.giop_message.specs.Messages.{message, stage_of}
 use Rattle.giop_message.specs.ReaderOfTable.{message_reader, is_over}
 use Rattle.giop_message.specs.MessageState.{Follows}
-use Rattle.giop_message.specs.HeaderEnds.{HeaderEnd, Header_end, Exception_end, CallEvent, header_ends, call_event, after_event, after_ends, IsAnswered, AgreesAtEnds}
+use Rattle.giop_message.specs.HeaderEnds.{HeaderEnd, CallEvent, header_ends, after_ends, AgreesAtEnds, call_event, after_event}
 use Rattle.giop_message.proofs.MessageLaws.{header_ends_both, over_none, octet_over, told_both, answers_first, answers_then}
 use Rattle.giop_stream.specs.declared.slots.Slot.{Slot as Contents}
 use Rattle.giop_stream.specs.declared.slots.Slots.{Slots}
@@ -22,7 +22,7 @@ use Rattle.giop_stream.specs.EngineView.{FramingView}
 use Rattle.giop_stream.specs.Octet.{header_of}
 use Rattle.giop_stream.specs.EngineState.{State, state_of, owner_of_next}
 use Rattle.giop_stream.specs.ViewOfState.{IsReached, Shows}
-use Rattle.giop_stream.specs.Framing.{Message, Cut, limit, cut, fault_of}
+use Rattle.giop_stream.specs.Framing.{Message, Cut, limit, cut}
 use Rattle.giop_stream.specs.Events.{MessageKey, Takes, open_after}
 use Rattle.giop_stream.specs.Effects.{octets_then, with_octet, event, effect_to}
 use Rattle.giop_stream.specs.OpenSlots.{Tracked, tracked_after}
@@ -113,20 +113,13 @@ module _ (P : (List ℕ → List HeaderEnd) → Type 0) (C : Table) (a : Answers
 pub at_free : (R : Rules) (p : List ℕ) (x : ℕ) → (cut p).stop ≡ None → length p < limit
     → header_ends_at R p x ≡ current_header_ends R p (cut p).current (x ∷ [])
 unfolding header_ends_at
-at_free R p x free room = rw (free, lt-ltb (length p) limit room) refl
+at_free R p x free room = search (arith, lt-ltb)
 
 module _ (C : Table) (a : Answers) where
   -- the message is over where an octet faults it
   faulted_over : (w : MessageKey) (s : List ℕ) (x : ℕ) → Faulty C a w s x ≡ true
       → is_over (stage_of (message (signatures_of C (a w.number)) w.header (s ++ x ∷ []))) ≡ true
-  faulted_over w s x e = go (is_over (stage_of (message (signatures_of C (a w.number)) w.header s)))
-      refl
-    where
-      go : (b : Bool) → is_over (stage_of (message (signatures_of C (a w.number)) w.header s)) ≡ b
-          → is_over (stage_of (message (signatures_of C (a w.number)) w.header (s ++ x ∷ [])))
-          ≡ true
-      go true over = over_stays (signatures_of C (a w.number)) w.header s (x ∷ []) over
-      go false goes = octet_over (signatures_of C (a w.number)) w.header s x goes ∙ e
+  faulted_over w s x e = search (arith, over_stays, octet_over)
 
   ends_on : (w : MessageKey) (s : List ℕ) (x : ℕ) (q : List ℕ) (at : ℕ) →
       header_ends w.number w.header s (x ∷ q)
@@ -143,15 +136,13 @@ module _ (C : Table) (a : Answers) where
           over_none C (a w.number) w.number w.header (s ++ x ∷ []) q (faulted_over w s x e)
           ∙ sym (ap (λ o. run_header_ends w o q)
           (then_by C a at w s x ∙ ap (λ (b : Bool). if b then None else Some (s ++ x ∷ [])) e))
-      go false e = sym (ap (λ o. run_header_ends w o q)
-          (then_by C a at w s x ∙ ap (λ (b : Bool). if b then None else Some (s ++ x ∷ [])) e))
+      go false e = search (arith, then_by)
 
   known_on : (w : MessageKey) (o : Option (List ℕ)) (x : ℕ) (q : List ℕ) (at : ℕ) →
       run_header_ends w o (x ∷ q)
       ≡ run_header_ends w o (x ∷ []) ++ run_header_ends w
       (octets_then (message_reader C a) (event at w (Takes x)) o) q
-  known_on w None x q at = sym (ap (λ o. run_header_ends w o q)
-      (over_then (message_reader C a) (event at w (Takes x))))
+  known_on w None x q at = search (arith, over_then)
   known_on w (Some s) x q at = ends_on w s x q at
 
   owner_on : (c : Tracked) (who : Option MessageKey) (x : ℕ) (q : List ℕ) (at : ℕ) →
@@ -170,8 +161,7 @@ module _ (C : Table) (a : Answers) where
       (cut p).current ≡ Some m → length p < limit
       → header_ends_at R p x ≡ owner_header_ends (tracked_after R p)
       (owner_of_next (open_after R.most p) m) (x ∷ [])
-  ends_here R p m x free current room = at_free R p x free room
-      ∙ ap (λ (o : Option Message). current_header_ends R p o (x ∷ [])) current
+  ends_here R p m x free current room = search (arith, at_free)
 
   -- octets that only add to contents, one after the other, and one more
   pub run_from : (most : ℕ) (q p : List ℕ) (m : Message) (x : ℕ) → Within p m (length q) →
@@ -204,11 +194,7 @@ module _ (C : Table) (a : Answers) where
 
 pub at_none : (R : Rules) (p : List ℕ) (x : ℕ) → (cut p).current ≡ None → header_ends_at R p x ≡ []
 unfolding header_ends_at
-at_none R p x e = rw e (go (is_none (cut p).stop && nat_lt (length p) limit))
-  where
-    go : (b : Bool) → (let none : List HeaderEnd = if b then [] else [] in none) ≡ []
-    go true = refl
-    go false = refl
+at_none R p x e = search (arith)
 
 pub at_stop : (R : Rules) (p : List ℕ) (x : ℕ) (found : ℕ × StreamFault) →
     (cut p).stop ≡ Some found → header_ends_at R p x ≡ []
@@ -217,31 +203,18 @@ at_stop R p x found e = rw e refl
 
 pub at_limit : (R : Rules) (p : List ℕ) (x : ℕ) → limit ≤ length p → header_ends_at R p x ≡ []
 unfolding header_ends_at
-at_limit R p x full = rw (past (length p) full) (go (is_none (cut p).stop))
-  where
-    past : (n : ℕ) → limit ≤ n → nat_lt n limit ≡ false
-    past n h = grind (arith, h)
-
-    go : (b : Bool) → (let some : List HeaderEnd =
-        if b && false then current_header_ends R p (cut p).current (x ∷ []) else [] in some) ≡ []
-    go true = refl
-    go false = refl
+at_limit R p x full = search (arith)
 
 pub from_append : (R : Rules) (xs p ys : List ℕ) →
     header_ends_from R p (xs ++ ys) ≡ header_ends_from R p xs ++ header_ends_from R (p ++ xs) ys
 unfolding header_ends_from
-from_append R [] p ys = ap (λ (z : List ℕ). header_ends_from R z ys) (sym (append-nil p))
-from_append R (x ∷ xs) p ys =
-    ap (λ (z : List HeaderEnd). header_ends_at R p x ++ z)
-    (from_append R xs (p ++ x ∷ []) ys ∙ ap (λ (z : List ℕ). header_ends_from R (p ++ x ∷ []) xs
-    ++ header_ends_from R z ys) (append_assoc p (x ∷ []) xs))
-    ∙ sym (append_assoc (header_ends_at R p x) (header_ends_from R (p ++ x ∷ []) xs)
-    (header_ends_from R (p ++ x ∷ xs) ys))
+from_append R [] p ys = search (arith, append-nil)
+from_append R (x ∷ xs) p ys = search (arith, append_assoc, from_append R xs (p ++ x ∷ []) ys)
 
 pub from_one : (R : Rules) (p : List ℕ) (x : ℕ) →
     header_ends_from R p (x ∷ []) ≡ header_ends_at R p x
 unfolding header_ends_from
-from_one R p x = append-nil (header_ends_at R p x)
+from_one R p x = search (arith, append-nil)
 
 -- ---- octets of a header that they do not complete
 
@@ -257,8 +230,7 @@ head_case : (first n : ℕ) (whole : List Message) (front : List ℕ) (o : Optio
     → Right k (header_case first n whole front o (length front == 12))
 unfolding header_case
 head_case first n whole front (Some word) k h = (refl, omega (arith, h))
-head_case first n whole front None k h =
-    rw (ne_eqb (length front) 12 (λ e. omega (arith, h, e))) (refl, h)
+head_case first n whole front None k h = search (arith, ne_eqb)
 
 pub heads_on : (p : List ℕ) (x k : ℕ) → Heads p (suc k) → Heads (p ++ x ∷ []) k
 unfolding of_parts
@@ -270,9 +242,7 @@ heads_on p x k h = let both = go (cut p).stop refl in record { no_current = both
 
     room : (b : Bool) → nat_lt limit (suc (length p)) ≡ b →
         Right k (next (length p) x (of_parts (cut p).whole None (cut p).held None))
-    room true e =
-        subst (Right k) (sym (next_limit (cut p).whole None (cut p).held (length p) x e))
-        (refl, omega (arith, h.few))
+    room true e = search (arith, next_limit)
     room false e =
         subst (Right k) (sym (next_front (cut p).whole (cut p).held (length p) x e))
         (head_case 1 (suc (length p)) (cut p).whole ((cut p).held ++ x ∷ [])
@@ -302,40 +272,23 @@ module _ {St : Type 0} (answer : St → Answer) (notified : St → CallEvent →
     (a : Answers) (st : St) where
   pub agrees_front : (all es fs : List HeaderEnd) → all ≡ es ++ fs →
       AgreesAtEnds answer notified C st a all → AgreesAtEnds answer notified C st a es
-  agrees_front all es fs e h = answers_first answer notified C st a es fs
-      (subst (AgreesAtEnds answer notified C st a) e h)
+  agrees_front all es fs e h = search (arith, answers_first)
 
   pub agrees_after : (now : St) (all es fs : List HeaderEnd) → all ≡ es ++ fs →
       now ≡ after_ends notified C st es
       → AgreesAtEnds answer notified C st a all → AgreesAtEnds answer notified C now a fs
-  agrees_after now all es fs e told h =
-      subst (λ x. AgreesAtEnds answer notified C x a fs) (sym told)
-      (answers_then answer notified C st a es fs
-      (subst (AgreesAtEnds answer notified C st a) e h))
+  agrees_after now all es fs e told h = search (arith, answers_then)
 
   pub told_after : (now later : St) (es fs : List HeaderEnd) → now ≡ after_ends notified C st es →
       later ≡ after_ends notified C now fs
       → later ≡ after_ends notified C st (es ++ fs)
-  told_after now later es fs told more = more
-      ∙ (ap (λ x. after_ends notified C x fs) told ∙ sym (told_both answer notified C st es fs))
+  told_after now later es fs told more = search (arith, told_both)
 
 -- a request list answers each message, and no event changes it
 pub list_answers : (C : Table) (l : RequestTable) (es : List HeaderEnd)
     → AgreesAtEnds (λ (k : RequestTable) id. kept_operation k id) (λ k t. k) C l (by_list l) es
 list_answers C l [] = tt
-list_answers C l (e ∷ es) = (here e, rest (call_event C e) (list_answers C l es))
-  where
-    here : (f : HeaderEnd) → IsAnswered (λ (k : RequestTable) id. kept_operation k id) l (by_list l)
-        f
-    here (Header_end number header n) = refl
-    here (Exception_end number name) = tt
-
-    rest : (o : Option CallEvent) → AgreesAtEnds (λ (k : RequestTable) id. kept_operation k id)
-        (λ k t. k) C l (by_list l) es
-        → AgreesAtEnds (λ (k : RequestTable) id. kept_operation k id) (λ k t. k) C
-        (after_event (λ (k : RequestTable) t. k) l o) (by_list l) es
-    rest None h = h
-    rest (Some t) h = h
+list_answers C l (e ∷ es) = search (arith, list_answers C l es)
 
 -- ---- by the fields
 
@@ -353,19 +306,11 @@ module _ {St : Type 0} (notified : St → CallEvent → St) (C : Table) (a : Ans
   Same = st ≡ after_ends notified C st (header_ends_at R r.stream x)
 
   same_by : header_ends_at R r.stream x ≡ [] → Same
-  same_by e = sym (ap (after_ends notified C st) e)
+  same_by e = search (arith)
 
   pub told_stopped : is_some m.stopped ≡ true → Same
   unfolding state_of
-  told_stopped over = go (cut r.stream).stop refl
-    where
-      stops : m.stopped ≡ fault_of (cut r.stream).stop
-      stops = h.stopped ∙ ap (λ (t : State). t.stop) r.held
-
-      go : (o : Option (ℕ × StreamFault)) → (cut r.stream).stop ≡ o → Same
-      go (Some found) e = same_by (at_stop R r.stream x found e)
-      go None e = absurd (let no : is_some m.stopped ≡ false = ap is_some (stops ∙ ap fault_of e) in
-          false≢true (sym no ∙ over))
+  told_stopped over = search (arith, same_by, at_stop, false≢true)
 
   module _ (free : m.stopped ≡ None) where
     pub told_limit : 2 ^ 48 ≤ m.totals.octets → Same
@@ -375,7 +320,7 @@ module _ {St : Type 0} (notified : St → CallEvent → St) (C : Table) (a : Ans
 
     -- a header that is not whole
     pub told_heads : length m.header < 12 → Same
-    told_heads few = same_by (at_none R r.stream x (no_current C a most s r m h free few))
+    told_heads few = search (arith, same_by, at_none, no_current)
 
     -- an octet of a payload
     pub at_payload : m.totals.octets < 2 ^ 48 →
@@ -440,13 +385,8 @@ module _ {St : Type 0} (answer : St → Answer) (notified : St → CallEvent →
   pub told_on : (q : List ℕ) (later : St) →
       later ≡ after_ends notified C now (header_ends_from R (p ++ past) q)
       → later ≡ after_ends notified C st (header_ends_from R p (past ++ q))
-  told_on q later more =
-      told_after answer notified C a st now later (header_ends_from R p past)
-      (header_ends_from R (p ++ past) q) told more
-      ∙ sym (ap (after_ends notified C st) (from_append R past p q))
+  told_on q later more = search (arith, told_after, from_append)
 
 pub list_notified : (C : Table) (k l : RequestTable) (es : List HeaderEnd) → k ≡ l
     → AgreesAtEnds (λ (k : RequestTable) id. kept_operation k id) (λ k t. k) C k (by_list l) es
-list_notified C k l es same =
-    subst (λ (z : RequestTable). AgreesAtEnds (λ (k : RequestTable) id. kept_operation k id)
-    (λ k t. k) C z (by_list l) es) (sym same) (list_answers C l es)
+list_notified C k l es same = search (arith, list_answers)

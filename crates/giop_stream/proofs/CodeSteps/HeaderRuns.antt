@@ -1,6 +1,6 @@
 -- A run of header octets before the last one, taken at once: the code does their steps, and writes
 -- nothing.
-use Rattle.std.proofs.Common.{◌≡◌, ℕ, suc, ◌+◌, ◌^◌, ◌<◌, ◌≤◌, List, [], ◌∷◌, ◌++◌, length, take, refl, sym, ap, subst, ◌∙◌, append_assoc, append-nil, None, arith}
+use Rattle.std.proofs.Common.{◌≡◌, ℕ, ◌+◌, ◌^◌, ◌<◌, ◌≤◌, List, [], ◌∷◌, ◌++◌, length, take, refl, sym, ap, subst, ◌∙◌, append_assoc, append-nil, None, arith}
 use Rattle.std.proofs.lemmas.List.{length_push}
 use Rattle.giop_sig.specs.Table.{Table}
 use Rattle.giop_message.specs.Signatures.{Answers}
@@ -18,7 +18,7 @@ abbrev pub AreRight : List ℕ → List ℕ → Type 0
 AreRight front octets = (k : ℕ) → k < length octets → wrong (front ++ take (k + 1) octets) ≡ None
 
 take_more : (k x : ℕ) (xs : List ℕ) → take (k + 1) (x ∷ xs) ≡ x ∷ take k xs
-take_more k x xs = let one : k + 1 ≡ suc k = omega arith in rw one refl
+take_more k x xs = search (arith)
 
 right_first : (front : List ℕ) (x : ℕ) (xs : List ℕ) → AreRight front (x ∷ xs) →
     wrong (front ++ x ∷ []) ≡ None
@@ -39,20 +39,12 @@ held_all m xs = record m {
 }
 
 held_none : (m : FramingView) → held_all m [] ≡ m
-held_none m =
-    let none : m.totals.octets + 0 ≡ m.totals.octets = omega arith in
-    λ j. record m { totals = record m.totals { octets = none j }; header = append-nil m.header j }
+held_none m = search (arith, append-nil)
 
 held_more : (m : FramingView) (x : ℕ) (xs : List ℕ) →
     held_all (steps.held_on m x) xs ≡ held_all m (x ∷ xs)
 unfolding steps.held_on
-held_more m x xs =
-    let count : suc m.totals.octets + length xs ≡ m.totals.octets + length (x ∷ xs) = omega arith in
-    λ j. record m {
-      totals = record m.totals { octets = count j };
-      header =
-          append_assoc m.header (x ∷ []) xs j;
-    }
+held_more m x xs = search (arith, append_assoc)
 
 -- they fit into the header that is held, and into the stream's limit
 pub record Fit (m : FramingView) (xs : List ℕ) : Type 0 where
@@ -63,12 +55,7 @@ pub record Fit (m : FramingView) (xs : List ℕ) : Type 0 where
 
 fit_more : (m : FramingView) (x : ℕ) (xs : List ℕ) → Fit m (x ∷ xs) → Fit (steps.held_on m x) xs
 unfolding steps.held_on
-fit_more m x xs f = record {
-  free = f.free;
-  few = omega (arith, f.few, length_push m.header x);
-  room = omega (arith, f.room);
-  right = right_more m.header x xs f.right;
-}
+fit_more m x xs f = search (arith, length_push, right_more)
 
 module _ (C : Table) (l : Answers) (most : ℕ) where
   abbrev R : Rules
@@ -77,7 +64,7 @@ module _ (C : Table) (l : Answers) (most : ℕ) where
   pub heads_show : (xs : List ℕ) (m : FramingView) (s : State) → Shows C l m s → Fit m xs →
       Shows C l (held_all m xs) (run_state R s xs)
   unfolding run_state
-  heads_show [] m s h f = subst (λ (n : FramingView). Shows C l n s) (sym (held_none m)) h
+  heads_show [] m s h f = search (arith, held_none)
   heads_show (x ∷ xs) m s h f =
       let other : length (m.header ++ x ∷ []) ≡ 12 → ⊥ =
       λ e. omega (arith, f.few, length_push m.header x, e) in

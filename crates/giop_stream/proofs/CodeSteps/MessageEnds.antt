@@ -1,6 +1,6 @@
 -- How to show that a call does a step; and the fields after a message's last octet.
-use Rattle.std.proofs.Common.{◌≡◌, ℕ, ◌+◌, ◌<◌, ◌≤◌, Bool, true, false, List, [], ◌∷◌, ◌++◌, length, refl, sym, subst, ◌∙◌, Option, Some, None, Result, Ok, Err, IsErr}
-use Rattle.std.specs.Prelude.{◌==◌, if◌then◌else◌, OnOk}
+use Rattle.std.proofs.Common.{arith, ◌≡◌, ℕ, ◌+◌, ◌<◌, ◌≤◌, List, [], ◌∷◌, ◌++◌, length, refl, Option, Some, None, Result, Ok, Err, IsErr}
+use Rattle.std.specs.Prelude.{OnOk}
 use Rattle.std.proofs.lemmas.Bool.{lt-ltb, le-ltb, eq-eqb, ne_eqb, false≢true}
 use Rattle.std.proofs.lemmas.List.{append_cancel_left}
 use Rattle.giop_print.specs.Output.{OutLog, Writes}
@@ -14,7 +14,7 @@ use Rattle.giop_stream.specs.Lines.{Line, lines}
 use Rattle.giop_stream.specs.Text.{lines_text}
 use Rattle.giop_stream.specs.SlotsRepresent.{AreReady}
 use Rattle.giop_stream.specs.EngineView.{FramingView}
-use Rattle.giop_stream.specs.EngineState.{State, state_of}
+use Rattle.giop_stream.specs.EngineState.{state_of}
 use Rattle.giop_stream.specs.EngineStep.{Step}
 use Rattle.giop_stream.specs.FramingSteps.{end_message as settled}
 use Rattle.giop_stream.specs.ViewOfState.{Shows, Does}
@@ -29,14 +29,10 @@ pub does_by : {A E : Type 0} (C : Table) (l : Answers) (most : ℕ) (p q : List 
     → lines R q ≡ lines R p ++ ls → Writes result before after (lines_text ls) →
     OnOk result (Shows C l f (state_of R q))
     → Does C l result before after f one)
-does_by C l most p q one ls result before after f state more grows text shows =
-    let R = rules_by C l most in
-    let same : one.lines ≡ ls = append_cancel_left (lines R p) one.lines ls (sym more ∙ grows) in
-    record {
-      text = rw same text;
-      shows = subst (λ (s : State). OnOk result (Shows C l f s)) state
-          shows;
-    }
+does_by C l most p q one ls result before after f state more grows text shows = search (
+  arith,
+  append_cancel_left,
+)
 
 -- where a put failed nothing is claimed of the fields
 pub on_err : {A E : Type 0} (P : Type 0) (r : Result A E) → IsErr r → OnOk r P
@@ -47,35 +43,29 @@ on_err P (Err e) h = tt
 
 pub settled_on : (m : FramingView) (n : ℕ) → (m.payload_count ≡ n → ⊥) → settled m n ≡ m
 unfolding settled
-settled_on m n other = rw (ne_eqb m.payload_count n other) refl
+settled_on m n other = search (arith, ne_eqb)
 
 pub settled_off : (m : FramingView) (n : ℕ) → m.payload_count ≡ n →
     settled m n ≡ record m { header = []; payload_count = 0 }
 unfolding settled
-settled_off m n same = rw (eq-eqb m.payload_count n same) refl
+settled_off m n same = search (arith, eq-eqb)
 
 pub goes_on : (whole : List Message) (m : Message) → length m.payload < size m.header →
     end_message whole m ≡ of_parts whole (Some m) [] None
 unfolding end_message of_parts
-goes_on whole m less = rw (lt-ltb (length m.payload) (size m.header) less) refl
+goes_on whole m less = search (arith, lt-ltb)
 
 pub goes_off : (whole : List Message) (m : Message) → size m.header ≤ length m.payload →
     end_message whole m ≡ of_parts (whole ++ m ∷ []) None [] None
 unfolding end_message of_parts
-goes_off whole m more = rw (le-ltb (length m.payload) (size m.header) more) refl
+goes_off whole m more = search (arith, le-ltb)
 
 -- the slots stay ready after a message's last octet
 pub ready_settled : (C : Table) (m m' : FramingView) (n place : ℕ) → m' ≡ settled m n →
     place ≡ m.totals.octets
     → AreReady C (place + 1) m.slots → AreReady C (m'.totals.octets + 1) m'.slots
 unfolding settled
-ready_settled C m m' n place e is h = rw e (go (m.payload_count == n))
-  where
-    go : (b : Bool) → (let m : FramingView =
-        if b then record m { header = []; payload_count = 0 } else m in
-        AreReady C (m.totals.octets + 1) m.slots)
-    go true = rw (← is) h
-    go false = rw (← is) h
+ready_settled C m m' n place e is h = search (arith)
 
 pub none_stops : (o : Option (ℕ × StreamFault)) → fault_of o ≡ None → o ≡ None
 none_stops None e = refl

@@ -11,8 +11,6 @@ use Rattle.giop_message.specs.Headers.{size}
 use Rattle.giop_message.specs.MessageReader.{IsCausal}
 use Rattle.giop_message.specs.Signatures.{Answers, signatures_of}
 use Rattle.giop_message.proofs.MessageLaws.{is_causal}
-use Rattle.giop_stream.specs.declared.status.Totals.{Totals}
-use Rattle.giop_stream.specs.declared.slots.Slots.{Slots}
 use Rattle.giop_stream.specs.declared.current.Current.{Current}
 use Rattle.giop_stream.specs.HeaderOctets.{wrong, first_wrong_octet}
 use Rattle.giop_stream.specs.Rules.{Rules, rules_by}
@@ -77,9 +75,8 @@ come_by : (n : ℕ) (c : Cut) (current : Option Message) (held : List ℕ) →
     IfSome current (CurrentFits n c) → length held < 12
     → (if nat_lt (length (header_of current held)) 12 then 0 else size (header_of current held)
     - left_of current) ≡ payload_count_of current
-come_by n c None held h short = rw (lt-ltb (length held) 12 short) refl
-come_by n c (Some m) held h short = rw (le-ltb (length m.header) 12 (omega (arith, h.twelve)))
-    (omega (arith, h.lacks))
+come_by n c None held h short = search (arith, lt-ltb)
+come_by n c (Some m) held h short = search (arith, le-ltb)
 
 -- ---- What the fields show after an octet of this message.
 
@@ -155,13 +152,13 @@ module _ (C : Table) (l : Answers) (most : ℕ) (s : State) (reached : IsReached
   p = reached.stream
 
   causal : IsCausal R.reading
-  causal = is_causal (λ number. signatures_of C (l number))
+  causal = search (arith, is_causal)
 
   so : IsSound R p
   so = sound R causal (in_turn C l) p
 
   at_p : Shows C l m (state_of R p)
-  at_p = subst (Shows C l m) reached.held h
+  at_p = search (arith)
 
   -- a call that writes the lines of the octet and leaves its state does the step,
   pub does_step : {A E : Type 0} (x : ℕ) (ls : List Line) (result : Result A E)
@@ -169,11 +166,14 @@ module _ (C : Table) (l : Answers) (most : ℕ) (s : State) (reached : IsReached
       → lines R (p ++ x ∷ []) ≡ lines R p ++ ls → Writes result before after (lines_text ls)
       → OnOk result (Shows C l f (state_of R (p ++ x ∷ []))) →
       Does C l result before after f (step R s x)
-  does_step x ls result before after f grows text shows =
-      subst (λ (t : State). Does C l result before after f (step R t x)) (sym reached.held)
-      (does_by C l most p (p ++ x ∷ []) (step R (state_of R p) x) ls result before after f
-      (step_state R causal (in_turn C l) p x) (step_lines R causal (in_turn C l) p x) grows text
-      shows)
+  does_step x ls result before after f grows text shows = search (
+    arith,
+    does_by,
+    step_state,
+    causal,
+    in_turn,
+    step_lines,
+  )
 
   -- and so for a run
   pub does_run : {A E : Type 0} (q : List ℕ) (ls : List Line) (result : Result A E)
@@ -192,7 +192,7 @@ module _ (C : Table) (l : Answers) (most : ℕ) (s : State) (reached : IsReached
   module _ (free : m.stopped ≡ None) where
     pub runs_on : (cut p).stop ≡ None
     unfolding state_of
-    runs_on = none_stops (cut p).stop (sym at_p.stopped ∙ free)
+    runs_on = search (arith, none_stops, at_p)
 
     pub header_at : m.header ≡ header_of (cut p).current (cut p).held
     unfolding state_of
@@ -203,12 +203,11 @@ module _ (C : Table) (l : Answers) (most : ℕ) (s : State) (reached : IsReached
 
     come_at : m.payload_count ≡ payload_count_of (cut p).current
     unfolding payload_count_in state_of
-    come_at = at_p.payload_count ∙ rw runs_on (come_by (length p) (cut p) (cut p).current
-        (cut p).held fits_at.current fits_at.short)
+    come_at = search (arith, at_p, runs_on, come_by, fits_at)
 
     pub all_read : m.totals.octets ≡ length p
     unfolding state_of tally
-    all_read = ap (λ (t : Totals). t.octets) at_p.totals ∙ read_all p runs_on
+    all_read = search (arith, at_p, read_all, runs_on)
 
     pub knows_at : SlotsRepresent C l m.slots (tracked_after R p)
         (owner_of_next_in (open_after most p) (cut p).current)
@@ -217,36 +216,19 @@ module _ (C : Table) (l : Answers) (most : ℕ) (s : State) (reached : IsReached
 
     -- while the header is incomplete there is no current message
     pub no_current : length m.header < 12 → (cut p).current ≡ None
-    no_current few = go (cut p).current refl
-      where
-        go : (o : Option Message) → (cut p).current ≡ o → o ≡ None
-        go None e = refl
-        go (Some c) e =
-            let fit = if_some (CurrentFits (length p) (cut p)) (cut p).current c e fits_at.current
-            in
-            let same : m.header ≡ c.header = header_at
-            ∙ ap (λ (o : Option Message). header_of o (cut p).held) e in
-            let whole : length m.header ≡ 12 = ap length same ∙ fit.twelve in
-            absurd (omega (arith, few, whole))
+    no_current few = search (arith, if_some, fits_at, header_at)
 
     -- a complete header is the current message's
     pub has_current : length m.header ≡ 12 → (c : Message) × ((cut p).current ≡ Some c)
-    has_current full = go (cut p).current refl
-      where
-        go : (o : Option Message) → (cut p).current ≡ o → (c : Message) × ((cut p).current ≡ Some c)
-        go (Some c) e = (c, e)
-        go None e =
-            let same : m.header ≡ (cut p).held =
-            header_at ∙ ap (λ (o : Option Message). header_of o (cut p).held) e in
-            absurd (omega (arith, full, ap length same, fits_at.short))
+    has_current full = search (arith, header_at, fits_at)
 
   pub messages_at : m.totals.messages ≡ length (messages (cut p))
   unfolding state_of tally
-  messages_at = ap (λ (t : Totals). t.messages) at_p.totals ∙ so.starts
+  messages_at = search (arith, at_p, so)
 
   pub faults_at : m.totals.faults ≡ fault_count (lines R p)
   unfolding state_of tally
-  faults_at = ap (λ (t : Totals). t.faults) at_p.totals
+  faults_at = search (arith, at_p)
 
   -- ---- A header's last octet.
 
@@ -255,38 +237,37 @@ module _ (C : Table) (l : Answers) (most : ℕ) (s : State) (reached : IsReached
       (free : b.stopped ≡ None) (room : b.totals.octets ≤ 2 ^ 48) where
     ran : m.stopped ≡ None
     unfolding held_on
-    ran = ap (λ (n : FramingView). n.stopped) (sym e) ∙ free
+    ran = search (arith)
 
     header_was : b.header ≡ m.header ++ x ∷ []
     unfolding held_on
-    header_was = ap (λ (n : FramingView). n.header) e
+    header_was = search (arith)
 
     octets_was : b.totals.octets ≡ suc m.totals.octets
     unfolding held_on
-    octets_was = ap (λ (n : FramingView). n.totals.octets) e
+    octets_was = search (arith)
 
     messages_was : b.totals.messages ≡ m.totals.messages
     unfolding held_on
-    messages_was = ap (λ (n : FramingView). n.totals.messages) e
+    messages_was = search (arith)
 
     faults_was : b.totals.faults ≡ m.totals.faults
     unfolding held_on
-    faults_was = ap (λ (n : FramingView). n.totals.faults) e
+    faults_was = search (arith)
 
     come_was : b.payload_count ≡ m.payload_count
     unfolding held_on
-    come_was = ap (λ (n : FramingView). n.payload_count) e
+    come_was = search (arith)
 
     slots_was : b.slots ≡ m.slots
     unfolding held_on
-    slots_was = ap (λ (n : FramingView). n.slots) e
+    slots_was = search (arith)
 
     cur : (cut p).current ≡ None
-    cur = no_current ran (omega (arith, length_push m.header x, full, ap length header_was))
+    cur = search (arith, no_current, ran, length_push, header_was)
 
     header_now : b.header ≡ (cut p).held ++ x ∷ []
-    header_now = header_was ∙ ap (λ (front : List ℕ). front ++ x ∷ [])
-        (header_at ran ∙ ap (λ (o : Option Message). header_of o (cut p).held) cur)
+    header_now = search (arith, header_was, header_at, ran, cur)
 
     -- the message that begins
     abbrev pub first : Message
@@ -307,44 +288,40 @@ module _ (C : Table) (l : Answers) (most : ℕ) (s : State) (reached : IsReached
 
     count : length (messages (cut p)) ≡ length (cut p).whole
     unfolding messages
-    count = rw cur (ap length (append-nil (cut p).whole))
+    count = search (arith, cur, append-nil)
 
     none_come : b.payload_count ≡ 0
-    none_come = come_was ∙ (come_at ran ∙ ap payload_count_of cur)
+    none_come = search (arith, come_was, come_at, ran, cur)
 
     pub is_first : (now : Current) → now.number ≡ b.totals.messages + 1 → now.header ≡ b.header
         → now.place ≡ b.totals.octets → now.payload_count ≡ b.payload_count
         → IsBeforeMessage C l b.slots (tracked_after R p)
         (owner_of_next_in (open_after most p) (cut p).current) first now
     unfolding tracked_after
-    is_first now number header at payload_count =
-        let within = fits_at ran in
-        record {
-          keeps = subst (λ (z : Slots). SlotsRepresent C l z (tracked_after R p)
-              (owner_of_next_in (open_after most p) (cut p).current)) (sym slots_was)
-              (knows_at ran);
-          rising = so.rising;
-          current = record {
-            number = omega (arith, number, messages_was, messages_at, count);
-            header = sym header_now ∙ sym header;
-            place = place_first (length p) first refl refl
-                (omega (arith, within.held, ap length header_now, length_push (cut p).held x, full))
-                ∙ (ap suc (sym (all_read ran)) ∙ (sym octets_was ∙ sym at));
-          };
-          none_come = refl;
-          payload_count = payload_count ∙ none_come;
-          newest = each_weaker (λ o. o.opener.number ≤ length (messages (cut p)))
-              (λ o. o.opener.number < suc (length (cut p).whole)) (λ o k. omega (arith, k, count))
-              (open_after most p) so.numbers;
-          unknown = so.unknown (suc (length (cut p).whole)) (omega (arith, count));
-        }
+    is_first now number header at payload_count = search (
+      arith,
+      fits_at,
+      ran,
+      slots_was,
+      knows_at,
+      so,
+      messages_was,
+      messages_at,
+      count,
+      header_now,
+      place_first,
+      length_push,
+      all_read,
+      octets_was,
+      none_come,
+      each_weaker,
+    )
 
     pub begun_does : {A E : Type 0} (result : Result A E) (before after : OutLog) (f : FramingView)
         → Writes result before after (lines_text beginning.lines) →
         OnOk result (Shows C l f (state_of R (p ++ x ∷ [])))
         → Does C l result before after f (step R s x)
-    begun_does result before after f text shows =
-        does_step x beginning.lines result before after f first_adds.lines text shows
+    begun_does result before after f text shows = search (arith, does_step, first_adds)
 
     pub begun_shows : (b' f : FramingView) (k : ℕ) → f ≡ settled b' k →
         b'.totals.messages ≡ b.totals.messages + 1
@@ -367,21 +344,20 @@ module _ (C : Table) (l : Answers) (most : ℕ) (s : State) (reached : IsReached
 
   module _ (free : m.stopped ≡ None) (c : Message) (cur : (cut p).current ≡ Some c) where
     pub current_fits : CurrentFits (length p) (cut p) c
-    current_fits = if_some (CurrentFits (length p) (cut p)) (cut p).current c cur
-        (fits_at free).current
+    current_fits = search (arith, if_some, cur, fits_at)
 
     pub header_is : m.header ≡ c.header
-    header_is = header_at free ∙ ap (λ (o : Option Message). header_of o (cut p).held) cur
+    header_is = search (arith, header_at, cur)
 
     pub come_is : m.payload_count ≡ length c.payload
-    come_is = come_at free ∙ ap payload_count_of cur
+    come_is = search (arith, come_at, cur)
 
     all_messages : length (messages (cut p)) ≡ length (cut p).whole + 1
     unfolding messages
-    all_messages = rw cur (length_push (cut p).whole c)
+    all_messages = search (arith, cur, length_push)
 
     pub number_is : c.number ≡ m.totals.messages
-    number_is = omega (arith, current_fits.number_is, messages_at, all_messages)
+    number_is = search (arith, current_fits, messages_at, all_messages)
 
     pub right : AreOctets c.header × (first_wrong_octet c.header ≡ None)
     right = if_some (λ c. AreOctets c.header × (first_wrong_octet c.header ≡ None)) (cut p).current
@@ -389,4 +365,4 @@ module _ (C : Table) (l : Answers) (most : ℕ) (s : State) (reached : IsReached
 
     -- the number of its octets fits the counter
     pub size_few : size m.header < 2 ^ 32
-    size_few = omega (arith, ap size header_is, size_fits c.header right.0 current_fits.twelve)
+    size_few = search (arith, header_is, size_fits, right, current_fits)

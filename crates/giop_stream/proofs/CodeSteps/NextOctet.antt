@@ -1,11 +1,11 @@
 -- The state of a stream, part by part; from it follows what the next octet is, and what events that
 -- octet has.
-use Rattle.std.proofs.Common.{inl, inr, ◌⊎◌, ◌≡◌, ℕ, suc, ◌-◌, ◌<◌, ◌≤◌, Bool, true, false, List, [], ◌∷◌, ◌++◌, length, get_or, take, refl, sym, ap, subst, ◌∙◌, Option, Some, None, arith}
-use Rattle.std.specs.Prelude.{◌==◌, ◌||◌, IfSome}
+use Rattle.std.proofs.Common.{inl, inr, ◌⊎◌, ◌≡◌, ℕ, suc, ◌-◌, ◌<◌, ◌≤◌, true, List, [], ◌∷◌, ◌++◌, length, get_or, take, refl, ap, ◌∙◌, Option, Some, None, arith}
+use Rattle.std.specs.Prelude.{◌==◌, IfSome}
 use Rattle.std.proofs.lemmas.Bool.{lt-ltb, ne_eqb, le-leb}
 use Rattle.std.proofs.lemmas.List.{append-nil, length_push, get_or_push, take_all, take-append-le}
 use Rattle.giop_cdr.specs.Numbers.{num}
-use Rattle.giop_message.specs.Headers.{order, size, has_name, is_opener, is_fragment, is_cancel}
+use Rattle.giop_message.specs.Headers.{order, size, has_name, is_fragment}
 use Rattle.giop_checkpoint.specs.declared.fault.StreamFault.{StreamFault}
 use Rattle.giop_stream.specs.declared.status.Totals.{Totals}
 use Rattle.giop_stream.specs.Rules.{Rules}
@@ -42,19 +42,14 @@ shape t c tracked = record {
 pub state_is : (R : Rules) (p : List ℕ) (t : Totals) (c : Cut) (tracked : Tracked) → tally R p ≡ t →
     cut p ≡ c → tracked_after R p ≡ tracked → state_of R p ≡ shape t c tracked
 unfolding state_of shape tracked_after
-state_is R p t c tracked et ec es = λ j. shape (et j) (ec j) (es j)
+state_is R p t c tracked et ec es = search (arith)
 
 pub tally_by : (R : Rules) (p : List ℕ) (c : Cut) (a b n : ℕ) → cut p ≡ c →
     start_count (lines R p) ≡ a
     → fault_count (lines R p) ≡ b → read_of p c.stop ≡ n →
     tally R p ≡ record { messages = a; faults = b; octets = n }
 unfolding tally
-tally_by R p c a b n ec e f o = λ j. record {
-  messages = e j;
-  faults = f j;
-  octets =
-      (ap (λ (c : Cut). read_of p c.stop) ec ∙ o) j;
-}
+tally_by R p c a b n ec e f o = search (arith)
 
 pub read_all : (p : List ℕ) → (cut p).stop ≡ None → read_of p (cut p).stop ≡ length p
 unfolding read_of
@@ -74,7 +69,7 @@ stop_faults found = refl
 octet_short : (held : List ℕ) (number read a b x : ℕ) → length held < 12 →
     octet_in None held number read a x ≡ octet_in None held number read b x
 unfolding octet_in
-octet_short held number read a b x short = rw (lt-ltb (length held) 12 short) refl
+octet_short held number read a b x short = search (arith, lt-ltb)
 
 seen : (stop : Option (ℕ × StreamFault)) (current : Option Message) (held : List ℕ)
     (number number' read n x : ℕ)
@@ -87,14 +82,8 @@ seen : (stop : Option (ℕ × StreamFault)) (current : Option Message) (held : L
     (header_of current held) number' n (payload_count_of current) x
 unfolding octet_in
 seen (Some found) current held number number' read n x e r lacks short = refl
-seen None (Some m) held number number' read n x e r lacks short =
-    let less = lacks refl in
-    let payload_count : size m.header - (size m.header - length m.payload) ≡ length m.payload =
-    omega (arith, less) in
-    λ j. octet_in None m.header (e j) (r refl j) (payload_count j) x
-seen None None held number number' read n x e r lacks short =
-    (λ j. octet_in None held (e j) (r refl j) (size held - 0) x)
-    ∙ octet_short held number' n (size held - 0) 0 x (short refl)
+seen None (Some m) held number number' read n x e r lacks short = search (arith)
+seen None None held number number' read n x e r lacks short = search (arith, octet_short)
 
 weaker : (P Q : Message → Type 0) → ((m : Message) → P m → Q m) → (o : Option Message) →
     IfSome o P → IfSome o Q
@@ -122,69 +111,39 @@ module _ (R : Rules) (p : List ℕ) (x : ℕ) where
   pub behind_steps : (found : ℕ × StreamFault) → (cut p).stop ≡ Some found →
       Adds R p (p ++ x ∷ []) (cut p) [] (tracked_after R p)
       → Steps R p (p ++ x ∷ []) (record { state = state_of R p; lines = [] })
-  behind_steps found st adds =
-      let p' = p ++ x ∷ [] in
-      let ln : lines R p' ≡ lines R p = adds.lines ∙ append-nil (lines R p) in
-      let rd : read_of p' (cut p).stop ≡ read_of p (cut p).stop =
-      read_found p' (cut p).stop found st ∙ sym (read_found p (cut p).stop found st) in
-      let now =
-      tally_by R p' (cut p) (start_count (lines R p)) (fault_count (lines R p))
-      (read_of p (cut p).stop) adds.cut_is
-      (ap start_count ln) (ap fault_count ln) rd in
-      let was = tally_by R p (cut p) (start_count (lines R p)) (fault_count (lines R p))
-      (read_of p (cut p).stop) refl refl refl refl in
-      record {
-        state = state_is R p' (tally R p) (cut p) (tracked_after R p) (now ∙ sym was) adds.cut_is
-            adds.tracked_after
-            ∙ sym (state_is R p (tally R p) (cut p) (tracked_after R p) refl refl refl);
-        lines = adds.lines;
-      }
+  behind_steps found st adds = search (arith, append-nil, read_found, tally_by, state_is)
 
   pub ends_steps : (fault : StreamFault) → (cut p).stop ≡ None
       → Adds R p (p ++ x ∷ []) (stopped_at (suc (length p)) fault (cut p))
       (stop_line (Some (suc (length p), fault)))
       (tracked_after R p) → Steps R p (p ++ x ∷ []) (ended (state_of R p) fault)
   unfolding ended shape state_of stopped_at tracked_after tally
-  ends_steps fault st adds =
-      let p' = p ++ x ∷ [] in
-      let found : ℕ × StreamFault = (suc (length p), fault) in
-      let rd : suc (length p) ≡ suc (read_of p (cut p).stop) = ap suc (sym (read_all p st)) in
-      let sc : start_count (lines R p') ≡ start_count (lines R p) =
-      ap start_count adds.lines ∙ (start_append (lines R p) (stop_line (Some found))
-      ∙ omega (arith, stop_starts found)) in
-      let fc : fault_count (lines R p') ≡ suc (fault_count (lines R p)) =
-      ap fault_count adds.lines ∙ (count_append (lines R p) (stop_line (Some found))
-      ∙ omega (arith, stop_faults found)) in
-      let t =
-      tally_by R p' (stopped_at (suc (length p)) fault (cut p)) (start_count (lines R p))
-      (suc (fault_count (lines R p)))
-      (suc (read_of p (cut p).stop)) adds.cut_is sc fc (read_found p' (Some found) found refl ∙ rd)
-      in
-      record {
-        state = state_is R p' _ (stopped_at (suc (length p)) fault (cut p))
-            (tracked_after R p) t adds.cut_is adds.tracked_after;
-        lines = adds.lines
-            ∙ ap (λ (n : ℕ). lines R p ++ stop_line (Some (n, fault))) rd;
-      }
+  ends_steps fault st adds = search (
+    arith,
+    read_all,
+    start_append,
+    stop_starts,
+    count_append,
+    stop_faults,
+    tally_by,
+    stopped_at,
+    read_found,
+    state_is,
+  )
 
   pub held_steps : (front : List ℕ) → (cut p).stop ≡ None → (cut p).current ≡ None
       → Adds R p (p ++ x ∷ []) (of_parts (cut p).whole None front None) [] (tracked_after R p)
       → Steps R p (p ++ x ∷ []) (held_on (state_of R p) front)
   unfolding held_on shape state_of of_parts tracked_after tally read_of
-  held_steps front st cur adds =
-      let p' = p ++ x ∷ [] in
-      let ln : lines R p' ≡ lines R p = adds.lines ∙ append-nil (lines R p) in
-      let rd : length p' ≡ suc (read_of p (cut p).stop) =
-      omega (arith, length_push p x) ∙ ap suc (sym (read_all p st)) in
-      let t =
-      tally_by R p' (of_parts (cut p).whole None front None) (start_count (lines R p))
-      (fault_count (lines R p))
-      (suc (read_of p (cut p).stop)) adds.cut_is (ap start_count ln) (ap fault_count ln) rd in
-      record {
-        state = state_is R p' _ (of_parts (cut p).whole None front None) (tracked_after R p)
-            t adds.cut_is adds.tracked_after ∙ rw (st, cur) refl;
-        lines = adds.lines;
-      }
+  held_steps front st cur adds = search (
+    arith,
+    append-nil,
+    length_push,
+    read_all,
+    tally_by,
+    of_parts,
+    state_is,
+  )
 
 -- ---- An octet of a message: its events, from the state.
 
@@ -197,10 +156,7 @@ pub record Shows (R : Rules) (p : List ℕ) (m : Message) : Type 0 where
 
 module _ (R : Rules) (p : List ℕ) (x : ℕ) (sound : IsSound R p) (alive : IsAlive R p) where
   shows_first : (m : Message) → m.payload ≡ [] → Shows R p m
-  shows_first m none = record {
-    name_is = λ four. absurd (let no : 0 ≡ 4 = rw none at four in omega (arith, no));
-    past_is = λ past. absurd (let no : 4 < 0 = rw none at past in omega (arith, no));
-  }
+  shows_first m none = search (arith)
 
   name_held : (was : Message) → (cut p).stop ≡ None → (cut p).current ≡ Some was →
       length (was.payload ++ x ∷ []) ≡ 4
@@ -238,16 +194,12 @@ module _ (R : Rules) (p : List ℕ) (x : ℕ) (sound : IsSound R p) (alive : IsA
 
   shows_next : (was : Message) → (cut p).stop ≡ None → (cut p).current ≡ Some was →
       Shows R p (with_octet was x)
-  shows_next was st cur = record { name_is = name_held was st cur; past_is = past_held was cur }
+  shows_next was st cur = search (arith, name_held, past_held)
 
   pub shows : (m : Message) → (cut p).stop ≡ None → (((cut p).current ≡ None) × (m.payload ≡ []))
       ⊎ ((was : Message) × ((cut p).current ≡ Some was) × (m ≡ with_octet was x)) → Shows R p m
   shows m st (inl (cur, none)) = shows_first m none
-  shows m st (inr (was, cur, is)) = subst (Shows R p) (sym is) (shows_next was st cur)
+  shows m st (inr (was, cur, is)) = search (arith, shows_next)
 
 pub fragment_named : (header : List ℕ) → is_fragment header ≡ true → has_name header ≡ true
-fragment_named header f = rw f (go (is_opener header))
-  where
-    go : (b : Bool) → (b || true || is_cancel header) ≡ true
-    go true = refl
-    go false = refl
+fragment_named header f = search (arith)

@@ -13,7 +13,7 @@ use Rattle.giop_checkpoint.specs.declared.fault.StreamFault.TheVariants.{StreamL
 use Rattle.giop_stream.specs.HeaderOctets.{wrong}
 use Rattle.giop_stream.specs.Rules.{Rules}
 use Rattle.giop_stream.specs.Framing.{Message, Cut, limit, cut, messages, fault_of}
-use Rattle.giop_stream.specs.Events.{EventKind, Event, Open, place, events_of_octet, events_from, events, open_after, joined, Now, now_of}
+use Rattle.giop_stream.specs.Events.{EventKind, Event, Open, place, events_of_octet, events, open_after, joined, Now, now_of}
 use Rattle.giop_stream.specs.Lines.{Line, lines_of_messages, stop_line, lines}
 use Rattle.giop_stream.specs.Stream.{start_count}
 use Rattle.giop_stream.specs.OpenSlots.{OctetsByNumber, octets_of, Tracked, tracked_after}
@@ -91,7 +91,7 @@ pub octet_front : (held : List ℕ) (number n payload_count x : ℕ) → nat_lt 
     → octet_in None held number n payload_count x
     ≡ front_is (held ++ x ∷ []) number (suc n) (wrong (held ++ x ∷ []))
 unfolding octet_in
-octet_front held number n payload_count x e short = rw (e, lt-ltb (length held) 12 short) refl
+octet_front held number n payload_count x e short = search (arith, lt-ltb)
 
 pub octet_paid : (header : List ℕ) (number n payload_count x : ℕ) → nat_lt limit (suc n) ≡ false →
     length header ≡ 12
@@ -104,8 +104,7 @@ pub octet_paid : (header : List ℕ) (number n payload_count x : ℕ) → nat_lt
       octet = x;
     })
 unfolding octet_in
-octet_paid header number n payload_count x e twelve =
-    rw (e, le-ltb (length header) 12 (omega (arith, twelve))) refl
+octet_paid header number n payload_count x e twelve = search (arith, le-ltb)
 
 pub front_full : (front : List ℕ) (number at : ℕ) → length front ≡ 12
     → front_is front number at None ≡ Of
@@ -116,7 +115,7 @@ pub front_full : (front : List ℕ) (number at : ℕ) → length front ≡ 12
           0;
       octet = 0;
     })
-front_full front number at twelve = rw (eq-eqb (length front) 12 twelve) refl
+front_full front number at twelve = search (arith, eq-eqb)
 
 pub front_short : (front : List ℕ) (number at : ℕ) → (length front == 12) ≡ false →
     front_is front number at None ≡ Held front
@@ -136,14 +135,14 @@ now_here R n K es h here =
 now_rises : (R : MessageReader) (K : OctetsByNumber) (es : List Event) → Fine (all_lines R K es) →
     Rises (sorted_lines R K es)
 unfolding sorted_lines
-now_rises R K es h = rw (ordered_stays (all_lines R K es) h.ordered) h.rises
+now_rises R K es h = search (arith, ordered_stays, all_lines)
 
 -- ---- The cases.
 
 module _ (R : Rules) (causal : IsCausal R.reading) (laws : IsStreamable R.reading) (p : List ℕ)
     (x : ℕ) (sound : IsSound R p) where
   len : length (p ++ x ∷ []) ≡ suc (length p)
-  len = omega (arith, length_push p x)
+  len = search (arith, length_push)
 
   -- where the octet is of no message
   idle : (c : Cut) (ls : List Line) → cut (p ++ x ∷ []) ≡ c → messages c ≡ messages (cut p)
@@ -152,31 +151,16 @@ module _ (R : Rules) (causal : IsCausal R.reading) (laws : IsStreamable R.readin
       → (c.stop ≡ None → (c.current ≡ None) × Fits (suc (length p)) c) →
       Adds R p (p ++ x ∷ []) c ls (tracked_after R p)
   unfolding tracked_after events
-  idle c ls ec ms same none here rises fits =
-      let p' = p ++ x ∷ [] in
-      let ev : events R.most p' ≡ events R.most p =
-      ap (events_from R.most []) (ap messages ec ∙ ms) in
-      let sd = message_lines_same R causal p p' len ev sound.places in
-      let ln : lines R p' ≡ lines R p ++ ls =
-      lines_stopped R p' c.stop (ap (λ (d : Cut). d.stop) ec)
-      ∙ (ap (λ (l : List Line). l ++ stop_line c.stop) sd ∙ same) in
-      let sc : start_count (lines R p') ≡ start_count (lines R p) =
-      ap start_count ln ∙ (start_append (lines R p) ls ∙ omega (arith, none)) in
-      record {
-        cut_is = ec;
-        lines = ln;
-        here = here;
-        rises = rises;
-        tracked_after = λ j. record {
-          still_open = open_idle R.most p p' ev j;
-          known =
-              λ i. octets_idle R p p' ev sd i j;
-        };
-        sound = quiet_sound R p p' len (ap messages ec ∙ ms) ev sd sc
-            (λ free. rw ec (fits (rw ec at free)).1)
-            (λ free. rw (ec, (fits (rw ec at free)).0) tt)
-            (λ free. rw (ec, (fits (rw ec at free)).0) tt) sound;
-      }
+  idle c ls ec ms same none here rises fits = search (
+    arith,
+    message_lines_same,
+    len,
+    lines_stopped,
+    start_append,
+    open_idle,
+    octets_idle,
+    quiet_sound,
+  )
 
   -- where it is of the message m
   deals : (m : Message) (whole : List Message) → cut (p ++ x ∷ []) ≡ end_message whole m
@@ -230,28 +214,23 @@ module _ (R : Rules) (causal : IsCausal R.reading) (laws : IsStreamable R.readin
   begun_by : (was : Message) → (length was.payload ≤ 4 →
       joined was.number (events R.most p) ≡ was.payload) →
       IsBegun (octets_of R p) (with_octet was x)
-  begun_by was begun some short xs known =
-      let same : xs ≡ was.payload = sym (octets_are R p was.number xs known)
-      ∙ begun (omega (arith, length_push was.payload x, short)) in
-      rw same (omega (arith, length_push was.payload x))
+  begun_by was begun some short xs known = search (arith, octets_are, length_push)
 
   pub paid_events : (whole : List Message) (was : Message) (held : List ℕ) →
       cut p ≡ of_parts whole (Some was) held None
       → nat_lt limit (suc (length p)) ≡ false → events R.most (p ++ x ∷ []) ≡ events R.most p
       ++ events_of_octet R.most (open_after R.most p) (with_octet was x)
   unfolding of_parts messages open_after
-  paid_events whole was held ec room =
-      let m = with_octet was x in
-      let fit : Fits (length p) (of_parts whole (Some was) held None) =
-      rw ec at (sound.fits (rw ec refl)) in
-      let fits = fit.current in
-      let ec' : cut (p ++ x ∷ []) ≡ end_message whole m =
-      cut_grows p x ∙ rw ec (next_payload whole was held (length p) x room) in
-      let before : events R.most p ≡ events_from R.most [] (whole ++ was ∷ []) =
-      events_of_cut R.most p (of_parts whole (Some was) held None) ec in
-      events_of_cut R.most (p ++ x ∷ []) (end_message whole m) ec'
-      ∙ (ap (events_from R.most []) (settled_messages whole m)
-      ∙ rw before (events_on R.most whole was x fits.lacks))
+  paid_events whole was held ec room = search (
+    arith,
+    of_parts,
+    end_message,
+    cut_grows,
+    next_payload,
+    events_of_cut,
+    settled_messages,
+    events_on,
+  )
 
   paid_adds : (whole : List Message) (was : Message) (held : List ℕ) →
       cut p ≡ of_parts whole (Some was) held None → nat_lt limit (suc (length p)) ≡ false
@@ -338,21 +317,19 @@ module _ (R : Rules) (causal : IsCausal R.reading) (laws : IsStreamable R.readin
       ++ events_of_octet R.most (open_after R.most p)
       (beginner whole (suc (length p)) (held ++ x ∷ []))
   unfolding of_parts messages open_after header_case
-  begins_events whole held ec room right twelve =
-      let front = held ++ x ∷ [] in
-      let m = beginner whole (suc (length p)) front in
-      let number : 1 + length whole ≡ suc (length whole) = omega arith in
-      let grown : cut (p ++ x ∷ []) ≡ header_case 1 (suc (length p)) whole front (wrong front)
-      (length front == 12) =
-      cut_grows p x ∙ rw ec (next_front whole held (length p) x room) in
-      let ec' : cut (p ++ x ∷ []) ≡ end_message whole m =
-      grown ∙ rw (right, eq-eqb (length front) 12 twelve, number) refl in
-      let before : events R.most p ≡ events_from R.most [] whole =
-      events_of_cut R.most p (of_parts whole None held None) ec
-      ∙ ap (events_from R.most []) (append-nil whole) in
-      events_of_cut R.most (p ++ x ∷ []) (end_message whole m) ec'
-      ∙ (ap (events_from R.most []) (settled_messages whole m)
-      ∙ rw before (events_begin R.most whole m refl))
+  begins_events whole held ec room right twelve = search (
+    arith,
+    header_case,
+    cut_grows,
+    next_front,
+    end_message,
+    eq-eqb,
+    events_of_cut,
+    of_parts,
+    append-nil,
+    settled_messages,
+    events_begin,
+  )
 
   begins_adds : (whole : List Message) (held : List ℕ) → cut p ≡ of_parts whole None held None
       → nat_lt limit (suc (length p)) ≡ false → wrong (held ++ x ∷ []) ≡ None →
@@ -452,33 +429,18 @@ module _ (R : Rules) (causal : IsCausal R.reading) (laws : IsStreamable R.readin
   unfolding of_parts header_case stopped_at messages start_count stop_line
   fronts whole held ec room (Some fault) e b k =
       stops whole None held fault ec (rw ec (next_front whole held (length p) x room ∙ rw e refl))
-  fronts whole held ec room None e true k =
-      begins whole held ec room e (eqb-true (length (held ++ x ∷ [])) 12 k)
-  fronts whole held ec room None e false k =
-      let st : (cut p).stop ≡ None = rw ec refl in
-      let fit : Fits (length p) (of_parts whole None held None) = rw ec at (sound.fits st) in
-      let long = length_push held x in
-      let short = fit.short in
-      let within = fit.held in
-      let less : length (held ++ x ∷ []) < 12 =
-      not_twelve (length (held ++ x ∷ [])) k (omega (arith, long, short)) in
-      let grown : cut (p ++ x ∷ []) ≡ of_parts (cut p).whole None (held ++ x ∷ []) None =
-      cut_grows p x ∙ rw ec (next_front whole held (length p) x room ∙ rw (e, k) refl) in
-      rw (front_short (held ++ x ∷ []) (length (messages (cut p))) (suc (length p)) k) (
-        st,
-        rw ec refl,
-        idle (of_parts (cut p).whole None (held ++ x ∷ []) None) [] grown (rw ec refl)
-            (rw (lines_free R p st) refl) refl tt tt
-            (λ free. (
-              refl,
-              record {
-                current = tt;
-                held = omega (arith, long, within);
-                short =
-                    less;
-              },
-            )),
-      )
+  fronts whole held ec room None e true k = search (arith, begins, eqb-true)
+  fronts whole held ec room None e false k = search (
+    arith,
+    of_parts,
+    length_push,
+    not_twelve,
+    cut_grows,
+    next_front,
+    front_short,
+    idle,
+    lines_free,
+  )
 
   then_by : (whole : List Message) (current : Option Message) (held : List ℕ)
       (stop : Option (ℕ × StreamFault))
@@ -532,4 +494,4 @@ module _ (R : Rules) (causal : IsCausal R.reading) (laws : IsStreamable R.readin
       (events_of_octet R.most (open_after R.most p) m)).lines
       (effects R.reading (tracked_after R p)
       (events_of_octet R.most (open_after R.most p) m)).tracked)
-  begins_is st cur = begins_adds (cut p).whole (cut p).held (parts_by (cut p) None None cur st)
+  begins_is st cur = search (arith, begins_adds, parts_by)

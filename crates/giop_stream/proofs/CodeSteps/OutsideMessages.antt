@@ -1,15 +1,13 @@
 -- An octet outside of messages (of an incomplete header, past the limit, or after a stream fault):
 -- the code does the step.
-use Rattle.std.proofs.Common.{inl, inr, ◌≡◌, ℕ, suc, ◌+◌, ◌-◌, ◌^◌, ◌<◌, ◌≤◌, true, false, List, [], ◌∷◌, ◌++◌, length, refl, sym, ap, subst, ◌∙◌, append-nil, Option, Some, None, arith}
+use Rattle.std.proofs.Common.{◌≡◌, ℕ, suc, ◌+◌, ◌^◌, ◌<◌, ◌≤◌, true, false, List, [], ◌∷◌, ◌++◌, length, refl, append-nil, Option, Some, None, arith}
 use Rattle.std.specs.Prelude.{nat_lt, is_some}
 use Rattle.std.proofs.lemmas.Bool.{cases_eq, lt-ltb, le-ltb, ne_eqb, false≢true}
 use Rattle.std.proofs.lemmas.List.{length_push}
 use Rattle.giop_sig.specs.Table.{Table}
-use Rattle.giop_message.specs.Headers.{size}
 use Rattle.giop_message.specs.Signatures.{Answers}
 use Rattle.giop_checkpoint.specs.declared.fault.StreamFault.{StreamFault}
 use Rattle.giop_checkpoint.specs.declared.fault.StreamFault.TheVariants.{StreamLimit}
-use Rattle.giop_stream.specs.declared.status.Totals.{Totals}
 use Rattle.giop_stream.specs.HeaderOctets.{wrong}
 use Rattle.giop_stream.specs.Rules.{Rules, rules_by}
 use Rattle.giop_stream.specs.Framing.{limit}
@@ -18,9 +16,9 @@ use Rattle.giop_stream.specs.Text.{stop_text, lines_text}
 use Rattle.giop_stream.specs.SlotsRepresent.{IsBare, AreReady}
 use Rattle.giop_stream.specs.OpenSlots.{slots_of}
 use Rattle.giop_stream.specs.EngineView.{FramingView}
-use Rattle.giop_stream.specs.Octet.{AfterStop, Ends, Held, front_is, octet_in}
+use Rattle.giop_stream.specs.Octet.{front_is, octet_in}
 use Rattle.giop_stream.specs.EngineState.{State}
-use Rattle.giop_stream.specs.EngineStep.{fresh, octet_at, ended, held_on, step_by, step}
+use Rattle.giop_stream.specs.EngineStep.{fresh, octet_at, ended, held_on, step}
 use Rattle.giop_stream.specs.FramingSteps as steps
 use Rattle.giop_stream.specs.ViewOfState.{Shows, payload_count_in}
 use Rattle.giop_stream.proofs.CodeSteps.OneOctet.{octet_limit, octet_front, front_short}
@@ -29,11 +27,11 @@ use Rattle.giop_stream.proofs.CodeSteps.OneOctet.{octet_limit, octet_front, fron
 
 pub past_limit : (n : ℕ) → 2 ^ 48 ≤ n → nat_lt limit (suc n) ≡ true
 unfolding limit
-past_limit n h = lt-ltb (2 ^ 48) (suc n) (omega (arith, h))
+past_limit n h = search (arith, lt-ltb)
 
 pub within_limit : (n : ℕ) → n < 2 ^ 48 → nat_lt limit (suc n) ≡ false
 unfolding limit
-within_limit n h = le-ltb (2 ^ 48) (suc n) (omega (arith, h))
+within_limit n h = search (arith, le-ltb)
 
 pub none_by : (o : Option StreamFault) → is_some o ≡ false → o ≡ None
 none_by None e = refl
@@ -51,16 +49,7 @@ pub pushed_is : (m : FramingView) (x : ℕ) (header : List ℕ) → header ≡ m
     → record m { totals = record m.totals { octets = m.totals.octets + 1 }; header = header }
     ≡ steps.held_on m x
 unfolding steps.held_on
-pushed_is m x header e =
-    let one : m.totals.octets + 1 ≡ suc m.totals.octets = omega arith in
-    λ j. record m {
-      totals = record {
-        messages = m.totals.messages;
-        faults = m.totals.faults;
-        octets = one j;
-      };
-      header = e j;
-    }
+pushed_is m x header e = search (arith)
 
 -- ---- Before the first octet.
 
@@ -68,14 +57,7 @@ pub nothing_shown : (C : Table) (l : Answers) (m : FramingView) →
     m.totals ≡ record { messages = 0; faults = 0; octets = 0 }
     → m.stopped ≡ None → m.header ≡ [] → m.payload_count ≡ 0 → IsBare m.slots → Shows C l m fresh
 unfolding fresh payload_count_in slots_of
-nothing_shown C l m totals stopped header payload_count bare =
-    record {
-      totals = totals;
-      stopped = stopped;
-      header = header;
-      payload_count = payload_count;
-      slots = record { slots = rw bare.no_slots tt; owner = rw bare.no_owner refl };
-    }
+nothing_shown C l m totals stopped header payload_count bare = search (arith)
 
 module _ (C : Table) (l : Answers) (most : ℕ) (m : FramingView) (s : State) (h : Shows C l m s)
   where
@@ -83,37 +65,26 @@ module _ (C : Table) (l : Answers) (most : ℕ) (m : FramingView) (s : State) (h
     R = rules_by C l most
 
     octets_are : m.totals.octets ≡ s.totals.octets
-    octets_are = ap (λ (t : Totals). t.octets) h.totals
+    octets_are = search (arith)
 
     -- after the stream fault
     pub behind_step : (x : ℕ) → is_some m.stopped ≡ true →
         step R s x ≡ record { state = s; lines = [] }
     unfolding step octet_at octet_in
-    behind_step x over = go s.stop refl
-      where
-        go : (o : Option StreamFault) → s.stop ≡ o → step R s x ≡ record { state = s; lines = [] }
-        go (Some fault) e = let is : octet_at s x ≡ AfterStop = rw e refl in ap (step_by R s) is
-        go None e = absurd (let no : is_some m.stopped ≡ false = rw (h.stopped, e) refl in
-            false≢true (sym no ∙ over))
+    behind_step x over = search (arith, false≢true)
 
     -- the octet past the limit
     pub limit_step : (x : ℕ) → m.stopped ≡ None → 2 ^ 48 ≤ m.totals.octets →
         step R s x ≡ ended s StreamLimit
     unfolding step octet_at
-    limit_step x free full =
-        let is : octet_at s x ≡ Ends StreamLimit =
-        rw (sym h.stopped ∙ free) (octet_limit s.held s.totals.messages s.totals.octets _ x
-        (past_limit s.totals.octets (omega (arith, octets_are, full)))) in
-        ap (step_by R s) is
+    limit_step x free full = search (arith, octet_limit, past_limit, octets_are)
 
     -- ---- Where the reading ends.
 
     pub ended_text : (fault : StreamFault) →
         stop_text fault (m.totals.octets + 1) ≡ lines_text (ended s fault).lines
     unfolding ended lines_text stop_line
-    ended_text fault =
-        let one : m.totals.octets + 1 ≡ suc s.totals.octets = omega (arith, octets_are) in
-        ap (stop_text fault) one ∙ sym (append-nil (stop_text fault (suc s.totals.octets)))
+    ended_text fault = search (arith, octets_are, append-nil)
 
     -- whatever header octets were held
     pub ended_shows : (fault : StreamFault) (b : FramingView) →
@@ -121,20 +92,7 @@ module _ (C : Table) (l : Answers) (most : ℕ) (m : FramingView) (s : State) (h
         → b.totals.faults ≡ m.totals.faults → b.slots ≡ m.slots
         → Shows C l (steps.stop b fault (m.totals.octets + 1)) (ended s fault).state
     unfolding steps.stop ended payload_count_in
-    ended_shows fault b messages faults slots =
-        let one : m.totals.octets + 1 ≡ suc s.totals.octets = omega (arith, octets_are) in
-        rw slots (record {
-          totals = λ j. record {
-            messages = (messages ∙ ap (λ (t : Totals). t.messages) h.totals) j;
-            faults = suc
-                ((faults ∙ ap (λ (t : Totals). t.faults) h.totals) j);
-            octets = one j;
-          };
-          stopped = refl;
-          header = refl;
-          payload_count = refl;
-          slots = h.slots;
-        })
+    ended_shows fault b messages faults slots = search (arith, octets_are)
 
     -- ---- An octet of a header.
 
@@ -144,52 +102,31 @@ module _ (C : Table) (l : Answers) (most : ℕ) (m : FramingView) (s : State) (h
       front = m.header ++ x ∷ []
 
       short : length s.held < 12
-      short = subst (λ (xs : List ℕ). length xs < 12) h.header few
+      short = search (arith)
 
       pub none_come : m.payload_count ≡ 0
       unfolding payload_count_in
-      none_come = h.payload_count ∙ rw (lt-ltb (length s.held) 12 short) refl
+      none_come = search (arith, lt-ltb, short)
 
       octet_is : octet_at s x ≡ front_is front s.totals.messages (suc s.totals.octets) (wrong front)
       unfolding octet_at
-      octet_is =
-          rw (sym h.stopped ∙ free, h.header) (octet_front s.held s.totals.messages s.totals.octets
-          (size s.held - s.left) x
-          (within_limit s.totals.octets (omega (arith, octets_are, room))) short)
+      octet_is = search (arith, octet_front, within_limit, octets_are, short)
 
       pub wrong_step : (fault : StreamFault) → wrong front ≡ Some fault → step R s x ≡ ended s fault
       unfolding step
-      wrong_step fault e = let is : octet_at s x ≡ Ends fault = octet_is ∙ rw e refl in
-          ap (step_by R s) is
+      wrong_step fault e = search (arith, octet_is)
 
       pub held_step : wrong front ≡ None → (length front ≡ 12 → ⊥) → step R s x ≡ held_on s front
       unfolding step
-      held_step e other =
-          let is : octet_at s x ≡ Held front =
-          octet_is ∙ rw e (front_short front s.totals.messages (suc s.totals.octets)
-          (ne_eqb (length front) 12 other)) in
-          ap (step_by R s) is
+      held_step e other = search (arith, octet_is, front_short, ne_eqb)
 
       not_full : (length front ≡ 12 → ⊥) → length front < 12
-      not_full other = elim (cases_eq (length front) 12)
-          [ inl e ↦ absurd (other e) | inr k ↦ omega (arith, few, length_push m.header x, k) ]
+      not_full other = search (arith, cases_eq, length_push)
 
       pub held_shows : (length front ≡ 12 → ⊥) →
           Shows C l (steps.held_on m x) (held_on s front).state
       unfolding steps.held_on held_on payload_count_in
-      held_shows other =
-          let less = not_full other in
-          record {
-            totals = λ j. record {
-              messages = (h.totals j).messages;
-              faults = (h.totals j).faults;
-              octets = suc (octets_are j);
-            };
-            stopped = h.stopped;
-            header = refl;
-            payload_count = none_come ∙ sym (rw (lt-ltb (length front) 12 less) refl);
-            slots = h.slots;
-          }
+      held_shows other = search (arith, not_full, octets_are, none_come, lt-ltb)
 
       pub held_text : lines_text (held_on s front).lines ≡ []
       unfolding held_on lines_text

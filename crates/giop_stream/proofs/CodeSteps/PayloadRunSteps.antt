@@ -16,7 +16,7 @@ use Rattle.giop_stream.specs.declared.current.Current.{Current}
 use Rattle.giop_stream.specs.Rules.{Rules, rules_by}
 use Rattle.giop_stream.specs.Framing.{Message, Cut, with_payload, limit, cut, messages}
 use Rattle.giop_stream.specs.Events.{Takes, MessageKey, Open, events_of_octet, events_at_octet, changed, open_after}
-use Rattle.giop_stream.specs.Lines.{Line, lines}
+use Rattle.giop_stream.specs.Lines.{lines}
 use Rattle.giop_stream.specs.Text.{lines_text}
 use Rattle.giop_stream.specs.Stream.{fault_count}
 use Rattle.giop_stream.specs.Effects.{Effect, effects, tracked_at, with_octet, effect_to}
@@ -67,9 +67,7 @@ within_grows p m x n h =
 -- the next one is not the last of the request id
 not_named : (p : List ℕ) (m : Message) (x n : ℕ) → Within p m (suc n) →
     length (m.payload ++ x ∷ []) ≢ 4
-not_named p m x n h e =
-    let three : length m.payload ≡ 3 = omega (arith, e, length_push m.payload x) in
-    omega (arith, three, h.apart (omega (arith, three)))
+not_named p m x n h e = search (arith, length_push)
 
 pub within_on : (p : List ℕ) (m : Message) (x n : ℕ) → Within p m (suc n) →
     Within (p ++ x ∷ []) (with_octet m x) n
@@ -93,20 +91,12 @@ comes_alone : (most : ℕ) (still_open : List Open) (m : Message) → 0 < length
     length m.payload ≢ 4 → length m.payload < size m.header →
     events_of_octet most still_open m ≡ events_at_octet still_open m
 unfolding events_of_octet
-comes_alone most still_open m some other less =
-    rw (
-      ne_eqb (length m.payload) 0 (λ e. omega (arith, some, e)),
-      ne_eqb (length m.payload) 4 other,
-      ne_eqb (length m.payload) (size m.header) (λ e. omega (arith, less, e)),
-    )
-    (append-nil (events_at_octet still_open m))
+comes_alone most still_open m some other less = search (arith, ne_eqb, append-nil)
 
 -- and the next octet belongs to the same one
 owner_on : (still_open : List Open) (m : Message) (x : ℕ) → length (m.payload ++ x ∷ []) ≢ 4 →
     owner_of_next still_open (with_octet m x) ≡ owner_of_next still_open m
-owner_on still_open m x other =
-    owner_elsewhere still_open (with_octet m x) (ne_eqb (length (m.payload ++ x ∷ [])) 4 other)
-    ∙ owner_next still_open m x
+owner_on still_open m x other = search (arith, owner_elsewhere, ne_eqb, owner_next)
 
 module _ (C : Table) (l : Answers) where
   takes_still_open : (at : ℕ) (c : Tracked) (w : Option MessageKey) (x : ℕ) →
@@ -214,17 +204,7 @@ module _ (C : Table) (l : Answers) where
   pub run_is : (most : ℕ) (q p : List ℕ) (m : Message) → Within p m (length q) →
       IsRun C l most p m q
   unfolding run_effect
-  run_is most [] p m h =
-      let R = rules_by C l most in
-      let same = append-nil p in
-      let none = append-nil m.payload in
-      record {
-        within = subst (λ (z : List ℕ). Within (p ++ []) (with_payload m z) 0) (sym none)
-            (subst (λ (r : List ℕ). Within r m 0) (sym same) h);
-        lines = ap (lines R) same ∙ sym (append-nil (lines R p));
-        tracked_after = ap (tracked_after R) same;
-        owner_of_next = λ j. owner_of_next (open_after most (same j)) (with_payload m (none j));
-      }
+  run_is most [] p m h = search (arith, append-nil)
   run_is most (x ∷ q) p m h =
       let R = rules_by C l most in
       let p' = p ++ x ∷ [] in
@@ -269,7 +249,7 @@ before_all : (q : List ℕ) (n payload_count most : ℕ) → n ≡ suc (length q
     (1 < n → payload_count + n ≤ most)
     → payload_count + length q < most
 before_all [] n payload_count most one lacks few = omega (arith, lacks)
-before_all (y ∷ q) n payload_count most one lacks few = omega (arith, one, few (omega (arith, one)))
+before_all (y ∷ q) n payload_count most one lacks few = search (arith)
 
 module _ (C : Table) (l : Answers) (most : ℕ) (s : State) (reached : IsReached C l most s)
     (m : FramingView) (h : Shows C l m s)
@@ -286,13 +266,13 @@ module _ (C : Table) (l : Answers) (most : ℕ) (s : State) (reached : IsReached
   p = reached.stream
 
   causal : IsCausal R.reading
-  causal = is_causal (λ number. signatures_of C (l number))
+  causal = search (arith, is_causal)
 
   pub all : m.totals.octets ≡ length p
-  all = all_read C l most s reached m h free
+  all = search (arith, all_read)
 
   one_more : length octets ≡ suc (length q)
-  one_more = ap length split ∙ omega (arith, length_push q x)
+  one_more = search (arith, length_push)
 
   here : m.payload_count ≡ length c.payload
   here = come_is C l most s reached m h free c current
@@ -309,7 +289,7 @@ module _ (C : Table) (l : Answers) (most : ℕ) (s : State) (reached : IsReached
   )
 
   before_last : m.payload_count + length q < size m.header
-  before_last = before_all q (length octets) m.payload_count (size m.header) one_more lacks few
+  before_last = search (arith, before_all, header, one_more, lacks)
 
   pub begins : Within p c (length q)
   unfolding limit
@@ -354,7 +334,7 @@ module _ (C : Table) (l : Answers) (most : ℕ) (s : State) (reached : IsReached
       (le-ltb limit (suc (length p')) (omega (arith, room, all, one_more, length-append p q)))
 
   all_octets : p' ++ x ∷ [] ≡ p ++ octets
-  all_octets = append_assoc p q (x ∷ []) ∙ ap (λ (z : List ℕ). p ++ z) (sym split)
+  all_octets = search (arith, append_assoc)
 
   -- ---- What the code knows.
 
@@ -368,11 +348,11 @@ module _ (C : Table) (l : Answers) (most : ℕ) (s : State) (reached : IsReached
       (place_is : now.place ≡ m.totals.octets + length octets)
       (payload_count : now.payload_count ≡ m.payload_count + length octets) where
     start : now.place - suc (length q) ≡ length p
-    start = omega (arith, place_is, all, one_more)
+    start = search (arith, all, one_more)
 
     ran_then : (effect_before C l (tracked_after R p) c now q).tracked ≡ tracked_after R p'
     unfolding tracked_after
-    ran_then = rw start (sym run.tracked_after)
+    ran_then = search (arith, start, run)
 
     before_x : IsBeforeOctet (tracked_after R p') c' now x
     unfolding tracked_after
@@ -418,20 +398,13 @@ module _ (C : Table) (l : Answers) (most : ℕ) (s : State) (reached : IsReached
 
     grows : lines R (p ++ octets) ≡ lines R p ++ all_do.lines
     unfolding tracked_after
-    grows =
-        ap (lines R) (sym all_octets) ∙ (paid.lines
-        ∙ (ap (λ (ls : List Line). ls ++ (x_does (tracked_after R p')).lines) run.lines
-        ∙ (append_assoc (lines R p) _ _
-        ∙ (λ j. lines R p
-        ++ ((run_effect C l (sym start j) (tracked_after R p) (owner_of_next (open_after most p) c)
-        q).lines ++ (x_does (sym ran_then j)).lines)))))
+    grows = search (arith, all_octets, paid, run, append_assoc, start, ran_then)
 
     pub run_does : {A E : Type 0} (result : Result A E) (before after : OutLog) (f : FramingView)
         → Writes result before after (lines_text all_do.lines) →
         OnOk result (Shows C l f (state_of R (p ++ octets)))
         → Does C l result before after f (runs R s octets)
-    run_does result before after f text shows =
-        does_run C l most s reached m h octets all_do.lines result before after f grows text shows
+    run_does result before after f text shows = search (arith, does_run, grows)
 
     pub run_shows : (b f : FramingView) (k : ℕ) → f ≡ settled b k →
         b.totals.messages ≡ m.totals.messages

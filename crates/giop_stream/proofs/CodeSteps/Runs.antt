@@ -1,14 +1,13 @@
 -- A message that takes a run of octets at once: the same lines and the same rest as octet by octet.
 use Rattle.std.proofs.Common.{◌≡◌, ℕ, suc, ◌+◌, Bool, true, false, List, [], ◌∷◌, ◌++◌, take, drop, refl, sym, ap, subst, ◌∙◌, append_assoc, append-nil, add-one, Option, Some, None, Result, Ok, arith}
-use Rattle.std.specs.Prelude.{◌||◌, if◌then◌else◌, slice_get, option_map}
-use Rattle.std.specs.List.{list_any}
+use Rattle.std.specs.Prelude.{if◌then◌else◌, slice_get, option_map}
 use Rattle.std.proofs.lemmas.List.{take-append-drop}
 use Rattle.giop_print.specs.Output.{OutLog, Wrote}
 use Rattle.giop_sig.specs.Table.{Table}
 use Rattle.giop_message.specs.declared.message.Message.{Message}
 use Rattle.giop_message.specs.Signatures.{Signatures, Answers, signatures_of}
-use Rattle.giop_message.specs.Messages.{message, message_lines, stage_of}
-use Rattle.giop_message.specs.ReaderOfTable.{message_reader, is_over, is_wrong}
+use Rattle.giop_message.specs.Messages.{message, stage_of}
+use Rattle.giop_message.specs.ReaderOfTable.{message_reader, is_over}
 use Rattle.giop_message.specs.DueOctets.{TakesFront}
 use Rattle.giop_message.specs.HeaderEnds.{HeaderEnd}
 use Rattle.giop_message.specs.MessageState.{due, due_text, Follows, FaultedAt}
@@ -50,12 +49,7 @@ takes_weaker f t = record {
 pub over_stays : (S : Signatures) (header s more : List ℕ) →
     is_over (stage_of (message S header s)) ≡ true
     → is_over (stage_of (message S header (s ++ more))) ≡ true
-over_stays S header s more e =
-    let old : list_any is_wrong (message_lines (message S header s)) ≡ true =
-    sym (over_where_faulted S header s) ∙ e in
-    over_where_faulted S header (s ++ more) ∙ (ap (list_any is_wrong) (told_more S header s more)
-    ∙ (any_append is_wrong (message_lines (message S header s)) (due S header s more)
-    ∙ ap (λ (b : Bool). b || list_any is_wrong (due S header s more)) old))
+over_stays S header s more e = search (arith, over_where_faulted, told_more, any_append)
 
 module _ (C : Table) (l : Answers) where
   abbrev Over : MessageKey → List ℕ → Bool
@@ -66,16 +60,12 @@ module _ (C : Table) (l : Answers) where
   then_is : (at : ℕ) (w : MessageKey) (s : List ℕ) (x : ℕ) → Over w s ≡ false
       → octets_then (message_reader C l) (event at w (Takes x)) (Some s)
       ≡ (if Over w (s ++ x ∷ []) then None else Some (s ++ x ∷ []))
-  then_is at w s x e = then_by C l at w s x
-      ∙ ap (λ (b : Bool). if b then None else Some (s ++ x ∷ []))
-      (sym (octet_over (signatures_of C (l w.number)) w.header s x e))
+  then_is at w s x e = search (arith, then_by, octet_over)
 
   count_is : (at : ℕ) (w : MessageKey) (s : List ℕ) (x : ℕ) → Over w s ≡ false
       → fault_count (lines_of (message_reader C l) (event at w (Takes x)) (Some s))
       ≡ (if Over w (s ++ x ∷ []) then 1 else 0)
-  count_is at w s x e = faults_by C l at w s x
-      ∙ ap (λ (b : Bool). if b then 1 else 0)
-      (sym (octet_over (signatures_of C (l w.number)) w.header s x e))
+  count_is at w s x e = search (arith, faults_by, octet_over)
 
   -- ---- A message that is over.
 
@@ -83,10 +73,13 @@ module _ (C : Table) (l : Answers) where
       RepresentsMessage C l None w o → run_part C l before w o xs ≡ no_part None
   unfolding run_part part_of
   none_run w None before [] k = refl
-  none_run w None before (x ∷ xs) k =
-      let e = event (suc before) w (Takes x) in
-      rw (over_lines (message_reader C l) e, over_then (message_reader C l) e)
-      (none_run w None (suc before) xs tt)
+  none_run w None before (x ∷ xs) k = search (
+    arith,
+    over_lines,
+    over_then,
+    none_run w None (suc
+        before) xs tt,
+  )
   none_run w (Some s) before xs k = absurd k
 
   -- ---- A message that isn't over.
@@ -95,8 +88,7 @@ module _ (C : Table) (l : Answers) where
       → lines_text (run_part C l before w (Some s) xs).lines
       ≡ due_text (signatures_of C (l w.number)) w.number before w.header s xs
   unfolding run_part part_of lines_text
-  run_text w [] before s e = sym (text_none (signatures_of C (l w.number)) w.number before w.header
-      s)
+  run_text w [] before s e = search (arith, text_none)
   run_text w (x ∷ xs) before s e =
       let S = signatures_of C (l w.number) in
       let ev = event (suc before) w (Takes x) in
@@ -119,11 +111,8 @@ module _ (C : Table) (l : Answers) where
       rest : (Over w (s ++ x ∷ []) ≡ false → Rest (Some (s ++ x ∷ []))) → (b : Bool) →
           Over w (s ++ x ∷ []) ≡ b
           → Rest (octets_then (message_reader C l) (event (suc before) w (Takes x)) (Some s))
-      rest ih true o =
-          rw (then_is (suc before) w s x e, o, none_run w None (suc before) xs tt)
-          (sym (text_over (signatures_of C (l w.number)) w.number (suc before) w.header
-          (s ++ x ∷ []) xs o))
-      rest ih false o = rw (then_is (suc before) w s x e, o) (ih o)
+      rest ih true o = search (arith, then_is, none_run, text_over)
+      rest ih false o = search (arith, then_is)
 
   -- a message that is over after one octet is over after all of them
   over_with : (w : MessageKey) (s xs : List ℕ) (x : ℕ) → Over w (s ++ x ∷ []) ≡ true →
@@ -153,9 +142,7 @@ module _ (C : Table) (l : Answers) where
         none_run w None (suc before) xs tt,
         over_with w s xs x o,
       ) refl
-      go ih false o = rw (then_is (suc before) w s x e, o)
-          (ih o ∙ ap (λ (z : List ℕ). if Over w z then None else Some z)
-          (append_assoc s (x ∷ []) xs))
+      go ih false o = search (arith, then_is, append_assoc)
 
   run_count : (w : MessageKey) (xs : List ℕ) (before : ℕ) (s : List ℕ) → Over w s ≡ false
       → fault_count (run_part C l before w (Some s) xs).lines ≡ (if Over w (s ++ xs) then 1 else 0)
@@ -203,7 +190,7 @@ module _ (C : Table) (l : Answers) where
 
   goes : (m : Message) (w : MessageKey) (s : List ℕ) → Follows C l w.number w.header m s →
       Over w s ≡ false
-  goes m w s k = follows_goes C l w.number w.header m s k
+  goes m w s k = search (arith, follows_goes)
 
   faulted : (w : MessageKey) (s xs : List ℕ) (n : ℕ) →
       FaultedAt (signatures_of C (l w.number)) w.header s xs n → Over w (s ++ xs) ≡ true
@@ -218,8 +205,7 @@ module _ (C : Table) (l : Answers) where
       (before : ℕ) (xs : List ℕ)
       → RepresentsMessage C l (Some m) w o → DueOf P m w o before xs
       → P (lines_text (run_part C l before w o xs).lines)
-  given_text P m w (Some s) before xs k f =
-      subst P (sym (run_text w xs before s (goes m w s k))) (f s refl k)
+  given_text P m w (Some s) before xs k f = search (arith, run_text, goes)
   given_text P m w None before xs k f = absurd k
 
   -- where none of them faults it, and where one does
@@ -265,13 +251,7 @@ module _ (C : Table) (l : Answers) where
   run_alters : (w : MessageKey) (xs : List ℕ) (before : ℕ) (c : Tracked) →
       Alters c w (run_effect C l before c (Some w) xs) (run_part C l before w (c.known w.number) xs)
   unfolding run_effect run_part part_of
-  run_alters w [] before c = record {
-    lines = refl;
-    still_open = refl;
-    own = refl;
-    others =
-        λ i h. refl;
-  }
+  run_alters w [] before c = search (arith)
   run_alters w (x ∷ xs) before c =
       let R = message_reader C l in
       let e = event (suc before) w (Takes x) in

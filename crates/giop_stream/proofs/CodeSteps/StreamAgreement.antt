@@ -1,9 +1,8 @@
 -- A stream has the same lines by answers that agree for each message whose header has ended.
-use Rattle.std.proofs.Common.{◌≡◌, ℕ, suc, Bool, true, false, List, [], ◌∷◌, ◌++◌, length, map, flat_map, ◌⊎◌, inl, inr, Option, Some, None, refl, sym, ap, subst, ◌∙◌, append_assoc}
+use Rattle.std.proofs.Common.{arith, ◌≡◌, ℕ, Bool, true, false, List, [], ◌∷◌, ◌++◌, map, flat_map, ◌⊎◌, Option, Some, None, refl, subst, ◌∙◌, append_assoc}
 use Rattle.std.specs.Prelude.{◌==◌, if◌then◌else◌, option_to_list}
-use Rattle.std.specs.List.{filter, AllByRecursion as Each}
+use Rattle.std.specs.List.{AllByRecursion as Each}
 use Rattle.giop_sig.specs.Table.{Table}
-use Rattle.giop_message.specs.MessageReader.{TimedLine}
 use Rattle.giop_message.specs.Signatures.{Answers}
 use Rattle.giop_message.specs.ReaderOfTable.{message_reader}
 use Rattle.giop_message.specs.HeaderEnds.{header_noted}
@@ -12,12 +11,12 @@ use Rattle.giop_stream.specs.Rules.{Rules, rules_by}
 use Rattle.giop_message.specs.declared.message.Message.{Message as CodeMessage}
 use Rattle.giop_stream.specs.EngineView.{EngineView, FramingView}
 use Rattle.giop_stream.specs.EngineHolds.{HoldsBy}
-use Rattle.giop_stream.specs.SlotsRepresent.{OpenEntry, RepresentsMessage, AreSlots, PayloadBelongs, index_of, current_of}
+use Rattle.giop_stream.specs.SlotsRepresent.{OpenEntry, RepresentsMessage, AreSlots}
 use Rattle.giop_stream.specs.ViewOfState.{Shows}
 use Rattle.giop_stream.specs.Events.{Event, MessageKey, Open, EventKind, Begins, Takes, Opens, Continues, Cancelled, Faults, Closes, message_key, id, opener_of, has_named, own, header_events, events_of_octet, events_of, events_from, events, opened, open_after, joined}
 use Rattle.giop_stream.specs.HeaderOctets.{fronts}
 use Rattle.giop_stream.specs.Framing.{Message, with_payload, cut, messages}
-use Rattle.giop_stream.specs.Lines.{line, Said, lines_of_event, lines_of_events, lines_of_messages, lines}
+use Rattle.giop_stream.specs.Lines.{lines_of_event, lines_of_events, lines_of_messages, lines}
 use Rattle.giop_stream.specs.Stream.{text, tally, is_over}
 use Rattle.giop_stream.specs.OpenSlots.{Slot, octets_of, slots_of, slots_at, tracked_after}
 use Rattle.giop_stream.specs.EngineState.{State, opener_key, owner_of_next, owner_of_next_in, state_of}
@@ -37,43 +36,35 @@ module _ (C : Table) (a b : Answers) (all : List Event) where
       ≡ lines_of_event (message_reader C b) e so_far (joined e.subject.number all) what
   unfolding lines_of_event
   tells_agree e so_far later Begins split same = refl
-  tells_agree e so_far later (Takes x) split same =
-      ap (λ (rs : List TimedLine). map (λ r. line e (Said r.line_class r.text))
-      (filter (λ r. r.at == suc (length so_far)) rs))
-      (alike_remarks C (a e.subject.number) (b e.subject.number) e.subject.header
-      (joined e.subject.number all) same)
+  tells_agree e so_far later (Takes x) split same = search (arith, map, alike_remarks)
   tells_agree e so_far later (Opens id) split same = refl
   tells_agree e so_far later (Continues i) split same = refl
   tells_agree e so_far later (Cancelled j) split same = refl
   tells_agree e so_far later (Faults fault) split same = refl
-  tells_agree e so_far later Closes split same =
-      ap (map (λ l. line e (Said l.0 l.1)))
-      (alike_closes C (a e.subject.number) (b e.subject.number) e.subject.header so_far
-      (go same))
-    where
-      go : Same e → (a e.subject.number ≡ b e.subject.number)
-          ⊎ (header_noted e.subject.header so_far ≡ None)
-      go (inl k) = inl k
-      go (inr k) = inr (header_noted_before e.subject.header so_far later
-          (ap (header_noted e.subject.header) (sym split) ∙ k))
+  tells_agree e so_far later Closes split same = search (
+    arith,
+    map,
+    alike_closes,
+    header_noted_before,
+  )
 
   told_agree : (past es : List Event) → past ++ es ≡ all → Each Same es
       → lines_of_events (message_reader C a) all past es
       ≡ lines_of_events (message_reader C b) all past es
   unfolding lines_of_events
   told_agree past [] is h = refl
-  told_agree past (e ∷ es) is h =
-      let n = e.subject.number in
-      let split : joined n all ≡ joined n past ++ joined n (e ∷ es) =
-      ap (joined n) (sym is) ∙ joined_append n past (e ∷ es) in
-      let first = tells_agree e (joined n past) (joined n (e ∷ es)) e.what split h.0 in
-      let rest = told_agree (past ++ e ∷ []) es (append_assoc past (e ∷ []) es ∙ is) h.1 in
-      rw (first, rest) refl
+  told_agree past (e ∷ es) is h = search (
+    arith,
+    joined_append,
+    tells_agree,
+    append_assoc,
+    told_agree (past ++ e ∷ []) es (append_assoc past (e ∷ []) es ∙ is) h.1,
+  )
 
 module _ (C : Table) (a b : Answers) (most : ℕ) (p : List ℕ) (h : AnswersAgree most p a b) where
   pub said_agree : lines_of_messages (rules_by C a most) p ≡ lines_of_messages (rules_by C b most) p
   unfolding lines_of_messages
-  said_agree = rw (told_agree C a b (events most p) [] (events most p) refl h) refl
+  said_agree = search (arith, told_agree)
 
   pub lines_agree : lines (rules_by C a most) p ≡ lines (rules_by C b most) p
   unfolding lines
@@ -106,7 +97,7 @@ module _ (C : Table) (a b : Answers) where
 
   kept_agree : (m : Option CodeMessage) (w : MessageKey) (o : Option (List ℕ)) → IsSame w o →
       RepresentsMessage C a m w o → RepresentsMessage C b m w o
-  kept_agree (Some m) w (Some xs) same k = follows_agree C a b w.number w.header xs m same k
+  kept_agree (Some m) w (Some xs) same k = search (arith, follows_agree)
   kept_agree None w None same k = tt
   kept_agree (Some m) w None same k = absurd k
   kept_agree None w (Some xs) same k = absurd k
@@ -115,14 +106,11 @@ module _ (C : Table) (a b : Answers) where
       Each (λ slot. IsSame slot.open_as.opener slot.octets) slots
       → AreSlots C a ks slots → AreSlots C b ks slots
   slots_agree [] [] same k = tt
-  slots_agree (x ∷ ks) (slot ∷ slots) same k = (
-    record {
-      number = k.0.number;
-      header = k.0.header;
-      id = k.0.id;
-      message = kept_agree x.value.message slot.open_as.opener slot.octets same.0 k.0.message;
-    },
-    slots_agree ks slots same.1 k.1,
+  slots_agree (x ∷ ks) (slot ∷ slots) same k = search (
+    arith,
+    kept_agree,
+    slots_agree ks slots
+        same.1 k.1,
   )
   slots_agree [] (slot ∷ slots) same k = absurd k
   slots_agree (x ∷ ks) [] same k = absurd k
@@ -131,35 +119,14 @@ module _ (C : Table) (a b : Answers) where
       Each (λ slot. IsSame slot.open_as.opener slot.octets) (slots_at s.tracked)
       → ((w : MessageKey) → s.owner ≡ Some w → IsSame w (s.tracked.known w.number))
       → Shows C a f s → Shows C b f s
-  shows_agree f s same own h = record {
-    totals = h.totals;
-    stopped = h.stopped;
-    header = h.header;
-    payload_count = h.payload_count;
-    slots = record {
-      slots = slots_agree f.slots.slots.entries (slots_at s.tracked) same h.slots.slots;
-      owner = owner_agree (index_of f.slots.owner) (current_of f.slots.owner) s.owner own
-          h.slots.owner;
-    };
-  }
-    where
-      owner_agree : (i : Option ℕ) (m : Option CodeMessage) (who : Option MessageKey)
-          → ((w : MessageKey) → who ≡ Some w → IsSame w (s.tracked.known w.number))
-          → PayloadBelongs C a i m s.tracked who → PayloadBelongs C b i m s.tracked who
-      owner_agree None m None own k = k
-      owner_agree None m (Some w) own k =
-          (k.0, kept_agree m w (s.tracked.known w.number) (own w refl) k.1)
-      owner_agree (Some i) m None own k = k
-      owner_agree (Some i) m (Some w) own k = k
+  shows_agree f s same own h = search (arith, slots_agree, kept_agree)
 
 -- ---- the messages that an engine keeps
 
 pub each_parts : {A : Type 0} (P : A → Type 0) (xs ys : List A) → Each P (xs ++ ys) → Each P xs
     × Each P ys
 each_parts P [] ys h = (tt, h)
-each_parts P (x ∷ xs) ys h =
-    let rest = each_parts P xs ys h.1 in
-    ((h.0, rest.0), rest.1)
+each_parts P (x ∷ xs) ys h = search (arith, each_parts P xs ys h.1)
 
 module _ (P : MessageKey → Type 0) (most : ℕ) where
   -- the first event of a message is its own
@@ -207,7 +174,7 @@ of_owner P most p w owner h =
         → (if b then opener_key (opener_of (open_after most p) m) else Some (message_key m))
         ≡ Some w → P w
     by m own true k = other m (opener_of (open_after most p) m) refl k
-    by m own false k = let same : message_key m ≡ w = cc in subst P same own
+    by m own false k = search (arith)
 
     go : (current : Option Message) → Each (λ m. P (message_key m)) (option_to_list current) →
         owner_of_next_in (open_after most p) current ≡ Some w → P w
@@ -224,12 +191,7 @@ module _ (C : Table) (a b : Answers) (most : ℕ) (p : List ℕ) (h : AnswersAgr
 
   same_for : (w : MessageKey) → AgreeFor w → IsSame C a b w (octets_of R p w.number)
   unfolding octets_of
-  same_for w agree = go (is_over R p w.number)
-    where
-      go : (over : Bool) → IsSame C a b w (if over then None else Some
-          (joined w.number (events most p)))
-      go true = tt
-      go false = agree
+  same_for w agree = search (arith)
 
   slots_same : (os : List Open) → Each (λ o. AgreeFor o.opener) os
       → Each (λ slot. IsSame C a b slot.open_as.opener slot.octets) (slots_of (octets_of R p) os)

@@ -1,14 +1,12 @@
 -- How many octets and messages a stream can count.
-use Rattle.std.proofs.Common.{inl, inr, ◌≡◌, ℕ, suc, ◌+◌, ◌≤◌, Bool, true, false, List, [], ◌∷◌, ◌++◌, length, refl, Option, Some, None, arith, append-nil}
-use Rattle.std.specs.Prelude.{◌*◌, ◌==◌, nat_lt, if◌then◌else◌}
+use Rattle.std.proofs.Common.{◌≡◌, ℕ, suc, ◌+◌, ◌≤◌, Bool, true, false, List, [], ◌∷◌, ◌++◌, length, Option, Some, None, arith, append-nil}
+use Rattle.std.specs.Prelude.{◌*◌, ◌==◌, nat_lt}
 use Rattle.std.proofs.lemmas.Bool.{cases_lt, lt-ltb, le-ltb, eqb-true}
 use Rattle.std.proofs.lemmas.List.{length_push}
 use Rattle.giop_checkpoint.specs.declared.fault.StreamFault.{StreamFault}
 use Rattle.giop_message.specs.MessageReader.{IsCausal, IsStreamable}
-use Rattle.giop_message.specs.Headers.{size}
 use Rattle.giop_stream.specs.Rules.{Rules}
-use Rattle.giop_stream.specs.Framing.{Message, with_payload, Cut, cut, limit, messages, read_of}
-use Rattle.giop_stream.specs.HeaderOctets.{wrong}
+use Rattle.giop_stream.specs.Framing.{Message, Cut, cut, limit, messages, read_of}
 use Rattle.giop_stream.specs.Stream.{tally}
 use Rattle.giop_stream.proofs.Lists.{by_growth}
 use Rattle.giop_stream.proofs.Cuts.Start.{cut_nothing}
@@ -27,57 +25,48 @@ Counted n c = Within n (length (messages c)) (length c.held) c.stop
 settled : (n : ℕ) (whole : List Message) (m : Message) → n ≤ limit → 12 * suc (length whole) ≤ n →
     Counted n (end_message whole m)
 unfolding Counted end_message messages
-settled n whole m room h = go (nat_lt (length m.payload) (size m.header))
-  where
-    go : (b : Bool) → Counted n (if b then
-        record { whole = whole; current = Some m; held = []; stop = None } else
-        record { whole = whole ++ m ∷ []; current = None; held = []; stop = None })
-    go true = (room, omega (arith, h, length_push whole m))
-    go false = (room, rw (append-nil (whole ++ m ∷ [])) (omega (arith, h, length_push whole m)))
+settled n whole m room h = search (arith, length_push, append-nil)
 
 fronted : (n : ℕ) (whole : List Message) (front : List ℕ) (w : Option StreamFault) (b : Bool) →
     (length front == 12) ≡ b → n ≤ limit → 12 * length whole + length front ≤ n
     → Counted n (header_case 1 n whole front w b)
 unfolding Counted header_case messages
-fronted n whole front (Some word) b e room h =
-    (omega (arith, room), rw (append-nil whole) (omega (arith, h)))
-fronted n whole front None false e room h = (room, rw (append-nil whole) h)
-fronted n whole front None true e room h =
-    settled n whole _ room (omega (arith, h, eqb-true (length front) 12 e))
+fronted n whole front (Some word) b e room h = search (arith, append-nil)
+fronted n whole front None false e room h = search (arith, append-nil)
+fronted n whole front None true e room h = search (arith, settled, eqb-true)
 
 counted_free : (n x : ℕ) (whole : List Message) (current : Option Message) (held : List ℕ) →
     Counted n (of_parts whole current held None)
     → nat_lt limit (suc n) ≡ false → suc n ≤ limit →
     Counted (suc n) (next n x (of_parts whole current held None))
 unfolding Counted of_parts messages
-counted_free n x whole (Some m) held h e room =
-    let now = with_payload m (m.payload ++ x ∷ []) in
-    rw (next_payload whole m held n x e) (settled (suc n) whole now room
-    (omega (arith, h.1, length_push whole m)))
-counted_free n x whole None held h e room =
-    let few : 12 * length whole + length held ≤ n = rw (append-nil whole) at h.1 in
-    let front = held ++ x ∷ [] in
-    rw (next_front whole held n x e)
-    (fronted (suc n) whole front (wrong front) (length front == 12) refl room
-    (omega (arith, few, length_push held x)))
+counted_free n x whole (Some m) held h e room = search (arith, next_payload, settled, length_push)
+counted_free n x whole None held h e room = search (
+  arith,
+  append-nil,
+  next_front,
+  fronted,
+  length_push,
+)
 
 counted_next : (n x : ℕ) (whole : List Message) (current : Option Message) (held : List ℕ)
     (stop : Option (ℕ × StreamFault))
     → Counted n (of_parts whole current held stop) →
     Counted (suc n) (next n x (of_parts whole current held stop))
 unfolding Counted of_parts messages
-counted_next n x whole current held (Some found) h =
-    rw (next_stopped whole current held found n x) h
-counted_next n x whole current held None h = elim (cases_lt limit (suc n)) [
-  | inl past ↦
-      rw (next_limit whole current held n x (lt-ltb limit (suc n) past))
-      (omega (arith, h.0), omega (arith, h.1))
-  | inr room ↦ counted_free n x whole current held h (le-ltb limit (suc n) room) room
-]
+counted_next n x whole current held (Some found) h = search (arith, next_stopped)
+counted_next n x whole current held None h = search (
+  arith,
+  cases_lt,
+  next_limit,
+  lt-ltb,
+  counted_free,
+  le-ltb,
+)
 
 counted_nothing : Counted 0 (cut [])
 unfolding Counted of_parts messages
-counted_nothing = rw cut_nothing (omega arith, omega arith)
+counted_nothing = search (arith, cut_nothing)
 
 counted_more : (p : List ℕ) (x : ℕ) → Counted (length p) (cut p) →
     Counted (length (p ++ x ∷ [])) (cut (p ++ x ∷ []))
@@ -88,7 +77,7 @@ counted_more p x h =
     rw (len, cut_grows p x) (counted_next (length p) x c.whole c.current c.held c.stop h)
 
 counted : (p : List ℕ) → Counted (length p) (cut p)
-counted = by_growth (λ p. Counted (length p) (cut p)) counted_nothing counted_more
+counted = search (arith, by_growth, counted_nothing, counted_more)
 
 read_few : (p : List ℕ) (c : Cut) (stop : Option (ℕ × StreamFault)) →
     Within (length p) (length (messages c)) (length c.held) stop → read_of p stop ≤ suc limit
@@ -112,11 +101,11 @@ read_many p c None h = omega (arith, h.1)
 
 pub octets_few : (R : Rules) (p : List ℕ) → (tally R p).octets ≤ suc limit
 unfolding tally Counted
-octets_few R p = read_few p (cut p) (cut p).stop (counted p)
+octets_few R p = search (arith, read_few, counted)
 
 pub octets_free : (R : Rules) (p : List ℕ) → (cut p).stop ≡ None → (tally R p).octets ≤ limit
 unfolding tally Counted
-octets_free R p free = read_free p (cut p) (cut p).stop (counted p) free
+octets_free R p free = search (arith, read_free, counted)
 
 pub messages_few : (R : Rules) → IsCausal R.reading → IsStreamable R.reading → (p : List ℕ) →
     12 * (tally R p).messages ≤ (tally R p).octets

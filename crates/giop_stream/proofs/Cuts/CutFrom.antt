@@ -1,5 +1,5 @@
 -- `cut_from`, which cuts the rest of a stream: with one more octet, and with more fuel.
-use Rattle.std.proofs.Common.{inl, inr, ◌≡◌, ℕ, zero, suc, ◌+◌, ◌-◌, ◌<◌, ◌≤◌, Bool, true, false, List, [], ◌∷◌, ◌++◌, length, take, drop, refl, sym, ap, ◌∙◌, Option, Some, None, arith, length-drop}
+use Rattle.std.proofs.Common.{◌≡◌, ℕ, zero, suc, ◌+◌, ◌-◌, ◌<◌, ◌≤◌, Bool, true, false, List, [], ◌∷◌, ◌++◌, length, take, drop, refl, sym, ◌∙◌, Option, Some, None, arith, length-drop}
 use Rattle.std.specs.Prelude.{nat_lt, ◌==◌, if◌then◌else◌}
 use Rattle.std.proofs.lemmas.Bool.{lt-ltb, le-ltb, cases_lt, eq-eqb, ne_eqb}
 use Rattle.std.proofs.lemmas.List.{take-append-le, drop-append-le, take_all, drop_all, length_push}
@@ -62,7 +62,7 @@ pub cut_short : (fuel number before : ℕ) (xs : List ℕ) → first_wrong_octet
     → cut_from (suc fuel) number before xs ≡
     record { whole = []; current = None; held = xs; stop = None }
 unfolding cut_from
-cut_short fuel number before xs e h = rw (cut_from, e, lt-ltb (length xs) 12 h) refl
+cut_short fuel number before xs e h = search (arith, lt-ltb)
 
 pub cut_open : (fuel number before : ℕ) (xs : List ℕ) → first_wrong_octet (take 12 xs) ≡ None →
     12 ≤ length xs
@@ -75,12 +75,7 @@ pub cut_open : (fuel number before : ℕ) (xs : List ℕ) → first_wrong_octet 
       stop = None;
     }
 unfolding cut_from
-cut_open fuel number before xs e h k = rw (
-  cut_from,
-  e,
-  le-ltb (length xs) 12 h,
-  lt-ltb (length (drop 12 xs)) (size (take 12 xs)) k,
-) refl
+cut_open fuel number before xs e h k = search (arith, le-ltb, lt-ltb, drop, take)
 
 pub cut_more : (fuel number before : ℕ) (xs : List ℕ) → first_wrong_octet (take 12 xs) ≡ None →
     12 ≤ length xs → size (take 12 xs) ≤ length (drop 12 xs)
@@ -95,12 +90,7 @@ pub cut_more : (fuel number before : ℕ) (xs : List ℕ) → first_wrong_octet 
     (cut_from fuel (suc number) (before + 12 + size (take 12 xs))
     (drop (size (take 12 xs)) (drop 12 xs)))
 unfolding cut_from
-cut_more fuel number before xs e h k = rw (
-  cut_from,
-  e,
-  le-ltb (length xs) 12 h,
-  le-ltb (length (drop 12 xs)) (size (take 12 xs)) k,
-) refl
+cut_more fuel number before xs e h k = search (arith, le-ltb, drop, take)
 
 cut_none : (fuel number before : ℕ) → cut_from fuel number before [] ≡ nothing
 unfolding cut_from nothing first_wrong_octet fronts first_wrong wrong
@@ -109,7 +99,7 @@ cut_none (suc fuel) number before = refl
 
 -- The header at the front of the longer stream.
 front_same : (xs : List ℕ) (x : ℕ) → 12 ≤ length xs → take 12 (xs ++ x ∷ []) ≡ take 12 xs
-front_same xs x h = take-append-le 12 xs (x ∷ []) h
+front_same xs x h = search (arith, take-append-le)
 
 front_whole : (xs : List ℕ) (x : ℕ) → length xs < 12 → take 12 (xs ++ x ∷ []) ≡ xs ++ x ∷ []
 front_whole xs x h = take_all 12 (xs ++ x ∷ []) (omega (arith, length_push xs x))
@@ -117,21 +107,16 @@ front_whole xs x h = take_all 12 (xs ++ x ∷ []) (omega (arith, length_push xs 
 wrong_kept : (xs : List ℕ) (x : ℕ) (found : ℕ × StreamFault) →
     first_wrong_octet (take 12 xs) ≡ Some found →
     first_wrong_octet (take 12 (xs ++ x ∷ [])) ≡ Some found
-wrong_kept xs x found e = elim (cases_lt (length xs) 12) [
-  | inl h ↦ rw (front_whole xs x h) (offence_stays xs x found
-      (rw (take_all 12 xs (omega arith)) at e))
-  | inr h ↦ rw (front_same xs x h) e
-]
+wrong_kept xs x found e = search (arith, cases_lt, front_whole, offence_stays, take_all, front_same)
 
 comes : (xs : List ℕ) (x : ℕ) → length xs < 12 → first_wrong_octet (take 12 xs) ≡ None →
     first_wrong_octet (take 12 (xs ++ x ∷ [])) ≡ wrong_last (xs ++ x ∷ [])
-comes xs x h e = rw (front_whole xs x h)
-    (offence_comes xs x (rw (take_all 12 xs (omega arith)) at e))
+comes xs x h e = search (arith, front_whole, offence_comes, take_all)
 
 settle_open : (whole : List Message) (m : Message) → length m.payload < size m.header
     → end_message whole m ≡ record { whole = whole; current = Some m; held = []; stop = None }
 unfolding end_message
-settle_open whole m h = rw (lt-ltb (length m.payload) (size m.header) h) refl
+settle_open whole m h = search (arith, lt-ltb)
 
 settle_done : (whole : List Message) (m : Message) → size m.header ≤ length m.payload
     → end_message whole m ≡ record {
@@ -142,15 +127,14 @@ settle_done : (whole : List Message) (m : Message) → size m.header ≤ length 
           None;
     }
 unfolding end_message
-settle_done whole m h = rw (le-ltb (length m.payload) (size m.header) h) refl
+settle_done whole m h = search (arith, le-ltb)
 
 -- a message that is complete, with no octets after it
 done_is : (fuel number before : ℕ) (m : Message) (c : Cut) → c ≡ end_message [] m →
     size m.header ≤ length m.payload
     → c ≡ with_first m (cut_from fuel number before [])
 unfolding with_first nothing
-done_is fuel number before m c e h = e ∙
-    (settle_done [] m h ∙ rw (cut_none fuel number before) refl)
+done_is fuel number before m c e h = search (arith, settle_done, cut_none)
 
 -- one message, with no octets after it
 cut_is : (fuel number before : ℕ) (ys header payload : List ℕ) → take 12 ys ≡ header →
@@ -164,23 +148,16 @@ cut_is : (fuel number before : ℕ) (ys header payload : List ℕ) → take 12 y
       payload =
           payload;
     })
-cut_is fuel number before ys header payload t d e h k =
-    elim (cases_lt (length payload) (size header)) [
-      | inl lacks ↦
-          cut_open fuel number before ys (rw t e) h (rw (t, d) lacks)
-          ∙ (rw (t, d) (sym (settle_open [] (record {
-            number = number;
-            before = before;
-            header = header;
-            payload = payload;
-          }) lacks)))
-      | inr full ↦
-          cut_more fuel number before ys (rw t e) h (rw (t, d) full)
-          ∙ (rw (t, d, take_all (size header) payload k, drop_all (size header) payload k)
-          (sym (done_is fuel (suc number) (before + 12 + size header)
-          (record { number = number; before = before; header = header; payload = payload }) _ refl
-          full)))
-    ]
+cut_is fuel number before ys header payload t d e h k = search (
+  arith,
+  cases_lt,
+  cut_open,
+  settle_open,
+  cut_more,
+  take_all,
+  drop_all,
+  done_is,
+)
 
 -- The lemma at a stream that is longer by an octet, in each case.
 Grows : ℕ → ℕ → ℕ → List ℕ → ℕ → Type 0
@@ -190,9 +167,7 @@ Grows fuel number before xs x = cut_from fuel number before (xs ++ x ∷ [])
 grows_wrong : (fuel number before : ℕ) (xs : List ℕ) (x : ℕ) (found : ℕ × StreamFault) →
     first_wrong_octet (take 12 xs) ≡ Some found → Grows (suc fuel) number before xs x
 unfolding Grows grow
-grows_wrong fuel number before xs x found e =
-    rw (cut_wrong fuel number before xs found e)
-    (cut_wrong fuel number before (xs ++ x ∷ []) found (wrong_kept xs x found e))
+grows_wrong fuel number before xs x found e = search (arith, cut_wrong, wrong_kept)
 
 -- inside a header
 header_is : (fuel number before : ℕ) (xs : List ℕ) (x : ℕ) → length xs < 12 →
@@ -208,62 +183,46 @@ header_is fuel number before xs x h e (Some word) k =
     omega (arith, length_push xs x) in
     cut_wrong fuel number before (xs ++ x ∷ []) (length (xs ++ x ∷ []), word) found
     ∙ rw (header_grows, k, n) refl
-header_is fuel number before xs x h e None k =
-    let none : first_wrong_octet (take 12 (xs ++ x ∷ [])) ≡ None =
-    comes xs x h e ∙ rw (wrong_last, k) refl in
-    let len = length_push xs x in
-    elim (cases_lt (length (xs ++ x ∷ [])) 12) [
-      | inl short ↦
-          cut_short fuel number before (xs ++ x ∷ []) none short
-          ∙ rw (header_grows, k, ne_eqb (length (xs ++ x ∷ [])) 12 (λ same. omega arith)) refl
-      | inr long ↦
-          let b : before ≡ suc (before + length xs) - 12 = omega arith in
-          let z : number + 0 ≡ number = omega arith in
-          cut_is fuel number before (xs ++ x ∷ []) (xs ++ x ∷ []) [] (front_whole xs x h)
-          (drop_all 12 (xs ++ x ∷ []) (omega arith)) (rw (front_whole xs x h) at none) long
-          (omega arith)
-          ∙ rw (header_grows, k, eq-eqb (length (xs ++ x ∷ [])) 12 (omega arith), ← b, z) refl
-    ]
+header_is fuel number before xs x h e None k = search (
+  arith,
+  take,
+  comes,
+  wrong_last,
+  length_push,
+  cases_lt,
+  cut_short,
+  ne_eqb,
+  cut_is,
+  front_whole,
+  drop_all,
+  eq-eqb,
+)
 
 grows_header : (fuel number before : ℕ) (xs : List ℕ) (x : ℕ) → length xs < 12 →
     first_wrong_octet (take 12 xs) ≡ None → Grows (suc fuel) number before xs x
 unfolding Grows grow
-grows_header fuel number before xs x h e =
-    rw (cut_short fuel number before xs e h)
-    (header_is fuel number before xs x h e (wrong (xs ++ x ∷ [])) refl)
+grows_header fuel number before xs x h e = search (arith, cut_short, header_is)
 
 grows_open : (fuel number before : ℕ) (xs : List ℕ) (x : ℕ) →
     first_wrong_octet (take 12 xs) ≡ None → 12 ≤ length xs
     → length (drop 12 xs) < size (take 12 xs) → Grows (suc fuel) number before xs x
 unfolding Grows grow
-grows_open fuel number before xs x e h k =
-    rw (cut_open fuel number before xs e h k)
-    (cut_is fuel number before (xs ++ x ∷ []) (take 12 xs) (drop 12 xs ++ x ∷ [])
-    (front_same xs x h)
-    (drop-append-le 12 xs (x ∷ []) h) e (omega (arith, length_push xs x))
-    (omega (arith, length_push (drop 12 xs) x)))
+grows_open fuel number before xs x e h k = search (
+  arith,
+  cut_open,
+  cut_is,
+  take,
+  drop,
+  front_same,
+  drop-append-le,
+  length_push,
+)
 
 -- with one more message in front
 first_settles : (m : Message) (whole : List Message) (last : Message) →
     with_first m (end_message whole last) ≡ end_message (m ∷ whole) last
 unfolding with_first end_message
-first_settles m whole last = go (nat_lt (length last.payload) (size last.header))
-  where
-    go : (b : Bool) → with_first m
-        (if b then record {
-          whole = whole;
-          current = Some last;
-          held = [];
-          stop = None;
-        } else record { whole = whole ++ last ∷ []; current = None; held = []; stop = None })
-        ≡ (if b then record {
-          whole = m ∷ whole;
-          current = Some last;
-          held = [];
-          stop = None;
-        } else record { whole = m ∷ whole ++ last ∷ []; current = None; held = []; stop = None })
-    go true = refl
-    go false = refl
+first_settles m whole last = search (arith)
 
 first_case : (number n : ℕ) (m : Message) (whole : List Message) (front : List ℕ)
     (w : Option StreamFault) (twelve : Bool)
@@ -272,15 +231,7 @@ first_case : (number n : ℕ) (m : Message) (whole : List Message) (front : List
 unfolding with_first header_case
 first_case number n m whole front (Some word) twelve = refl
 first_case number n m whole front None false = refl
-first_case number n m whole front None true =
-    let k : suc number + length whole ≡ number + suc (length whole) = omega arith in
-    first_settles m whole (record {
-      number = suc number + length whole;
-      before = n - 12;
-      header =
-          front;
-      payload = [];
-    }) ∙ rw k refl
+first_case number n m whole front None true = search (arith, first_settles)
 
 first_grows_at : (number n x : ℕ) (m : Message) (whole : List Message) (held : List ℕ)
     (current : Option Message) (stop : Option (ℕ × StreamFault))
@@ -299,15 +250,12 @@ first_grows_at : (number n x : ℕ) (m : Message) (whole : List Message) (held :
     }))
 unfolding with_first grow header_grows
 first_grows_at number n x m whole held current (Some found) = refl
-first_grows_at number n x m whole held (Some last) None =
-    first_settles m whole (record last { payload = last.payload ++ x ∷ [] })
-first_grows_at number n x m whole held None None =
-    first_case number n m whole (held ++ x ∷ []) (wrong (held ++ x ∷ []))
-    (length (held ++ x ∷ []) == 12)
+first_grows_at number n x m whole held (Some last) None = search (arith, first_settles)
+first_grows_at number n x m whole held None None = search (arith, first_case)
 
 first_grows : (number n x : ℕ) (m : Message) (c : Cut) →
     with_first m (grow (suc number) n x c) ≡ grow number n x (with_first m c)
-first_grows number n x m c = first_grows_at number n x m c.whole c.held c.current c.stop
+first_grows number n x m c = search (arith, first_grows_at)
 
 grows_more : (fuel number before : ℕ) (xs : List ℕ) (x : ℕ) →
     first_wrong_octet (take 12 xs) ≡ None → 12 ≤ length xs → size (take 12 xs) ≤ length (drop 12 xs)
@@ -315,51 +263,34 @@ grows_more : (fuel number before : ℕ) (xs : List ℕ) (x : ℕ) →
     (drop (size (take 12 xs)) (drop 12 xs)) x
     → Grows (suc fuel) number before xs x
 unfolding Grows
-grows_more fuel number before xs x e h k ih =
-    let header = take 12 xs in
-    let left = drop (size header) (drop 12 xs) in
-    let m : Message = record {
-      number = number;
-      before = before;
-      header = header;
-      payload =
-          take (size header) (drop 12 xs);
-    } in
-    let n : suc (before + 12 + size header + length left) ≡ suc (before + length xs) =
-    omega (arith, length-drop (size header) (drop 12 xs), length-drop 12 xs) in
-    let rest : cut_from fuel (suc number) (before + 12 + size header) (left ++ x ∷ [])
-    ≡ grow (suc number)
-    (suc (before + length xs)) x (cut_from fuel (suc number) (before + 12 + size header) left) =
-    ih ∙ rw n refl in
-    let t = front_same xs x h in
-    let d = drop-append-le 12 xs (x ∷ []) h in
-    rw (cut_more fuel number before xs e h k)
-    (cut_more fuel number before (xs ++ x ∷ []) (rw t e) (omega (arith, length_push xs x))
-    (rw (t, d) (omega (arith, length_push (drop 12 xs) x)))
-    ∙ rw (
-      t,
-      d,
-      take-append-le (size header) (drop 12 xs) (x ∷ []) k,
-      drop-append-le (size header) (drop 12 xs) (x ∷ []) k,
-    )
-    (ap (with_first m) rest ∙ first_grows number (suc (before + length xs)) x m
-    (cut_from fuel (suc number) (before + 12 + size header) left)))
+grows_more fuel number before xs x e h k ih = search (
+  arith,
+  take,
+  drop,
+  length-drop,
+  front_same,
+  drop-append-le,
+  cut_more,
+  length_push,
+  take-append-le,
+  first_grows,
+)
 
 grows_by : (fuel number before : ℕ) (xs : List ℕ) (x : ℕ) → length xs < suc fuel
     → ((number before : ℕ) (ys : List ℕ) → length ys < fuel → Grows fuel number before ys x) →
     (o : Option (ℕ × StreamFault))
     → first_wrong_octet (take 12 xs) ≡ o → Grows (suc fuel) number before xs x
-grows_by fuel number before xs x h ih (Some found) e = grows_wrong fuel number before xs x found e
-grows_by fuel number before xs x h ih None e = elim (cases_lt (length xs) 12) [
-  | inl short ↦ grows_header fuel number before xs x short e
-  | inr long ↦ elim (cases_lt (length (drop 12 xs)) (size (take 12 xs))) [
-    | inl lacks ↦ grows_open fuel number before xs x e long lacks
-    | inr full ↦
-        grows_more fuel number before xs x e long full
-        (ih (suc number) (before + 12 + size (take 12 xs)) (drop (size (take 12 xs)) (drop 12 xs))
-        (omega (arith, length-drop (size (take 12 xs)) (drop 12 xs), length-drop 12 xs)))
-  ]
-]
+grows_by fuel number before xs x h ih (Some found) e = search (arith, grows_wrong)
+grows_by fuel number before xs x h ih None e = search (
+  arith,
+  cases_lt,
+  grows_header,
+  drop,
+  take,
+  grows_open,
+  grows_more,
+  length-drop,
+)
 
 pub cut_from_grows : (fuel number before : ℕ) (xs : List ℕ) (x : ℕ) → length xs < fuel
     → cut_from fuel number before (xs ++ x ∷ [])
@@ -379,26 +310,16 @@ more_by : (fuel number before : ℕ) (xs : List ℕ) → length xs < suc fuel
     cut_from (suc (suc fuel)) number before xs ≡ cut_from (suc fuel) number before xs
 more_by fuel number before xs h ih (Some found) e =
     cut_wrong (suc fuel) number before xs found e ∙ sym (cut_wrong fuel number before xs found e)
-more_by fuel number before xs h ih None e = elim (cases_lt (length xs) 12) [
-  | inl short ↦ cut_short (suc fuel) number before xs e short
-      ∙ sym (cut_short fuel number before xs e short)
-  | inr long ↦ elim (cases_lt (length (drop 12 xs)) (size (take 12 xs))) [
-    | inl lacks ↦ cut_open (suc fuel) number before xs e long lacks
-        ∙ sym (cut_open fuel number before xs e long lacks)
-    | inr full ↦
-        let left = drop (size (take 12 xs)) (drop 12 xs) in
-        let same = ih (suc number) (before + 12 + size (take 12 xs)) left
-        (omega (arith, length-drop (size (take 12 xs)) (drop 12 xs), length-drop 12 xs)) in
-        cut_more (suc fuel) number before xs e long full
-        ∙ (ap (with_first (record {
-          number = number;
-          before = before;
-          header = take 12 xs;
-          payload = take
-              (size (take 12 xs)) (drop 12 xs);
-        })) same ∙ sym (cut_more fuel number before xs e long full))
-  ]
-]
+more_by fuel number before xs h ih None e = search (
+  arith,
+  cases_lt,
+  cut_short,
+  drop,
+  take,
+  cut_open,
+  length-drop,
+  cut_more,
+)
 
 pub more_fuel : (fuel number before : ℕ) (xs : List ℕ) → length xs < fuel →
     cut_from (suc fuel) number before xs ≡ cut_from fuel number before xs

@@ -1,5 +1,5 @@
 -- The messages of a stream are numbered from 1, so that a number has one header.
-use Rattle.std.proofs.Common.{inl, inr, ◌≡◌, ℕ, zero, suc, ◌+◌, ◌<◌, Bool, true, false, List, [], ◌∷◌, ◌++◌, length, take, drop, refl, sym, subst, Option, Some, None, arith}
+use Rattle.std.proofs.Common.{◌≡◌, ℕ, zero, suc, ◌+◌, ◌<◌, Bool, true, false, List, [], ◌∷◌, ◌++◌, length, take, drop, refl, sym, subst, Option, Some, None, arith}
 use Rattle.std.specs.Prelude.{nat_lt, ◌==◌, if◌then◌else◌, option_to_list}
 use Rattle.std.specs.List.{AllByRecursion as Each}
 use Rattle.std.proofs.lemmas.Bool.{cases_lt, eq-eqb, ne_eqb}
@@ -27,20 +27,8 @@ from_cut (suc fuel) number before xs =
         (drop (size (take 12 xs)) (drop 12 xs))))
         → (o : Option (ℕ × StreamFault)) → first_wrong_octet (take 12 xs) ≡ o →
         NumberedFrom number (messages (cut_from (suc fuel) number before xs))
-    go rest (Some found) e = subst (λ c. NumberedFrom number (messages c))
-        (sym (cut_wrong fuel number before xs found e)) tt
-    go rest None e = elim (cases_lt (length xs) 12) [
-      | inl short ↦ subst (λ c. NumberedFrom number (messages c))
-          (sym (cut_short fuel number before xs e short)) tt
-      | inr long ↦ elim (cases_lt (length (drop 12 xs)) (size (take 12 xs))) [
-        | inl lacks ↦ subst (λ c. NumberedFrom number (messages c))
-            (sym (cut_open fuel number before xs e long lacks)) (refl, tt)
-        | inr full ↦
-            subst (λ c. NumberedFrom number (messages c))
-            (sym (cut_more fuel number before xs e long full))
-            (refl, rest)
-      ]
-    ]
+    go rest (Some found) e = search (arith, cut_wrong)
+    go rest None e = search (arith, cases_lt, cut_short, drop, take, cut_open, cut_more)
 
 limited_same : (b : Bool) (whole : List Message) (current : Option Message) (held : List ℕ)
     (stop : Option (ℕ × StreamFault))
@@ -68,17 +56,14 @@ IsOfNumber ms m = header_of_number ms m.number ≡ Some m.header
 
 later : (k n : ℕ) (ms : List Message) → n < k → NumberedFrom k ms → Each (λ m. n < m.number) ms
 later k n [] h from = tt
-later k n (m ∷ ms) h from = (omega (arith, h, from.0), later (suc k) n ms (omega (arith, h)) from.1)
+later k n (m ∷ ms) h from = search (arith, later (suc k) n ms (omega (arith, h)) from.1)
 
 behind : (first : Message) (ms some : List Message) → Each (λ m. first.number < m.number) some →
     Each (IsOfNumber ms) some
     → Each (IsOfNumber (first ∷ ms)) some
 unfolding header_of_number
 behind first ms [] above h = tt
-behind first ms (m ∷ some) above h = (
-  rw (ne_eqb first.number m.number (λ e. omega (arith, e, above.0))) h.0,
-  behind first ms some above.1 h.1,
-)
+behind first ms (m ∷ some) above h = search (arith, ne_eqb, behind first ms some above.1 h.1)
 
 each_of_number : (k : ℕ) (ms : List Message) → NumberedFrom k ms → Each (IsOfNumber ms) ms
 unfolding header_of_number

@@ -20,4 +20,4 @@ pub size_is : (header : List ℕ) → length header ≡ 12
     → size header ≡ num (order header) (get_or header 8 0 ∷ get_or header 9 0 ∷ get_or header 10 0 ∷
     get_or header 11 0 ∷ [])
 unfolding size
-size_is header h = ap (num (order header)) (last_four header h)
+size_is header h = search (arith, last_four)

@@ -30,7 +30,7 @@ lines_nothing R = lines_stopped R [] None (rw cut_nothing refl) ∙ rw (no_messa
 
 pub octets_nothing : (R : Rules) (i : ℕ) → octets_of R [] i ≡ Some []
 unfolding octets_of is_over joined
-octets_nothing R i = rw (octets_of, no_message_lines R, events_nothing R.most) refl
+octets_nothing R i = search (arith, no_message_lines, events_nothing)
 
 pub open_nothing : (most : ℕ) → open_after most [] ≡ []
 unfolding open_after opened
@@ -38,7 +38,7 @@ open_nothing most = rw (events_nothing most) refl
 
 still_open_nothing : (most : ℕ) → AreSound most []
 unfolding IsFew AreOpeners
-still_open_nothing most = record { few = omega arith; differ = tt; openers = tt }
+still_open_nothing most = search (arith)
 
 pub sound_start : (R : Rules) → IsSound R []
 unfolding of_parts messages start_count

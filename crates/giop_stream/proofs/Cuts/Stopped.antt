@@ -7,8 +7,7 @@ use Rattle.giop_stream.specs.Rules.{Rules}
 use Rattle.giop_stream.specs.Framing.{Cut, cut, messages, read_of}
 use Rattle.giop_stream.specs.Events.{events_from, events}
 use Rattle.giop_stream.specs.Lines.{lines}
-use Rattle.giop_stream.specs.Text.{lines_text}
-use Rattle.giop_stream.specs.Stream.{start_count, fault_count, text, tally}
+use Rattle.giop_stream.specs.Stream.{text, tally}
 use Rattle.giop_stream.proofs.Cuts.Cutting.{next, parts_by, cut_grows, next_stopped}
 use Rattle.giop_stream.proofs.Events.AfterMoreEvents.{message_lines_same, lines_stopped}
 use Rattle.giop_stream.proofs.CodeSteps.EngineAlive.{early_events}
@@ -48,16 +47,9 @@ lines_stay R causal p (x ∷ q) found h =
 pub text_stays : (R : Rules) → IsCausal R.reading → (p q : List ℕ) (found : ℕ × StreamFault) →
     (cut p).stop ≡ Some found → text R (p ++ q) ≡ text R p
 unfolding text
-text_stays R causal p q found h = ap lines_text (lines_stay R causal p q found h)
+text_stays R causal p q found h = search (arith, lines_stay)
 
 pub tally_stays : (R : Rules) → IsCausal R.reading → (p q : List ℕ) (found : ℕ × StreamFault) →
     (cut p).stop ≡ Some found → tally R (p ++ q) ≡ tally R p
 unfolding tally read_of
-tally_stays R causal p q found h =
-    let same = lines_stay R causal p q found h in
-    rw (stop_stays p q found h, h) (λ j. record {
-      messages = start_count (same j);
-      faults =
-          fault_count (same j);
-      octets = found.0;
-    })
+tally_stays R causal p q found h = search (arith, lines_stay, stop_stays)

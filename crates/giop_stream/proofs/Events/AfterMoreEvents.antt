@@ -1,17 +1,17 @@
 -- The lines of a stream, the messages that are over and the octets kept of the others, after some
 -- more events.
-use Rattle.std.proofs.Common.{◌≡◌, ℕ, suc, ◌+◌, ◌≤◌, Bool, true, false, List, [], ◌++◌, length, refl, ap, Option, Some, None, length-append}
+use Rattle.std.proofs.Common.{arith, ◌≡◌, ℕ, suc, ◌+◌, ◌≤◌, Bool, true, false, List, [], ◌++◌, length, refl, ap, Option, Some, None, length-append}
 use Rattle.std.specs.Prelude.{if◌then◌else◌, ◌||◌, option_map}
-use Rattle.std.specs.List.{filter, list_any, AllByRecursion as Each}
+use Rattle.std.specs.List.{AllByRecursion as Each}
 use Rattle.std.proofs.lemmas.List.{append-nil}
 use Rattle.std.proofs.lemmas.List.Elements.{filter-append}
 use Rattle.giop_checkpoint.specs.declared.fault.StreamFault.{StreamFault}
 use Rattle.giop_stream.specs.Rules.{Rules}
 use Rattle.giop_stream.specs.Framing.{cut}
 use Rattle.giop_message.specs.MessageReader.{MessageReader, IsCausal}
-use Rattle.giop_stream.specs.Events.{Event, opened, events, open_after, joined}
-use Rattle.giop_stream.specs.Lines.{Line, lines_of_events, by_class, in_order, is_last_of, lines_of_messages, stop_line, lines}
-use Rattle.giop_stream.specs.Stream.{is_fault, fault_count, is_over}
+use Rattle.giop_stream.specs.Events.{Event, opened, events, open_after}
+use Rattle.giop_stream.specs.Lines.{Line, lines_of_events, by_class, in_order, lines_of_messages, stop_line, lines}
+use Rattle.giop_stream.specs.Stream.{fault_count, is_over}
 use Rattle.giop_stream.specs.OpenSlots.{octets_of}
 use Rattle.giop_stream.specs.Effects.{kept_with, kept_after}
 use Rattle.giop_stream.proofs.StreamLines.EventsTogether.{sorted_lines}
@@ -74,15 +74,7 @@ pub octets_grow : (R : Rules) (p p' : List ℕ) (es : List Event) (ls : List Lin
     → lines_of_messages R p' ≡ lines_of_messages R p ++ ls → (i : ℕ) →
     octets_of R p' i ≡ kept_after (kept_with (octets_of R p) es) ls i
 unfolding octets_of is_over kept_after kept_with
-octets_grow R p p' es ls ev sd i =
-    rw (
-      ev,
-      sd,
-      any_append (is_last_of i) (lines_of_messages R p) ls,
-      joined_append i (events R.most p) es,
-    )
-    (octets_by (list_any (is_last_of i) (lines_of_messages R p)) (list_any (is_last_of i) ls)
-    (joined i (events R.most p)) (joined i es))
+octets_grow R p p' es ls ev sd i = search (arith, any_append, joined_append, octets_by)
 
 pub octets_idle : (R : Rules) (p p' : List ℕ) → events R.most p' ≡ events R.most p →
     lines_of_messages R p' ≡ lines_of_messages R p → (i : ℕ) → octets_of R p' i ≡ octets_of R p i
@@ -92,7 +84,7 @@ octets_idle R p p' ev sd i = rw (ev, sd) refl
 pub open_grows : (most : ℕ) (p p' : List ℕ) (es : List Event) → events most p' ≡ events most p
     ++ es → open_after most p' ≡ opened (open_after most p) es
 unfolding open_after
-open_grows most p p' es ev = rw ev (opened_append [] (events most p) es)
+open_grows most p p' es ev = search (arith, opened_append)
 
 pub open_idle : (most : ℕ) (p p' : List ℕ) → events most p' ≡ events most p →
     open_after most p' ≡ open_after most p
@@ -101,13 +93,11 @@ open_idle most p p' ev = rw ev refl
 
 pub count_append : (xs ys : List Line) → fault_count (xs ++ ys) ≡ fault_count xs + fault_count ys
 unfolding fault_count
-count_append xs ys =
-    rw (filter-append (λ l. is_fault l.content) xs ys)
-    (length-append (filter (λ l. is_fault l.content) xs) (filter (λ l. is_fault l.content) ys))
+count_append xs ys = search (arith, filter-append, length-append)
 
 pub lines_free : (R : Rules) (p : List ℕ) → (cut p).stop ≡ None → lines R p ≡ lines_of_messages R p
 unfolding lines stop_line
-lines_free R p e = rw (lines, e) (append-nil (lines_of_messages R p))
+lines_free R p e = search (arith, append-nil)
 
 pub lines_stopped : (R : Rules) (p : List ℕ) (o : Option (ℕ × StreamFault)) → (cut p).stop ≡ o →
     lines R p ≡ lines_of_messages R p ++ stop_line o

@@ -1,12 +1,11 @@
 -- Induction over the events of an octet after those of its first part: what holds of no events, of
 -- each single event and of lists joined holds of all of them.
-use Rattle.std.proofs.Common.{ℕ, Bool, true, false, List, [], ◌++◌, length, Option, Some, None}
-use Rattle.std.specs.Prelude.{nat_lt, nat_le, ◌==◌, if◌then◌else◌, ◌&&◌, ◌||◌}
+use Rattle.std.proofs.Common.{arith, ℕ, Bool, true, false, List, [], ◌++◌, Option, Some, None}
+use Rattle.std.specs.Prelude.{◌==◌, if◌then◌else◌}
 use Rattle.giop_stream.specs.declared.fault.FramingFault.{FramingFault}
-use Rattle.giop_stream.specs.declared.fault.FramingFault.TheVariants.{Short, NoOpen, IdOpen, TooManyOpen, FragmentOrder}
-use Rattle.giop_message.specs.Headers.{order, has_more, size, is_fragment, is_opener, is_cancel}
-use Rattle.giop_stream.specs.Kinds.{may_be_cancelled, refused}
-use Rattle.giop_stream.specs.Events.{EventKind, Begins, Takes, Opens, Continues, Cancelled, Faults, Closes, Event, Open, Now, own, event_of_open, fault_events, header_events, opens, same_order, continues, cancels, request_id_events, message_end_events}
+use Rattle.giop_stream.specs.declared.fault.FramingFault.TheVariants.{NoOpen, IdOpen}
+use Rattle.giop_message.specs.Headers.{size}
+use Rattle.giop_stream.specs.Events.{EventKind, Begins, Takes, Faults, Event, Open, Now, own, event_of_open, header_events, opens, continues, cancels, request_id_events, message_end_events}
 
 -- the events that may come after those of an octet's first part
 abbrev pub IsLater : EventKind → Type 0
@@ -27,11 +26,7 @@ either Q false es more h k = k
 pub of_header : (Q : List Event → Type 0) → IsJoined Q → (now : Now) → Q (own now Begins)
     → ((fault : FramingFault) → Q (own now (Faults fault))) → Q (header_events now)
 unfolding header_events
-of_header Q j now begins h = j.both (own now Begins) _ begins (go (refused now.subject.header))
-  where
-    go : (w : Option FramingFault) → Q (fault_events now w)
-    go None = j.none
-    go (Some fault) = h fault
+of_header Q j now begins h = search (arith)
 
 -- Q holds of an event of the message itself, and of one of the open message
 pub record HoldsOf (Q : List Event → Type 0) (now : Now) (other : Option Open) : Type 0 where
@@ -41,45 +36,28 @@ pub record HoldsOf (Q : List Event → Type 0) (now : Now) (other : Option Open)
 module _ (most : ℕ) (Q : List Event → Type 0) (j : IsJoined Q) (still_open : List Open) (now : Now)
     (id : ℕ) where
   of_opens : (other : Option Open) → HoldsOf Q now other → Q (opens most still_open now id other)
-  of_opens None h = either Q (nat_le most (length still_open)) _ _ (h.mine (Faults TooManyOpen) tt)
-      (h.mine (Opens id) tt)
+  of_opens None h = search (arith, either)
   of_opens (Some o) h = h.mine (Faults IdOpen) tt
 
   of_continues : (other : Option Open) → HoldsOf Q now other → Q (continues now other)
   of_continues None h = h.mine (Faults NoOpen) tt
-  of_continues (Some o) h =
-      j.both (own now (Continues o.opener.number)) _ (h.mine (Continues o.opener.number) tt)
-      (either Q (same_order (order now.subject.header) (order o.opener.header)) _ _ j.none
-      (h.theirs (Faults FragmentOrder) tt))
+  of_continues (Some o) h = search (arith, either)
 
   of_cancels : (other : Option Open) → HoldsOf Q now other → Q (cancels now other)
   of_cancels None h = j.none
-  of_cancels (Some o) h = either Q (may_be_cancelled o.opener.header) _ _
-      (h.theirs (Cancelled now.subject.number) tt) j.none
+  of_cancels (Some o) h = search (arith, either)
 
   pub of_id : (other : Option Open) → HoldsOf Q now other →
       Q (request_id_events most still_open now id other)
   unfolding request_id_events
-  of_id other h =
-      either Q (is_fragment now.subject.header) _ _ (of_continues other h)
-      (either Q (is_opener now.subject.header) _ _ (of_opens other h)
-      (either Q (is_cancel now.subject.header) _ _ (of_cancels other h) j.none))
+  of_id other h = search (arith, either, of_continues, of_opens, of_cancels)
 
   pub of_end : (other : Option Open) → HoldsOf Q now other → Q (message_end_events now other)
   unfolding message_end_events
-  of_end other h =
-      either Q (nat_lt (size now.subject.header) 4
-      && (is_opener now.subject.header || is_fragment now.subject.header)) _ _
-      (h.mine (Faults Short) tt)
-      (either Q (is_opener now.subject.header) _ _ j.none
-      (either Q (is_fragment now.subject.header) _ _
-      (either Q (has_more now.subject.header) _ _ j.none (h.theirs Closes tt)) (h.mine Closes tt)))
+  of_end other h = search (arith, either)
 
   pub of_later : (other : Option Open) → HoldsOf Q now other
       → Q ((if now.payload_count == 4 then request_id_events most still_open now id other else [])
       ++ (if now.payload_count == size now.subject.header then message_end_events now other else
       []))
-  of_later other h =
-      j.both (if now.payload_count == 4 then request_id_events most still_open now id other else [])
-      _ (either Q (now.payload_count == 4) _ _ (of_id other h) j.none)
-      (either Q (now.payload_count == size now.subject.header) _ _ (of_end other h) j.none)
+  of_later other h = search (arith, either, of_id, of_end)

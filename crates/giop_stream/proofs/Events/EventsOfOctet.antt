@@ -1,16 +1,15 @@
 -- The events of a stream with one octet more, and the open messages after them.
-use Rattle.std.proofs.Common.{inl, inr, ◌⊎◌, ◌≡◌, ℕ, ◌<◌, ◌≤◌, Bool, true, false, not, List, [], ◌∷◌, ◌++◌, length, refl, sym, ap, ◌∙◌, append_assoc, Option, Some, None, arith}
+use Rattle.std.proofs.Common.{inl, inr, ◌⊎◌, ◌≡◌, ℕ, ◌<◌, ◌≤◌, Bool, true, false, not, List, [], ◌∷◌, ◌++◌, length, refl, sym, append_assoc, Option, Some, None, arith}
 use Rattle.std.specs.List.{find, AllByRecursion as Each}
-use Rattle.std.specs.Prelude.{nat_lt, nat_le, ◌==◌, if◌then◌else◌, flat_map, ◌&&◌}
+use Rattle.std.specs.Prelude.{◌==◌, if◌then◌else◌}
 use Rattle.std.proofs.lemmas.Bool.{and_parts, lt-ltb, ltb-true, ltb-false, leb-false, lt-leb, le-ltb, cases_lt, ne_eqb, eqb-true}
 use Rattle.std.proofs.lemmas.List.{append-nil, length_push}
 use Rattle.std.proofs.lemmas.List.Concat.{flat_map-append}
 use Rattle.giop_stream.specs.declared.fault.FramingFault.{FramingFault}
-use Rattle.giop_stream.specs.declared.fault.FramingFault.TheVariants.{NoOpen, FragmentOrder}
 use Rattle.giop_stream.specs.HeaderOctets.{fronts}
-use Rattle.giop_message.specs.Headers.{has_more, size, is_fragment, is_opener}
+use Rattle.giop_message.specs.Headers.{size, is_fragment}
 use Rattle.giop_stream.specs.Framing.{Message, with_payload}
-use Rattle.giop_stream.specs.Events.{EventKind, Begins, Takes, Opens, Continues, Cancelled, Faults, Closes, MessageKey, Event, Open, message_key, place, own, event_of_open, id, opener_of, has_named, goes_past, events_at_header, events_at_octet, continues, events_at_request_id, events_at_end, events_of_octet, events_of, changed, opened, events_from, now_of, header_events, payload_events, request_id_events, message_end_events, events_with_id, Now}
+use Rattle.giop_stream.specs.Events.{EventKind, Begins, Takes, Opens, Continues, Cancelled, Faults, Closes, MessageKey, Event, Open, message_key, place, own, event_of_open, id, opener_of, has_named, goes_past, continues, events_at_request_id, events_of_octet, events_of, changed, opened, events_from, now_of, header_events, payload_events, request_id_events, message_end_events, events_with_id, Now}
 use Rattle.giop_stream.proofs.Events.EventInduction.{IsJoined, either, of_header, of_later}
 use Rattle.giop_stream.proofs.Lists.{fronts_push, by_growth, each_append, each_filter}
 
@@ -24,7 +23,7 @@ pub events_from_push : (most : ℕ) (still_open : List Open) (ms : List Message)
     → events_from most still_open (ms ++ m ∷ []) ≡ events_from most still_open ms
     ++ events_of most (opened still_open (events_from most still_open ms)) m
 unfolding events_from opened
-events_from_push most still_open [] m = append-nil (events_of most still_open m)
+events_from_push most still_open [] m = search (arith, append-nil)
 events_from_push most still_open (first ∷ ms) m =
     let es = events_of most still_open first in
     rw (
@@ -40,19 +39,13 @@ pub events_of_push : (most : ℕ) (still_open : List Open) (m : Message) (xs : L
     ≡ events_of most still_open (with_payload m xs) ++ events_of_octet most still_open
     (with_payload m (xs ++ x ∷ []))
 unfolding events_of
-events_of_push most still_open m xs x =
-    rw (fronts_push xs x) (flat_map-append
-    (λ front. events_of_octet most still_open (with_payload m front)) (fronts xs)
-    ((xs ++ x ∷ []) ∷ [])
-    ∙ ap (λ (es : List Event). flat_map (λ front.
-    events_of_octet most still_open (with_payload m front)) (fronts xs) ++ es)
-    (append-nil (events_of_octet most still_open (with_payload m (xs ++ x ∷ [])))))
+events_of_push most still_open m xs x = search (arith, fronts_push, flat_map-append, append-nil)
 
 pub events_of_none : (most : ℕ) (still_open : List Open) (m : Message) →
     events_of most still_open (with_payload m [])
     ≡ events_of_octet most still_open (with_payload m [])
 unfolding events_of fronts
-events_of_none most still_open m = append-nil (events_of_octet most still_open (with_payload m []))
+events_of_none most still_open m = search (arith, append-nil)
 
 -- Events that change no open message.
 still_begins : (still_open : List Open) (subject : MessageKey) →
@@ -91,7 +84,7 @@ quiet_own still_open now what h = h now.subject
 pub quiet_both : (still_open : List Open) (es more : List Event) →
     opened still_open es ≡ still_open → opened still_open more ≡ still_open →
     opened still_open (es ++ more) ≡ still_open
-quiet_both still_open es more h k = rw (opened_append still_open es more, h) k
+quiet_both still_open es more h k = search (arith, opened_append)
 
 pub quiet_if : (still_open : List Open) (b : Bool) (es more : List Event) →
     (b ≡ true → opened still_open es ≡ still_open)
@@ -115,50 +108,44 @@ quiet_header still_open now =
 pub quiet_octet : (still_open : List Open) (now : Now) (o : Option Open) →
     opened still_open (payload_events now o) ≡ still_open
 unfolding payload_events
-quiet_octet still_open now o =
-    quiet_if still_open (is_fragment now.subject.header && nat_lt 4 now.payload_count) _ _
-    (λ e. quiet_about still_open now o (Takes now.octet) (still_takes now.octet still_open))
-    (λ e. quiet_own still_open now (Takes now.octet) (still_takes now.octet still_open))
+quiet_octet still_open now o = search (arith, quiet_if, quiet_about, still_takes, quiet_own)
 
 pub quiet_continues : (still_open : List Open) (now : Now) (o : Option Open) →
     opened still_open (continues now o) ≡ still_open
-quiet_continues still_open now None = quiet_own still_open now (Faults NoOpen)
-    (still_faulted NoOpen still_open)
-quiet_continues still_open now (Some o) =
-    quiet_both still_open _ _ (quiet_own still_open now (Continues o.opener.number)
-    (still_continues o.opener.number still_open))
-    (quiet_if still_open _ _ _ (λ e. quiet_none still_open)
-    (λ e. quiet_about still_open now (Some o) (Faults FragmentOrder)
-    (still_faulted FragmentOrder still_open)))
+quiet_continues still_open now None = search (arith, quiet_own, still_faulted)
+quiet_continues still_open now (Some o) = search (
+  arith,
+  quiet_both,
+  quiet_own,
+  still_continues,
+  quiet_if,
+  quiet_none,
+  quiet_about,
+  still_faulted,
+)
 
 -- Before the last octet of a message, and before its id or in a Fragment, nothing changes.
 pub four : (most : ℕ) (still_open : List Open) (m : Message) → (length m.payload == 4) ≡ true
     → ((length m.payload < 4) ⊎ (is_fragment m.header ≡ true)) →
     opened still_open (events_at_request_id most still_open m) ≡ still_open
 unfolding request_id_events
-four most still_open m e (inl k) = absurd (omega (arith, eqb-true (length m.payload) 4 e))
-four most still_open m e (inr k) = rw (request_id_events, k)
-    (quiet_continues still_open (now_of m) (opener_of still_open m))
+four most still_open m e (inl k) = search (arith, eqb-true)
+four most still_open m e (inr k) = search (arith, quiet_continues)
 
 pub quiet_one : (most : ℕ) (still_open : List Open) (m : Message) → length m.payload < size m.header
     → ((length m.payload < 4) ⊎ (is_fragment m.header ≡ true)) →
     opened still_open (events_of_octet most still_open m) ≡ still_open
 unfolding events_of_octet
-quiet_one most still_open m h k =
-    let third : List Event = if length m.payload == size m.header then events_at_end still_open m
-    else [] in
-    let no_third : third ≡ [] = rw (ne_eqb (length m.payload) (size m.header) (λ e. omega arith))
-    refl in
-    quiet_both still_open (if length m.payload == 0 then events_at_header m else events_at_octet
-    still_open m)
-    ((if length m.payload == 4 then events_at_request_id most still_open m else []) ++ third)
-    (quiet_if still_open (length m.payload == 0) _ _ (λ e. quiet_header still_open (now_of m))
-    (λ e. quiet_octet still_open (now_of m) (opener_of still_open m)))
-    (quiet_both still_open (if length m.payload == 4 then events_at_request_id most still_open m
-    else []) third
-    (quiet_if still_open (length m.payload == 4) _ _ (λ e. four most still_open m e k)
-    (λ e. quiet_none still_open))
-    (ap (opened still_open) no_third ∙ quiet_none still_open))
+quiet_one most still_open m h k = search (
+  arith,
+  ne_eqb,
+  quiet_both,
+  quiet_if,
+  quiet_header,
+  quiet_octet,
+  four,
+  quiet_none,
+)
 
 payload_run : (most : ℕ) (still_open : List Open) (m : Message) (xs : List ℕ) →
     length xs < size m.header
@@ -184,40 +171,20 @@ payload_run most still_open m =
 free : (most : ℕ) (still_open other : List Open) (m : Message) → 4 < length m.payload →
     is_fragment m.header ≡ false → events_of_octet most still_open m ≡ events_of_octet most other m
 unfolding events_of_octet payload_events message_end_events goes_past
-free most still_open other m h k =
-    rw (
-      events_of_octet,
-      events_with_id,
-      payload_events,
-      goes_past,
-      message_end_events,
-      k,
-      ne_eqb (length m.payload) 0 (λ e. omega arith),
-      ne_eqb (length m.payload) 4 (λ e. omega arith),
-    ) refl
+free most still_open other m h k = search (arith, ne_eqb)
 
 pub events_of_octet_same : (most : ℕ) (still_open : List Open) (m : Message) (xs : List ℕ) (x : ℕ) →
     length xs < size m.header
     → events_of_octet most still_open (with_payload m (xs ++ x ∷ []))
     ≡ events_of_octet most (opened still_open (events_of most still_open (with_payload m xs)))
     (with_payload m (xs ++ x ∷ []))
-events_of_octet_same most still_open m xs x h = go (is_fragment m.header) refl
-  where
-    m' : Message
-    m' = with_payload m (xs ++ x ∷ [])
-
-    go : (b : Bool) → is_fragment m.header ≡ b
-        → events_of_octet most still_open (with_payload m (xs ++ x ∷ []))
-        ≡ events_of_octet most (opened still_open
-        (events_of most still_open (with_payload m xs)))
-        (with_payload m (xs ++ x ∷ []))
-    go true e = rw (payload_run most still_open m xs h (inr e)) refl
-    go false e = elim (cases_lt (length xs) 4) [
-      | inl s ↦ rw (payload_run most still_open m xs h (inl s)) refl
-      | inr l ↦ free most still_open (opened still_open
-          (events_of most still_open (with_payload m xs))) (with_payload m (xs ++ x ∷ []))
-          (omega (arith, length_push xs x)) e
-    ]
+events_of_octet_same most still_open m xs x h = search (
+  arith,
+  payload_run,
+  cases_lt,
+  free,
+  length_push,
+)
 
 -- What holds of the events of the message itself and of each open message holds of all events of an
 -- octet.
@@ -255,8 +222,7 @@ found : (Q : Open → Type 0) (test : Open → Bool) (still_open : List Open) �
     ForSome Q (find test still_open)
 unfolding ForSome
 found Q test [] h = tt
-found Q test (o ∷ still_open) h = found_by Q (test o) o (find test still_open) h.0
-    (found Q test still_open h.1)
+found Q test (o ∷ still_open) h = search (arith, found_by, found Q test still_open h.1)
 
 module _ (most : ℕ) (P : Event → Type 0) (still_open : List Open) (now : Now) (id : ℕ)
     (other : Option Open)
@@ -266,14 +232,11 @@ module _ (most : ℕ) (P : Event → Type 0) (still_open : List Open) (now : Now
   mine what = own_each P now what h
 
   joined : IsJoined (Each P)
-  joined = record { none = tt; both = each_append P }
+  joined = search (arith, each_append)
 
   octet_each : Each P (payload_events now other)
   unfolding payload_events
-  octet_each =
-      either (Each P) (is_fragment now.subject.header && nat_lt 4 now.payload_count) _ _
-      (about_each P now other (Takes now.octet) k)
-      (mine (Takes now.octet))
+  octet_each = search (arith, either, about_each, mine)
 
   parts_each : Each P (events_with_id most still_open now id other)
   unfolding events_with_id
@@ -310,28 +273,15 @@ module _ (most : ℕ) (P : Event → Type 0) (still_open : List Open) (now : Now
     (k : ForSome (About P now) other) where
   past_end : Each P (message_end_events now other)
   unfolding message_end_events
-  past_end =
-      rw (message_end_events, f, le-ltb (size now.subject.header) 4 (omega (arith, past, long)))
-      (either (Each P) (is_opener now.subject.header) [] _ tt
-      (either (Each P) (has_more now.subject.header) [] (event_of_open now other Closes) tt
-      (about_each P now other Closes k)))
+  past_end = search (arith, le-ltb, either, about_each)
 
   past_octet : Each P (payload_events now other)
   unfolding payload_events
-  past_octet = rw (payload_events, f, lt-ltb 4 now.payload_count past)
-      (about_each P now other (Takes now.octet) k)
+  past_octet = search (arith, lt-ltb, about_each)
 
   past_each : Each P (events_with_id most still_open now id other)
   unfolding events_with_id
-  past_each =
-      rw (
-        events_with_id,
-        ne_eqb now.payload_count 0 (λ e. omega (arith, e, past)),
-        ne_eqb now.payload_count 4 (λ e. omega (arith, e, past)),
-      )
-      (each_append P (payload_events now other) _ past_octet
-      (either (Each P) (now.payload_count == size now.subject.header) (message_end_events now other)
-      [] past_end tt))
+  past_each = search (arith, ne_eqb, each_append, past_octet, either, past_end)
 
 pub events_of_octet_agree : (most : ℕ) (P : Event → Type 0) (still_open : List Open) (m : Message) →
     length m.payload ≤ size m.header
@@ -347,38 +297,21 @@ unfolding events_of_octet opener_of About goes_past
 events_of_octet_agree most P still_open m long h k = go (goes_past m) refl
   where
     one : ForSome (About P (now_of m)) (opener_of still_open m)
-    one = found (About P (now_of m)) (λ o. o.id == id m) still_open k
+    one = search (arith, found)
 
     go : (b : Bool) → goes_past m ≡ b → Each P (events_of_octet most still_open m)
-    go false e = parts_each most P still_open (now_of m) (id m) (opener_of still_open m) (h e) one
-    go true e =
-        let both = and_parts (is_fragment m.header) (nat_lt 4 (length m.payload)) e in
-        past_each most P still_open (now_of m) (id m) (opener_of still_open m) both.0
-        (ltb-true 4 (length m.payload) both.1) long one
+    go false e = search (arith, parts_each, one)
+    go true e = search (arith, and_parts, past_each, ltb-true, one)
 
 -- a message before its id is complete
 pub not_past : (m : Message) → has_named m ≡ false → goes_past m ≡ false
 unfolding has_named goes_past
-not_past m h = go (is_fragment m.header) refl
-  where
-    go : (b : Bool) → is_fragment m.header ≡ b →
-        (is_fragment m.header && nat_lt 4 (length m.payload)) ≡ false
-    go false e = rw e refl
-    go true e = let k : length m.payload < 4 = leb-false 4 (length m.payload) (rw e at h) in
-        rw (e, le-ltb 4 (length m.payload) (omega arith)) refl
+not_past m h = search (arith, leb-false, le-ltb)
 
 pub not_named : (m : Message) (x : ℕ) → goes_past (with_payload m (m.payload ++ x ∷ [])) ≡ false →
     has_named m ≡ false
 unfolding has_named goes_past
-not_named m x h = go (is_fragment m.header) refl
-  where
-    go : (b : Bool) → is_fragment m.header ≡ b →
-        (is_fragment m.header && nat_le 4 (length m.payload)) ≡ false
-    go false e = rw e refl
-    go true e =
-        let k : length (m.payload ++ x ∷ []) ≤ 4 =
-        ltb-false 4 (length (m.payload ++ x ∷ [])) (rw e at h) in
-        rw (e, lt-leb 4 (length m.payload) (omega (arith, length_push m.payload x))) refl
+not_named m x h = search (arith, ltb-false, lt-leb, length_push)
 
 -- What holds of the open messages and of the subjects of these events holds of the open messages
 -- after them.
@@ -386,12 +319,9 @@ changed_each : (P : MessageKey → Type 0) (still_open : List Open) (subject : M
     (what : EventKind) → Each (λ o. P o.opener) still_open
     → P subject → Each (λ o. P o.opener) (changed still_open subject what)
 unfolding changed
-changed_each P still_open subject (Opens i) h w =
-    each_append (λ o. P o.opener) still_open _ h (w, tt)
-changed_each P still_open subject Closes h w =
-    each_filter (λ o. P o.opener) (λ o. not (o.opener.number == subject.number)) still_open h
-changed_each P still_open subject (Cancelled j) h w =
-    each_filter (λ o. P o.opener) (λ o. not (o.opener.number == subject.number)) still_open h
+changed_each P still_open subject (Opens i) h w = search (arith, each_append)
+changed_each P still_open subject Closes h w = search (arith, each_filter, not)
+changed_each P still_open subject (Cancelled j) h w = search (arith, each_filter, not)
 changed_each P still_open subject _ h w = h
 
 pub opened_each : (P : MessageKey → Type 0) (still_open : List Open) (es : List Event) →

@@ -1,17 +1,16 @@
 -- How many faults a stream can have: each message one at most, and the stream itself one, a stream
 -- fault or a truncated end.
 use Rattle.std.proofs.Common.{inl, inr, ◌≡◌, ℕ, zero, suc, ◌+◌, ◌<◌, ◌≤◌, Bool, true, false, List, [], ◌∷◌, ◌++◌, length, take, drop, refl, sym, ap, ◌∙◌, Option, Some, None, arith}
-use Rattle.std.specs.Prelude.{◌==◌, ◌||◌, nat_lt, if◌then◌else◌, flat_map}
-use Rattle.std.specs.List.{filter, AllByRecursion as Each}
+use Rattle.std.specs.Prelude.{◌||◌, nat_lt, if◌then◌else◌, flat_map}
+use Rattle.std.specs.List.{AllByRecursion as Each}
 use Rattle.std.proofs.lemmas.Bool.{cases_lt, cases_eq, eq-eqb}
 use Rattle.giop_checkpoint.specs.declared.fault.StreamFault.{StreamFault}
-use Rattle.giop_message.specs.Headers.{size}
 use Rattle.giop_message.specs.MessageReader.{LineClass, Value, Call, Rest, Fault, End, MessageReader, IsCausal, IsStreamable}
 use Rattle.giop_stream.specs.HeaderOctets.{fronts, first_wrong_octet}
 use Rattle.giop_stream.specs.Rules.{Rules}
 use Rattle.giop_stream.specs.Framing.{Message, with_payload, Cut, with_first, cut_from, limit, stop_or_limit, limited, cut, messages}
 use Rattle.giop_stream.specs.Events.{EventKind, Begins, Takes, Opens, Continues, Cancelled, Faults, Closes, Event, Open, events_of_octet, events_of, opened, events_from, events}
-use Rattle.giop_stream.specs.Lines.{Content, Started, Said, ContinuesMessage, CancelledBy, Faulted, Line, line, lines_of_event, lines_of_events, classes, by_class, in_order, ends, is_last_of, up_to_last_line, lines_of_messages, stop_line, lines}
+use Rattle.giop_stream.specs.Lines.{Content, Said, Line, line, lines_of_event, lines_of_events, by_class, in_order, ends, is_last_of, up_to_last_line, lines_of_messages, stop_line, lines}
 use Rattle.giop_stream.specs.Stream.{is_fault, fault_count, is_inside, is_truncated, tally, final}
 use Rattle.giop_stream.proofs.Lists.{each_append, each_weaker, each_map, each_filter}
 use Rattle.giop_stream.proofs.Cuts.CutFrom.{cut_wrong, cut_short, cut_open, cut_more}
@@ -32,13 +31,7 @@ Numbered first c = Each (λ m. (first ≤ m.number) × (m.number < first + lengt
 numbered_first : (first : ℕ) (m : Message) (c : Cut) → m.number ≡ first → Numbered (suc first) c
     → Numbered first (with_first m c)
 unfolding with_first messages
-numbered_first first m c number h =
-    let count = length (messages c) in (
-      (omega (arith, number), omega (arith, number)),
-      each_weaker (λ k. (suc first ≤ k.number) × (k.number < suc first + count))
-          (λ k. (first ≤ k.number) × (k.number < first + suc count))
-          (λ k j. (omega (arith, j.0), omega (arith, j.1))) (messages c) h,
-    )
+numbered_first first m c number h = search (arith, each_weaker)
 
 numbered_by : (fuel first before : ℕ) (xs : List ℕ)
     → ((first before : ℕ) (ys : List ℕ) → Numbered first (cut_from fuel first before ys))
@@ -46,25 +39,16 @@ numbered_by : (fuel first before : ℕ) (xs : List ℕ)
     Numbered first (cut_from (suc fuel) first before xs)
 unfolding messages
 numbered_by fuel first before xs ih (Some found) e = rw (cut_wrong fuel first before xs found e) tt
-numbered_by fuel first before xs ih None e = elim (cases_lt (length xs) 12) [
-  | inl short ↦ rw (cut_short fuel first before xs e short) tt
-  | inr long ↦ elim (cases_lt (length (drop 12 xs)) (size (take 12 xs))) [
-    | inl lacks ↦ rw (cut_open fuel first before xs e long lacks) ((omega arith, omega arith), tt)
-    | inr full ↦
-        let header = take 12 xs in
-        let left = drop (size header) (drop 12 xs) in
-        let m : Message = record {
-          number = first;
-          before = before;
-          header = header;
-          payload =
-              take (size header) (drop 12 xs);
-        } in
-        let more : Cut = cut_from fuel (suc first) (before + 12 + size header) left in
-        rw (cut_more fuel first before xs e long full)
-        (numbered_first first m more refl (ih (suc first) (before + 12 + size header) left))
-  ]
-]
+numbered_by fuel first before xs ih None e = search (
+  arith,
+  cases_lt,
+  cut_short,
+  drop,
+  take,
+  cut_open,
+  cut_more,
+  numbered_first,
+)
 
 numbered_from : (fuel first before : ℕ) (xs : List ℕ) →
     Numbered first (cut_from fuel first before xs)
@@ -81,7 +65,7 @@ numbered p = go (nat_lt limit (length p))
     whole = cut_from (suc (length p)) 1 0 (take limit p)
 
     all : Numbered 1 whole
-    all = numbered_from (suc (length p)) 1 0 (take limit p)
+    all = search (arith, numbered_from, take)
 
     stopped : (o : Option (ℕ × StreamFault)) → Numbered 1 (stop_or_limit o whole)
     stopped (Some found) = all
@@ -106,17 +90,12 @@ module _ (most : ℕ) (P : ℕ → Type 0) where
   events_of_each still_open m h k = go (fronts m.payload)
     where
       here : (front : List ℕ) → Named (events_of_octet most still_open (with_payload m front))
-      here front =
-          events_of_octet_each most (λ e. P e.subject.number) still_open (with_payload m front)
-          (λ what. h)
-          (each_weaker (λ o. P o.opener.number) (λ o. (what : EventKind) → P o.opener.number)
-          (λ o j what. j) still_open k)
+      here front = search (arith, events_of_octet_each, each_weaker)
 
       go : (fs : List (List ℕ)) → Named (flat_map
           (λ front. events_of_octet most still_open (with_payload m front)) fs)
       go [] = tt
-      go (front ∷ fs) = each_append (λ e. P e.subject.number)
-          (events_of_octet most still_open (with_payload m front)) _ (here front) (go fs)
+      go (front ∷ fs) = search (arith, each_append, here, go fs)
 
   events_each : (still_open : List Open) (ms : List Message) → Live still_open →
       Each (λ m. P m.number) ms
@@ -138,54 +117,52 @@ record IsOne (n : ℕ) (l : Line) : Type 0 where
 one_line : (n : ℕ) (e : Event) → IsNumber n e.subject.number → (content : Content)
     → (is_fault content ≡ true → ends content ≡ true) → IsOne n (line e content)
 unfolding line
-one_line n e h content last = record { number = h; last = last }
+one_line n e h content last = search (arith)
 
 one_said : (n : ℕ) (e : Event) → IsNumber n e.subject.number → (s : LineClass) (text : List ℕ)
     → IsOne n (line e (Said s text))
-one_said n e h Value text = one_line n e h (Said Value text) (λ no. absurd cc)
-one_said n e h Call text = one_line n e h (Said Call text) (λ no. absurd cc)
-one_said n e h Rest text = one_line n e h (Said Rest text) (λ no. absurd cc)
-one_said n e h Fault text = one_line n e h (Said Fault text) (λ yes. refl)
-one_said n e h End text = one_line n e h (Said End text) (λ no. absurd cc)
+one_said n e h Value text = search (arith, one_line)
+one_said n e h Call text = search (arith, one_line)
+one_said n e h Rest text = search (arith, one_line)
+one_said n e h Fault text = search (arith, one_line)
+one_said n e h End text = search (arith, one_line)
 
 one_each : (R : MessageReader) (n : ℕ) (e : Event) → IsNumber n e.subject.number →
     (so_far all : List ℕ) (what : EventKind)
     → Each (IsOne n) (lines_of_event R e so_far all what)
 unfolding lines_of_event
-one_each R n e h so_far all Begins = (
-  one_line n e h (Started e.subject.header) (λ no. absurd cc),
-  tt,
-)
-one_each R n e h so_far all (Takes x) =
-    each_map (IsOne n) (λ r. line e (Said r.line_class r.text))
-    (λ r. one_said n e h r.line_class r.text)
-    (filter (λ r. r.at == suc (length so_far)) (R.reads e.subject.number e.subject.header all))
+one_each R n e h so_far all Begins = search (arith, one_line)
+one_each R n e h so_far all (Takes x) = search (arith, each_map, one_said)
 one_each R n e h so_far all (Opens id) = tt
-one_each R n e h so_far all (Continues i) =
-    (one_line n e h (ContinuesMessage i) (λ no. absurd cc), tt)
-one_each R n e h so_far all (Cancelled j) = (one_line n e h (CancelledBy j) (λ no. absurd cc), tt)
-one_each R n e h so_far all (Faults fault) = (one_line n e h (Faulted fault) (λ yes. refl), tt)
-one_each R n e h so_far all Closes =
-    each_map (IsOne n) (λ l. line e (Said l.0 l.1)) (λ l. one_said n e h l.0 l.1)
-    (R.closes e.subject.number e.subject.header so_far)
+one_each R n e h so_far all (Continues i) = search (arith, one_line)
+one_each R n e h so_far all (Cancelled j) = search (arith, one_line)
+one_each R n e h so_far all (Faults fault) = search (arith, one_line)
+one_each R n e h so_far all Closes = search (arith, each_map, one_said)
 
 lines_each : (R : MessageReader) (n : ℕ) (all past es : List Event) →
     Each (λ e. IsNumber n e.subject.number) es
     → Each (IsOne n) (lines_of_events R all past es)
 unfolding lines_of_events
 lines_each R n all past [] h = tt
-lines_each R n all past (e ∷ es) h =
-    each_append (IsOne n) _ (lines_of_events R all (past ++ e ∷ []) es)
-    (one_each R n e h.0 _ _ e.what)
-    (lines_each R n all (past ++ e ∷ []) es h.1)
+lines_each R n all past (e ∷ es) h = search (
+  arith,
+  each_append,
+  one_each,
+  lines_each R n all (past
+      ++ e ∷ []) es h.1,
+)
 
 order_each : (P : Line → Type 0) (n : ℕ) (ls : List Line) → Each P ls → Each P (in_order n ls)
 unfolding in_order by_class
 order_each P zero ls h = tt
-order_each P (suc n) ls h =
-    let here = filter (λ l. l.place == suc n) ls in
-    each_append P (in_order n ls) (by_class here) (order_each P n ls h)
-    (classes_each P here classes (each_filter P (λ l. l.place == suc n) ls h))
+order_each P (suc n) ls h = search (
+  arith,
+  each_append,
+  classes_each,
+  each_filter,
+  order_each P n
+      ls h,
+)
 
 -- ---- Each message that is not over has one fault more at most.
 
@@ -201,20 +178,19 @@ all_free (suc n) = omega (arith, all_free n)
 
 one_fewer : (b c : Bool) → (b ≡ true → c ≡ true) → (if c then 0 else 1) ≤ (if b then 0 else 1)
 one_fewer b true h = omega arith
-one_fewer true false h = absurd (let no : false ≡ true = h refl in cc)
+one_fewer true false h = search (arith)
 one_fewer false false h = omega arith
 
 module _ (f g : ℕ → Bool) (more : (i : ℕ) → f i ≡ true → g i ≡ true) where
   fewer_free : (n : ℕ) → free g n ≤ free f n
   unfolding free
   fewer_free zero = omega arith
-  fewer_free (suc n) = let one = one_fewer (f (suc n)) (g (suc n)) (more (suc n)) in
-      omega (arith, one, fewer_free n)
+  fewer_free (suc n) = search (arith, one_fewer, fewer_free n)
 
   -- fewer, where one of them is over that wasn't
   less_free : (k n : ℕ) → IsNumber n k → f k ≡ false → g k ≡ true → free g n < free f n
   unfolding free
-  less_free k zero h e d = absurd (omega (arith, h.0, h.1))
+  less_free k zero h e d = search (arith)
   less_free k (suc n) h e d = elim (cases_eq k (suc n)) [
     | inl same ↦
         let was : f (suc n) ≡ false = ap f (sym same) ∙ e in
@@ -252,16 +228,13 @@ faults_free n over (l ∷ ls) h = go (over l.number) (is_fault l.content) refl r
           less_free over then_over more l.number n h.0.number e
               last,
         ))
-    go false false e k ih = rw k (omega (arith, ih then_over, fewer_free over then_over more n))
+    go false false e k ih = search (arith, fewer_free, more)
 
 -- ---- Of a stream.
 
 numbers : (p : List ℕ) → Each (λ m. IsNumber (length (messages (cut p))) m.number)
     (messages (cut p))
-numbers p =
-    let n = length (messages (cut p)) in
-    each_weaker (λ m. (1 ≤ m.number) × (m.number < 1 + n)) (λ m. IsNumber n m.number)
-    (λ m h. (omega (arith, h.0), omega (arith, h.1))) (messages (cut p)) (numbered p)
+numbers p = search (arith, each_weaker, numbered)
 
 said_few : (R : Rules) (p : List ℕ) → fault_count (lines_of_messages R p) ≤ length
     (messages (cut p))
@@ -288,12 +261,7 @@ stop_faults (Some found) = refl
 lines_few : (R : Rules) (p : List ℕ) → fault_count (lines R p) ≤ length (messages (cut p)) +
     stop_count (cut p).stop
 unfolding lines
-lines_few R p = omega (
-  arith,
-  count_append (lines_of_messages R p) (stop_line (cut p).stop),
-  said_few R p,
-  stop_faults (cut p).stop,
-)
+lines_few R p = search (arith, count_append, said_few, stop_faults)
 
 pub one_stop : (stop : Option (ℕ × StreamFault)) → stop_count stop ≤ 1
 unfolding stop_count
@@ -309,11 +277,7 @@ one_end : (stop : Option (ℕ × StreamFault)) (current : Option Message) (held 
     → stop_count stop + (if is_inside current held stop then 1 else 0) ≤ 1
 unfolding stop_count is_inside
 one_end (Some found) current held = omega arith
-one_end None current held = go (is_inside current held None)
-  where
-    go : (b : Bool) → 0 + (if b then 1 else 0) ≤ 1
-    go true = omega arith
-    go false = omega arith
+one_end None current held = search (arith)
 
 module _ (R : Rules) (causal : IsCausal R.reading) (laws : IsStreamable R.reading) (p : List ℕ)
   where
@@ -322,8 +286,8 @@ module _ (R : Rules) (causal : IsCausal R.reading) (laws : IsStreamable R.readin
     tally_faults = omega (arith, lines_few R p, (sound R causal laws p).starts)
 
     pub faults_few : (cut p).stop ≡ None → (tally R p).faults ≤ (tally R p).messages
-    faults_few free = omega (arith, tally_faults, free_stop (cut p).stop free)
+    faults_few free = search (arith, tally_faults, free_stop)
 
     pub all_faults : (final R p).faults ≤ suc (final R p).messages
     unfolding final is_truncated
-    all_faults = omega (arith, tally_faults, one_end (cut p).stop (cut p).current (cut p).held)
+    all_faults = search (arith, tally_faults, one_end)

@@ -1,9 +1,8 @@
 -- The joined octets of a message, taken from the events, are its shares of the messages.
-use Rattle.std.proofs.Common.{inl, inr, ◌≡◌, ℕ, ◌-◌, ◌≤◌, Bool, true, false, List, [], ◌∷◌, ◌++◌, length, get_or, take, drop, refl, sym, ap, ◌∙◌, append_assoc, Option, Some, None, arith}
+use Rattle.std.proofs.Common.{◌≡◌, ℕ, ◌≤◌, Bool, true, false, List, [], ◌∷◌, ◌++◌, length, get_or, take, drop, refl, sym, ◌∙◌, append_assoc, Option, Some, None, arith}
 use Rattle.std.specs.Prelude.{◌==◌, if◌then◌else◌}
 use Rattle.std.proofs.lemmas.Bool.{lt-ltb, le-ltb, cases_lt, ne_eqb, eq-eqb}
 use Rattle.std.proofs.lemmas.List.{append-nil, length_push, get_or_push, take-append-le, drop-append-le, take_all, drop_all}
-use Rattle.giop_message.specs.Headers.{is_fragment}
 use Rattle.giop_stream.specs.Framing.{Message, with_payload, cut, messages}
 use Rattle.giop_stream.specs.Events.{EventKind, Begins, Takes, Faults, Event, Open, own, event_of_open, id, opener_of, goes_past, events_at_header, events_at_octet, events_of_octet, events_of, opened, events_from, events, octet, joined, now_of, header_events, payload_events, Now}
 use Rattle.giop_stream.specs.Shares.{continued, share, shares}
@@ -18,22 +17,18 @@ IsSilent i es = joined i es ≡ []
 
 silent_both : (i : ℕ) → IsJoined (IsSilent i)
 unfolding IsSilent joined
-silent_both i = record {
-  none = refl;
-  both =
-      λ es more h k. joined_append i es more ∙ rw (h, k) refl;
-}
+silent_both i = search (arith, joined_append)
 
 own_is : (i : ℕ) (now : Now) (what : EventKind) →
     joined i (own now what) ≡ (if now.subject.number == i then octet what else [])
 unfolding joined own
-own_is i now what = append-nil (if now.subject.number == i then octet what else [])
+own_is i now what = search (arith, append-nil)
 
 about_is : (i : ℕ) (now : Now) (o : Option Open) (what : EventKind) →
     joined i (event_of_open now o what) ≡ continued i o (octet what)
 unfolding joined event_of_open continued
 about_is i now None what = refl
-about_is i now (Some o) what = append-nil (if o.opener.number == i then octet what else [])
+about_is i now (Some o) what = search (arith, append-nil)
 
 both_empty : (b : Bool) → (let none : List ℕ = [] in (if b then none else none) ≡ none)
 both_empty true = refl
@@ -41,14 +36,13 @@ both_empty false = refl
 
 silent_own : (i : ℕ) (now : Now) (what : EventKind) → octet what ≡ [] → IsSilent i (own now what)
 unfolding IsSilent
-silent_own i now what h = own_is i now what ∙ rw h (both_empty (now.subject.number == i))
+silent_own i now what h = search (arith, own_is, both_empty)
 
 silent_about : (i : ℕ) (now : Now) (o : Option Open) (what : EventKind) → octet what ≡ [] →
     IsSilent i (event_of_open now o what)
 unfolding IsSilent continued
 silent_about i now None what h = about_is i now None what
-silent_about i now (Some o) what h = about_is i now (Some o) what
-    ∙ rw h (both_empty (o.opener.number == i))
+silent_about i now (Some o) what h = search (arith, about_is, both_empty)
 
 silent : (what : EventKind) → IsLater what → octet what ≡ []
 unfolding octet
@@ -82,8 +76,7 @@ events_of_octet_is most i still_open m first h =
 
 pub header_joined : (most : ℕ) (i : ℕ) (still_open : List Open) (m : Message) → m.payload ≡ [] →
     joined i (events_of_octet most still_open m) ≡ []
-header_joined most i still_open m h = events_of_octet_is most i still_open m (events_at_header m)
-    (rw h refl) ∙ silent_header i (now_of m)
+header_joined most i still_open m h = search (arith, events_of_octet_is, silent_header)
 
 -- what one more octet of m adds to the share of i
 unfoldable pub more_of : ℕ → List Open → Message → ℕ → List ℕ
@@ -101,24 +94,22 @@ pub octet_joined : (most : ℕ) (i : ℕ) (still_open : List Open) (m : Message)
     → joined i (events_of_octet most still_open (with_payload m (xs ++ x ∷ [])))
     ≡ more_of i still_open (with_payload m (xs ++ x ∷ [])) x
 unfolding more_of payload_events goes_past
-octet_joined most i still_open m xs x =
-    let m' = with_payload m (xs ++ x ∷ []) in
-    let first : (if length m'.payload == 0 then events_at_header m' else events_at_octet still_open
-    m') ≡ events_at_octet still_open m' =
-    rw (ne_eqb (length (xs ++ x ∷ [])) 0 (λ e. omega (arith, length_push xs x))) refl in
-    let same : get_or (xs ++ x ∷ []) (length (xs ++ x ∷ []) - 1) 0 ≡ x =
-    get_or_push xs x 0 (length (xs ++ x ∷ []) - 1) (omega (arith, length_push xs x)) in
-    events_of_octet_is most i still_open m' (events_at_octet still_open m') first
-    ∙ (takes_if i (now_of m') (opener_of still_open m') (now_of m').octet (goes_past m')
-    ∙ rw same refl)
+octet_joined most i still_open m xs x = search (
+  arith,
+  ne_eqb,
+  length_push,
+  get_or,
+  get_or_push,
+  events_of_octet_is,
+  takes_if,
+)
 
 -- an octet that does not come after a Fragment's request id
 pub own_joined : (most : ℕ) (still_open : List Open) (m : Message) (xs : List ℕ) (x : ℕ) →
     goes_past (with_payload m (xs ++ x ∷ [])) ≡ false
     → joined m.number (events_of_octet most still_open (with_payload m (xs ++ x ∷ []))) ≡ x ∷ []
 unfolding more_of
-own_joined most still_open m xs x h = octet_joined most m.number still_open m xs x
-    ∙ rw (h, eq-eqb m.number m.number refl) refl
+own_joined most still_open m xs x h = search (arith, octet_joined, eq-eqb)
 
 cases_append : (b : Bool) (xs ys : List ℕ) → (if b then xs ++ ys else []) ≡ (if b then xs else [])
     ++ (if b then ys else [])
@@ -129,88 +120,48 @@ continued_append : (i : ℕ) (o : Option Open) (xs ys : List ℕ) →
     continued i o (xs ++ ys) ≡ continued i o xs ++ continued i o ys
 unfolding continued
 continued_append i None xs ys = refl
-continued_append i (Some o) xs ys = cases_append (o.opener.number == i) xs ys
+continued_append i (Some o) xs ys = search (arith, cases_append)
 
 continued_none : (i : ℕ) (o : Option Open) → continued i o [] ≡ []
 unfolding continued
 continued_none i None = refl
-continued_none i (Some o) = both_empty (o.opener.number == i)
+continued_none i (Some o) = search (arith, both_empty)
 
 same_opener : (still_open : List Open) (m : Message) (xs : List ℕ) (x : ℕ) → 4 ≤ length xs
     → opener_of still_open (with_payload m (xs ++ x ∷ []))
     ≡ opener_of still_open (with_payload m xs)
 unfolding opener_of id
-same_opener still_open m xs x h = rw (take-append-le 4 xs (x ∷ []) h) refl
+same_opener still_open m xs x h = search (arith, take-append-le)
 
 share_grows : (i : ℕ) (still_open : List Open) (m : Message) (xs : List ℕ) (x : ℕ)
     → share i still_open (with_payload m (xs ++ x ∷ [])) ≡ share i still_open (with_payload m xs)
     ++ more_of i still_open
     (with_payload m (xs ++ x ∷ [])) x
 unfolding share more_of goes_past
-share_grows i still_open m xs x = go (is_fragment m.header) refl
-  where
-    mine : List ℕ → List ℕ
-    mine ys = if m.number == i then ys else []
-
-    now : Option Open
-    now = opener_of still_open (with_payload m (xs ++ x ∷ []))
-
-    was : Option Open
-    was = opener_of still_open (with_payload m xs)
-
-    go : (b : Bool) → is_fragment m.header ≡ b
-        → share i still_open (with_payload m (xs ++ x ∷ []))
-        ≡ share i still_open (with_payload m xs) ++ more_of i still_open
-        (with_payload m (xs ++ x ∷ [])) x
-    go false f = rw (share, more_of, goes_past, f) (cases_append (m.number == i) xs (x ∷ []))
-    go true f = elim (cases_lt (length xs) 4) [
-      | inl short ↦
-          rw (
-            share,
-            more_of,
-            goes_past,
-            f,
-            take_all 4 (xs ++ x ∷ []) (omega (arith, length_push xs x)),
-            drop_all 4
-                (xs ++ x ∷ []) (omega (arith, length_push xs x)),
-            take_all 4 xs (omega arith),
-            drop_all 4 xs
-                (omega arith),
-            continued_none i now,
-            continued_none i was,
-            le-ltb 4 (length (xs ++ x ∷ []))
-                (omega (arith, length_push xs x)),
-          )
-          (append-nil (mine (xs ++ x ∷ [])) ∙ (cases_append (m.number == i) xs (x ∷ [])
-          ∙ ap (λ (ys : List ℕ). ys ++ mine (x ∷ [])) (sym (append-nil (mine xs)))))
-      | inr long ↦
-          rw (
-            share,
-            more_of,
-            goes_past,
-            f,
-            take-append-le 4 xs (x ∷ []) long,
-            drop-append-le 4 xs
-                (x ∷ []) long,
-            same_opener still_open m xs x long,
-            continued_append i was (drop 4 xs) (x ∷ []),
-            lt-ltb 4
-                (length (xs ++ x ∷ [])) (omega (arith, length_push xs x)),
-          )
-          (sym (append_assoc (mine (take 4 xs)) (continued i was (drop 4 xs))
-          (continued i was (x ∷ []))))
-    ]
+share_grows i still_open m xs x = search (
+  arith,
+  cases_append,
+  cases_lt,
+  take_all,
+  length_push,
+  drop_all,
+  continued_none,
+  le-ltb,
+  append-nil,
+  take-append-le,
+  drop-append-le,
+  same_opener,
+  continued_append,
+  drop,
+  lt-ltb,
+  append_assoc,
+  take,
+)
 
 share_none : (i : ℕ) (still_open : List Open) (m : Message) →
     share i still_open (with_payload m []) ≡ []
 unfolding share
-share_none i still_open m = none_of (is_fragment m.header)
-  where
-    none_of : (b : Bool) → (if b then (if m.number == i then [] else []) ++ continued i
-        (opener_of still_open (with_payload m [])) [] else (if m.number == i then [] else [])) ≡ []
-    none_of true = rw (both_empty (m.number == i))
-        (continued_none i (opener_of still_open (with_payload m [])))
-    none_of false = both_empty (m.number == i)
+share_none i still_open m = search (arith, both_empty, continued_none)
 
 one_joined : (most : ℕ) (i : ℕ) (still_open : List Open) (m : Message) →
     joined i (events_of most still_open m) ≡ share i still_open m
@@ -245,4 +196,4 @@ from_joined most i still_open (m ∷ ms) =
 pub joined_is : (most : ℕ) (p : List ℕ) (i : ℕ) →
     joined i (events most p) ≡ shares most i [] (messages (cut p))
 unfolding events
-joined_is most p i = from_joined most i [] (messages (cut p))
+joined_is most p i = search (arith, from_joined)

@@ -1,7 +1,7 @@
 -- The invariants of a stream, kept by each octet: where its events are, how its messages are
 -- numbered, which may be open, and what has come of the current one.
-use Rattle.std.proofs.Common.{inl, ◌≡◌, ℕ, suc, ◌+◌, ◌<◌, ◌≤◌, Bool, true, false, List, [], ◌∷◌, ◌++◌, length, refl, sym, ap, subst, ◌∙◌, append_assoc, Some, None, arith}
-use Rattle.std.specs.Prelude.{nat_lt, if◌then◌else◌, IfSome}
+use Rattle.std.proofs.Common.{◌≡◌, ℕ, suc, ◌+◌, ◌<◌, ◌≤◌, false, List, [], ◌∷◌, ◌++◌, length, refl, sym, ap, subst, ◌∙◌, append_assoc, Some, None, arith}
+use Rattle.std.specs.Prelude.{IfSome}
 use Rattle.std.specs.List.{list_any, AllByRecursion as Each}
 use Rattle.std.proofs.lemmas.Bool.{ltb-true}
 use Rattle.giop_message.specs.Headers.{size}
@@ -9,7 +9,7 @@ use Rattle.std.proofs.lemmas.List.{length_push}
 use Rattle.giop_stream.specs.Rules.{Rules}
 use Rattle.giop_stream.specs.Framing.{Message, with_payload, Cut, cut, messages}
 use Rattle.giop_message.specs.MessageReader.{MessageReader, IsCausal}
-use Rattle.giop_stream.specs.Events.{EventKind, Event, Open, place, events_of_octet, events_of, opened, events_from, events, open_after, joined, Rising}
+use Rattle.giop_stream.specs.Events.{EventKind, Event, Open, place, events_of_octet, opened, events_from, events, open_after, joined, Rising}
 use Rattle.giop_stream.specs.Lines.{Line, is_last_of, lines}
 use Rattle.giop_stream.specs.Stream.{start_count}
 use Rattle.giop_stream.specs.OpenSlots.{OctetsByNumber, octets_of}
@@ -59,33 +59,11 @@ pub record IsSound (R : Rules) (p : List ℕ) : Type 0 where
 settled_fits : (n : ℕ) (whole : List Message) (m : Message) → place m ≡ n →
     m.number ≡ suc (length whole) → length m.header ≡ 12 → Fits n (end_message whole m)
 unfolding end_message
-settled_fits n whole m h k t = go (nat_lt (length m.payload) (size m.header)) refl
-  where
-    go : (b : Bool) → nat_lt (length m.payload) (size m.header) ≡ b
-        → Fits n (if b then record {
-          whole = whole;
-          current = Some m;
-          held = [];
-          stop = None;
-        } else record { whole = whole ++ m ∷ []; current = None; held = []; stop = None })
-    go true e =
-        record {
-          current = record {
-            place_is = h;
-            lacks = ltb-true (length m.payload)
-                (size m.header) e;
-            number_is = k;
-            none_held = refl;
-            twelve = t;
-          };
-          held = omega arith;
-          short = omega arith;
-        }
-    go false e = record { current = tt; held = omega arith; short = omega arith }
+settled_fits n whole m h k t = search (arith, ltb-true)
 
 settled_length : (whole : List Message) (m : Message) →
     length (messages (end_message whole m)) ≡ suc (length whole)
-settled_length whole m = rw (settled_messages whole m) (omega (arith, length_push whole m))
+settled_length whole m = search (arith, settled_messages, length_push)
 
 settled_early : (most : ℕ) (whole : List Message) (m : Message) (still_open : List Open) →
     (length m.payload ≤ 4 → Below m.number still_open)
@@ -93,54 +71,17 @@ settled_early : (most : ℕ) (whole : List Message) (m : Message) (still_open : 
     (λ m. length m.payload < 4 → Below m.number
     (opened still_open (events_of_octet most still_open m)))
 unfolding end_message
-settled_early most whole m still_open h = go (nat_lt (length m.payload) (size m.header)) refl
-  where
-    go : (b : Bool) → nat_lt (length m.payload) (size m.header) ≡ b
-        → (let c : Cut = if b then record {
-          whole = whole;
-          current = Some m;
-          held = [];
-          stop = None;
-        } else record { whole = whole ++ m ∷ []; current = None; held = []; stop = None } in
-        IfSome c.current
-        (λ m. length m.payload < 4 → Below m.number
-        (opened still_open (events_of_octet most still_open m))))
-    go true e = λ short. rw (quiet_one most still_open m
-        (ltb-true (length m.payload) (size m.header) e) (inl short)) (h (omega arith))
-    go false e = tt
+settled_early most whole m still_open h = search (arith, quiet_one, ltb-true)
 
 pub settled_current : (whole : List Message) (m : Message) (P Q : Message → Type 0) → (P m → Q m)
     → IfSome (end_message whole m).current P → IfSome (end_message whole m).current Q
 unfolding end_message
-settled_current whole m P Q h = go (nat_lt (length m.payload) (size m.header))
-  where
-    go : (b : Bool)
-        → (let c : Cut = if b then record {
-          whole = whole;
-          current = Some m;
-          held = [];
-          stop = None;
-        } else record { whole = whole ++ m ∷ []; current = None; held = []; stop = None } in
-        IfSome c.current P
-        → IfSome c.current Q)
-    go true = h
-    go false = λ t. tt
+settled_current whole m P Q h = search (arith)
 
 pub settled_if : (whole : List Message) (m : Message) (Q : Message → Type 0) → Q m →
     IfSome (end_message whole m).current Q
 unfolding end_message
-settled_if whole m Q h = go (nat_lt (length m.payload) (size m.header))
-  where
-    go : (b : Bool)
-        → (let c : Cut = if b then record {
-          whole = whole;
-          current = Some m;
-          held = [];
-          stop = None;
-        } else record { whole = whole ++ m ∷ []; current = None; held = []; stop = None } in
-        IfSome c.current Q)
-    go true = h
-    go false = tt
+settled_if whole m Q h = search (arith)
 
 still_unknown : (K : OctetsByNumber) (es : List Event) (ls : List Line) (i : ℕ) → K i ≡ Some [] →
     joined i es ≡ []
@@ -234,28 +175,16 @@ pub events_on : (most : ℕ) (whole : List Message) (m : Message) (x : ℕ) →
     → (let es = events_from most [] (whole ++ m ∷ []) in let m' =
     with_payload m (m.payload ++ x ∷ []) in events_from most []
     (whole ++ m' ∷ []) ≡ es ++ events_of_octet most (opened [] es) m')
-events_on most whole m x h =
-    let m' = with_payload m (m.payload ++ x ∷ []) in
-    let first = events_from most [] whole in
-    let still_open = opened [] first in
-    let es : events_from most [] (whole ++ m ∷ []) ≡ first ++ events_of most still_open m =
-    events_from_push most [] whole m in
-    rw (es, opened_append [] first (events_of most still_open m))
-    (events_from_push most [] whole m' ∙ (rw (
-      events_of_push most still_open m m.payload x,
-      events_of_octet_same most still_open m m.payload x h,
-    )
-    (sym (append_assoc first (events_of most still_open m)
-    (events_of_octet most (opened still_open (events_of most still_open m)) m')))))
+events_on most whole m x h = search (
+  arith,
+  events_from_push,
+  opened_append,
+  events_of_push,
+  events_of_octet_same,
+  append_assoc,
+)
 
 pub events_begin : (most : ℕ) (whole : List Message) (m : Message) → m.payload ≡ []
     → events_from most [] (whole ++ m ∷ []) ≡ events_from most [] whole
     ++ events_of_octet most (opened [] (events_from most [] whole)) m
-events_begin most whole m h =
-    let first = events_from most [] whole in
-    let still_open = opened [] first in
-    let empty : m ≡ with_payload m [] = λ j. record m { payload = h j } in
-    let one : events_of most still_open m ≡ events_of_octet most still_open m =
-    ap (events_of most still_open) empty
-    ∙ (events_of_none most still_open m ∙ ap (events_of_octet most still_open) (sym empty)) in
-    events_from_push most [] whole m ∙ ap (λ (es : List Event). first ++ es) one
+events_begin most whole m h = search (arith, events_of_none, events_from_push)

@@ -1,6 +1,6 @@
 -- What holds of a stream in each case of its next octet.
-use Rattle.std.proofs.Common.{inl, inr, ◌≡◌, ℕ, suc, ◌-◌, ◌<◌, ◌≤◌, Bool, true, false, List, [], ◌∷◌, ◌++◌, length, refl, sym, ap, ◌∙◌, Option, Some, None, arith}
-use Rattle.std.specs.Prelude.{◌==◌, if◌then◌else◌, IfSome}
+use Rattle.std.proofs.Common.{◌≡◌, ℕ, suc, ◌-◌, ◌<◌, ◌≤◌, false, List, [], ◌∷◌, ◌++◌, length, refl, sym, ap, ◌∙◌, Option, Some, None, arith}
+use Rattle.std.specs.Prelude.{◌==◌, IfSome}
 use Rattle.std.proofs.lemmas.Bool.{eq-eqb, cases_eq}
 use Rattle.std.proofs.lemmas.List.{length_push}
 use Rattle.giop_checkpoint.specs.declared.fault.StreamFault.{StreamFault}
@@ -8,7 +8,7 @@ use Rattle.giop_stream.specs.Rules.{Rules}
 use Rattle.giop_stream.specs.Framing.{Message, with_payload, Cut, cut, messages}
 use Rattle.giop_stream.specs.Events.{place, events_from, events, open_after, joined}
 use Rattle.giop_stream.specs.Lines.{lines_of_messages, stop_line, lines}
-use Rattle.giop_stream.specs.Stream.{start_count, is_over}
+use Rattle.giop_stream.specs.Stream.{start_count}
 use Rattle.giop_stream.specs.OpenSlots.{octets_of}
 use Rattle.giop_stream.proofs.Lists.{each_weaker}
 use Rattle.giop_stream.proofs.Events.EventsKeep.{Below}
@@ -50,18 +50,13 @@ stop_starts found = refl
 pub place_more : (m : Message) (x n : ℕ) → place m ≡ n →
     place (with_payload m (m.payload ++ x ∷ [])) ≡ suc n
 unfolding place
-place_more m x n h = omega (arith, length_push m.payload x)
+place_more m x n h = search (arith, length_push)
 
 -- a message of which the empty list is kept has no joined octets
 pub none_known : (R : Rules) (p : List ℕ) (i : ℕ) → octets_of R p i ≡ Some [] →
     joined i (events R.most p) ≡ []
 unfolding octets_of
-none_known R p i h = go (is_over R p i) h
-  where
-    go : (b : Bool) → (if b then None else Some (joined i (events R.most p))) ≡ Some [] →
-        joined i (events R.most p) ≡ []
-    go true k = absurd cc
-    go false k = cc
+none_known R p i h = search (arith)
 
 -- the last octet of a header
 pub place_first : (n : ℕ) (m : Message) → m.before ≡ suc n - 12 → m.payload ≡ [] → 11 ≤ n →
@@ -70,21 +65,12 @@ unfolding place
 place_first n m h k j = rw k (omega arith)
 
 pub not_twelve : (n : ℕ) → (n == 12) ≡ false → n ≤ 12 → n < 12
-not_twelve n h k = elim (cases_eq n 12) [
-  | inl e ↦ absurd
-      (let t : (n == 12) ≡ true = eq-eqb n 12 e in cc)
-  | inr other ↦ omega arith
-]
+not_twelve n h k = search (arith, cases_eq, eq-eqb)
 
 pub octets_are : (R : Rules) (p : List ℕ) (i : ℕ) (xs : List ℕ) → octets_of R p i ≡ Some xs →
     joined i (events R.most p) ≡ xs
 unfolding octets_of
-octets_are R p i xs h = go (is_over R p i) h
-  where
-    go : (b : Bool) → (if b then None else Some (joined i (events R.most p))) ≡ Some xs →
-        joined i (events R.most p) ≡ xs
-    go true k = absurd cc
-    go false k = cc
+octets_are R p i xs h = search (arith)
 
 pub if_some : (P : Message → Type 0) (o : Option Message) (m : Message) → o ≡ Some m → IfSome o P →
     P m

@@ -1,7 +1,7 @@
 -- The first messages (all but 1.2 Fragments) that are not over are the open ones and the current
 -- one that are not over.
-use Rattle.std.proofs.Common.{inl, inr, ◌⊎◌, ◌≡◌, ℕ, suc, ◌<◌, ◌≤◌, Bool, true, false, cond, not, List, [], ◌∷◌, ◌++◌, length, map, refl, sym, ap, subst, ◌∙◌, Option, Some, None, arith}
-use Rattle.std.specs.Prelude.{nat_lt, if◌then◌else◌, ◌||◌, IfSome}
+use Rattle.std.proofs.Common.{inl, inr, ◌⊎◌, ◌≡◌, ℕ, suc, ◌<◌, ◌≤◌, Bool, true, false, cond, not, List, [], ◌∷◌, ◌++◌, length, map, refl, sym, subst, ◌∙◌, Option, Some, None, arith}
+use Rattle.std.specs.Prelude.{if◌then◌else◌, ◌||◌, IfSome}
 use Rattle.std.specs.List.{filter, list_any, AllByRecursion as Each}
 use Rattle.std.proofs.lemmas.Bool.{or_left, ltb-false}
 use Rattle.std.proofs.lemmas.List.{append-nil, map-append, length_push}
@@ -10,12 +10,12 @@ use Rattle.giop_message.specs.Headers.{size, is_fragment, is_opener}
 use Rattle.giop_stream.specs.Rules.{Rules}
 use Rattle.giop_stream.specs.Framing.{Message, with_payload, Cut, cut, messages}
 use Rattle.giop_message.specs.MessageReader.{IsCausal, IsEnding, IsStreamable}
-use Rattle.giop_stream.specs.Events.{EventKind, Event, Open, place, events_of_octet, opened, events_from, events, open_after}
+use Rattle.giop_stream.specs.Events.{EventKind, Event, Open, place, events_of_octet, opened, events, open_after}
 use Rattle.giop_stream.specs.Lines.{is_last_of, lines_of_messages}
 use Rattle.giop_stream.specs.Stream.{is_over, first_messages}
 use Rattle.giop_stream.specs.Effects.{with_octet}
 use Rattle.giop_stream.specs.Octet.{Octet, AfterStop, Ends, Held, Of}
-use Rattle.giop_stream.specs.OpenSlots.{octets_of, is_open}
+use Rattle.giop_stream.specs.OpenSlots.{octets_of}
 use Rattle.giop_stream.proofs.StreamLines.EventsTogether.{sorted_lines}
 use Rattle.giop_stream.proofs.Lists.{by_growth, each_weaker, all_by}
 use Rattle.giop_stream.proofs.Cuts.Cutting.{stopped_at, of_parts, settled_messages}
@@ -47,31 +47,26 @@ pub record IsComplete (R : Rules) (p : List ℕ) : Type 0 where
 over_same : (R : Rules) (p p' : List ℕ) → lines_of_messages R p' ≡ lines_of_messages R p →
     is_over R p' ≡ is_over R p
 unfolding is_over
-over_same R p p' sd = λ j i. list_any (is_last_of i) (sd j)
+over_same R p p' sd = search (arith)
 
 complete_quiet : (R : Rules) (p p' : List ℕ) → messages (cut p') ≡ messages (cut p) →
     (cut p').current ≡ (cut p).current
     → events R.most p' ≡ events R.most p → lines_of_messages R p' ≡ lines_of_messages R p →
     IsComplete R p → IsComplete R p'
-complete_quiet R p p' ms cur ev sd complete = record {
-  kept = rw (ms, cur, open_idle R.most p p' ev, over_same R p p' sd) complete.kept;
-  named = rw (cur, open_idle R.most p p' ev, over_same R p p' sd) complete.named;
-}
+complete_quiet R p p' ms cur ev sd complete = search (arith, open_idle, over_same)
 
 less_by : (a b : Bool) (i : ℕ) (xs ys : List ℕ) (test : ℕ → Bool) → test i ≡ (not b) →
     xs ≡ filter test ys
     → cond (not (a || b)) (i ∷ xs) xs ≡ filter test (cond (not a) (i ∷ ys) ys)
 less_by true b i xs ys test h k = k
 less_by false true i xs ys test h k = rw h k
-less_by false false i xs ys test h k = rw h (ap (λ (zs : List ℕ). i ∷ zs) k)
+less_by false false i xs ys test h k = search (arith)
 
 alive_less : (over more : ℕ → Bool) (xs : List ℕ) →
     alive (λ i. over i || more i) xs ≡ filter (λ i. not (more i)) (alive over xs)
 unfolding alive
 alive_less over more [] = refl
-alive_less over more (i ∷ xs) =
-    less_by (over i) (more i) i (alive (λ i. over i || more i) xs) (alive over xs)
-    (λ i. not (more i)) refl (alive_less over more xs)
+alive_less over more (i ∷ xs) = search (arith, less_by, alive, not, alive_less over more xs)
 
 head_of : Message → List ℕ
 head_of m = if is_fragment m.header then [] else m.number ∷ []
@@ -79,39 +74,18 @@ head_of m = if is_fragment m.header then [] else m.number ∷ []
 heads_push : (ms : List Message) (m : Message) → first_messages (ms ++ m ∷ []) ≡ first_messages ms
     ++ head_of m
 unfolding first_messages head_of
-heads_push ms m =
-    rw (
-      filter-append (λ m. not (is_fragment m.header)) ms (m ∷ []),
-      map-append (λ m. m.number)
-          (filter (λ m. not (is_fragment m.header)) ms)
-          (cond (not (is_fragment m.header)) (m ∷ []) []),
-    )
-    (ap (λ (xs : List ℕ). map (λ m. m.number) (filter (λ m. not (is_fragment m.header)) ms) ++ xs)
-    (go (is_fragment m.header)))
-  where
-    go : (b : Bool) → map (λ m. m.number) (cond (not b) (m ∷ []) [])
-        ≡ (if b then [] else m.number ∷ [])
-    go true = refl
-    go false = refl
+heads_push ms m = search (arith, filter-append, not, map-append, cond, map)
 
 known_tail : (over : ℕ → Bool) (still_open : List Open) (m : Message) →
     (is_fragment m.header ≡ false → Known over still_open m) →
     alive over (tail_of still_open m) ≡ []
 unfolding tail_of Known alive
-known_tail over still_open m h = go (is_fragment m.header) refl
-  where
-    go : (b : Bool) → is_fragment m.header ≡ b → alive over (tail_of still_open m) ≡ []
-    go true f = rw f refl
-    go false f = elim (h f) [
-      | inl o ↦ rw (f, o) refl
-      | inr d ↦ dead_tail over m
-          (is_fragment m.header || is_open still_open m.number) d
-    ]
+known_tail over still_open m h = search (arith, alive, tail_of, dead_tail)
 
 pub alive_append : (over : ℕ → Bool) (xs ys : List ℕ) → alive over (xs ++ ys) ≡ alive over xs
     ++ alive over ys
 unfolding alive
-alive_append over xs ys = filter-append (λ i. not (over i)) xs ys
+alive_append over xs ys = search (arith, filter-append, not)
 
 pub alive_none : (over : ℕ → Bool) → alive over [] ≡ []
 unfolding alive
@@ -129,32 +103,22 @@ settled_kept : (over : ℕ → Bool) (whole : List Message) (m : Message) (still
     → alive over (base still_open m) ≡ alive over
     (numbers_of still_open ++ tail_now still_open (end_message whole m).current)
 unfolding end_message base tail_now
-settled_kept over whole m still_open h = go (nat_lt (length m.payload) (size m.header)) refl
-  where
-    go : (b : Bool) → nat_lt (length m.payload) (size m.header) ≡ b
-        → alive over (numbers_of still_open ++ tail_of still_open m) ≡ alive over
-        (numbers_of still_open ++ tail_now still_open
-        (let c : Cut = if b then record {
-          whole = whole;
-          current = Some m;
-          held = [];
-          stop = None;
-        } else record { whole = whole ++ m ∷ []; current = None; held = []; stop = None } in
-        c.current))
-    go true e = refl
-    go false e =
-        let none = known_tail over still_open m (h (ltb-false (length m.payload) (size m.header) e))
-        in
-        alive_append over (numbers_of still_open) (tail_of still_open m)
-        ∙ (rw none (sym (alive_append over (numbers_of still_open) []
-        ∙ rw (alive_none over) refl)))
+settled_kept over whole m still_open h = search (
+  arith,
+  alive,
+  numbers_of,
+  tail_of,
+  known_tail,
+  ltb-false,
+  alive_append,
+  alive_none,
+)
 
 known_later : (over over' more : ℕ → Bool) (still_open : List Open) (m : Message) →
     ((i : ℕ) → over' i ≡ (over i || more i)) → Known over still_open m → Known over' still_open m
 unfolding Known
 known_later over over' more still_open m h (inl o) = inl o
-known_later over over' more still_open m h (inr d) =
-    inr (h m.number ∙ or_left (over m.number) (more m.number) d)
+known_later over over' more still_open m h (inr d) = search (arith, or_left)
 
 stays_is : (over : ℕ → Bool) (m : Message) (still_open : List Open) (es : List Event) →
     Stays over m still_open es
@@ -220,14 +184,7 @@ first_base : (over : ℕ → Bool) (still_open : List Open) (hs : List ℕ) (m :
     → alive over hs ≡ alive over (numbers_of still_open) →
     alive over (hs ++ head_of m) ≡ alive over (base still_open m)
 unfolding base tail_of head_of
-first_base over still_open hs m low h = rw (not_open still_open m.number low)
-    (go (is_fragment m.header))
-  where
-    go : (b : Bool) → alive over (hs ++ (if b then [] else m.number ∷ []))
-        ≡ alive over (numbers_of still_open ++ (if b || false then [] else m.number ∷ []))
-    go true = alive_append over hs [] ∙ rw h (sym (alive_append over (numbers_of still_open) []))
-    go false = alive_append over hs (m.number ∷ [])
-        ∙ rw h (sym (alive_append over (numbers_of still_open) (m.number ∷ [])))
+first_base over still_open hs m low h = search (arith, not_open, alive, numbers_of, alive_append)
 
 -- what is needed of the message m that the octet belongs to
 record Ready (R : Rules) (p : List ℕ) (m : Message) : Type 0 where
@@ -242,44 +199,30 @@ module _ (R : Rules) (causal : IsCausal R.reading) (ending : IsEnding R.reading)
   ready_first : (m : Message) → (cut p).current ≡ None → m.payload ≡ [] →
       m.number ≡ suc (length (cut p).whole) → Ready R p m
   unfolding messages tail_now
-  ready_first m cur none number =
-      let count : length (messages (cut p)) ≡ length (cut p).whole =
-      rw cur (ap length (append-nil (cut p).whole)) in
-      let low : Below m.number (open_after R.most p) =
-      each_weaker (λ o. o.opener.number ≤ length (messages (cut p)))
-      (λ o. o.opener.number < m.number)
-      (λ o k. omega (arith, k, count, number)) (open_after R.most p) sound.numbers in
-      let kept : alive (is_over R p) (first_messages ((cut p).whole ++ []))
-      ≡ alive (is_over R p) (numbers_of (open_after R.most p) ++ []) =
-      rw cur at complete.kept in
-      let kept' : alive (is_over R p) (first_messages (cut p).whole)
-      ≡ alive (is_over R p) (numbers_of (open_after R.most p)) = simp append-nil at kept in
-      record {
-        start = first_base (is_over R p) (open_after R.most p)
-            (first_messages (cut p).whole) m low kept';
-        low = λ four. low;
-        known = λ o past. absurd (omega (arith, past, ap length none));
-      }
+  ready_first m cur none number = search (
+    arith,
+    append-nil,
+    each_weaker,
+    sound,
+    alive,
+    numbers_of,
+    first_base,
+  )
 
   ready_next : (was : Message) → (cut p).stop ≡ None → (cut p).current ≡ Some was →
       Ready R p (with_octet was x)
   unfolding messages head_of base tail_of tail_now
-  ready_next was st cur =
-      let kept : alive (is_over R p) (first_messages ((cut p).whole ++ was ∷ []))
-      ≡ alive (is_over R p)
-      (numbers_of (open_after R.most p) ++ tail_of (open_after R.most p) was) =
-      rw cur at complete.kept in
-      let named : is_opener was.header ≡ true → 4 ≤ length was.payload →
-      Known (is_over R p) (open_after R.most p) was = rw cur at complete.named in
-      let early = if_some (λ m. length m.payload < 4 → Below m.number (open_after R.most p))
-      (cut p).current was cur (sound.early st) in
-      let long = length_push was.payload x in
-      record {
-        start = rw (heads_push (cut p).whole was) at kept;
-        low = λ four. early (omega (arith, long, four));
-        known = λ o past. known_same (is_over R p) (open_after R.most p) was (was.payload ++ x ∷ [])
-            (named o (omega (arith, long, past)));
-      }
+  ready_next was st cur = search (
+    arith,
+    alive,
+    numbers_of,
+    tail_of,
+    if_some,
+    sound,
+    length_push,
+    heads_push,
+    known_same,
+  )
 
   ready : (m : Message) → (cut p).stop ≡ None → m.number ≡ suc (length (cut p).whole)
       → (((cut p).current ≡ None) × (m.payload ≡ []))
@@ -289,22 +232,18 @@ module _ (R : Rules) (causal : IsCausal R.reading) (ending : IsEnding R.reading)
   ready m st number (inr (was, cur, is)) = subst (Ready R p) (sym is) (ready_next was st cur)
 
   len : length (p ++ x ∷ []) ≡ suc (length p)
-  len = omega (arith, length_push p x)
+  len = search (arith, length_push)
 
   idle : (c : Cut) → cut (p ++ x ∷ []) ≡ c → messages c ≡ messages (cut p) →
       c.current ≡ (cut p).current → IsComplete R (p ++ x ∷ [])
   unfolding events
-  idle c e ms cur =
-      let ev = ap (λ (d : Cut). events_from R.most [] (messages d)) e
-      ∙ ap (events_from R.most []) ms in
-      complete_quiet R p (p ++ x ∷ []) (ap messages e ∙ ms) (ap (λ (d : Cut). d.current) e ∙ cur) ev
-      (message_lines_same R causal p (p ++ x ∷ []) len ev sound.places) complete
+  idle c e ms cur = search (arith, complete_quiet, message_lines_same, len, sound)
 
   complete_then : (o : Octet) → Then R p x o → IsComplete R (p ++ x ∷ [])
   unfolding of_parts stopped_at messages
-  complete_then AfterStop h = idle (cut p) h.2.cut_is refl refl
+  complete_then AfterStop h = search (arith, idle)
   complete_then (Ends fault) h = idle _ h.1.cut_is refl refl
-  complete_then (Held front) h = idle _ h.2.cut_is (rw h.1 refl) (sym h.1)
+  complete_then (Held front) h = search (arith, idle)
   complete_then (Of now) h =
       let one = h.1 in
       let r = ready one.m h.0 one.number_is one.from in
@@ -313,11 +252,7 @@ module _ (R : Rules) (causal : IsCausal R.reading) (ending : IsEnding R.reading)
 
 complete_start : (R : Rules) → IsComplete R []
 unfolding of_parts messages first_messages tail_now numbers_of
-complete_start R = record {
-  kept = rw (cut_nothing, open_nothing R.most) refl;
-  named =
-      rw cut_nothing tt;
-}
+complete_start R = search (arith, cut_nothing, open_nothing)
 
 pub complete : (R : Rules) → IsCausal R.reading → IsStreamable R.reading → IsEnding R.reading →
     (p : List ℕ) → IsComplete R p

@@ -1,9 +1,8 @@
 -- Which messages are unfinished: the open ones and the current one, unless they are over.
-use Rattle.std.proofs.Common.{◌≡◌, ℕ, Bool, true, false, cond, not, List, [], ◌∷◌, ◌++◌, length, refl, sym, ap, ◌∙◌, Option, Some, None}
+use Rattle.std.proofs.Common.{arith, ◌≡◌, ℕ, Bool, true, false, cond, not, List, [], ◌∷◌, ◌++◌, length, refl, ◌∙◌, Option, Some, None}
 use Rattle.std.specs.Prelude.{if◌then◌else◌, ◌||◌, ◌&&◌, ◌==◌, nat_le, flat_map}
 use Rattle.std.specs.List.{AllByRecursion as Each}
 use Rattle.std.proofs.lemmas.Bool.{eq-eqb, or_right}
-use Rattle.giop_checkpoint.specs.declared.fault.StreamFault.{StreamFault}
 use Rattle.giop_message.specs.Headers.{is_fragment}
 use Rattle.giop_stream.specs.Rules.{Rules}
 use Rattle.giop_stream.specs.Framing.{Message, Cut, cut, read_of}
@@ -26,7 +25,7 @@ one_left : (over : ℕ → Bool) (xs : OctetsByNumber) (i : ℕ) (rest : List �
     → ((i : ℕ) → over i ≡ false → (ys : List ℕ) × (xs i ≡ Some ys)) → (b : Bool) → over i ≡ b
     → left_by i (xs i) ++ rest ≡ cond (not (over i)) (i ∷ rest) rest
 one_left over xs i rest h k true e = rw (h i e, e) refl
-one_left over xs i rest h k false e = let known = k i e in rw (known.1, e) refl
+one_left over xs i rest h k false e = search (arith)
 
 slots_left : (over : ℕ → Bool) (xs : OctetsByNumber) (still_open : List Open) →
     ((i : ℕ) → over i ≡ true → xs i ≡ None)
@@ -34,10 +33,14 @@ slots_left : (over : ℕ → Bool) (xs : OctetsByNumber) (still_open : List Open
     → flat_map left_open (slots_of xs still_open) ≡ alive over (numbers_of still_open)
 unfolding slots_of left_open alive numbers_of
 slots_left over xs [] h k = refl
-slots_left over xs (o ∷ still_open) h k =
-    rw (slots_left over xs still_open h k)
-    (one_left over xs o.opener.number (alive over (numbers_of still_open)) h k
-    (over o.opener.number) refl)
+slots_left over xs (o ∷ still_open) h k = search (
+  arith,
+  one_left,
+  alive,
+  numbers_of,
+  slots_left
+      over xs still_open h k,
+)
 
 or_none : (b : Bool) → (b || false) ≡ b
 or_none true = refl
@@ -48,12 +51,7 @@ all_open : (still_open : List Open) → Each (λ o. is_open still_open o.opener.
     still_open
 unfolding is_open
 all_open [] = tt
-all_open (o ∷ still_open) = (
-  rw (eq-eqb o.opener.number o.opener.number refl) refl,
-  each_weaker (λ a. is_open still_open a.opener.number ≡ true)
-      (λ a. is_open (o ∷ still_open) a.opener.number ≡ true)
-      (λ a h. or_right (o.opener.number == a.opener.number) _ h) still_open (all_open still_open),
-)
+all_open (o ∷ still_open) = search (arith, eq-eqb, each_weaker, or_right, all_open still_open)
 
 -- the owner of the next octets that isn't open is the current message
 current_left : (over : ℕ → Bool) (c : Tracked) (current : Option Message)
@@ -74,7 +72,7 @@ current_left over c (Some m) h k = go (is_fragment m.header) refl
     fragment : is_fragment m.header ≡ true → (b d : Bool) → is_open c.still_open m.number ≡ d →
         left_current c (if b then opener_key (opener_of c.still_open m) else Some (message_key m))
         ≡ []
-    fragment f true d e = continued (opener_of c.still_open m) refl
+    fragment f true d e = search (arith, continued)
     fragment f false true e = rw e refl
     fragment f false false e = rw (e, f) refl
 
@@ -83,15 +81,14 @@ current_left over c (Some m) h k = go (is_fragment m.header) refl
         ≡ alive over (if open_now then [] else m.number ∷ [])
     itself true b e = refl
     itself false true e = rw (h m.number e, e) refl
-    itself false false e = let known = k m.number e in rw (known.1, e) refl
+    itself false false e = search (arith)
 
     go : (b : Bool) → is_fragment m.header ≡ b
         → left_current c (if is_fragment m.header && nat_le 4 (length m.payload) then
         opener_key (opener_of c.still_open m) else Some (message_key m)) ≡ alive over
         (if is_fragment m.header || is_open c.still_open m.number then [] else m.number ∷ [])
-    go true f = fragment f _ (is_open c.still_open m.number) refl ∙ rw f refl
-    go false f = rw (f, f, or_none (is_open c.still_open m.number))
-        (itself (is_open c.still_open m.number) (over m.number) refl)
+    go true f = search (arith, fragment)
+    go false f = search (arith, or_none, itself)
 
 octets_over : (R : Rules) (p : List ℕ) (i : ℕ) → is_over R p i ≡ true → octets_of R p i ≡ None
 unfolding octets_of
@@ -115,14 +112,9 @@ left_is R causal laws ending p =
 pub read_by : (p : List ℕ) (c : Cut) → cut p ≡ c → is_inside c.current c.held c.stop ≡ true →
     read_of p c.stop ≡ length p
 unfolding is_inside read_of
-read_by p c e h = go c.stop h
-  where
-    go : (stop : Option (ℕ × StreamFault)) → is_inside c.current c.held stop ≡ true →
-        read_of p stop ≡ length p
-    go None k = refl
-    go (Some found) k = absurd cc
+read_by p c e h = search (arith)
 
 pub truncated_by : (b : Bool) (read n : ℕ) → (b ≡ true → read ≡ n) →
     (if b then truncated_line n else []) ≡ (if b then truncated_line read else [])
-truncated_by true read n h = ap truncated_line (sym (h refl))
+truncated_by true read n h = search (arith)
 truncated_by false read n h = refl

@@ -1,16 +1,15 @@
 -- Through the events of an octet the numbers of the open messages and the current one stay, but for
 -- those that are over after it.
-use Rattle.std.proofs.Common.{inl, inr, ◌⊎◌, ◌≡◌, ℕ, ◌<◌, ◌≤◌, Bool, true, false, List, [], ◌∷◌, ◌++◌, length, map, refl, ap, ◌∙◌, Option, Some, None, arith}
-use Rattle.std.specs.Prelude.{nat_lt, nat_le, ◌==◌, if◌then◌else◌, ◌||◌, ◌&&◌}
+use Rattle.std.proofs.Common.{inl, inr, ◌⊎◌, ◌≡◌, ℕ, ◌<◌, ◌≤◌, Bool, true, false, List, [], ◌∷◌, ◌++◌, length, map, refl, ap, Option, Some, None, arith}
+use Rattle.std.specs.Prelude.{nat_le, ◌==◌, if◌then◌else◌}
 use Rattle.std.specs.List.{AllByRecursion as Each}
 use Rattle.std.proofs.lemmas.Bool.{and_right, and_parts, cases_lt, lt-ltb, le-ltb, eq-eqb, ne_eqb, eqb-true}
 use Rattle.std.proofs.lemmas.List.{append-nil, map-append}
 use Rattle.giop_stream.specs.declared.fault.FramingFault.{FramingFault}
 use Rattle.giop_stream.specs.declared.fault.FramingFault.TheVariants.{Short, IdOpen, TooManyOpen}
-use Rattle.giop_message.specs.Headers.{size, kind, minor, has_more, may_be_fragmented, is_fragment, is_opener, is_cancel}
+use Rattle.giop_message.specs.Headers.{size, kind, may_be_fragmented, is_fragment, is_opener}
 use Rattle.giop_stream.specs.Framing.{Message}
-use Rattle.giop_stream.specs.Kinds.{may_be_cancelled}
-use Rattle.giop_stream.specs.Events.{EventKind, Opens, Cancelled, Faults, Closes, MessageKey, Event, Open, id, own, event_of_open, opener_of, events_at_header, events_at_octet, opens, continues, cancels, events_at_request_id, events_at_end, events_of_octet, changed, opened, now_of, request_id_events, message_end_events}
+use Rattle.giop_stream.specs.Events.{EventKind, Opens, Cancelled, Faults, Closes, MessageKey, Event, Open, id, own, event_of_open, opener_of, events_at_header, events_at_octet, opens, cancels, events_at_request_id, events_at_end, events_of_octet, changed, opened, now_of, request_id_events, message_end_events}
 use Rattle.giop_stream.specs.OpenSlots.{is_open}
 use Rattle.giop_stream.proofs.Events.EventsOfOctet.{opened_append, quiet_header, quiet_octet, quiet_continues, quiet_if, quiet_own, quiet_none, still_faulted}
 use Rattle.giop_stream.proofs.Events.EventsKeep.{Below}
@@ -48,8 +47,7 @@ stays_about : (over : ℕ → Bool) (m : Message) (still_open : List Open) (o : 
     Stays over m still_open (event_of_open (now_of m) o what)
 unfolding event_of_open Dead Stays opened
 stays_about over m still_open None what c f d = refl
-stays_about over m still_open (Some o) what c f d =
-    rw (c o.opener) (removed over o.opener.number still_open m (d.0 f))
+stays_about over m still_open (Some o) what c f d = search (arith, removed)
 
 close_removes : (still_open : List Open) (subject : MessageKey) →
     changed still_open subject Closes ≡ without subject.number still_open
@@ -72,33 +70,28 @@ final_cancelled j = refl
 stays_end : (over : ℕ → Bool) (before still_open : List Open) (m : Message) →
     Each (Dead over) (events_at_end before m) → Stays over m still_open (events_at_end before m)
 unfolding message_end_events
-stays_end over before still_open m =
-    stays_if over m still_open (nat_lt (size m.header) 4
-    && (is_opener m.header || is_fragment m.header))
-    (own (now_of m) (Faults Short)) _
-    (λ e d. stays_quiet over m still_open _
-    (quiet_own still_open (now_of m) (Faults Short) (still_faulted Short still_open)))
-    (λ e. stays_if over m still_open (is_opener m.header) [] _
-    (λ k d. stays_quiet over m still_open [] (quiet_none still_open))
-    (λ k. stays_if over m still_open (is_fragment m.header) _ (own (now_of m) Closes)
-    (λ j. stays_if over m still_open (has_more m.header) []
-    (event_of_open (now_of m) (opener_of before m) Closes)
-    (λ i d. stays_quiet over m still_open [] (quiet_none still_open))
-    (λ i d. stays_about over m still_open (opener_of before m) Closes (close_removes still_open)
-    final_closes d))
-    (λ j d. stays_closes over m still_open d)))
+stays_end over before still_open m = search (
+  arith,
+  stays_if,
+  stays_quiet,
+  quiet_own,
+  still_faulted,
+  quiet_none,
+  stays_about,
+  close_removes,
+  final_closes,
+  stays_closes,
+)
 
 pub not_open : (still_open : List Open) (n : ℕ) → Below n still_open → is_open still_open n ≡ false
 unfolding is_open
 not_open [] n h = refl
-not_open (o ∷ still_open) n h = let less = h.0 in
-    rw (ne_eqb o.opener.number n (λ e. omega arith)) (not_open still_open n h.1)
+not_open (o ∷ still_open) n h = search (arith, ne_eqb, not_open still_open n h.1)
 
 open_last : (still_open : List Open) (o : Open) →
     is_open (still_open ++ o ∷ []) o.opener.number ≡ true
 unfolding is_open
-open_last still_open o = any_right (λ a. a.opener.number == o.opener.number) still_open (o ∷ [])
-    (rw (eq-eqb o.opener.number o.opener.number refl) refl)
+open_last still_open o = search (arith, any_right, eq-eqb)
 
 stays_opens : (over : ℕ → Bool) (m : Message) (still_open : List Open) →
     is_fragment m.header ≡ false → Below m.number still_open →
@@ -118,43 +111,46 @@ stays_opens over m still_open f low =
 stays_opening : (most : ℕ) (over : ℕ → Bool) (m : Message) (still_open : List Open) →
     Below m.number still_open → is_fragment m.header ≡ false
     → (o : Option Open) → Stays over m still_open (opens most still_open (now_of m) (id m) o)
-stays_opening most over m still_open low f (Some other) =
-    stays_quiet over m still_open _ (quiet_own still_open (now_of m) (Faults IdOpen)
-    (still_faulted IdOpen still_open))
-stays_opening most over m still_open low f None = pick (nat_le most (length still_open))
-  where
-    pick : (b : Bool) → Stays over m still_open
-        (if b then own (now_of m) (Faults TooManyOpen) else own (now_of m) (Opens (id m)))
-    pick true = stays_quiet over m still_open _
-        (quiet_own still_open (now_of m) (Faults TooManyOpen)
-        (still_faulted TooManyOpen still_open))
-    pick false = stays_opens over m still_open f low
+stays_opening most over m still_open low f (Some other) = search (
+  arith,
+  stays_quiet,
+  quiet_own,
+  still_faulted,
+)
+stays_opening most over m still_open low f None = search (
+  arith,
+  stays_quiet,
+  quiet_own,
+  still_faulted,
+  stays_opens,
+)
 
 stays_cancels : (over : ℕ → Bool) (m : Message) (still_open : List Open) (o : Option Open)
     → Each (Dead over) (cancels (now_of m) o) → Stays over m still_open (cancels (now_of m) o)
-stays_cancels over m still_open None d = stays_quiet over m still_open [] (quiet_none still_open)
-stays_cancels over m still_open (Some o) d =
-    stays_if over m still_open (may_be_cancelled o.opener.header)
-    (event_of_open (now_of m) (Some o) (Cancelled m.number)) []
-    (λ e k. stays_about over m still_open (Some o) (Cancelled m.number)
-    (cancel_removes still_open m.number)
-    (final_cancelled m.number) k) (λ e k. stays_quiet over m still_open [] (quiet_none still_open))
-    d
+stays_cancels over m still_open None d = search (arith, stays_quiet, quiet_none)
+stays_cancels over m still_open (Some o) d = search (
+  arith,
+  stays_if,
+  stays_about,
+  cancel_removes,
+  final_cancelled,
+  stays_quiet,
+  quiet_none,
+)
 
 stays_id : (most : ℕ) (over : ℕ → Bool) (m : Message) (still_open : List Open) →
     Below m.number still_open → Each (Dead over) (events_at_request_id most still_open m) →
     Stays over m still_open (events_at_request_id most still_open m)
 unfolding request_id_events
-stays_id most over m still_open low =
-    let other = opener_of still_open m in
-    stays_if over m still_open (is_fragment m.header) (continues (now_of m) other) _
-    (λ e d. stays_quiet over m still_open _ (quiet_continues still_open (now_of m) other))
-    (λ f. stays_if over m still_open (is_opener m.header)
-    (opens most still_open (now_of m) (id m) other) _
-    (λ e d. stays_opening most over m still_open low f other)
-    (λ e. stays_if over m still_open (is_cancel m.header) (cancels (now_of m) other) []
-    (λ k. stays_cancels over m still_open other)
-    (λ k d. stays_quiet over m still_open [] (quiet_none still_open))))
+stays_id most over m still_open low = search (
+  arith,
+  stays_if,
+  stays_quiet,
+  quiet_continues,
+  stays_opening,
+  stays_cancels,
+  quiet_none,
+)
 
 each_left : {A : Type 0} (P : A → Type 0) (xs ys : List A) → Each P (xs ++ ys) → Each P xs
 each_left P [] ys h = tt
@@ -168,50 +164,37 @@ stays_both : (over : ℕ → Bool) (m : Message) (still_open : List Open) (es mo
     Stays over m still_open es
     → Stays over m (opened still_open es) more → Stays over m still_open (es ++ more)
 unfolding Stays
-stays_both over m still_open es more h k = rw (opened_append still_open es more) (k ∙ h)
+stays_both over m still_open es more h k = search (arith, opened_append)
 
 pub stays_events : (most : ℕ) (over : ℕ → Bool) (m : Message) (still_open : List Open) →
     (length m.payload ≡ 4 → Below m.number still_open)
     → Each (Dead over) (events_of_octet most still_open m) →
     Stays over m still_open (events_of_octet most still_open m)
 unfolding events_of_octet
-stays_events most over m still_open low d =
-    let first = if length m.payload == 0 then events_at_header m else events_at_octet still_open m
-    in
-    let second = if length m.payload == 4 then events_at_request_id most still_open m else [] in
-    let third = if length m.payload == size m.header then events_at_end still_open m else [] in
-    let still : opened still_open first ≡ still_open =
-    quiet_if still_open (length m.payload == 0) (events_at_header m) (events_at_octet still_open m)
-    (λ e. quiet_header still_open (now_of m))
-    (λ e. quiet_octet still_open (now_of m) (opener_of still_open m)) in
-    let rest : Each (Dead over) (second ++ third) =
-    each_right (Dead over) first (second ++ third) d in
-    let two : Stays over m still_open second =
-    stays_if over m still_open (length m.payload == 4) (events_at_request_id most still_open m) []
-    (λ e. stays_id most over m still_open (low (eqb-true (length m.payload) 4 e)))
-    (λ e k. stays_quiet over m still_open [] (quiet_none still_open))
-    (each_left (Dead over) second third rest) in
-    let three : Stays over m (opened still_open second) third =
-    stays_if over m (opened still_open second) (length m.payload == size m.header)
-    (events_at_end still_open m) []
-    (λ e. stays_end over still_open (opened still_open second) m)
-    (λ e k. stays_quiet over m (opened still_open second) []
-    (quiet_none (opened still_open second)))
-    (each_right (Dead over) second third rest) in
-    stays_both over m still_open first (second ++ third) (stays_quiet over m still_open first still)
-    (rw still (stays_both over m still_open second third two three))
+stays_events most over m still_open low d = search (
+  arith,
+  quiet_if,
+  quiet_header,
+  quiet_octet,
+  each_right,
+  stays_if,
+  stays_id,
+  eqb-true,
+  stays_quiet,
+  quiet_none,
+  each_left,
+  stays_end,
+  stays_both,
+)
 
 -- A first message (no 1.2 Fragment) is open or over once it has its last octet.
 opener_kind : (h : List ℕ) → may_be_fragmented h ≡ true → (kind h == 7) ≡ false
 unfolding may_be_fragmented
-opener_kind h e = ne_eqb (kind h) 7 (λ seven.
-    absurd (let no : may_be_fragmented h ≡ false = rw (may_be_fragmented, seven) refl in cc))
+opener_kind h e = search (arith, ne_eqb)
 
 opener_no_fragment : (h : List ℕ) → is_opener h ≡ true → is_fragment h ≡ false
 unfolding is_opener is_fragment
-opener_no_fragment h e =
-    let both = and_parts ((minor h == 2) && has_more h) (may_be_fragmented h) e in
-    and_right (minor h == 2) (kind h == 7) (opener_kind h both.1)
+opener_no_fragment h e = search (arith, and_parts, and_right, opener_kind)
 
 unfoldable pub Known : (ℕ → Bool) → List Open → Message → Type 0
 Known over still_open m = (is_open still_open m.number ≡ true) ⊎ (over m.number ≡ true)
@@ -253,43 +236,32 @@ known_opens most over m still_open = go (opener_of still_open m)
 opener_end : (still_open : List Open) (m : Message) → is_opener m.header ≡ true →
     4 ≤ size m.header → events_at_end still_open m ≡ []
 unfolding message_end_events
-opener_end still_open m o h = rw (message_end_events, o, le-ltb (size m.header) 4 h) refl
+opener_end still_open m o h = search (arith, le-ltb)
 
 head_end : (still_open : List Open) (m : Message) → is_opener m.header ≡ false →
     is_fragment m.header ≡ false → events_at_end still_open m ≡ own (now_of m) Closes
 unfolding message_end_events
-head_end still_open m o f = rw (
-  message_end_events,
-  o,
-  f,
-  and_right (nat_lt (size m.header) 4) false refl,
-) refl
+head_end still_open m o f = search (arith, and_right)
 
 short_end : (still_open : List Open) (m : Message) → is_opener m.header ≡ true → size m.header < 4 →
     events_at_end still_open m ≡ own (now_of m) (Faults Short)
 unfolding message_end_events
-short_end still_open m o h = rw (message_end_events, o, lt-ltb (size m.header) 4 h) refl
+short_end still_open m o h = search (arith, lt-ltb)
 
 opener_id : (most : ℕ) (still_open : List Open) (m : Message) → is_opener m.header ≡ true →
     events_at_request_id most still_open m
     ≡ opens most still_open (now_of m) (id m) (opener_of still_open m)
 unfolding request_id_events
-opener_id most still_open m o = rw (request_id_events, o, opener_no_fragment m.header o) refl
+opener_id most still_open m o = search (arith, opener_no_fragment)
 
 third_none : (still_open : List Open) (m : Message) → is_opener m.header ≡ true → 4 ≤ size m.header
     → (if length m.payload == size m.header then events_at_end still_open m else []) ≡ []
-third_none still_open m o h = go (length m.payload == size m.header)
-  where
-    go : (b : Bool) → (if b then events_at_end still_open m else []) ≡ []
-    go true = opener_end still_open m o h
-    go false = refl
+third_none still_open m o h = search (arith, opener_end)
 
 first_quiet : (still_open : List Open) (m : Message) →
     opened still_open (if length m.payload == 0 then events_at_header m else events_at_octet
     still_open m) ≡ still_open
-first_quiet still_open m = quiet_if still_open (length m.payload == 0) (events_at_header m)
-    (events_at_octet still_open m) (λ e. quiet_header still_open (now_of m))
-    (λ e. quiet_octet still_open (now_of m) (opener_of still_open m))
+first_quiet still_open m = search (arith, quiet_if, quiet_header, quiet_octet)
 
 -- the open messages after the three parts of an octet's events
 after_parts : (most : ℕ) (still_open : List Open) (m : Message) (second third : List Event)
@@ -298,11 +270,7 @@ after_parts : (most : ℕ) (still_open : List Open) (m : Message) (second third 
     → opened still_open (events_of_octet most still_open m)
     ≡ opened (opened still_open second) third
 unfolding events_of_octet
-after_parts most still_open m second third h k =
-    let first = if length m.payload == 0 then events_at_header m else events_at_octet still_open m
-    in
-    opened_append still_open first _ ∙ rw (first_quiet still_open m, h, k)
-    (opened_append still_open second third)
+after_parts most still_open m second third h k = search (arith, opened_append, first_quiet)
 
 dead_parts : (most : ℕ) (over : ℕ → Bool) (still_open : List Open) (m : Message)
     (second third : List Event)
@@ -311,14 +279,11 @@ dead_parts : (most : ℕ) (over : ℕ → Bool) (still_open : List Open) (m : Me
     Each (Dead over) (events_of_octet most still_open m)
     → Each (Dead over) (second ++ third)
 unfolding events_of_octet
-dead_parts most over still_open m second third h k d =
-    let rest = each_right (Dead over) (if length m.payload == 0 then events_at_header m else
-    events_at_octet still_open m) _ d in
-    rw (h, k) at rest
+dead_parts most over still_open m second third h k d = search (arith, each_right)
 
 second_none : (most : ℕ) (still_open : List Open) (m : Message) → 4 < length m.payload →
     (if length m.payload == 4 then events_at_request_id most still_open m else []) ≡ []
-second_none most still_open m h = rw (ne_eqb (length m.payload) 4 (λ e. omega arith)) refl
+second_none most still_open m h = search (arith, ne_eqb)
 
 pub opener_known : (most : ℕ) (over : ℕ → Bool) (m : Message) (still_open : List Open) →
     is_opener m.header ≡ true → 4 ≤ length m.payload
@@ -353,22 +318,15 @@ pub done_known : (most : ℕ) (over : ℕ → Bool) (m : Message) (still_open : 
     → Each (Dead over) (events_of_octet most still_open m) →
     Known over (opened still_open (events_of_octet most still_open m)) m
 unfolding events_of_octet Known
-done_known most over m still_open f full before d = go (is_opener m.header) refl
-  where
-    last : (es : List Event) → events_at_end still_open m ≡ es → Each (Dead over) es
-    last es h =
-        let rest = each_right (Dead over) (if length m.payload == 0 then events_at_header m else
-        events_at_octet still_open m) _ d in
-        let third = each_right (Dead over) (if length m.payload == 4 then events_at_request_id most
-        still_open m else []) _ rest in
-        rw (eq-eqb (length m.payload) (size m.header) full, h) at third
-
-    go : (b : Bool) → is_opener m.header ≡ b →
-        Known over (opened still_open (events_of_octet most still_open m)) m
-    go false o = inr (dead_own over m Closes final_closes
-        (last (own (now_of m) Closes) (head_end still_open m o f)))
-    go true o = elim (cases_lt (size m.header) 4) [
-      | inl short ↦ inr (dead_own over m (Faults Short) (final_faulted Short)
-          (last (own (now_of m) (Faults Short)) (short_end still_open m o short)))
-      | inr long ↦ opener_known most over m still_open o (omega arith) (omega arith) (before o) d
-    ]
+done_known most over m still_open f full before d = search (
+  arith,
+  each_right,
+  eq-eqb,
+  dead_own,
+  final_closes,
+  head_end,
+  cases_lt,
+  final_faulted,
+  short_end,
+  opener_known,
+)

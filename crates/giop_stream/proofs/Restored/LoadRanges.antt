@@ -1,25 +1,23 @@
 -- The fields of any stream's engine are in the ranges of a checkpoint's fixed part, so that a load
 -- takes them.
-use Rattle.std.proofs.Common.{◌≡◌, ℕ, ◌+◌, ◌*◌, ◌-◌, ◌^◌, ◌<◌, ◌≤◌, Bool, true, false, List, [], ◌∷◌, ◌++◌, length, refl, sym, ◌∙◌, Option, Some, None, arith}
-use Rattle.std.specs.Prelude.{nat_lt, if◌then◌else◌, IfSome}
+use Rattle.std.proofs.Common.{◌≡◌, ℕ, ◌+◌, ◌*◌, ◌-◌, ◌^◌, ◌<◌, ◌≤◌, Bool, true, false, List, [], ◌∷◌, ◌++◌, length, refl, Option, Some, None, arith}
+use Rattle.std.specs.Prelude.{nat_lt, if◌then◌else◌}
 use Rattle.std.proofs.lemmas.Bool.{ltb-true, ltb-false}
 use Rattle.giop_cdr.specs.Numbers.{AreOctets}
 use Rattle.giop_sig.specs.Table.{Table}
 use Rattle.giop_message.specs.declared.message.Message.{Message as CodeMessage}
 use Rattle.giop_message.specs.Headers.{size}
 use Rattle.giop_message.specs.MessageReader.{IsCausal, IsStreamable}
-use Rattle.giop_message.specs.Signatures.{RequestTable, signatures_of, by_list}
+use Rattle.giop_message.specs.Signatures.{RequestTable, by_list}
 use Rattle.giop_message.proofs.MessageLaws.{is_causal}
 use Rattle.giop_checkpoint.specs.declared.fault.StreamFault.{StreamFault}
 use Rattle.giop_checkpoint.specs.declared.fixed.Place.TheVariants.{Header, Payload}
 use Rattle.giop_checkpoint.specs.Layouts.{IsAmong}
 use Rattle.giop_checkpoint.specs.Fixed.{PlaceHasRange, HasRange}
-use Rattle.giop_stream.specs.SlotsRepresent.{index_of, current_of}
-use Rattle.giop_stream.specs.HeaderOctets.{first_wrong_octet}
 use Rattle.giop_stream.specs.Rules.{Rules, rules}
-use Rattle.giop_stream.specs.Framing.{Message, Cut, cut, limit, read_of, fault_of}
-use Rattle.giop_stream.specs.Events.{place, open_after}
-use Rattle.giop_stream.specs.OpenSlots.{octets_of, tracked_after, slots_at}
+use Rattle.giop_stream.specs.Framing.{Cut, cut, limit, read_of, fault_of}
+use Rattle.giop_stream.specs.Events.{place}
+use Rattle.giop_stream.specs.OpenSlots.{tracked_after}
 use Rattle.giop_stream.specs.Stream.{tally}
 use Rattle.giop_stream.specs.Octet.{Octet, AfterStop, Ends, Held, Of, header_of, octet_of}
 use Rattle.giop_stream.specs.EngineState.{unless, state_of}
@@ -28,7 +26,7 @@ use Rattle.giop_stream.specs.Checkpoint.{place_of, owner_of, count_own, fixed_of
 use Rattle.giop_stream.proofs.Lists.{by_growth}
 use Rattle.giop_stream.proofs.Cuts.Start.{cut_nothing}
 use Rattle.giop_stream.proofs.Cuts.Cutting.{stopped_at, of_parts, settle_stop}
-use Rattle.giop_stream.proofs.Events.Soundness.{CurrentFits, Fits}
+use Rattle.giop_stream.proofs.Events.Soundness.{Fits}
 use Rattle.giop_stream.proofs.CodeSteps.OneOctet.{Then, then_is}
 use Rattle.giop_stream.proofs.Cuts.OfOctets.{HeaderOctets, header_octets, size_fits}
 use Rattle.giop_stream.proofs.CodeSteps.EngineAlive.{sound, few_open}
@@ -41,14 +39,14 @@ use Rattle.giop_stream.proofs.Events.FaultsBound.{stop_count, one_stop, tally_fa
 
 among : (b : Bool) (k many more : ℕ) → nat_lt k many ≡ b →
     IsAmong (many + more) (if b then Some k else None)
-among true k many more e = omega (arith, ltb-true k many e)
+among true k many more e = search (arith, ltb-true)
 among false k many more e = tt
 
 owner_among : (i : Option ℕ) (own : Option CodeMessage) (many : ℕ) →
     IsAmong (many + count_own own) (owner_of i own many)
 owner_among None None many = tt
 owner_among None (Some m) many = omega arith
-owner_among (Some k) own many = among (nat_lt k many) k many (count_own own) refl
+owner_among (Some k) own many = search (arith, among)
 
 -- a header has 12 octets at most, and a size of 32 bits if it is complete
 record IsHeader (header : List ℕ) : Type 0 where
@@ -59,16 +57,13 @@ place_by : (b : Bool) (header : List ℕ) (payload_count : ℕ) → IsHeader hea
     nat_lt (length header) 12 ≡ b
     → PlaceHasRange (if b then Header (record { items = header }) else Payload header
     (size header - payload_count))
-place_by true header payload_count h e = omega (arith, ltb-true (length header) 12 e)
-place_by false header payload_count h e =
-    let twelve : length header ≡ 12 = omega (arith, h.most, ltb-false (length header) 12 e) in
-    (twelve, omega (arith, h.small twelve))
+place_by true header payload_count h e = search (arith, ltb-true)
+place_by false header payload_count h e = search (arith, ltb-false)
 
 place_range : (stopped : Option StreamFault) (header : List ℕ) (payload_count : ℕ) → IsHeader header
     → PlaceHasRange (place_of stopped header payload_count)
 place_range (Some fault) header payload_count h = tt
-place_range None header payload_count h =
-    place_by (nat_lt (length header) 12) header payload_count h refl
+place_range None header payload_count h = search (arith, place_by)
 
 one_own : (own : Option CodeMessage) → count_own own ≤ 1
 one_own None = omega arith
@@ -94,28 +89,7 @@ IsWithin n header = IsHeader header × (length header ≤ n)
 header_fits : (n : ℕ) (c : Cut) → Fits n c → HeaderOctets c →
     IsWithin n (header_of c.current c.held)
 unfolding IsWithin place
-header_fits n c fits octets = go c.current fits.current octets
-  where
-    go : (o : Option Message) → IfSome o (CurrentFits n c) →
-        IfSome o (λ m. AreOctets m.header × (first_wrong_octet m.header ≡ None))
-        → IsWithin n (header_of o c.held)
-    go None f h = (
-      record {
-        most = omega (arith, fits.short);
-        small =
-            λ no. absurd (omega (arith, fits.short, no));
-      },
-      fits.held,
-    )
-    go (Some m) f h =
-        let within : length m.header ≤ n = omega (arith, f.twelve, f.place_is) in (
-          record {
-            most = omega (arith, f.twelve);
-            small =
-                λ twelve. size_fits m.header h.0 twelve;
-          },
-          within,
-        )
+header_fits n c fits octets = search (arith, size_fits)
 
 module _ (R : Rules) (causal : IsCausal R.reading) (laws : IsStreamable R.reading) where
   late_by : (p : List ℕ) (x : ℕ) (o : Octet) → Then R p x o → Late (cut p).stop →
@@ -124,7 +98,7 @@ module _ (R : Rules) (causal : IsCausal R.reading) (laws : IsStreamable R.readin
   late_by p x AfterStop h ih = rw h.2.cut_is ih
   late_by p x (Ends fault) h ih = rw h.1.cut_is (omega arith)
   late_by p x (Held front) h ih = rw h.2.cut_is tt
-  late_by p x (Of now) h ih = rw (h.1.adds.cut_is, settle_stop (cut p).whole h.1.m) tt
+  late_by p x (Of now) h ih = search (arith, settle_stop)
 
   late : (p : List ℕ) → Late (cut p).stop
   unfolding of_parts
@@ -153,15 +127,10 @@ module _ (R : Rules) (causal : IsCausal R.reading) (laws : IsStreamable R.readin
 
   late_octets : (p : List ℕ) → stop_count (cut p).stop ≤ (tally R p).octets
   unfolding tally
-  late_octets p = read_late p (cut p).stop (late p)
+  late_octets p = search (arith, read_late, late)
 
   few_faults : (p : List ℕ) → (tally R p).faults ≤ 3 * (tally R p).octets
-  few_faults p = omega (
-    arith,
-    tally_faults R causal laws p,
-    messages_few R causal laws p,
-    late_octets p,
-  )
+  few_faults p = search (arith, tally_faults, messages_few, late_octets)
 
 -- ---- The stream that a checkpoint spells.
 
@@ -182,7 +151,7 @@ module _ (octets p : List ℕ) (C : Table) (l : RequestTable) (most : ℕ)
   R = rules C l most
 
   causal : IsCausal R.reading
-  causal = is_causal (λ number. signatures_of C (by_list l number))
+  causal = search (arith, is_causal)
 
   laws : IsStreamable R.reading
   laws = in_turn C (by_list l)
@@ -193,46 +162,43 @@ module _ (octets p : List ℕ) (C : Table) (l : RequestTable) (most : ℕ)
 
   free : s.memory.stopped ≡ None → (cut p).stop ≡ None
   unfolding state_of
-  free none = free_stop (cut p).stop (sym s.shows.stopped ∙ none)
+  free none = search (arith, free_stop)
 
   pub few_slots : length s.memory.slots.slots.entries ≤ most
   unfolding state_of tracked_after
-  few_slots =
-      let many = are_as_many C (by_list l) s.memory.slots.slots.entries
-      (slots_at (tracked_after R p)) s.shows.slots.slots in
-      omega (arith, many, slots_many (octets_of R p) (open_after most p), few_open most p)
+  few_slots = search (arith, are_as_many, slots_many, few_open)
 
   header_is : IsWithin s.memory.totals.octets s.memory.header
   header_is = rw (totals_are, s.shows.header) (header_within R causal laws p s.stream)
 
   pub may_be_again : AreTotals s.memory
   unfolding IsWithin limit
-  may_be_again = record {
-    running = λ none. rw totals_are (octets_free R p (free none));
-    messages = rw totals_are (omega (arith, messages_few R causal laws p));
-    faults = rw totals_are (few_faults R causal laws p);
-    held = header_is.1;
-  }
+  may_be_again = search (
+    arith,
+    totals_are,
+    octets_free,
+    free,
+    messages_few,
+    causal,
+    laws,
+    few_faults,
+    header_is,
+  )
 
   pub fixed_range : HasRange s.layout (fixed_of C l s.memory)
   unfolding fixed_of IsWithin limit
-  fixed_range =
-      let few = octets_few R p in
-      let twelfth = messages_few R causal laws p in
-      let m = s.memory in
-      record {
-        most_open = rw s.limit s.allows;
-        records = omega (arith, few_slots, s.limit, one_own (current_of m.slots.owner));
-        octets = rw totals_are (omega (arith, few));
-        messages = rw totals_are (omega (arith, few, twelfth));
-        faults = rw totals_are (omega (
-          arith,
-          few,
-          twelfth,
-          tally_faults R causal laws p,
-          one_stop (cut p).stop,
-        ));
-        place = place_range m.stopped m.header m.payload_count header_is.0;
-        owner = owner_among (index_of m.slots.owner) (current_of m.slots.owner)
-            (length m.slots.slots.entries);
-      }
+  fixed_range = search (
+    arith,
+    octets_few,
+    messages_few,
+    causal,
+    laws,
+    few_slots,
+    one_own,
+    totals_are,
+    tally_faults,
+    one_stop,
+    place_range,
+    header_is,
+    owner_among,
+  )

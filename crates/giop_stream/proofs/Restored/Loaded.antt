@@ -1,5 +1,5 @@
 -- The slots that are read from a checkpoint's records are those that were written.
-use Rattle.std.proofs.Common.{◌≡◌, ℕ, suc, ◌+◌, ◌-◌, ◌<◌, ◌≤◌, zero, Bool, true, false, List, [], ◌∷◌, ◌++◌, length, drop, flat_map, replicate, arith, Option, Some, None, inl, inr, ◌⊎◌, refl, sym, ap, ◌∙◌, subst, append_assoc, append-nil}
+use Rattle.std.proofs.Common.{◌≡◌, ℕ, suc, ◌+◌, ◌-◌, ◌<◌, ◌≤◌, zero, Bool, true, false, List, [], ◌∷◌, ◌++◌, length, drop, flat_map, replicate, arith, Option, Some, None, inl, inr, ◌⊎◌, refl, sym, ◌∙◌, subst, append_assoc, append-nil}
 use Rattle.std.specs.Prelude.{is_some, IsSomeAnd}
 use Rattle.std.specs.List.{AllByRecursion as Each}
 use Rattle.std.proofs.lemmas.List.{length-append}
@@ -8,7 +8,6 @@ use Rattle.giop_message.specs.declared.message.Message.{Message}
 use Rattle.giop_message.specs.MessageState.{Follows}
 use Rattle.giop_message.specs.Signatures.{Answers}
 use Rattle.giop_message.specs.Stored.{Stored}
-use Rattle.giop_checkpoint.specs.declared.record.Record.{Record}
 use Rattle.giop_checkpoint.specs.declared.record.FirstRecord.{FirstRecord}
 use Rattle.giop_checkpoint.specs.declared.record.RecordKind.TheVariants as record_kinds
 use Rattle.giop_checkpoint.specs.Records.{Entry, EntryHasRange, AreRecords, entry_octets, used}
@@ -27,22 +26,19 @@ use Rattle.giop_stream.proofs.Restored.SavedSizes.{entries_range}
 
 number_in : (first : FirstRecord) (e : Entry) → IsEntry first e →
     first.«record».number ≡ e.record_is.number
-number_in first e entry = ap (λ (r : Record). r.number) entry.own
+number_in first e entry = search (arith)
 
 header_in : (first : FirstRecord) (e : Entry) → IsEntry first e →
     first.«record».header ≡ e.record_is.header
-header_in first e entry = ap (λ (r : Record). r.header) entry.own
+header_in first e entry = search (arith)
 
 standing_in : (first : FirstRecord) (e : Entry) → IsEntry first e →
     first.«record».record_kind ≡ e.record_is.record_kind
-standing_in first e entry = ap (λ (r : Record). r.record_kind) entry.own
+standing_in first e entry = search (arith)
 
 stored_in : (m : Message) (e : Entry) (first : FirstRecord) → IsHeld m e → IsEntry first e →
     Stored m first.message first.frames.now
-stored_in m e first is entry =
-    let P : List ℕ → Type 0 = λ xs. Stored m xs first.frames.now in
-    let Q : List ℕ → Type 0 = λ xs. Stored m e.message xs in
-    subst P (sym entry.message) (subst Q (sym entry.frames) is.stored)
+stored_in m e first is entry = search (arith)
 
 open_id : (a b : ℕ) → record_kinds.Open a ≡ record_kinds.Open b → a ≡ b
 open_id a b e = cc
@@ -101,24 +97,22 @@ module _ (C : Table) (l : Answers) (first : FirstRecord) where
       (message_octets : Option (List ℕ)) (kid id : ℕ) →
       IsOf e w message message_octets kid → first.«record».record_kind ≡ record_kinds.Over id →
       (kid ≡ id) × IsNothing w message_octets
-  over_by e w None None kid id is over = (
-    over_id kid id (sym is.record_kind ∙ over),
-    (is.entry.frames ∙ is.stored.1, is.entry.message ∙ is.stored.0, tt),
-  )
+  over_by e w None None kid id is over = search (arith, over_id)
   over_by e w None (Some xs) kid id is over = absurd is.kept
-  over_by e w (Some m) message_octets kid id is over =
-      absurd (open_not_over kid id (sym is.record_kind ∙ over))
+  over_by e w (Some m) message_octets kid id is over = search (arith, open_not_over)
 
 module _ (C : Table) (l : Answers) (octets : ℕ) (first : FirstRecord) where
   pub current_again : (w : MessageKey) (xs : Option (List ℕ)) (found : Option Message) →
       IsCurrentEntry C l (octets + 1) first w xs → Restores C octets first found →
       (is_some found ≡ true) × RepresentsMessage C l found w xs
   current_again w None found is again = absurd is.own_is
-  current_again w (Some xs) found is again =
-      is_again C l first w xs found (again is.message l w.number w.header xs is.ready
-      (sym is.entry_is.number_is ∙ sym (number_in first is.entry is.read))
-      (sym is.entry_is.header_is ∙ sym (header_in first is.entry is.read))
-      (stored_in is.message is.entry first is.entry_is.message is.read) is.own_is)
+  current_again w (Some xs) found is again = search (
+    arith,
+    is_again,
+    number_in,
+    header_in,
+    stored_in,
+  )
 
   open_by : (e : Entry) (w : MessageKey) (found message : Option Message)
       (message_octets : Option (List ℕ)) (kid id : ℕ) →
@@ -126,84 +120,58 @@ module _ (C : Table) (l : Answers) (octets : ℕ) (first : FirstRecord) where
       first.«record».record_kind ≡ record_kinds.Open id →
       IsReady C (octets + 1) message → Restores C octets first found → (kid ≡ id)
       × IsAgain C l first w found message_octets
-  open_by e w found None message_octets kid id is opened ready again =
-      absurd (over_not_open kid id (sym is.record_kind ∙ opened))
+  open_by e w found None message_octets kid id is opened ready again = search (arith, over_not_open)
   open_by e w found (Some m) None kid id is opened ready again = absurd is.kept
-  open_by e w found (Some m) (Some xs) kid id is opened ready again = (
-    open_id kid id (sym is.record_kind ∙ opened),
-    is_again C l first w xs found (again m l w.number w.header xs ready
-        (is.kept.same_number ∙ is.number)
-        (is.kept.same_header ∙ is.header) (stored_in m e first is.stored is.entry) is.kept),
+  open_by e w found (Some m) (Some xs) kid id is opened ready again = search (
+    arith,
+    open_id,
+    is_again,
+    stored_in,
   )
 
 module _ (C : Table) (l : Answers) (at : ℕ) (first : FirstRecord) (held : Held) where
   of_slot : (is : IsOpenEntry C l at first held) →
       IsOf C l first is.entry held.open_as.opener is.kept.value.message held.octets is.kept.key
-  of_slot is = record {
-    entry = is.read;
-    record_kind = standing_in first is.entry is.read ∙ is.entry_is.record_kind;
-    stored = is.entry_is.message;
-    kept = is.slot_is.message;
-    number = sym is.slot_is.number ∙ sym is.entry_is.number
-        ∙ sym (number_in first is.entry is.read);
-    header = sym is.slot_is.header ∙ sym is.entry_is.header
-        ∙ sym (header_in first is.entry is.read);
-  }
+  of_slot is = search (arith, standing_in, number_in, header_in)
 
   -- the slot made from a record, where its message represents the same octets
   slot_again : (id : ℕ) (found : Option Message) (is : IsOpenEntry C l at first held) →
       is.kept.key ≡ id →
       RepresentsMessage C l found held.open_as.opener held.octets →
       IsSlot C l (pushed first id found) held
-  slot_again id found is same kept = record {
-    number = number_in first is.entry is.read ∙ is.entry_is.number ∙ is.slot_is.number;
-    header = header_in first is.entry is.read ∙ is.entry_is.header ∙ is.slot_is.header;
-    id = sym same ∙ is.slot_is.id;
-    message = kept;
-  }
+  slot_again id found is same kept = search (arith, number_in, header_in)
 
   pub over_again : (id : ℕ) → IsOpenEntry C l at first held →
       first.«record».record_kind ≡ record_kinds.Over id →
       (first.frames.now ≡ []) × (first.message ≡ replicate 224 0)
       × IsSlot C l (pushed first id None) held
-  over_again id is over =
-      let made = over_by C l first is.entry held.open_as.opener is.kept.value.message held.octets
-      is.kept.key id (of_slot is) over in
-      (made.1.0, made.1.1, slot_again id None is made.0 made.1.2)
+  over_again id is over = search (arith, over_by, of_slot, slot_again)
 
   -- ---- which message a record is of: an open one or the current one
 
   pub open_not_current : IsOpenEntry C l at first held →
       first.«record».record_kind ≡ record_kinds.Current → ⊥
-  open_not_current is e =
-      current_none is.kept.value.message is.kept.key
-      (sym is.entry_is.record_kind ∙ sym (standing_in first is.entry is.read) ∙ e)
+  open_not_current is e = search (arith, current_none, standing_in)
 
 pub open_again : (C : Table) (l : Answers) (octets : ℕ) (first : FirstRecord) (held : Held) (id : ℕ)
     (found : Option Message) →
     IsOpenEntry C l (octets + 1) first held → first.«record».record_kind ≡ record_kinds.Open id →
     Restores C octets first found → (is_some found ≡ true) × IsSlot C l (pushed first id found) held
-open_again C l octets first held id found is opened again =
-    let made = open_by C l octets first is.entry held.open_as.opener found is.kept.value.message
-    held.octets is.kept.key id
-    (of_slot C l (octets + 1) first held is) opened is.ready again in
-    (made.1.0, slot_again C l (octets + 1) first held id found is made.0 made.1.1)
+open_again C l octets first held id found is opened again = search (arith)
 
 module _ (C : Table) (l : Answers) (at : ℕ) (first : FirstRecord) (w : MessageKey)
     (xs : Option (List ℕ)) (id : ℕ) where
   standing_now : IsCurrentEntry C l at first w xs →
       record_kinds.Current ≡ first.«record».record_kind
-  standing_now is = sym (standing_in first is.entry is.read ∙ is.entry_is.standing_is)
+  standing_now is = search (arith, standing_in)
 
   pub current_not_open : IsCurrentEntry C l at first w xs →
       first.«record».record_kind ≡ record_kinds.Open id → ⊥
-  current_not_open is e = let never : record_kinds.Current ≡ record_kinds.Open id =
-      standing_now is ∙ e in cc
+  current_not_open is e = search (arith, standing_now)
 
   pub current_not_over : IsCurrentEntry C l at first w xs →
       first.«record».record_kind ≡ record_kinds.Over id → ⊥
-  current_not_over is e = let never : record_kinds.Current ≡ record_kinds.Over id =
-      standing_now is ∙ e in cc
+  current_not_over is e = search (arith, standing_now)
 
 -- ---- the open messages that were added
 
@@ -211,16 +179,11 @@ module _ (C : Table) (l : Answers) where
   pub added_one : (before after : Slots) (kept : OpenEntry) (held : Held) →
       after.slots.entries ≡ before.slots.entries ++ kept ∷ [] → IsSlot C l kept held →
       HasAdded C l before after (held ∷ [])
-  added_one before after kept held put is = record { kept = kept ∷ []; are = (is, tt); put = put }
+  added_one before after kept held put is = search (arith)
 
   added_none : (before after : Slots) → after.slots.entries ≡ before.slots.entries →
       HasAdded C l before after []
-  added_none before after same = record {
-    kept = [];
-    are = tt;
-    put =
-        same ∙ sym (append-nil before.slots.entries);
-  }
+  added_none before after same = search (arith, append-nil)
 
   slots_join : (ks more : List OpenEntry) (hs others : List Held) → AreSlots C l ks hs →
       AreSlots C l more others →
@@ -234,23 +197,11 @@ module _ (C : Table) (l : Answers) where
   added_more : (before mid after : Slots) (h : Held) (hs : List Held) →
       HasAdded C l before mid (h ∷ []) →
       HasAdded C l mid after hs → HasAdded C l before after (h ∷ hs)
-  added_more before mid after h hs one more = record {
-    kept = one.kept ++ more.kept;
-    are = slots_join one.kept more.kept (h ∷ []) hs one.are more.are;
-    put = more.put
-        ∙ ap (λ (xs : List OpenEntry). xs ++ more.kept) one.put
-        ∙ append_assoc before.slots.entries one.kept more.kept;
-  }
+  added_more before mid after h hs one more = search (arith, slots_join, append_assoc)
 
   added_long : (before mid : Slots) (h : Held) → HasAdded C l before mid (h ∷ []) →
       length mid.slots.entries ≡ length before.slots.entries + 1
-  added_long before mid h one =
-      omega (
-        arith,
-        ap length one.put,
-        length-append before.slots.entries one.kept,
-        are_as_many C l one.kept (h ∷ []) one.are,
-      )
+  added_long before mid h one = search (arith, length-append, are_as_many)
 
 -- ---- the first of the records that are left
 
@@ -290,26 +241,21 @@ module _ (C : Table) (l : Answers) (at count : ℕ) (octets : List ℕ) (w : Mes
       go : (es : List Entry) → count ≡ length es → octets ≡ flat_map entry_octets es →
           Each EntryHasRange es → ⊥
       go [] many spelled range = some many
-      go (e ∷ es) many spelled range = read e (flat_map entry_octets es) range.0 spelled
+      go (e ∷ es) many spelled range = search (arith, flat_map)
 
   none_by : (slots : Slots) → slots.owner ≡ owners.Current None → count ≡ 0 →
       (kept : List OpenEntry) (held : List Held)
       (current : Option Message) (entries : List Entry) →
       AreEntriesOf C l at count octets kept held current w xs entries →
       HasAdded C l slots slots held × IsCurrentOwner C l slots.owner w xs
-  none_by slots bare none [] [] None [] is = (
-    added_none C l slots slots refl,
-    subst (λ of. IsCurrentOwner C l of w xs) (sym bare)
-        (refl, is.own_is),
-  )
+  none_by slots bare none [] [] None [] is = search (arith, added_none)
   none_by slots bare none [] [] None (e ∷ es) is = absurd is.entries_are
   none_by slots bare none [] [] (Some m) [] is = absurd is.entries_are
-  none_by slots bare none [] [] (Some m) (e ∷ es) is = absurd (omega (arith, none, is.count_is))
+  none_by slots bare none [] [] (Some m) (e ∷ es) is = search (arith)
   none_by slots bare none [] (h ∷ hs) current es is = absurd is.slots_are
   none_by slots bare none (k ∷ ks) [] current es is = absurd is.slots_are
   none_by slots bare none (k ∷ ks) (h ∷ hs) current [] is = absurd is.entries_are
-  none_by slots bare none (k ∷ ks) (h ∷ hs) current (e ∷ es) is =
-      absurd (omega (arith, none, is.count_is))
+  none_by slots bare none (k ∷ ks) (h ∷ hs) current (e ∷ es) is = search (arith)
 
   pub all_none : (slots : Slots) (held : List Held) →
       AreLeft C l at count octets held w xs →
@@ -323,60 +269,18 @@ module _ (C : Table) (l : Answers) (at count : ℕ) (octets : List ℕ) (w : Mes
       IsRead first e rest) where
     entry_read : (e : Entry) (es : List Entry) → EntryHasRange e →
         octets ≡ flat_map entry_octets (e ∷ es) → IsEntry first e
-    entry_read e es range spelled =
-        let is : IsRead first e (flat_map entry_octets es) =
-        read e (flat_map entry_octets es) range spelled in
-        record { own = is.0; message = is.1; frames = is.2 }
+    entry_read e es range spelled = search (arith, flat_map)
 
     front_own : (m : Message) (e : Entry)
         (es : List Entry) → AreEntriesOf C l at count octets [] [] (Some m) w xs (e ∷ es) →
         FrontOwn C l at count first [] w xs
-    front_own m e es is =
-        let none : length es ≡ 0 = ap length is.entries_are.1 in
-        record {
-          no_held = refl;
-          is = record {
-            message = m;
-            entry = e;
-            entry_is = is.entries_are.0;
-            read = entry_read e es is.entries_are.0.range is.octets_are;
-            own_is = is.own_is;
-            ready = is.own_ready;
-          };
-          last = omega (arith, is.count_is, none);
-        }
+    front_own m e es is = search (arith, entry_read)
 
     front_open : (k : OpenEntry) (ks : List OpenEntry) (h : Held) (hs : List Held)
         (current : Option Message) (e : Entry) (es : List Entry) →
         AreEntriesOf C l at count octets (k ∷ ks) (h ∷ hs) current w xs (e ∷ es) →
         FrontOpen C l at count first (h ∷ hs) w xs
-    front_open k ks h hs current e es is = record {
-      here = h;
-      others = hs;
-      held_are = refl;
-      is = record {
-        kept = k;
-        entry = e;
-        entry_is = is.entries_are.0;
-        read = entry_read e es is.entries_are.0.range is.octets_are;
-        slot_is = is.slots_are.0;
-        ready = is.each_ready.0;
-      };
-      left = record {
-        kept = ks;
-        current = current;
-        entries = es;
-        are = record {
-          entries_are = is.entries_are.1;
-          count_is = omega (arith, is.count_is);
-          octets_are = (read e (flat_map entry_octets es) is.entries_are.0.range is.octets_are).3;
-          slots_are = is.slots_are.1;
-          own_is = is.own_is;
-          each_ready = is.each_ready.1;
-          own_ready = is.own_ready;
-        };
-      };
-    }
+    front_open k ks h hs current e es is = search (arith, entry_read, flat_map)
 
     front_by : (kept : List OpenEntry) (held : List Held) (current : Option Message)
         (entries : List Entry) →
@@ -389,12 +293,11 @@ module _ (C : Table) (l : Answers) (at count : ℕ) (octets : List ℕ) (w : Mes
     front_by [] (h ∷ hs) current es is = absurd is.slots_are
     front_by (k ∷ ks) [] current es is = absurd is.slots_are
     front_by (k ∷ ks) (h ∷ hs) current [] is = absurd is.entries_are
-    front_by (k ∷ ks) (h ∷ hs) current (e ∷ es) is =
-        inl (front_open k ks h hs current e es is)
+    front_by (k ∷ ks) (h ∷ hs) current (e ∷ es) is = search (arith, front_open)
 
     pub front_is : (held : List Held) → AreLeft C l at count octets held w xs →
         FrontOpen C l at count first held w xs ⊎ FrontOwn C l at count first held w xs
-    front_is held left = front_by left.kept held left.current left.entries left.are
+    front_is held left = search (arith, front_by)
 
 -- ---- all records
 
@@ -410,7 +313,7 @@ IsAll C l result before after held w xs =
 room_here : (n most : ℕ) (held : List Held) (h : Held) (hs : List Held) → n + length held ≤ most →
     held ≡ h ∷ hs →
     n + suc (length hs) ≤ most
-room_here n most held h hs room e = omega (arith, room, ap length e)
+room_here n most held h hs room e = search (arith)
 
 module _ (C : Table) (l : Answers) (at count : ℕ) (w : MessageKey) (xs : Option (List ℕ))
     (first : FirstRecord) (before mid : Slots) (added : Bool)
@@ -437,16 +340,7 @@ module _ (C : Table) (l : Answers) (at count : ℕ) (w : MessageKey) (xs : Optio
           left = f.left;
         }),
       )
-  first_added held (inr f) room =
-      let one = current f.is in (
-        one.0,
-        inr (record {
-          no_held = f.no_held;
-          same = one.1;
-          is = one.2;
-          last = f.last;
-        }),
-      )
+  first_added held (inr f) room = search (arith)
 
 module _ (C : Table) (l : Answers) (at count : ℕ) (w : MessageKey) (xs : Option (List ℕ))
     (before mid after : Slots) (rest : List ℕ)
@@ -471,14 +365,7 @@ module _ (C : Table) (l : Answers) (at count : ℕ) (w : MessageKey) (xs : Optio
         subst (λ (hs : List Held). HasAdded C l before after hs) (sym f.held_are) all,
         more.2,
       )
-  all_again held (inr f) room bare =
-      let done = none f.last in
-      let same : after.slots ≡ before.slots = ap (λ (s : Slots). s.slots) done.1 ∙ f.same in
-      let empty = added_none C l before after (ap (λ s. s.entries) same) in (
-        done.0,
-        subst (λ (hs : List Held). HasAdded C l before after hs) (sym f.no_held) empty,
-        subst (λ (s : Slots). IsCurrentOwner C l s.owner w xs) (sym done.1) f.is,
-      )
+  all_again held (inr f) room bare = search (arith, added_none)
 
 -- Up to `mid` these records were added, and so many are left, in `rest`: whatever adds those has
 -- added all.
@@ -538,6 +425,4 @@ module _ (C : Table) (l : Answers) (at count : ℕ) (octets : List ℕ) (w : Mes
 pub records_left : (n : ℕ) (xs : List ℕ) → (n ≡ 0 → ⊥) → AreRecords n xs →
     (used xs ≤ length xs) × AreRecords (n - 1) (drop (used xs) xs)
 records_left zero xs some are = absurd (some refl)
-records_left (suc n) xs some are =
-    let fewer : suc n - 1 ≡ n = omega arith in
-    (are.0, subst (λ k. AreRecords k (drop (used xs) xs)) (sym fewer) are.1)
+records_left (suc n) xs some are = search (arith, drop)

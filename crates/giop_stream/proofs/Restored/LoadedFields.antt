@@ -1,6 +1,6 @@
 -- The fields of an engine that are read from a checkpoint's fixed part show the same state as those
 -- that were written.
-use Rattle.std.proofs.Common.{◌≡◌, ℕ, ◌+◌, ◌-◌, ◌*◌, ◌^◌, ◌<◌, ◌≤◌, Bool, true, false, List, [], ◌++◌, length, flat_map, arith, Option, Some, None, refl, sym, ap, ◌∙◌, subst}
+use Rattle.std.proofs.Common.{◌≡◌, ℕ, ◌+◌, ◌-◌, ◌*◌, ◌^◌, ◌≤◌, Bool, true, false, List, [], length, flat_map, arith, Option, Some, None, refl, sym, ap, ◌∙◌}
 use Rattle.std.specs.Prelude.{nat_lt, if◌then◌else◌}
 use Rattle.std.proofs.lemmas.Bool.{lt-ltb, le-ltb}
 use Rattle.std.proofs.lemmas.Option.{slice_get_within}
@@ -13,14 +13,13 @@ use Rattle.giop_checkpoint.specs.declared.fixed.Fixed.{Fixed}
 use Rattle.giop_checkpoint.specs.declared.fixed.Place.{Place}
 use Rattle.giop_checkpoint.specs.declared.fixed.Place.TheVariants.{Header, Payload}
 use Rattle.giop_checkpoint.specs.Records.{entry_octets}
-use Rattle.giop_stream.specs.SlotsRepresent.{OpenEntry}
 use Rattle.giop_stream.specs.declared.slots.Slots.{Slots}
 use Rattle.giop_stream.specs.declared.slots.PayloadOwner.{PayloadOwner}
 use Rattle.giop_stream.specs.declared.slots.PayloadOwner.TheVariants as owners
 use Rattle.giop_stream.specs.Rules.{Rules, rules}
-use Rattle.giop_stream.specs.Framing.{cut, fault_of}
-use Rattle.giop_stream.specs.Events.{MessageKey, open_after}
-use Rattle.giop_stream.specs.OpenSlots.{Slot as Held, octets_of, Tracked, tracked_after, slots_at}
+use Rattle.giop_stream.specs.Framing.{fault_of}
+use Rattle.giop_stream.specs.Events.{MessageKey}
+use Rattle.giop_stream.specs.OpenSlots.{Slot as Held, Tracked, tracked_after, slots_at}
 use Rattle.giop_stream.specs.EngineState.{State, unless, state_of}
 use Rattle.giop_stream.specs.SlotsRepresent.{RepresentsMessage, AreSlots, PayloadBelongs, index_of, current_of}
 use Rattle.giop_stream.specs.ViewOfState.{Shows, payload_count_in}
@@ -58,12 +57,7 @@ module _ (C : Table) (l : Answers) (c : Tracked) where
     is = rw h tt;
     again = λ m e k. over m k;
   }
-  stands None message (Some w) alone h = record {
-    w = w;
-    xs = c.known w.number;
-    is = h.1;
-    again = λ m e k. (h.0, k);
-  }
+  stands None message (Some w) alone h = search (arith)
   stands (Some k) message owner alone h = record {
     w = no_key;
     xs = None;
@@ -83,52 +77,26 @@ module _ (octets p : List ℕ) (C : Table) (l : RequestTable) (most : ℕ)
   pub stand : CanStand C (by_list l) (index_of s.memory.slots.owner)
       (current_of s.memory.slots.owner) (state_of (rules C l most) p).tracked
       (state_of (rules C l most) p).owner
-  stand = stands C (by_list l) _ (index_of s.memory.slots.owner) (current_of s.memory.slots.owner)
-      (state_of (rules C l most) p).owner (alone s.memory.slots.owner) s.shows.slots.owner
+  stand = search (arith, stands, alone)
 
   pub spells_left : (fixed : Fixed) (records : List ℕ) → fixed ≡ fixed_of C l s.memory →
       records ≡ flat_map entry_octets s.entries →
       AreLeft C (by_list l) (fixed.octets + 1) fixed.records records
       (slots_at (state_of (rules C l most) p).tracked) stand.w stand.xs
   unfolding fixed_of
-  spells_left fixed records is are =
-      subst P (sym is) (record {
-        kept = s.memory.slots.slots.entries;
-        current = current_of s.memory.slots.owner;
-        entries = s.entries;
-        are = record {
-          entries_are = s.entries_are;
-          count_is = sym (entries_count s.memory.slots.slots.entries
-              (current_of s.memory.slots.owner) s.entries s.entries_are);
-          octets_are = are;
-          slots_are = s.shows.slots.slots;
-          own_is = stand.is;
-          each_ready = s.ready.each_ready;
-          own_ready = s.ready.current_ready;
-        };
-      })
-    where
-      P : Fixed → Type 0
-      P f =
-          AreLeft C (by_list l) (f.octets + 1) f.records records
-          (slots_at (state_of (rules C l most) p).tracked) stand.w stand.xs
+  spells_left fixed records is are = search (arith, entries_count, stand)
 
 pub room_for : (R : Rules) (p : List ℕ) (bare : Slots) → bare.slots.entries ≡ [] →
     length bare.slots.entries + length (slots_at (state_of R p).tracked) ≤ R.most
 unfolding state_of tracked_after
-room_for R p bare none = omega (
-  arith,
-  ap length none,
-  slots_many (octets_of R p) (open_after R.most p),
-  few_open R.most p,
-)
+room_for R p bare none = search (arith, slots_many, few_open)
 
 -- the fixed part has the limit of open messages that the stream was read with
 pub limit_is : (octets p : List ℕ) (C : Table) (l : RequestTable) (most : ℕ)
     (s : Spells octets C l most p) (fixed : Fixed) →
     fixed ≡ fixed_of C l s.memory → fixed.most_open ≡ most
 unfolding fixed_of
-limit_is octets p C l most s fixed is = ap (λ (f : Fixed). f.most_open) is ∙ s.limit
+limit_is octets p C l most s fixed is = search (arith)
 
 -- ---- where the stream stands: in a header, in a payload or stopped
 
@@ -141,7 +109,7 @@ behind_none (Some found) held fault e = refl
 held_behind : (R : Rules) (p : List ℕ) (fault : StreamFault) → (state_of R p).stop ≡ Some fault →
     (state_of R p).held ≡ []
 unfolding state_of
-held_behind R p fault e = behind_none (cut p).stop _ fault e
+held_behind R p fault e = search (arith, behind_none)
 
 -- in a header that is incomplete, or in a payload
 abbrev running_place : Bool → List ℕ → ℕ → Place
@@ -156,7 +124,7 @@ stop_by false header payload_count = refl
 stop_again : (stopped : Option StreamFault) (header : List ℕ) (payload_count : ℕ) →
     fields.stop_in (place_of stopped header payload_count) ≡ stopped
 stop_again (Some fault) header payload_count = refl
-stop_again None header payload_count = stop_by (nat_lt (length header) 12) header payload_count
+stop_again None header payload_count = search (arith, stop_by)
 
 header_by : (b : Bool) (header : List ℕ) (payload_count : ℕ) →
     fields.header_in (running_place b header payload_count) ≡ header
@@ -171,8 +139,7 @@ header_again : (stopped : Option StreamFault) (header : List ℕ) (payload_count
     IsBehind stopped header →
     fields.header_in (place_of stopped header payload_count) ≡ header
 header_again (Some fault) header payload_count behind = sym (behind fault refl)
-header_again None header payload_count behind =
-    header_by (nat_lt (length header) 12) header payload_count
+header_again None header payload_count behind = search (arith, header_by)
 
 -- how many payload octets have come, from how many are still to come
 abbrev payload_count_of : Bool → List ℕ → ℕ → ℕ
@@ -185,7 +152,7 @@ come_by : (b : Bool) (header : List ℕ) (left payload_count : ℕ) →
     payload_count ≡ payload_count_of b header left →
     fields.payload_count_in (running_place b header payload_count) ≡ payload_count
 come_by true header left payload_count e = sym e
-come_by false header left payload_count e = rw e (twice (size header) left)
+come_by false header left payload_count e = search (arith, twice)
 
 come_again : (stopped : Option StreamFault) (header : List ℕ) (left payload_count : ℕ) →
     IsBehind stopped header →
@@ -206,19 +173,15 @@ owner_again : (C : Table) (l : Answers) (i : Option ℕ) (own : Option Message) 
     PayloadBelongs C l i own c owner → IsCurrentOwner C l made s.w s.xs →
     (let of = fields.owner_by (owner_of i own many) many made in
     PayloadBelongs C l (index_of of) (current_of of) c owner)
-owner_again C l None None made many c owner s long is current =
-    rw current.0 (s.again (current_of made) refl current.1)
-owner_again C l None (Some m) made many c owner s long is current =
-    rw (le-ltb many many (omega arith), current.0) (s.again (current_of made) refl current.1)
+owner_again C l None None made many c owner s long is current = search (arith)
+owner_again C l None (Some m) made many c owner s long is current = search (arith, le-ltb)
 owner_again C l (Some k) own made many c None s long is current = absurd is
-owner_again C l (Some k) own made many c (Some w) s long is current =
-    let low : k < many = omega (
-      arith,
-      long,
-      slots_many c.known c.still_open,
-      slice_get_within c.still_open k is.0 is.1,
-    ) in
-    rw (lt-ltb k many low, lt-ltb k many low) is
+owner_again C l (Some k) own made many c (Some w) s long is current = search (
+  arith,
+  slots_many,
+  slice_get_within,
+  lt-ltb,
+)
 
 -- ---- the fields
 
@@ -246,10 +209,7 @@ pub record MayBe (fixed : Fixed) (stop : Option StreamFault) (long : ℕ) : Type
 added_all : (C : Table) (l : Answers) (bare slots : Slots) (held : List Held) →
     bare.slots.entries ≡ [] →
     HasAdded C l bare slots held → AreSlots C l slots.slots.entries held
-added_all C l bare slots held none added =
-    let kept : slots.slots.entries ≡ added.kept =
-    added.put ∙ ap (λ (xs : List OpenEntry). xs ++ added.kept) none in
-    subst (λ (xs : List OpenEntry). AreSlots C l xs held) (sym kept) added.are
+added_all C l bare slots held none added = search (arith)
 
 module _ (octets p : List ℕ) (C : Table) (l : RequestTable) (most : ℕ)
     (s : Spells octets C l most p) where
@@ -258,15 +218,12 @@ module _ (octets p : List ℕ) (C : Table) (l : RequestTable) (most : ℕ)
 
   behind : IsBehind s.memory.stopped s.memory.header
   unfolding state
-  behind fault e = s.shows.header ∙ held_behind (rules C l most) p fault (sym s.shows.stopped ∙ e)
+  behind fault e = search (arith, held_behind)
 
   come_is : s.memory.payload_count ≡ payload_count_of (nat_lt (length s.memory.header) 12)
       s.memory.header state.left
   unfolding state payload_count_in
-  come_is =
-      s.shows.payload_count
-      ∙ ap (λ (xs : List ℕ). payload_count_of (nat_lt (length xs) 12) xs
-      (state_of (rules C l most) p).left) (sym s.shows.header)
+  come_is = search (arith)
 
   owner_is : (many : ℕ) (made : PayloadOwner) → many ≡ length (slots_at state.tracked) →
       IsCurrentOwner C (by_list l) made (stand octets p C l most s).w (stand octets p C l most s).xs
@@ -274,13 +231,7 @@ module _ (octets p : List ℕ) (C : Table) (l : RequestTable) (most : ℕ)
       (current_of s.memory.slots.owner) (length s.memory.slots.slots.entries)) many made in
       PayloadBelongs C (by_list l) (index_of of) (current_of of) state.tracked state.owner)
   unfolding state
-  owner_is many made long own =
-      let kept = are_as_many C (by_list l) s.memory.slots.slots.entries
-      (slots_at (state_of (rules C l most) p).tracked) s.shows.slots.slots in
-      let same : many ≡ length s.memory.slots.slots.entries = long ∙ sym kept in
-      rw same (owner_again C (by_list l) (index_of s.memory.slots.owner)
-      (current_of s.memory.slots.owner) made (length s.memory.slots.slots.entries) state.tracked
-      state.owner (stand octets p C l most s) kept s.shows.slots.owner own)
+  owner_is many made long own = search (arith, are_as_many, owner_again, stand)
 
   module _ (m : FramingView) (bare slots : Slots) (none : bare.slots.entries ≡ []) where
     shows_fixed : IsReadAs m (fixed_of C l s.memory) slots →
@@ -288,27 +239,17 @@ module _ (octets p : List ℕ) (C : Table) (l : RequestTable) (most : ℕ)
         IsCurrentOwner C (by_list l) slots.owner (stand octets p C l most s).w
         (stand octets p C l most s).xs → Shows C (by_list l) m state
     unfolding state fixed_of
-    shows_fixed is added own =
-        let all = added_all C (by_list l) bare slots (slots_at state.tracked) none added in
-        record {
-          totals = is.totals ∙ s.shows.totals;
-          stopped = is.stopped ∙ stop_again s.memory.stopped s.memory.header s.memory.payload_count
-              ∙ s.shows.stopped;
-          header = is.header ∙ header_again s.memory.stopped s.memory.header s.memory.payload_count
-              behind ∙ s.shows.header;
-          payload_count = is.payload_count
-              ∙ come_again s.memory.stopped s.memory.header state.left s.memory.payload_count behind
-              come_is
-              ∙ s.shows.payload_count;
-          slots = record {
-            slots = subst (λ (xs : List OpenEntry). AreSlots C (by_list l) xs
-                (slots_at state.tracked)) (sym (ap (λ s. s.entries) is.slots)) all;
-            owner = subst (λ of. PayloadBelongs C (by_list l) (index_of of) (current_of of)
-                state.tracked state.owner) (sym is.owner)
-                (owner_is (length slots.slots.entries) slots.owner
-                (are_as_many C (by_list l) slots.slots.entries (slots_at state.tracked) all) own);
-          };
-        }
+    shows_fixed is added own = search (
+      arith,
+      added_all,
+      stop_again,
+      header_again,
+      behind,
+      come_again,
+      come_is,
+      owner_is,
+      are_as_many,
+    )
 
     pub shows_again : (fixed : Fixed) → fixed ≡ fixed_of C l s.memory → IsReadAs m fixed slots →
         HasAdded C (by_list l) bare slots (slots_at (state_of (rules C l most) p).tracked) →
@@ -316,8 +257,7 @@ module _ (octets p : List ℕ) (C : Table) (l : RequestTable) (most : ℕ)
         (stand octets p C l most s).xs →
         Shows C (by_list l) m (state_of (rules C l most) p)
     unfolding state
-    shows_again fixed e is added own = shows_fixed (subst (λ (f : Fixed). IsReadAs m f slots) e is)
-        added own
+    shows_again fixed e is added own = search (arith, shows_fixed)
 
   module _ (stop : Option StreamFault) (long : ℕ) where
     totals_fixed : stop ≡ fields.stop_in (fixed_of C l s.memory).place →
@@ -338,8 +278,4 @@ module _ (octets p : List ℕ) (C : Table) (l : RequestTable) (most : ℕ)
     pub totals_again : (fixed : Fixed) → fixed ≡ fixed_of C l s.memory →
         stop ≡ fields.stop_in fixed.place →
         long ≡ length (fields.header_in fixed.place) → MayBe fixed stop long
-    totals_again fixed e = subst P (sym e) totals_fixed
-      where
-        P : Fixed → Type 0
-        P f = stop ≡ fields.stop_in f.place → long ≡ length (fields.header_in f.place) →
-            MayBe f stop long
+    totals_again fixed e = search (arith, totals_fixed)

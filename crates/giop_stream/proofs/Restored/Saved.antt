@@ -25,14 +25,12 @@ use Rattle.giop_stream.specs.EngineView.{FramingView, EngineView}
 use Rattle.giop_checkpoint.specs.declared.record.RecordKind.TheVariants as record_kinds
 use Rattle.giop_stream.proofs.Restored.LoadRanges.{few_slots}
 use Rattle.giop_stream.proofs.Restored.SavedSizes.{HasRoom, whole_long, whole_within}
-use Rattle.giop_stream.specs.Checkpoint.{standing_of, IsHeld, IsStored, IsOpen, IsMessageRecord, IsCurrent, IsPutOne, IsPut, AreOpen, AreEntries, fixed_of, checkpoint_octets, IsPutWhole, Puts, PutsSuch, Spells, Saves}
+use Rattle.giop_stream.specs.Checkpoint.{standing_of, IsStored, IsOpen, IsMessageRecord, IsCurrent, IsPutOne, IsPut, AreOpen, AreEntries, fixed_of, checkpoint_octets, IsPutWhole, Puts, PutsSuch, Spells, Saves}
 
 pub flat_append : (xs ys : List Entry) → flat_map entry_octets (xs ++ ys) ≡ flat_map entry_octets xs
     ++ flat_map entry_octets ys
 flat_append [] ys = refl
-flat_append (x ∷ xs) ys =
-    ap (λ (zs : List ℕ). entry_octets x ++ zs) (flat_append xs ys)
-    ∙ sym (append_assoc (entry_octets x) (flat_map entry_octets xs) (flat_map entry_octets ys))
+flat_append (x ∷ xs) ys = search (arith, append_assoc, flat_map, flat_append xs ys)
 
 pub flat_one : (e : Entry) → flat_map entry_octets (e ∷ []) ≡ entry_octets e
 flat_one e = append-nil (entry_octets e)
@@ -97,42 +95,18 @@ pub open_is : (slot : OpenEntry) (m : Message) (before after : List ℕ) → slo
     → IsPutOne before after (IsMessageRecord (record_kinds.Open slot.key) slot.value.number
     slot.value.header m)
     → IsPutOne before after (IsOpen slot)
-open_is slot m before after some put = record {
-  entry = put.entry;
-  is = record {
-    range = put.is.range;
-    record_kind = put.is.standing_is ∙ ap (λ (n : Option Message). standing_of n slot.key)
-        (sym some);
-    number = put.is.number_is;
-    header = put.is.header_is;
-    message = stored_kept slot.value.message some;
-  };
-  put = put.put;
-}
-  where
-    some_is : (x y : Message) → Some x ≡ Some y → x ≡ y
-    some_is x y e = cc
-
-    stored_kept : (n : Option Message) → n ≡ Some m → IsStored n put.entry
-    stored_kept None e = absurd (let no : None ≡ Some m = e in cc)
-    stored_kept (Some n) e = subst (λ x. IsHeld x put.entry) (sym (some_is n m e)) put.is.message
+open_is slot m before after some put = search (arith)
 
 -- an entry's three parts, written one after the other
 pub kept_put : (before a b after : List ℕ) (e : Entry) → a ≡ before ++ own_octets e.record_is →
     b ≡ a ++ e.message
     → after ≡ b ++ e.frames → after ≡ before ++ entry_octets e
-kept_put before a b after e first second third =
-    then before b after (own_octets e.record_is ++ e.message) e.frames
-    (then before a b (own_octets e.record_is) e.message first second) third
+kept_put before a b after e first second third = search (arith, then)
 
 pub ready_fits : (C : Table) (at : ℕ) (o : Option Message) (m : Message) → o ≡ Some m →
     IsReady C at o → Fits C m
-ready_fits C at None m e ready = absurd (let no : None ≡ Some m = e in cc)
-ready_fits C at (Some n) m e ready = let P : Message → Type 0 = λ x. Fits C x in
-    subst P (same n m e) ready.0
-  where
-    same : (x y : Message) → Some x ≡ Some y → x ≡ y
-    same x y e = cc
+ready_fits C at None m e ready = search (arith)
+ready_fits C at (Some n) m e ready = search (arith)
 
 -- ---- the whole checkpoint
 
@@ -140,15 +114,7 @@ pub whole_is : (C : Table) (l : RequestTable) (m : FramingView) (fixed after : L
     current_of m.slots.owner ≡ None → fixed ≡ fixed_octets Third (fixed_of C l m)
     → IsPut fixed after (AreOpen m.slots.slots.entries) → IsPutWhole Third C l m after
 unfolding checkpoint_octets
-whole_is C l m fixed after none e p = record {
-  entries = p.entries;
-  are = own_none (current_of m.slots.owner) none;
-  put = p.put ∙ ap (λ (xs : List ℕ). xs ++ flat_map entry_octets p.entries) e;
-}
-  where
-    own_none : (o : Option Message) → o ≡ None → AreEntries m.slots.slots.entries o p.entries
-    own_none None e = p.are
-    own_none (Some x) e = absurd (let no : Some x ≡ None = e in cc)
+whole_is C l m fixed after none e p = search (arith, flat_map)
 
 pub whole_own : (C : Table) (l : RequestTable) (m : FramingView) (x : Message)
     (fixed between after : List ℕ) → current_of m.slots.owner ≡ Some x
@@ -188,11 +154,12 @@ pub put_read : (slots : List OpenEntry) (i : ℕ) (slot : OpenEntry) (before bet
     → slot ≡ get_or slots i slot → IsPut before between (AreOpen (take i slots)) →
     IsPutOne between after (IsOpen slot)
     → IsPut before after (AreOpen (take (i + 1) slots))
-put_read slots i slot before between after low is some one =
-    let P : List OpenEntry → Type 0 = λ xs. IsPut before after (AreOpen xs) in
-    subst P (ap (λ (x : OpenEntry). take i slots ++ x ∷ []) is
-    ∙ sym (take_at_read slots i slot low).1)
-    (put_more (take i slots) slot before between after some one)
+put_read slots i slot before between after low is some one = search (
+  arith,
+  take,
+  take_at_read,
+  put_more,
+)
 
 pub ready_at : (C : Table) (at : ℕ) (slots : List OpenEntry) (i : ℕ) (slot : OpenEntry) →
     i < length slots
@@ -211,44 +178,25 @@ pub current_is : (m : Message) (number : ℕ) (header before after : List ℕ) �
     header ≡ m.header
     → IsPutOne before after (IsMessageRecord record_kinds.Current number header m) →
     IsPutOne before after (IsCurrent m)
-current_is m number header before after n h put = record {
-  entry = put.entry;
-  is = record {
-    range = put.is.range;
-    standing_is = put.is.standing_is;
-    number_is = put.is.number_is
-        ∙ n;
-    header_is = put.is.header_is ∙ h;
-    message = put.is.message;
-  };
-  put = put.put;
-}
+current_is m number header before after n h put = search (arith)
 
 -- ---- what calls put
 
 pub put_none_yet : (a : OutLog) → Puts (Ok 0) a a []
-put_none_yet a = record { written = wrote-nil a; count = refl }
+put_none_yet a = search (arith, wrote-nil)
 
 -- a record that was composed by itself, after others
 pub put_behind : (none front octets items : List ℕ) (Is : Entry → Type 0) → none ≡ [] →
     octets ≡ items → IsPutOne none items Is
     → IsPutOne front (front ++ octets) Is
-put_behind none front octets items Is e value one = record {
-  entry = one.entry;
-  is = one.is;
-  put = ap (λ (xs : List ℕ). front ++ xs)
-      (value ∙ one.put ∙ ap (λ (xs : List ℕ). xs ++ entry_octets one.entry) e);
-}
+put_behind none front octets items Is e value one = search (arith)
 
 -- the records of all the open messages
 pub puts_all : (slots : List OpenEntry) (i : ℕ) (result : Result ℕ OutFault) (before after : OutLog)
     (front : List ℕ) → length slots ≤ i
     → PutsSuch result before after (λ octets. IsPut front octets (AreOpen (take i slots)))
     → PutsSuch result before after (λ octets. IsPut front octets (AreOpen slots))
-puts_all slots i result before after front high some =
-    let P : List OpenEntry → Type 0 = λ xs.
-    PutsSuch result before after (λ octets. IsPut front octets (AreOpen xs)) in
-    subst P (take_all i slots high) some
+puts_all slots i result before after front high some = search (arith, take_all)
 
 pub ok_within : (r : Result ℕ OutFault) (a b : ℕ) → a ≤ b → IfOk r (λ n. n ≤ a) →
     IfOk r (λ n. n ≤ b)
@@ -259,27 +207,22 @@ ok_within (Err f) a b h c = tt
 pub puts_failed : (w r : Result ℕ OutFault) (before after : OutLog) (front octets : List ℕ)
     (f : OutFault) → w ≡ Err f
     → IsErr r → Puts w before after front → Puts r before after (front ++ octets)
-puts_failed (Ok n) r before after front octets f e is puts =
-    absurd (let no : Ok n ≡ Err f = e in cc)
+puts_failed (Ok n) r before after front octets f e is puts = search (arith)
 puts_failed (Err h) (Ok n) before after front octets f e is puts = absurd (false≢true is)
-puts_failed (Err h) (Err i) before after front octets f e is puts =
-    record { written = front-append before after front octets puts.written; count = tt }
+puts_failed (Err h) (Err i) before after front octets f e is puts = search (arith, front-append)
 
 -- a put fails in the call
 pub puts_stopped : (w r : Result ℕ OutFault) (before between after : OutLog) (front octets : List ℕ)
     (n : ℕ) → w ≡ Ok n
     → IsErr r → Puts w before between front → WroteFront between after octets →
     Puts r before after (front ++ octets)
-puts_stopped (Err h) r before between after front octets n e is puts front_is =
-    absurd (let no : Err h ≡ Ok n = e in cc)
+puts_stopped (Err h) r before between after front octets n e is puts front_is = search (arith)
 puts_stopped (Ok m) (Ok k) before between after front octets n e is puts front_is =
     absurd (false≢true is)
-puts_stopped (Ok m) (Err i) before between after front octets n e is puts front_is =
-    record {
-      written = wrote-front before between after front octets puts.written front_is;
-      count =
-          tt;
-    }
+puts_stopped (Ok m) (Err i) before between after front octets n e is puts front_is = search (
+  arith,
+  wrote-front,
+)
 
 -- ---- an engine's checkpoint
 

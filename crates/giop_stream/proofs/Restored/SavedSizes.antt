@@ -1,5 +1,5 @@
 -- How many octets a checkpoint has.
-use Rattle.std.proofs.Common.{◌≡◌, ℕ, suc, ◌+◌, ◌*◌, ◌≤◌, List, [], ◌∷◌, ◌++◌, length, flat_map, arith, Option, Some, None, refl, ap, ◌∙◌}
+use Rattle.std.proofs.Common.{◌≡◌, ℕ, suc, ◌+◌, ◌*◌, ◌≤◌, List, [], ◌∷◌, length, flat_map, arith, Option, Some, None, refl}
 use Rattle.std.specs.List.{AllByRecursion as Each}
 use Rattle.std.proofs.lemmas.List.{length-append}
 use Rattle.std.proofs.Math.Nat.{suc-mul, mul-le-mul_right}
@@ -11,7 +11,7 @@ use Rattle.giop_checkpoint.specs.declared.sizes.TheConstants.{FRAME_SIZE}
 use Rattle.giop_checkpoint.specs.declared.layout.Layout.{Layout}
 use Rattle.giop_checkpoint.specs.Layouts.{OpenHasRange}
 use Rattle.giop_checkpoint.specs.Fixed.{fixed_octets}
-use Rattle.giop_checkpoint.specs.Records.{Entry, EntryHasRange, own_octets, entry_octets}
+use Rattle.giop_checkpoint.specs.Records.{Entry, EntryHasRange, entry_octets}
 use Rattle.giop_checkpoint.proofs.RecordFields.{own_long}
 use Rattle.giop_stream.specs.SlotsRepresent.{OpenEntry, current_of}
 use Rattle.giop_stream.specs.SlotsRepresent.{IsReady, AreReady}
@@ -22,34 +22,20 @@ use Rattle.giop_stream.specs.Checkpoint.{IsStored, AreEntries, fixed_of, count_o
 
 pub entry_long : (e : Entry) → EntryHasRange e →
     length (entry_octets e) ≡ 256 + FRAME_SIZE * e.record_is.frames
-entry_long e h =
-    omega (
-      arith,
-      length-append (own_octets e.record_is ++ e.message) e.frames,
-      length-append (own_octets e.record_is) e.message,
-      own_long e.record_is h.own,
-      h.message,
-      h.frames,
-    )
+entry_long e h = search (arith, length-append, own_long)
 
 entries_long : (es : List Entry) → Each EntryHasRange es →
     length (flat_map entry_octets es) ≡ entries_size es
 entries_long [] h = refl
-entries_long (e ∷ es) h =
-    let here : ℕ = 256 + FRAME_SIZE * e.record_is.frames in
-    length-append (entry_octets e) (flat_map entry_octets es)
-    ∙ (ap (λ n. n + length (flat_map entry_octets es)) (entry_long e h.0)
-    ∙ ap (λ n. here + n) (entries_long es h.1))
+entries_long (e ∷ es) h = search (arith, length-append, flat_map, entry_long, entries_long es h.1)
 
 more_within : (w n here rest : ℕ) → here ≤ w → rest ≤ n * w → here + rest ≤ suc n * w
-more_within w n here rest one others = omega (arith, one, others, suc-mul n w)
+more_within w n here rest one others = search (arith, suc-mul)
 
 entries_within : (d : ℕ) (es : List Entry) → Each (λ e. e.record_is.frames ≤ d) es →
     entries_size es ≤ length es * (256 + FRAME_SIZE * d)
 entries_within d [] h = omega arith
-entries_within d (e ∷ es) h =
-    more_within (256 + FRAME_SIZE * d) (length es) (256 + FRAME_SIZE * e.record_is.frames)
-    (entries_size es) (omega (arith, h.0)) (entries_within d es h.1)
+entries_within d (e ∷ es) h = search (arith, more_within, entries_within d es h.1)
 
 -- ---- the records of the messages
 
@@ -58,7 +44,7 @@ pub entries_count : (slots : List OpenEntry) (own : Option Message) (es : List E
 entries_count [] None [] are = refl
 entries_count [] None (e ∷ es) are = absurd are
 entries_count [] (Some m) [] are = absurd are
-entries_count [] (Some m) (e ∷ es) are = ap (λ (xs : List Entry). suc (length xs)) are.1
+entries_count [] (Some m) (e ∷ es) are = search (arith)
 entries_count (slot ∷ slots) own [] are = absurd are
 entries_count (slot ∷ slots) own (e ∷ es) are = omega (arith, entries_count slots own es are.1)
 
@@ -68,16 +54,14 @@ entries_range [] None [] are = tt
 entries_range [] None (e ∷ es) are = absurd are
 entries_range [] (Some m) [] are = absurd are
 entries_range [] (Some m) (e ∷ []) are = (are.0.range, tt)
-entries_range [] (Some m) (e ∷ f ∷ es) are =
-    absurd (let none : suc (length es) ≡ 0 = ap length are.1 in omega (arith, none))
+entries_range [] (Some m) (e ∷ f ∷ es) are = search (arith)
 entries_range (slot ∷ slots) own [] are = absurd are
 entries_range (slot ∷ slots) own (e ∷ es) are = (are.0.range, entries_range slots own es are.1)
 
 stored_shallow : (C : Table) (at : ℕ) (m : Option Message) (e : Entry) → EntryHasRange e →
     IsReady C at m → IsStored m e →
     e.record_is.frames ≤ depth_of C.types
-stored_shallow C at None e range ready is = let none : length e.frames ≡ 0 = ap length is.1 in
-    omega (arith, none, range.frames)
+stored_shallow C at None e range ready is = search (arith)
 stored_shallow C at (Some m) e range ready is = is.shallow C ready.0
 
 entries_shallow : (C : Table) (at : ℕ) (slots : List OpenEntry) (own : Option Message)
@@ -87,12 +71,12 @@ entries_shallow : (C : Table) (at : ℕ) (slots : List OpenEntry) (own : Option 
 entries_shallow C at [] None [] are each ready = tt
 entries_shallow C at [] None (e ∷ es) are each ready = absurd are
 entries_shallow C at [] (Some m) [] are each ready = absurd are
-entries_shallow C at [] (Some m) (e ∷ []) are each ready = (are.0.message.shallow C ready.0, tt)
-entries_shallow C at [] (Some m) (e ∷ f ∷ es) are each ready =
-    absurd (let none : suc (length es) ≡ 0 = ap length are.1 in omega (arith, none))
+entries_shallow C at [] (Some m) (e ∷ []) are each ready = search (arith)
+entries_shallow C at [] (Some m) (e ∷ f ∷ es) are each ready = search (arith)
 entries_shallow C at (slot ∷ slots) own [] are each ready = absurd are
-entries_shallow C at (slot ∷ slots) own (e ∷ es) are each ready = (
-  stored_shallow C at slot.value.message e are.0.range each.0 are.0.message,
+entries_shallow C at (slot ∷ slots) own (e ∷ es) are each ready = search (
+  arith,
+  stored_shallow,
   entries_shallow C at slots own es are.1 each.1 ready,
 )
 
@@ -113,18 +97,16 @@ pub whole_long : (layout : Layout) (C : Table) (l : RequestTable) (m : FramingVi
     (written : List ℕ) (whole : IsPutWhole layout C l m written) →
     HasRoom layout C l m → length written ≡ 96 + entries_size whole.entries
 unfolding checkpoint_octets
-whole_long layout C l m written whole room =
-    ap length whole.put
-    ∙ omega (
-      arith,
-      length-append (fixed_octets layout (fixed_of C l m)) (flat_map entry_octets whole.entries),
-      room.fixed,
-      entries_long whole.entries (entries_range m.slots.slots.entries (current_of m.slots.owner)
-          whole.entries whole.are),
-    )
+whole_long layout C l m written whole room = search (
+  arith,
+  length-append,
+  flat_map,
+  entries_long,
+  entries_range,
+)
 
 many_within : (n most w sum : ℕ) → n ≤ most + 1 → sum ≤ n * w → sum ≤ (most + 1) * w
-many_within n most w sum few within = omega (arith, within, mul-le-mul_right w few)
+many_within n most w sum few within = search (arith, mul-le-mul_right)
 
 pub whole_within : (layout : Layout) (C : Table) (l : RequestTable) (m : FramingView) (most : ℕ)
     (written : List ℕ) (whole : IsPutWhole layout C l m written) →

@@ -1,5 +1,5 @@
 -- A checkpoint is a fixed part and whole records after it; and why other octets are refused.
-use Rattle.std.proofs.Common.{◌≤◌, ◌≡◌, ℕ, ◌+◌, ◌*◌, get_or, List, [], ◌∷◌, ◌++◌, length, flat_map, arith, inl, inr, refl, sym, ap, ◌∙◌, subst}
+use Rattle.std.proofs.Common.{◌≤◌, ◌≡◌, ℕ, get_or, List, [], ◌∷◌, ◌++◌, length, flat_map, arith, inl, inr, refl, sym, ◌∙◌}
 use Rattle.std.specs.List.{AllByRecursion as Each}
 use Rattle.std.proofs.lemmas.List.{drop_at, length-append}
 use Rattle.giop_sig.specs.Table.{Table}
@@ -11,11 +11,9 @@ use Rattle.giop_checkpoint.specs.declared.fixed.Fixed.{Fixed}
 use Rattle.giop_checkpoint.specs.declared.layout.Layout.{Layout}
 use Rattle.giop_checkpoint.specs.declared.layout.Layout.TheVariants.{Second, Third}
 use Rattle.giop_checkpoint.specs.Layouts.{OpenHasRange}
-use Rattle.giop_checkpoint.specs.declared.sizes.TheConstants.{FRAME_SIZE}
 use Rattle.giop_checkpoint.specs.Fixed.{HasRange, fixed_octets}
-use Rattle.giop_checkpoint.specs.Records.{Entry, EntryHasRange, AreRecords, used, kind_octets, own_octets, entry_octets}
+use Rattle.giop_checkpoint.specs.Records.{Entry, EntryHasRange, AreRecords, kind_octets, own_octets, entry_octets}
 use Rattle.giop_checkpoint.specs.Refusals.{Refused, Passes}
-use Rattle.giop_stream.specs.SlotsRepresent.{current_of}
 use Rattle.giop_stream.specs.Rules.{most_open}
 use Rattle.giop_stream.specs.EngineView.{FramingView}
 use Rattle.giop_stream.specs.Checkpoint.{counts_of, fixed_of, checkpoint_octets, Spells, Allows, IsRefused}
@@ -31,15 +29,15 @@ first_of e rest = refl
 pub records_are : (es : List Entry) → Each EntryHasRange es →
     AreRecords (length es) (flat_map entry_octets es)
 records_are [] h = refl
-records_are (e ∷ es) h =
-    let rest : List ℕ = flat_map entry_octets es in
-    let s : List ℕ = entry_octets e ++ rest in
-    let size : length (entry_octets e) ≡ used s =
-    entry_long e h.0 ∙ ap (λ (n : ℕ). 256 + FRAME_SIZE * n) (sym (first_of e rest)) in
-    let P : List ℕ → Type 0 = λ xs. AreRecords (length es) xs in (
-      omega (arith, size, length-append (entry_octets e) rest),
-      subst P (sym (drop_at (entry_octets e) rest (used s) size)) (records_are es h.1),
-    )
+records_are (e ∷ es) h = search (
+  arith,
+  flat_map,
+  entry_long,
+  first_of,
+  length-append,
+  drop_at,
+  records_are es h.1,
+)
 
 -- ---- a checkpoint
 
@@ -52,12 +50,7 @@ module _ (octets p : List ℕ) (C : Table) (l : RequestTable) (most : ℕ)
     (s : Spells octets C l most p) where
   fixed_records : AreRecords (fixed_of C l s.memory).records (flat_map entry_octets s.entries)
   unfolding fixed_of
-  fixed_records =
-      let slots = s.memory.slots.slots.entries in
-      let own = current_of s.memory.slots.owner in
-      let P : ℕ → Type 0 = λ n. AreRecords n (flat_map entry_octets s.entries) in
-      subst P (entries_count slots own s.entries s.entries_are)
-      (records_are s.entries (entries_range slots own s.entries s.entries_are))
+  fixed_records = search (arith, flat_map, entries_count, records_are, entries_range)
 
   fixed_front : octets ≡ fixed_octets s.layout (fixed_of C l s.memory)
       ++ flat_map entry_octets s.entries
@@ -93,30 +86,24 @@ refused_is c s refusals.State (inr never) = (never.0, inl never.1)
 pub refused_state : (c now : Counts) (s : List ℕ) (f : Fixed) (records : List ℕ) → c ≡ now →
     Passes c s f records →
     IsRefused now s refusals.State
-refused_state c now s f records same passes =
-    let whole = subst (λ xs. AreRecords f.records xs) passes.rest passes.lengths in
-    subst (λ x. IsRefused x s refusals.State) same (passes.ours, inr (f, passes.state, whole))
+refused_state c now s f records same passes = search (arith)
 
 pub refused_memory : (c now : Counts) (s : List ℕ) (f : Fixed) (records : List ℕ) → c ≡ now →
     Passes c s f records →
     IsRefused now s refusals.OutOfMemory
-refused_memory c now s f records same passes =
-    let whole = subst (λ xs. AreRecords f.records xs) passes.rest passes.lengths in
-    subst (λ x. IsRefused x s refusals.OutOfMemory) same (passes.ours, (f, passes.state, whole))
+refused_memory c now s f records same passes = search (arith)
 
 -- ---- how many messages may be open
 
 open_by : (layout : Layout) (n : ℕ) → OpenHasRange layout n → (1 ≤ n) × (n ≤ most_open)
-open_by Second n h = (omega (arith, h), omega (arith, h))
+open_by Second n h = search (arith)
 open_by Third n h = h
 
 pub passed_open : (c : Counts) (s : List ℕ) (f : Fixed) (records : List ℕ) → Passes c s f records →
     (1 ≤ f.most_open) × (f.most_open ≤ most_open)
-passed_open c s f records passes = open_by passes.state.layout f.most_open
-    passes.state.range.most_open
+passed_open c s f records passes = search (arith, open_by)
 
 pub allowed_is : (c now : Counts) (s : List ℕ) (f : Fixed) (records : List ℕ) (n : ℕ) → c ≡ now →
     Passes c s f records → n ≡ f.most_open →
     Allows now s n
-allowed_is c now s f records n same passes is =
-    subst (λ x. Allows x s n) same (f, passes.state, sym is)
+allowed_is c now s f records n same passes is = search (arith)

@@ -1,5 +1,5 @@
 -- The text that octets add to that of a stream.
-use Rattle.std.proofs.Common.{◌≡◌, ℕ, List, [], ◌++◌, length, drop, refl, ap, ◌∙◌, append-nil}
+use Rattle.std.proofs.Common.{arith, ◌≡◌, ℕ, List, [], ◌++◌, length, drop, refl, append-nil}
 use Rattle.std.proofs.Math.Seq.{drop-append_seam}
 use Rattle.giop_message.specs.MessageReader.{IsCausal, IsStreamable}
 use Rattle.giop_stream.specs.Rules.{Rules}
@@ -16,15 +16,12 @@ use Rattle.giop_stream.proofs.SlotSteps.Performing.{text_append}
 added_by : (R : Rules) (p q : List ℕ) (ls : List Line) → lines R (p ++ q) ≡ lines R p ++ ls →
     added R p q ≡ lines_text ls
 unfolding added text
-added_by R p q ls e =
-    ap (λ (all : List Line). drop (length (lines_text (lines R p))) (lines_text all)) e
-    ∙ (ap (drop (length (lines_text (lines R p)))) (text_append (lines R p) ls)
-    ∙ drop-append_seam (lines_text (lines R p)) (lines_text ls))
+added_by R p q ls e = search (arith, drop, text_append, drop-append_seam)
 
 -- and those are the lines of a run
 pub added_run : (R : Rules) → IsCausal R.reading → IsStreamable R.reading → (p q : List ℕ) →
     added R p q ≡ lines_text (run R (state_of R p) q)
-added_run R causal laws p q = added_by R p q (run R (state_of R p) q) (run_lines R causal laws p q)
+added_run R causal laws p q = search (arith, added_by, run_lines)
 
 pub added_text : (R : Rules) → IsCausal R.reading → IsStreamable R.reading → (p q : List ℕ) →
     drop (length (text R p)) (text R (p ++ q)) ≡ lines_text (run R (state_of R p) q)

@@ -1,12 +1,10 @@
 -- A header's last octet, as the code does it: the message begins, and ends there if it has no
 -- payload.
-use Rattle.std.proofs.Common.{◌≡◌, ℕ, ◌<◌, ◌≤◌, Bool, true, false, List, [], ◌∷◌, ◌++◌, length, refl, sym, ap, ◌∙◌, Option, Some, None, arith}
-use Rattle.std.specs.Prelude.{◌==◌, if◌then◌else◌}
+use Rattle.std.proofs.Common.{◌≡◌, ℕ, ◌<◌, ◌≤◌, List, ◌∷◌, ◌++◌, length, refl, ap, Option, Some, None, arith}
 use Rattle.std.proofs.lemmas.Bool.{eq-eqb, ne_eqb}
 use Rattle.giop_sig.specs.Table.{Table}
 use Rattle.giop_message.specs.Signatures.{Answers}
 use Rattle.giop_message.specs.ReaderOfTable.{message_reader}
-use Rattle.giop_message.specs.Headers.{size}
 use Rattle.giop_stream.specs.declared.fault.FramingFault.{FramingFault}
 use Rattle.giop_stream.specs.declared.slots.Slots.{Slots}
 use Rattle.giop_stream.specs.declared.current.Current.{Current}
@@ -14,14 +12,13 @@ use Rattle.giop_stream.specs.Rules.{Rules, rules_by}
 use Rattle.giop_stream.specs.Framing.{Message}
 use Rattle.giop_stream.specs.Text.{line_text, start_line}
 use Rattle.giop_stream.specs.Kinds.{refused}
-use Rattle.giop_stream.specs.Events.{MessageKey, Open, Event, Faults, message_key, now_of, events_at_header, events_of_octet, opened}
+use Rattle.giop_stream.specs.Events.{MessageKey, Faults, message_key, events_at_header, events_of_octet, opened}
 use Rattle.giop_stream.specs.Lines.{Line}
 use Rattle.giop_stream.specs.Stream.{fault_count}
 use Rattle.giop_stream.specs.Effects.{Effect, effects, one_effect, no_effect, then_effect, line_effect, starts}
 use Rattle.giop_stream.specs.OpenSlots.{Tracked, IsNotOpen}
-use Rattle.giop_stream.specs.SlotsRepresent.{SlotsRepresent, AreReady, current_of}
+use Rattle.giop_stream.specs.SlotsRepresent.{SlotsRepresent, AreReady}
 use Rattle.giop_stream.specs.PayloadOwner.{IsBeforeMessage, IsAtOctet, owner_after, end_events}
-use Rattle.giop_stream.specs.EngineState.{owner_of_next}
 use Rattle.giop_stream.proofs.Events.EventsOfOctet.{quiet_header}
 use Rattle.giop_stream.proofs.SlotSteps.SlotLists.{later_ready, all_later}
 use Rattle.giop_stream.proofs.SlotSteps.AfterOctet.{newest_apart}
@@ -32,12 +29,7 @@ use Rattle.giop_stream.proofs.SlotSteps.Parts.{effects_still_open}
 
 -- slots that are ready for an octet are ready for a later one
 pub ready_later : (C : Table) (n n' : ℕ) (s : Slots) → n ≤ n' → AreReady C n s → AreReady C n' s
-ready_later C n n' s less h = record {
-  current_ready =
-      later_ready C n n' (current_of s.owner) less h.current_ready;
-  each_ready =
-      all_later C n n' s.slots.entries less h.each_ready;
-}
+ready_later C n n' s less h = search (arith, later_ready, all_later)
 
 pub starts_faults : (m : Message) (ls : List Line) → fault_count (starts m ∷ ls) ≡ fault_count ls
 unfolding fault_count
@@ -53,67 +45,48 @@ module _ (R : Rules) (c : Tracked) (m : Message) where
   ended = effects R.reading begun.tracked (end_events begun.tracked.still_open m)
 
   pub begun_still_open : begun.tracked.still_open ≡ c.still_open
-  begun_still_open = effects_still_open R.reading c (events_at_header m)
-      ∙ quiet_header c.still_open (now_of m)
+  begun_still_open = search (arith, effects_still_open, quiet_header)
 
   parts : length m.payload ≡ 0 → events_of_octet R.most c.still_open m ≡ events_at_header m
       ++ end_events c.still_open m
   unfolding events_of_octet end_events
-  parts none = rw (
-    eq-eqb (length m.payload) 0 none,
-    ne_eqb (length m.payload) 4 (λ e. omega (arith, none, e)),
-  ) refl
+  parts none = search (arith, eq-eqb, ne_eqb)
 
   pub in_two : length m.payload ≡ 0 → effects R.reading c (events_of_octet R.most c.still_open m)
       ≡ then_effect begun ended
-  in_two none =
-      let ends : end_events c.still_open m ≡ end_events begun.tracked.still_open m =
-      ap (λ (still_open : List Open). end_events still_open m) (sym begun_still_open) in
-      ap (effects R.reading c) (parts none ∙ ap (λ (es : List Event). events_at_header m ++ es)
-      ends) ∙ effects_append R.reading c (events_at_header m)
-      (end_events begun.tracked.still_open m)
+  in_two none = search (arith, begun_still_open, parts, effects_append)
 
   pub ended_owner : owner_after begun.tracked.still_open m ≡ owner_after ended.tracked.still_open m
   unfolding owner_after end_events opened
-  ended_owner = go (length m.payload == size m.header) refl
-    where
-      go : (b : Bool) → (length m.payload == size m.header) ≡ b
-          → (if b then None else owner_of_next begun.tracked.still_open m)
-          ≡ (if b then None else owner_of_next ended.tracked.still_open m)
-      go true e = refl
-      go false e = ap (λ (still_open : List Open). owner_of_next still_open m)
-          (sym (effects_still_open R.reading begun.tracked (end_events begun.tracked.still_open m)
-          ∙ rw e refl))
+  ended_owner = search (arith, effects_still_open)
 
 module _ (C : Table) (l : Answers) (s : Slots) (c : Tracked) (who : Option MessageKey) (m : Message)
     (now : Current) (h : IsBeforeMessage C l s c who m now) where
   pub apart : IsNotOpen m.number c.still_open
-  apart = newest_apart m.number c.still_open h.newest
+  apart = search (arith, newest_apart)
 
   pub none_come : length m.payload ≡ 0
   none_come = ap length h.none_come
 
   pub begins : None ≡ refused now.header →
       effects (message_reader C l) c (events_at_header m) ≡ line_effect (starts m) (no_effect c)
-  begins e = header_begins (message_reader C l) c m [] h.unknown
-      (ap refused h.current.header ∙ sym e)
+  begins e = search (arith, header_begins)
 
   pub refuses : (fault : FramingFault) → Some fault ≡ refused now.header
       → effects (message_reader C l) c (events_at_header m)
       ≡ line_effect (starts m) (one_effect (message_reader C l) c now.place (message_key m)
       (Faults fault))
-  refuses fault e = header_refused (message_reader C l) c m [] fault h.unknown
-      (ap refused h.current.header ∙ sym e) ∙ rw h.current.place refl
+  refuses fault e = search (arith, header_refused)
 
   pub starts_text : line_text (starts m) ≡ start_line now.number now.header
-  starts_text = rw (h.current.number, h.current.header) refl
+  starts_text = search (arith)
 
   pub starts_first : BeginsSo (starts m) (effects (message_reader C l) c (events_at_header m)).lines
   starts_first = go (refused now.header) refl
     where
       go : (r : Option FramingFault) → r ≡ refused now.header →
           BeginsSo (starts m) (effects (message_reader C l) c (events_at_header m)).lines
-      go None e = record { more = _; is = ap (λ (p : Effect). p.lines) (begins e) }
+      go None e = search (arith, begins)
       go (Some fault) e = record { more = _; is = ap (λ (p : Effect). p.lines) (refuses fault e) }
 
   pub begun_at : (s' : Slots) → SlotsRepresent C l s'
@@ -130,4 +103,4 @@ module _ (C : Table) (l : Answers) (s : Slots) (c : Tracked) (who : Option Messa
       }
 
   pub come_is : length m.payload ≡ now.payload_count
-  come_is = none_come ∙ sym h.payload_count
+  come_is = search (arith, none_come)

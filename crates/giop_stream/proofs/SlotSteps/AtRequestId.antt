@@ -1,6 +1,6 @@
 -- The last octet of a request id, as the code does it, by the slot that it finds.
 use Rattle.std.proofs.Common.{◌≡◌, ℕ, ◌<◌, ◌≤◌, Bool, true, false, List, [], length, refl, sym, ap, ◌∙◌, Option, Some, None, arith}
-use Rattle.std.specs.Prelude.{◌==◌, ◌||◌, slice_get, option_map, is_some}
+use Rattle.std.specs.Prelude.{◌==◌, slice_get, option_map, is_some}
 use Rattle.std.specs.List.{find, position_from}
 use Rattle.giop_sig.specs.Table.{Table}
 use Rattle.giop_message.specs.Signatures.{Answers}
@@ -12,8 +12,8 @@ use Rattle.giop_stream.specs.declared.current.Current.{Current}
 use Rattle.giop_stream.specs.Rules.{rules_by}
 use Rattle.giop_stream.specs.Framing.{Message}
 use Rattle.giop_stream.specs.Events.{MessageKey, Open, Opens, Faults, Cancelled, message_key, opener_of, events_at_request_id}
-use Rattle.giop_stream.specs.OpenSlots.{slots_of, Tracked}
-use Rattle.giop_stream.specs.Effects.{effects, one_effect, no_effect, lines_of, lines_for, event}
+use Rattle.giop_stream.specs.OpenSlots.{Tracked}
+use Rattle.giop_stream.specs.Effects.{effects, one_effect, no_effect, lines_of, lines_for}
 use Rattle.giop_stream.specs.Lines.{lines_of_event, up_to_last_line}
 use Rattle.giop_stream.specs.Kinds.{may_be_cancelled}
 use Rattle.giop_stream.specs.declared.slots.Slot.{Slot as Contents}
@@ -34,22 +34,13 @@ pub record IsFound (c : Tracked) (m : Message) (k : ℕ) : Type 0 where
 -- ---- The kinds of headers.
 
 pub fragment_named : (header : List ℕ) → is_fragment header ≡ true → has_name header ≡ true
-fragment_named header f = rw f (go (is_opener header) (is_cancel header))
-  where
-    go : (a b : Bool) → (a || true || b) ≡ true
-    go true b = refl
-    go false b = refl
+fragment_named header f = search (arith)
 
 pub opener_named : (header : List ℕ) → is_opener header ≡ true → has_name header ≡ true
 opener_named header f = rw f refl
 
 pub cancel_named : (header : List ℕ) → is_cancel header ≡ true → has_name header ≡ true
-cancel_named header f = rw f (go (is_opener header) (is_fragment header))
-  where
-    go : (a b : Bool) → (a || b || true) ≡ true
-    go true b = refl
-    go false true = refl
-    go false false = refl
+cancel_named header f = search (arith)
 
 -- ---- A message that becomes open has no line.
 
@@ -57,12 +48,7 @@ module _ (C : Table) (l : Answers) where
   pub opens_lines : (c : Tracked) (m : Message) (at i : ℕ) →
       (one_effect (message_reader C l) c at (message_key m) (Opens i)).lines ≡ []
   unfolding lines_of lines_for lines_of_event up_to_last_line
-  opens_lines c m at i = go (c.known m.number)
-    where
-      go : (o : Option (List ℕ)) → lines_of (message_reader C l)
-          (event at (message_key m) (Opens i)) o ≡ []
-      go None = refl
-      go (Some xs) = refl
+  opens_lines c m at i = search (arith)
 
 -- ---- The owner of the octets after the request id.
 
@@ -95,12 +81,12 @@ module _ (C : Table) (l : Answers) (s : Slots) (c : Tracked) (m : Message) (now 
   opener_is : has_name m.header ≡ true → opener_of c.still_open m
       ≡ find (λ o. o.id == i) c.still_open
   unfolding opener_of
-  opener_is name = ap (λ (n : ℕ). find (λ (o : Open). o.id == n) c.still_open) (h.id_is name)
+  opener_is name = search (arith)
 
   pub misses : has_name m.header ≡ true → (r : Option ℕ) →
       r ≡ position_from (λ slot. slot.key == i) 0 s.slots.entries
       → is_some r ≡ false → opener_of c.still_open m ≡ None
-  misses name None e n = opener_is name ∙ none_open C l s.slots.entries c i h.keeps.slots (sym e)
+  misses name None e n = search (arith, opener_is, none_open)
   misses name (Some k) e n = absurd cc
 
   pub finds : has_name m.header ≡ true → (k : ℕ) →
@@ -116,8 +102,7 @@ module _ (C : Table) (l : Answers) (s : Slots) (c : Tracked) (m : Message) (now 
   hits name (Some k) e n = let f = finds name k e in (f.o, f.is)
 
   pub as_many : length s.slots.entries ≡ length c.still_open
-  as_many = are_as_many C l s.slots.entries (slots_of c.known c.still_open) h.keeps.slots
-      ∙ slots_many c.known c.still_open
+  as_many = search (arith, are_as_many, slots_many)
 
   -- ---- A message that opens.
 
@@ -178,8 +163,7 @@ module _ (C : Table) (l : Answers) (s : Slots) (c : Tracked) (m : Message) (now 
       → option_map (λ e. e.value) (slice_get s.slots.entries k) ≡ Some v →
       may_be_cancelled v.header ≡ r
       → may_be_cancelled o.opener.header ≡ r
-  header_may o v k r here e may = let kept =
-      opener_slot C l s c (Some (message_key m)) h.keeps k o v here e in rw (← kept.1) may
+  header_may o v k r here e may = search (arith, opener_slot)
 
   pub spares : (o : Open) → is_fragment m.header ≡ false → is_opener m.header ≡ false →
       is_cancel m.header ≡ true

@@ -1,5 +1,5 @@
 -- The effect of an octet of a message in each case that the code distinguishes.
-use Rattle.std.proofs.Common.{◌≡◌, ℕ, ◌-◌, ◌<◌, ◌≤◌, true, false, List, [], ◌∷◌, ◌++◌, length, get_or, refl, sym, ◌∙◌, Some, None, append-nil, append_assoc}
+use Rattle.std.proofs.Common.{arith, ◌≡◌, ℕ, ◌-◌, ◌<◌, ◌≤◌, true, false, List, [], ◌∷◌, ◌++◌, length, get_or, refl, sym, Some, None, append-nil, append_assoc}
 use Rattle.std.proofs.lemmas.Bool.{lt-leb, le-leb}
 use Rattle.giop_stream.specs.declared.fault.FramingFault.{FramingFault}
 use Rattle.giop_stream.specs.declared.fault.FramingFault.TheVariants.{NoOpen, IdOpen, TooManyOpen, FragmentOrder}
@@ -24,13 +24,7 @@ effects_one : (R : MessageReader) (c : Tracked) (at : ℕ) (subject : MessageKey
     → effects R c (record { place = at; subject = subject; what = what } ∷ [])
     ≡ one_effect R c at subject what
 unfolding effects lines_at lines_of
-effects_one R c at subject what =
-    let e : Event = record { place = at; subject = subject; what = what } in
-    λ j. record {
-      tracked = tracked_at R c e;
-      lines =
-          append-nil (lines_of R e (c.known subject.number)) j;
-    }
+effects_one R c at subject what = search (arith, append-nil)
 
 pub effects_append : (R : MessageReader) (c : Tracked) (es fs : List Event)
     → effects R c (es ++ fs) ≡ record {
@@ -55,12 +49,12 @@ effects_append R c (e ∷ es) fs =
 pub effects_own : (R : MessageReader) (c : Tracked) (m : Message) (what : EventKind) →
     effects R c (own (now_of m) what) ≡ one_effect R c (place m) (message_key m) what
 unfolding own
-effects_own R c m what = effects_one R c (place m) (message_key m) what
+effects_own R c m what = search (arith, effects_one)
 
 pub effects_about : (R : MessageReader) (c : Tracked) (m : Message) (o : Open) (what : EventKind)
     → effects R c (event_of_open (now_of m) (Some o) what) ≡ one_effect R c (place m) o.opener what
 unfolding event_of_open
-effects_about R c m o what = effects_one R c (place m) o.opener what
+effects_about R c m o what = search (arith, effects_one)
 
 pub effects_nobody : (R : MessageReader) (c : Tracked) (m : Message) (what : EventKind) →
     effects R c (event_of_open (now_of m) None what) ≡ no_effect c
@@ -79,23 +73,14 @@ begins_first : (R : MessageReader) (c : Tracked) (m : Message) (xs : List ℕ) (
     c.known m.number ≡ Some xs
     → effects R c (own (now_of m) Begins ++ es) ≡
     record { tracked = (effects R c es).tracked; lines = starts m ∷ (effects R c es).lines }
-begins_first R c m xs es k =
-    effects_append R c (own (now_of m) Begins) es
-    ∙ rw (
-      effects_own R c m Begins,
-      tracked_begins R c
-          (record { place = place m; subject = message_key m; what = Begins }) refl,
-      k,
-      began R m xs,
-    )
-    refl
+begins_first R c m xs es k = search (arith, effects_append, effects_own, tracked_begins, began)
 
 pub header_begins : (R : MessageReader) (c : Tracked) (m : Message) (xs : List ℕ) →
     c.known m.number ≡ Some xs
     → refused m.header ≡ None → effects R c (events_at_header m) ≡
     record { tracked = c; lines = starts m ∷ [] }
 unfolding header_events
-header_begins R c m xs k e = rw e (begins_first R c m xs [] k ∙ rw (effects_none R c) refl)
+header_begins R c m xs k e = search (arith, begins_first, effects_none)
 
 pub header_refused : (R : MessageReader) (c : Tracked) (m : Message) (xs : List ℕ)
     (fault : FramingFault) → c.known m.number ≡ Some xs → refused m.header ≡ Some fault
@@ -103,9 +88,7 @@ pub header_refused : (R : MessageReader) (c : Tracked) (m : Message) (xs : List 
     effects R c (events_at_header m)
     ≡ record { tracked = fault_events.tracked; lines = starts m ∷ fault_events.lines })
 unfolding header_events
-header_refused R c m xs fault k e = rw e
-    (begins_first R c m xs (own (now_of m) (Faults fault)) k
-    ∙ rw (effects_own R c m (Faults fault)) refl)
+header_refused R c m xs fault k e = search (arith, begins_first, effects_own)
 
 -- ---- An octet of a payload.
 
@@ -115,8 +98,7 @@ pub octet_own : (R : MessageReader) (c : Tracked) (still_open : List Open) (m : 
     ≡ one_effect R c (place m) (message_key m)
     (Takes (get_or m.payload (length m.payload - 1) 0))
 unfolding payload_events goes_past
-octet_own R c still_open m h = rw h (effects_own R c m
-    (Takes (get_or m.payload (length m.payload - 1) 0)))
+octet_own R c still_open m h = search (arith, effects_own, get_or)
 
 pub octet_passed : (R : MessageReader) (c : Tracked) (still_open : List Open) (m : Message)
     (o : Open) → goes_past m ≡ true
@@ -124,15 +106,13 @@ pub octet_passed : (R : MessageReader) (c : Tracked) (still_open : List Open) (m
     ≡ one_effect R c (place m) o.opener
     (Takes (get_or m.payload (length m.payload - 1) 0))
 unfolding payload_events goes_past
-octet_passed R c still_open m o h e = rw (h, e)
-    (effects_about R c m o (Takes (get_or m.payload (length m.payload - 1) 0)))
+octet_passed R c still_open m o h e = search (arith, effects_about, get_or)
 
 pub octet_lost : (R : MessageReader) (c : Tracked) (still_open : List Open) (m : Message) →
     goes_past m ≡ true → opener_of still_open m ≡ None
     → effects R c (events_at_octet still_open m) ≡ no_effect c
 unfolding payload_events goes_past
-octet_lost R c still_open m h e = rw (h, e)
-    (effects_nobody R c m (Takes (get_or m.payload (length m.payload - 1) 0)))
+octet_lost R c still_open m h e = search (arith, effects_nobody, get_or)
 
 -- ---- The request id of a Fragment.
 
@@ -141,7 +121,7 @@ pub fragment_unknown : (R : Rules) (c : Tracked) (still_open : List Open) (m : M
     → opener_of still_open m ≡ None → effects R.reading c (events_at_request_id R.most still_open m)
     ≡ one_effect R.reading c (place m) (message_key m) (Faults NoOpen)
 unfolding request_id_events
-fragment_unknown R c still_open m f e = rw (f, e) (effects_own R.reading c m (Faults NoOpen))
+fragment_unknown R c still_open m f e = search (arith, effects_own)
 
 went_on : (R : MessageReader) (m : Message) (o : Open) (xs : List ℕ)
     → lines_of R (record {
@@ -157,16 +137,7 @@ goes_first : (R : MessageReader) (c : Tracked) (m : Message) (o : Open) (xs : Li
     (es : List Event) → c.known m.number ≡ Some xs
     → effects R c (own (now_of m) (Continues o.opener.number) ++ es)
     ≡ record { tracked = (effects R c es).tracked; lines = goes_on m o ∷ (effects R c es).lines }
-goes_first R c m o xs es k =
-    effects_append R c (own (now_of m) (Continues o.opener.number)) es
-    ∙ rw (
-      effects_own R c m (Continues o.opener.number),
-      tracked_stays R c
-          (record { place = place m; subject = message_key m; what = Continues o.opener.number })
-          o.opener.number refl,
-      k,
-      went_on R m o xs,
-    ) refl
+goes_first R c m o xs es k = search (arith, effects_append, effects_own, tracked_stays, went_on)
 
 pub fragment_in_order : (R : Rules) (c : Tracked) (still_open : List Open) (m : Message) (o : Open)
     (xs : List ℕ)
@@ -175,8 +146,7 @@ pub fragment_in_order : (R : Rules) (c : Tracked) (still_open : List Open) (m : 
     → effects R.reading c (events_at_request_id R.most still_open m) ≡
     record { tracked = c; lines = goes_on m o ∷ [] }
 unfolding request_id_events
-fragment_in_order R c still_open m o xs f e k s =
-    rw (f, e, s) (goes_first R.reading c m o xs [] k ∙ rw (effects_none R.reading c) refl)
+fragment_in_order R c still_open m o xs f e k s = search (arith, goes_first, effects_none)
 
 pub fragment_out_of_order : (R : Rules) (c : Tracked) (still_open : List Open) (m : Message)
     (o : Open) (xs : List ℕ)
@@ -186,10 +156,7 @@ pub fragment_out_of_order : (R : Rules) (c : Tracked) (still_open : List Open) (
     effects R.reading c (events_at_request_id R.most still_open m)
     ≡ record { tracked = fault.tracked; lines = goes_on m o ∷ fault.lines })
 unfolding request_id_events
-fragment_out_of_order R c still_open m o xs f e k s =
-    rw (f, e, s) (goes_first R.reading c m o xs
-    (event_of_open (now_of m) (Some o) (Faults FragmentOrder)) k
-    ∙ rw (effects_about R.reading c m o (Faults FragmentOrder)) refl)
+fragment_out_of_order R c still_open m o xs f e k s = search (arith, goes_first, effects_about)
 
 -- ---- The request id of a message that has fragments.
 
@@ -199,7 +166,7 @@ pub opener_twice : (R : Rules) (c : Tracked) (still_open : List Open) (m : Messa
     → effects R.reading c (events_at_request_id R.most still_open m)
     ≡ one_effect R.reading c (place m) (message_key m) (Faults IdOpen)
 unfolding request_id_events
-opener_twice R c still_open m o f h e = rw (f, h, e) (effects_own R.reading c m (Faults IdOpen))
+opener_twice R c still_open m o f h e = search (arith, effects_own)
 
 pub opener_no_room : (R : Rules) (c : Tracked) (still_open : List Open) (m : Message) →
     is_fragment m.header ≡ false
@@ -207,9 +174,7 @@ pub opener_no_room : (R : Rules) (c : Tracked) (still_open : List Open) (m : Mes
     → effects R.reading c (events_at_request_id R.most still_open m)
     ≡ one_effect R.reading c (place m) (message_key m) (Faults TooManyOpen)
 unfolding request_id_events
-opener_no_room R c still_open m f h e n =
-    rw (f, h, e, le-leb R.most (length still_open) n)
-    (effects_own R.reading c m (Faults TooManyOpen))
+opener_no_room R c still_open m f h e n = search (arith, le-leb, effects_own)
 
 pub opener_opens : (R : Rules) (c : Tracked) (still_open : List Open) (m : Message) →
     is_fragment m.header ≡ false
@@ -217,8 +182,7 @@ pub opener_opens : (R : Rules) (c : Tracked) (still_open : List Open) (m : Messa
     → effects R.reading c (events_at_request_id R.most still_open m)
     ≡ one_effect R.reading c (place m) (message_key m) (Opens (id m))
 unfolding request_id_events
-opener_opens R c still_open m f h e n = rw (f, h, e, lt-leb R.most (length still_open) n)
-    (effects_own R.reading c m (Opens (id m)))
+opener_opens R c still_open m f h e n = search (arith, lt-leb, effects_own)
 
 -- ---- The request id of a CancelRequest.
 
@@ -229,8 +193,7 @@ pub cancel_closes : (R : Rules) (c : Tracked) (still_open : List Open) (m : Mess
     effects R.reading c (events_at_request_id R.most still_open m)
     ≡ one_effect R.reading c (place m) o.opener (Cancelled m.number)
 unfolding request_id_events
-cancel_closes R c still_open m o f g h e s =
-    rw (f, g, h, e, s) (effects_about R.reading c m o (Cancelled m.number))
+cancel_closes R c still_open m o f g h e s = search (arith, effects_about)
 
 pub cancel_spares : (R : Rules) (c : Tracked) (still_open : List Open) (m : Message) (o : Open) →
     is_fragment m.header ≡ false
@@ -238,14 +201,14 @@ pub cancel_spares : (R : Rules) (c : Tracked) (still_open : List Open) (m : Mess
     → may_be_cancelled o.opener.header ≡ false →
     effects R.reading c (events_at_request_id R.most still_open m) ≡ no_effect c
 unfolding request_id_events
-cancel_spares R c still_open m o f g h e s = rw (f, g, h, e, s) (effects_none R.reading c)
+cancel_spares R c still_open m o f g h e s = search (arith, effects_none)
 
 pub cancel_misses : (R : Rules) (c : Tracked) (still_open : List Open) (m : Message) →
     is_fragment m.header ≡ false
     → is_opener m.header ≡ false → is_cancel m.header ≡ true → opener_of still_open m ≡ None →
     effects R.reading c (events_at_request_id R.most still_open m) ≡ no_effect c
 unfolding request_id_events
-cancel_misses R c still_open m f g h e = rw (f, g, h, e) (effects_none R.reading c)
+cancel_misses R c still_open m f g h e = search (arith, effects_none)
 
 -- ---- The request id of any other message.
 
@@ -254,4 +217,4 @@ pub other_id : (R : Rules) (c : Tracked) (still_open : List Open) (m : Message) 
     → is_opener m.header ≡ false → is_cancel m.header ≡ false →
     effects R.reading c (events_at_request_id R.most still_open m) ≡ no_effect c
 unfolding request_id_events
-other_id R c still_open m f g h = rw (f, g, h) (effects_none R.reading c)
+other_id R c still_open m f g h = search (arith, effects_none)

@@ -1,8 +1,6 @@
 -- A Fragment that continues an open message, as the code does it: at its request id, and where the
 -- last octet of its header and its request id come together.
-use Rattle.std.proofs.Common.{◌≡◌, ℕ, ◌<◌, Bool, true, false, List, [], ◌∷◌, ◌++◌, length, take, refl, sym, ap, subst, ◌∙◌, Option, Some, None, Result, arith}
-use Rattle.std.specs.Prelude.{◌==◌}
-use Rattle.std.specs.List.{find}
+use Rattle.std.proofs.Common.{◌≡◌, ℕ, ◌<◌, Bool, true, false, List, [], ◌∷◌, ◌++◌, length, take, refl, ap, ◌∙◌, Option, Some, None, Result, arith}
 use Rattle.std.proofs.lemmas.Bool.{eq-eqb}
 use Rattle.std.proofs.lemmas.List.{length_push}
 use Rattle.giop_cdr.specs.declared.order.Order.{Order}
@@ -27,11 +25,11 @@ use Rattle.giop_stream.specs.Text.{line_text, start_line}
 use Rattle.giop_stream.specs.Events.{MessageKey, Takes, Faults, Open, message_key, id, opener_of, events_at_request_id, events_of_octet, same_order}
 use Rattle.giop_stream.specs.Lines.{Line, Said}
 use Rattle.giop_stream.specs.Stream.{fault_count}
-use Rattle.giop_stream.specs.Effects.{Effect, effects, then_effect, one_effect, no_effect, line_effect, goes_on, starts, lines_of, with_octet, event, effect_to}
+use Rattle.giop_stream.specs.Effects.{Effect, effects, then_effect, one_effect, no_effect, line_effect, goes_on, starts, with_octet, effect_to}
 use Rattle.giop_stream.specs.OpenSlots.{Tracked, IsNotOpen, slots_at}
-use Rattle.giop_stream.specs.SlotsRepresent.{AreSlots, PayloadBelongs, SlotsRepresent, current_of, index_of}
+use Rattle.giop_stream.specs.SlotsRepresent.{SlotsRepresent}
 use Rattle.giop_stream.specs.PayloadOwner.{IsAtRequestId, IsAtOctet, SaysId, owner_after, id_events}
-use Rattle.giop_stream.specs.EngineState.{opener_key, owner_of_next}
+use Rattle.giop_stream.specs.EngineState.{owner_of_next}
 use Rattle.giop_stream.specs.DoesEffect.{DoesEffect}
 use Rattle.giop_stream.specs.Continuation.{IsContinuing, IsBeforeContinuation}
 use Rattle.giop_stream.proofs.Lists.{each_weaker}
@@ -56,12 +54,7 @@ goes_faults m o ls = refl
 pub continuing : (C : Table) (l : Answers) (s : Slots) (c : Tracked) (m : Message) (now : Current)
     (i : ℕ) → IsAtRequestId C l s c m now i
     → is_fragment m.header ≡ true → IsContinuing C l s c (Some (message_key m)) m now
-continuing C l s c m now i h f = record {
-  keeps = h.keeps;
-  rising = h.rising;
-  current = h.current;
-  alive = h.alive (fragment_named m.header f);
-}
+continuing C l s c m now i h f = search (arith, fragment_named)
 
 module _ (C : Table) (l : Answers) (s : Slots) (c : Tracked) (owner : Option MessageKey)
     (m : Message) (now : Current) (h : IsContinuing C l s c owner m now) where
@@ -95,7 +88,7 @@ module _ (C : Table) (l : Answers) (s : Slots) (c : Tracked) (owner : Option Mes
       go : (b : Bool) → same_order (order m.header) (order o.opener.header) ≡ b →
           BeginsSo (goes_on m o) (effects (message_reader C l) c
           (events_at_request_id s.slots.most c.still_open m)).lines
-      go true same = record { more = _; is = ap (λ (p : Effect). p.lines) (in_order o f e same) }
+      go true same = search (arith, in_order)
       go false other = record {
         more = _;
         is =
@@ -106,7 +99,7 @@ module _ (C : Table) (l : Answers) (s : Slots) (c : Tracked) (owner : Option Mes
       b ≡ order header
       → header ≡ o.opener.header → same_order a b ≡ r →
       same_order (order m.header) (order o.opener.header) ≡ r
-  orders o a b header r e f g same = rw (h.current.header, ← g, ← e, ← f) same
+  orders o a b header r e f g same = search (arith)
 
 -- ---- What is said of a request id's octets.
 
@@ -149,16 +142,7 @@ said_faults at number i ls = refl
 -- open.
 pub owned_by_none : (C : Table) (l : Answers) (s : Slots) (c c' : Tracked) →
     slots_at c' ≡ slots_at c → SlotsRepresent C l s c None → SlotsRepresent C l s c' None
-owned_by_none C l s c c' same h = record {
-  slots =
-      subst (AreSlots C l s.slots.entries) (sym same) h.slots;
-  owner = go (index_of s.owner) h.owner;
-}
-  where
-    go : (k : Option ℕ) → PayloadBelongs C l k (current_of s.owner) c None →
-        PayloadBelongs C l k (current_of s.owner) c' None
-    go (Some k) h = absurd h
-    go None h = h
+owned_by_none C l s c c' same h = search (arith)
 
 -- ---- The last octet of a header, and a request id.
 
@@ -176,15 +160,13 @@ module _ (C : Table) (l : Answers) (s : Slots) (c : Tracked) (m : Message) (now 
   c' = (first R c m').tracked
 
   four : length m'.payload ≡ 4
-  four = omega (arith, length_push m.payload x, h.three)
+  four = search (arith, length_push)
 
   few : length m.payload < 4
   few = omega (arith, h.three)
 
   apart : IsNotOpen m.number c.still_open
-  apart =
-      each_weaker {A = Open} (λ o. o.opener.number < m.number) (λ o. o.opener.number ≡ m.number → ⊥)
-      (λ o less same. omega (arith, less, same)) c.still_open (h.before.newest few)
+  apart = search (arith, each_weaker, few)
 
   alive : c.known m.number ≡ Some m.payload
   alive = h.before.alive (fragment_named m.header h.fragment) few
@@ -198,22 +180,10 @@ module _ (C : Table) (l : Answers) (s : Slots) (c : Tracked) (m : Message) (now 
   -- and says the request id
   pub first_lines : (first R c m').lines ≡ id_line now.place m.number found.id ∷ []
   unfolding id
-  first_lines =
-      ap (λ (p : Effect). p.lines) taken
-      ∙ (ap (λ (o : Option (List ℕ)). lines_of (message_reader C l)
-      (event now.place (message_key m) (Takes x)) o) alive
-      ∙ (take_lines C l now.place (message_key m) m.payload x
-      ∙ (ap (reader_lines now.place m.number)
-      (four_due C l m.number m.header (h.before.says (fragment_named m.header h.fragment))
-      m.payload x h.three)
-      ∙ ap (λ (i : ℕ). id_line now.place m.number i ∷ []) h.spells)))
+  first_lines = search (arith, taken, alive, take_lines, reader_lines, four_due, fragment_named)
 
   keeps : SlotsRepresent C l s c' None
-  keeps =
-      owned_by_none C l s c c'
-      (ap (λ (p : Effect). slots_at p.tracked) taken
-      ∙ slots_stay (message_reader C l) c (event now.place (message_key m) (Takes x)) refl
-      apart) h.keeps
+  keeps = search (arith, owned_by_none, taken, slots_stay, apart)
 
   pub continues_at : IsContinuing C l s c' None m' now
   continues_at = record {
@@ -228,32 +198,31 @@ module _ (C : Table) (l : Answers) (s : Slots) (c : Tracked) (m : Message) (now 
   }
 
   pub opener_at : OpenAt c' found.id found.index
-  opener_at = one_open C l s.slots.entries c' found.id found.index keeps.slots h.open_at.here
+  opener_at = search (arith, one_open, keeps)
 
   pub opener_is : opener_of c'.still_open m' ≡ Some opener_at.o
   unfolding opener_of
-  opener_is = ap (λ (i : ℕ). find (λ (o : Open). o.id == i) c'.still_open) h.spells ∙ opener_at.is
+  opener_is = search (arith, opener_at)
 
   pub ids_are : id_events s.slots.most c'.still_open m'
       ≡ events_at_request_id s.slots.most c'.still_open m'
   unfolding id_events
-  ids_are = rw (eq-eqb (length m'.payload) 4 four) refl
+  ids_are = search (arith, eq-eqb, four)
 
   -- from then on the octets belong to the message that it continues
   owner_is : owner_of_next c'.still_open m' ≡ Some opener_at.o.opener
-  owner_is = owner_at_id c'.still_open m' four
-      ∙ (owner_fragment c'.still_open m' h.fragment ∙ ap opener_key opener_is)
+  owner_is = search (arith, owner_at_id, four, owner_fragment, opener_is)
 
   pub behind_id : (s' : Slots) → SlotsRepresent C l s' (second R c m').tracked
       (Some opener_at.o.opener) → IsAtOctet C l s' (second R c m').tracked m' now
-  behind_id s' k = named_at C l s.slots.most c m now x h.before s' (rw owner_is k)
+  behind_id s' k = search (arith, named_at, owner_is)
 
   pub starts_text : line_text (starts (with_payload m [])) ≡ start_line now.number now.header
-  starts_text = rw (h.before.current.number, h.before.current.header) refl
+  starts_text = search (arith)
 
   pub said_text : line_text (id_line now.place m.number found.id)
       ≡ numbered_line now.number (request_id_text found.id)
-  said_text = rw h.before.current.number refl
+  said_text = search (arith)
 
   -- ---- What they do.
 
@@ -268,8 +237,7 @@ module _ (C : Table) (l : Answers) (s : Slots) (c : Tracked) (m : Message) (now 
   pub all_lines : (effects (message_reader C l) c
       (events_of_octet s.slots.most c.still_open m')).lines
       ≡ id_line now.place m.number found.id ∷ rest_lines
-  all_lines = ap (λ (p : Effect). p.lines) parts
-      ∙ ap (λ (ls : List Line). ls ++ rest_lines) first_lines
+  all_lines = search (arith, parts, first_lines)
 
   -- what the code does at the request id, and behind it
   pub second_does : {A E : Type 0} (n : A → ℕ) (r : Result A E) (a b : OutLog) (s' : Slots)
@@ -286,4 +254,4 @@ module _ (C : Table) (l : Answers) (s : Slots) (c : Tracked) (m : Message) (now 
   leaves s' k = rw (parts, ← third_owner R c m') k
 
   pub come : length m'.payload ≡ now.payload_count
-  come = come_is C l s.slots.most c m now x h.before
+  come = search (arith, come_is)

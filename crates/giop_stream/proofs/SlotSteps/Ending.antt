@@ -1,11 +1,11 @@
 -- A message's last octet, as the code does it.
-use Rattle.std.proofs.Common.{◌≡◌, ℕ, ◌<◌, ◌≤◌, Bool, true, false, List, [], length, refl, sym, ap, ◌∙◌, Option, Some, None, arith}
+use Rattle.std.proofs.Common.{◌≡◌, ℕ, ◌<◌, ◌≤◌, Bool, true, false, List, [], length, refl, Option, Some, None, arith}
 use Rattle.std.specs.Prelude.{◌&&◌, ◌||◌, nat_lt, if◌then◌else◌}
 use Rattle.std.proofs.lemmas.Bool.{and_parts, ltb-true, ltb-false, lt-leb, le-leb}
 use Rattle.giop_sig.specs.Table.{Table}
 use Rattle.giop_message.specs.Signatures.{Answers}
 use Rattle.giop_message.specs.ReaderOfTable.{message_reader}
-use Rattle.giop_message.specs.Headers.{size, has_more, is_fragment, is_opener}
+use Rattle.giop_message.specs.Headers.{size, is_fragment}
 use Rattle.giop_stream.specs.declared.fault.FramingFault.TheVariants.{Short}
 use Rattle.giop_stream.specs.declared.slots.Slots.{Slots}
 use Rattle.giop_stream.specs.declared.current.Current.{Current}
@@ -23,12 +23,7 @@ use Rattle.giop_stream.proofs.SlotSteps.Cases.{effects_none, effects_own, effect
 pub owner_early : (still_open : List Open) (m : Message) → length m.payload < 4 →
     owner_of_next still_open m ≡ Some (message_key m)
 unfolding owner_of_next has_named
-owner_early still_open m few = rw (lt-leb 4 (length m.payload) few) (go (is_fragment m.header))
-  where
-    go : (b : Bool) → (if b && false then opener_key (opener_of still_open m) else Some
-        (message_key m)) ≡ Some (message_key m)
-    go true = refl
-    go false = refl
+owner_early still_open m few = search (arith, lt-leb)
 
 pub owner_plain : (still_open : List Open) (m : Message) → is_fragment m.header ≡ false →
     owner_of_next still_open m ≡ Some (message_key m)
@@ -38,7 +33,7 @@ owner_plain still_open m f = rw f refl
 pub owner_passed : (still_open : List Open) (m : Message) → is_fragment m.header ≡ true →
     4 ≤ length m.payload → owner_of_next still_open m ≡ opener_key (opener_of still_open m)
 unfolding owner_of_next has_named
-owner_passed still_open m f many = rw (f, le-leb 4 (length m.payload) many) refl
+owner_passed still_open m f many = search (arith, le-leb)
 
 -- ---- The cases of the last octet.
 
@@ -57,81 +52,55 @@ last_by false true false xs ys e = refl
 last_by false false more xs ys e = refl
 
 long_by : (n : ℕ) (o : Bool) → (nat_lt n 4 && (o || true)) ≡ false → 4 ≤ n
-long_by n o e = ltb-false n 4 (go (nat_lt n 4) o e)
-  where
-    go : (a o : Bool) → (a && (o || true)) ≡ false → a ≡ false
-    go true true e = absurd cc
-    go true false e = absurd cc
-    go false o e = refl
+long_by n o e = search (arith, ltb-false)
 
 module _ (C : Table) (l : Answers) (s : Slots) (c : Tracked) (m : Message) (now : Current)
     (h : IsAtOctet C l s c m now) where
   header_at : (says : List ℕ → Bool) (r : Bool) → r ≡ says now.header → says m.header ≡ r
-  header_at says r e = ap says h.current.header ∙ sym e
+  header_at says r e = search (arith)
 
   pub ends_short : true ≡ is_short now.header
       → effects (message_reader C l) c (events_at_end c.still_open m)
       ≡ one_effect (message_reader C l) c now.place (message_key m) (Faults Short)
   unfolding message_end_events is_short
-  ends_short e = let b = header_at is_short true e in
-      rw b (effects_own (message_reader C l) c m (Faults Short) ∙ rw h.current.place refl)
+  ends_short e = search (arith, header_at, effects_own)
 
   pub own_short : true ≡ is_short now.header → length m.payload ≡ size m.header →
       owner_of_next c.still_open m ≡ Some (message_key m)
   unfolding is_short
-  own_short e last =
-      let b = and_parts _ _ (header_at is_short true e) in
-      let few : size m.header < 4 = ltb-true (size m.header) 4 b.0 in
-      let less : length m.payload < 4 = omega (arith, few, last) in
-      owner_early c.still_open m less
+  own_short e last = search (arith, and_parts, header_at, ltb-true, owner_early)
 
   pub ends_followed : false ≡ is_short now.header → true ≡ is_followed now.header →
       effects (message_reader C l) c (events_at_end c.still_open m) ≡ no_effect c
   unfolding message_end_events is_short is_followed
-  ends_followed e k =
-      let short = header_at is_short false e in
-      let follows = header_at is_followed true k in
-      rw (
-        short,
-        followed_by (is_opener m.header) (is_fragment m.header) (has_more m.header)
-            (event_of_open (now_of m) (opener_of c.still_open m) Closes) (own (now_of m) Closes)
-            follows,
-      ) (effects_none (message_reader C l) c)
+  ends_followed e k = search (arith, header_at, followed_by, effects_none)
 
   ends_last : false ≡ is_short now.header → false ≡ is_followed now.header
       → events_at_end c.still_open m ≡ (if is_fragment m.header then event_of_open (now_of m)
       (opener_of c.still_open m) Closes else own (now_of m) Closes)
   unfolding message_end_events is_short is_followed
-  ends_last e k =
-      let short = header_at is_short false e in
-      let last = header_at is_followed false k in
-      rw short (last_by (is_opener m.header) (is_fragment m.header) (has_more m.header)
-      (event_of_open (now_of m) (opener_of c.still_open m) Closes) (own (now_of m) Closes) last)
+  ends_last e k = search (arith, header_at, last_by)
 
   long_enough : false ≡ is_short now.header → is_fragment m.header ≡ true →
       length m.payload ≡ size m.header → 4 ≤ length m.payload
   unfolding is_short
-  long_enough e f last =
-      let short : (nat_lt (size m.header) 4 && (is_opener m.header || is_fragment m.header))
-      ≡ false = header_at is_short false e in
-      let long : 4 ≤ size m.header = long_by (size m.header) (is_opener m.header) (rw f at short) in
-      omega (arith, long, last)
+  long_enough e f last = search (arith, header_at, long_by)
 
   about_does : (r : Option Open) → effects (message_reader C l) c
       (event_of_open (now_of m) r Closes) ≡ effect_to C l now.place c (opener_key r) Closes
-  about_does None = effects_nobody (message_reader C l) c m Closes
-  about_does (Some o) = effects_about (message_reader C l) c m o Closes ∙ rw h.current.place refl
+  about_does None = search (arith, effects_nobody)
+  about_does (Some o) = search (arith, effects_about)
 
   pub ends_closed : false ≡ is_short now.header → false ≡ is_followed now.header →
       length m.payload ≡ size m.header
       → effects (message_reader C l) c (events_at_end c.still_open m)
       ≡ effect_to C l now.place c (owner_of_next c.still_open m) Closes
-  ends_closed e k last = go (is_fragment m.header) refl
-    where
-      go : (f : Bool) → is_fragment m.header ≡ f →
-          effects (message_reader C l) c (events_at_end c.still_open m)
-          ≡ effect_to C l now.place c (owner_of_next c.still_open m) Closes
-      go true f = rw (ends_last e k, owner_passed c.still_open m f (long_enough e f last), f)
-          (about_does (opener_of c.still_open m))
-      go false f = rw (ends_last e k, owner_plain c.still_open m f, f)
-          (effects_own (message_reader C l) c m Closes ∙ rw h.current.place refl)
+  ends_closed e k last = search (
+    arith,
+    ends_last,
+    owner_passed,
+    long_enough,
+    about_does,
+    owner_plain,
+    effects_own,
+  )

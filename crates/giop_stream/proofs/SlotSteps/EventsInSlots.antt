@@ -1,6 +1,6 @@
 -- What each event does to the slots: which one changes, goes or comes.
-use Rattle.std.proofs.Common.{inl, inr, ◌≡◌, ℕ, Bool, true, false, not, List, [], ◌∷◌, ◌++◌, refl, sym, ap, ◌∙◌, Option, Some, None, append-nil}
-use Rattle.std.specs.Prelude.{◌==◌, ◌&&◌, ◌||◌, if◌then◌else◌, slice_get, slice_set}
+use Rattle.std.proofs.Common.{arith, inl, inr, ◌≡◌, ℕ, true, not, List, [], ◌∷◌, ◌++◌, refl, sym, ap, ◌∙◌, Option, Some, None, append-nil}
+use Rattle.std.specs.Prelude.{◌==◌, slice_get, slice_set}
 use Rattle.std.specs.List.{filter, remove}
 use Rattle.std.proofs.lemmas.Bool.{cases_eq, ne_eqb}
 use Rattle.giop_message.specs.MessageReader.{MessageReader}
@@ -51,10 +51,7 @@ slot_stays R c e k o h rising here w =
 -- and no slot where it isn't
 pub slots_stay : (R : MessageReader) (c : Tracked) (e : Event) → stays e.what ≡ true →
     IsNotOpen e.subject.number c.still_open → slots_at (tracked_at R c e) ≡ slots_at c
-slots_stay R c e h apart =
-    rw (still_open_at R c e, stays_still_open c.still_open e.subject e.what h)
-    (no_slot (tracked_at R c e).known c.known c.still_open e.subject.number apart
-    (λ i other. others_then R c e i other))
+slots_stay R c e h apart = search (arith, still_open_at, stays_still_open, no_slot, others_then)
 
 -- an event that closes a message removes its slot
 pub slot_leaves : (R : MessageReader) (c : Tracked) (e : Event) (k : ℕ) (o : Open) →
@@ -73,29 +70,26 @@ slot_leaves R c e k o h rising here w =
 
 none_there : (still_open : List Open) (n : ℕ) → IsNotOpen n still_open →
     filter (λ o. not (o.opener.number == n)) still_open ≡ still_open
-none_there still_open n h =
-    filter_keeps (λ o. not (o.opener.number == n)) still_open
-    (each_weaker {A = Open} (λ o. o.opener.number ≡ n → ⊥) (λ o. not (o.opener.number == n) ≡ true)
-    (λ o j. rw (ne_eqb o.opener.number n j) refl) still_open h)
+none_there still_open n h = search (arith, filter_keeps, not, each_weaker, ne_eqb)
 
 -- and no slot where the message isn't open
 pub slots_left : (R : MessageReader) (c : Tracked) (e : Event) → goes e.what ≡ true →
     IsNotOpen e.subject.number c.still_open → slots_at (tracked_at R c e) ≡ slots_at c
-slots_left R c e h apart =
-    rw (
-      still_open_at R c e,
-      goes_still_open c.still_open e.subject e.what h,
-      none_there c.still_open e.subject.number apart,
-    )
-    (no_slot (tracked_at R c e).known c.known c.still_open e.subject.number apart
-    (λ i other. others_then R c e i other))
+slots_left R c e h apart = search (
+  arith,
+  still_open_at,
+  goes_still_open,
+  none_there,
+  no_slot,
+  others_then,
+)
 
 -- an event without an octet, and without a last line of its message
 opens_then : (R : MessageReader) (e : Event) (i : ℕ) (o : Option (List ℕ)) → e.what ≡ Opens i →
     octets_then R e o ≡ o
 unfolding octets_then lines_of lines_for lines_of_event up_to_last_line octet
 opens_then R e i None h = refl
-opens_then R e i (Some xs) h = rw h (ap Some (append-nil xs))
+opens_then R e i (Some xs) h = search (arith, append-nil)
 
 opens_still_open : (still_open : List Open) (subject : MessageKey) (what : EventKind) (i : ℕ) →
     what ≡ Opens i
@@ -129,11 +123,7 @@ quiet_then : (R : MessageReader) (e : Event) (n : ℕ) (o : Option (List ℕ)) �
     octets_then R e o ≡ o
 unfolding octets_then lines_of lines_for lines_of_event line up_to_last_line octet is_last_of
 quiet_then R e n None h = refl
-quiet_then R e n (Some xs) h = rw h (go (e.subject.number == e.subject.number))
-  where
-    go : (b : Bool) → (if (b && false) || false then None else Some (xs ++ [])) ≡ Some xs
-    go true = ap Some (append-nil xs)
-    go false = ap Some (append-nil xs)
+quiet_then R e n (Some xs) h = search (arith, append-nil)
 
 -- a Fragment that continues a message changes nothing
 pub tracked_stays : (R : MessageReader) (c : Tracked) (e : Event) (n : ℕ) → e.what ≡ Continues n →
@@ -142,7 +132,7 @@ unfolding changed
 tracked_stays R c e n h = λ j. record { still_open = still_open j; known = λ i. known i j }
   where
     still_open : (tracked_at R c e).still_open ≡ c.still_open
-    still_open = rw (still_open_at R c e, h) refl
+    still_open = search (arith, still_open_at)
 
     known : (i : ℕ) → (tracked_at R c e).known i ≡ c.known i
     known i =
@@ -156,25 +146,10 @@ begins_then : (R : MessageReader) (e : Event) (o : Option (List ℕ)) → e.what
     octets_then R e o ≡ o
 unfolding octets_then lines_of lines_for lines_of_event line up_to_last_line octet is_last_of
 begins_then R e None h = refl
-begins_then R e (Some xs) h = rw h (go (e.subject.number == e.subject.number))
-  where
-    go : (b : Bool) → (if (b && false) || false then None else Some (xs ++ [])) ≡ Some xs
-    go true = ap Some (append-nil xs)
-    go false = ap Some (append-nil xs)
+begins_then R e (Some xs) h = search (arith, append-nil)
 
 -- nor does a message that begins
 pub tracked_begins : (R : MessageReader) (c : Tracked) (e : Event) → e.what ≡ Begins →
     tracked_at R c e ≡ c
 unfolding changed
-tracked_begins R c e h = λ j. record { still_open = still_open j; known = λ i. known i j }
-  where
-    still_open : (tracked_at R c e).still_open ≡ c.still_open
-    still_open = rw (still_open_at R c e, h) refl
-
-    known : (i : ℕ) → (tracked_at R c e).known i ≡ c.known i
-    known i =
-        elim (cases_eq i e.subject.number) [
-          | inl same ↦ rw same
-              (own_then R c e ∙ begins_then R e (c.known e.subject.number) h)
-          | inr other ↦ others_then R c e i other
-        ]
+tracked_begins R c e h = search (arith, still_open_at, cases_eq, own_then, begins_then, others_then)

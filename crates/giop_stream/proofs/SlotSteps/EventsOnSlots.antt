@@ -1,5 +1,5 @@
 -- Calls of the code that do an event or a run: what the slots represent then.
-use Rattle.std.proofs.Common.{◌≡◌, ℕ, ◌<◌, true, not, List, [], ◌∷◌, ◌++◌, length, refl, sym, ap, subst, ◌∙◌, Option, Some, None, Result, append-nil}
+use Rattle.std.proofs.Common.{arith, ◌≡◌, ℕ, ◌<◌, not, List, [], ◌∷◌, ◌++◌, length, refl, sym, ap, subst, ◌∙◌, Option, Some, None, Result, append-nil}
 use Rattle.std.specs.Prelude.{◌==◌, slice_get, slice_set, option_map}
 use Rattle.std.specs.List.{filter, remove, AllByRecursion as Each}
 use Rattle.std.proofs.lemmas.Bool.{ne_eqb}
@@ -80,10 +80,7 @@ gone_cancelled j still_open subject = refl
 
 none_there : (still_open : List Open) (n : ℕ) → Each (λ o. o.opener.number ≡ n → ⊥) still_open →
     filter (λ o. not (o.opener.number == n)) still_open ≡ still_open
-none_there still_open n h =
-    filter_keeps (λ o. not (o.opener.number == n)) still_open
-    (each_weaker {A = Open} (λ o. o.opener.number ≡ n → ⊥) (λ o. not (o.opener.number == n) ≡ true)
-    (λ o j. rw (ne_eqb o.opener.number n j) refl) still_open h)
+none_there still_open n h = search (arith, filter_keeps, not, each_weaker, ne_eqb)
 
 -- ---- An open message is cancelled by the current one.
 
@@ -92,16 +89,7 @@ module _ (C : Table) (l : Answers) where
       → Alters c w (one_effect (message_reader C l) c at w what)
       (part_of (message_reader C l) (event at w what) (c.known w.number))
   unfolding tracked_at part_of
-  still_alters at c w what still =
-      let R = message_reader C l in
-      let e = event at w what in
-      record {
-        lines = refl;
-        still_open = still c.still_open w;
-        own = own_then R c e;
-        others =
-            λ i h. others_then R c e i h;
-      }
+  still_alters at c w what still = search (arith, own_then, others_then)
 
   -- the current message isn't open, and this is kept of it
   own_parts : (s : Slots) (c : Tracked) (w : MessageKey) (message : Option Message) →
@@ -115,9 +103,7 @@ module _ (C : Table) (l : Answers) where
       → PayloadBelongs C l i message c (Some w) →
       (RepresentsMessage C l message w (c.known w.number) → Q None) → Q i
   no_index Q None message c w apart h f = f h.1
-  no_index Q (Some k) message c w apart h f =
-      absurd (at_index (λ o. o.opener.number ≡ w.number → ⊥) c.still_open k h.0 h.1 apart
-      (ap (λ (t : MessageKey). t.number) h.2))
+  no_index Q (Some k) message c w apart h f = search (arith, at_index)
 
   pub current_kept : (s : Slots) (c : Tracked) (w : MessageKey) → IsNotOpen w.number c.still_open →
       SlotsRepresent C l s c (Some w)
@@ -132,21 +118,11 @@ module _ (C : Table) (l : Answers) where
       IsNotOpen w.number c.still_open
       → RepresentsMessage C l own' w part.octets →
       SlotsRepresent C l (record { slots = s.slots; owner = of }) effect.tracked (Some w)
-  own_now s of own' c w effect part is alters slots apart kept = record {
-    slots = rw (
-      alters.still_open,
-      no_slot effect.tracked.known c.known c.still_open w.number apart
-          alters.others,
-    ) slots;
-    owner = rw (is.0, is.1) (rw alters.still_open apart, rw alters.own kept);
-  }
+  own_now s of own' c w effect part is alters slots apart kept = search (arith, no_slot)
 
   place_of : (s : Slots) (c : Tracked) (w : MessageKey) (k : ℕ) → index_of s.owner ≡ Some k →
       SlotsRepresent C l s c (Some w) → Place c w k
-  place_of s c w k e h = let p = parts in record { slot = p.0; here = p.1; is = p.2 }
-    where
-      parts : (o : Open) × (slice_get c.still_open k ≡ Some o) × (o.opener ≡ w)
-      parts = rw e at h.owner
+  place_of s c w k e h = search (arith)
 
   slot_here : (s : Slots) (c : Tracked) (w : MessageKey) (k : ℕ) (x : OpenEntry) →
       SlotsRepresent C l s c (Some w) → (p : Place c w k)
@@ -200,7 +176,7 @@ module _ (C : Table) (l : Answers) where
       (owner_of_next : Option MessageKey) (message : Option Message)
       → IsItself s.owner message → SlotsRepresent C l s c owner_of_next → (message ≡ None → Q None)
       → ((w : MessageKey) → SlotsRepresent C l s c (Some w) → Q (Some w)) → Q owner_of_next
-  own_has Q s c None message e h none f = none (rw (e.0, e.1) at h.owner)
+  own_has Q s c None message e h none f = search (arith)
   own_has Q s c (Some w) message e h none f = f w h
 
   pub slot_has : (Q : Option MessageKey → Type 0) (s : Slots) (c : Tracked)
@@ -228,10 +204,12 @@ module _ (C : Table) (l : Answers) where
         → IsItself s.owner message → SlotsRepresent C l s c (Some w) → Alters c w effect part
         → (RepresentsMessage C l message w (c.known w.number) → DoesPart C l n r a b own' w part)
         → DoesEffect C l n r a b (record { slots = s.slots; owner = of }) effect (Some w)
-    own_effects s of message own' c w effect part is e h alters f =
-        let now = own_parts s c w message e h in
-        performs_on r a b alters.lines (λ k.
-        own_now s of own' c w effect part is alters h.slots now.0 k) (f now.1)
+    own_effects s of message own' c w effect part is e h alters f = search (
+      arith,
+      own_parts,
+      performs_on,
+      own_now,
+    )
 
     -- the owner is an open message
     pub slot_effects : (s : Slots) (of : PayloadOwner) (v : Contents) (message : Option Message)
@@ -245,30 +223,27 @@ module _ (C : Table) (l : Answers) where
           slots = with_value s.slots k (record v { message = message });
           owner = of;
         }) effect (Some w)
-    slot_effects s of v message c w effect part k is e get rising h alters f =
-        let there = entry_there s.slots.entries k v get in
-        let x = there.0 in
-        let was = in_slot s x c w k e there.1 h in
-        performs_on r a b alters.lines
-        (λ kept. rw (← there.2, revalued_set s.slots.entries k x message there.1)
-        (slot_now s of x message c w effect part k is alters rising h e there.1 kept))
-        (f (rw there.2 at was.0) (rw there.2 at was.1))
+    slot_effects s of v message c w effect part k is e get rising h alters f = search (
+      arith,
+      entry_there,
+      in_slot,
+      performs_on,
+      revalued_set,
+      slot_now,
+    )
 
   -- the message that represents the owner of the octets
   pub own_kept : (s : Slots) (c : Tracked) (w : MessageKey) (message : Option Message) →
       IsItself s.owner message → SlotsRepresent C l s c (Some w)
       → RepresentsMessage C l message w (c.known w.number)
-  own_kept s c w message e h = (own_parts s c w message e h).1
+  own_kept s c w message e h = search (arith, own_parts)
 
   pub slot_kept : (s : Slots) (v : Contents) (c : Tracked) (w : MessageKey) (k : ℕ) →
       index_of s.owner ≡ Some k
       → option_map (λ e. e.value) (slice_get s.slots.entries k) ≡ Some v →
       SlotsRepresent C l s c (Some w)
       → RepresentsMessage C l v.message w (c.known w.number)
-  slot_kept s v c w k e get h =
-      let there = entry_there s.slots.entries k v get in
-      let was = in_slot s there.0 c w k e there.1 h in
-      rw there.2 at was.1
+  slot_kept s v c w k e get h = search (arith, entry_there, in_slot)
 
   -- an open owner has a slot
   pub no_slot_says : {A : Type 0} (s : Slots) (c : Tracked) (owner_of_next : Option MessageKey)
@@ -287,11 +262,7 @@ module _ (C : Table) (l : Answers) where
       w.header ≡ header
       → c.known w.number ≡ Some [] → Each (λ o. o.opener.number ≡ w.number → ⊥) c.still_open
       → SlotsRepresent C l (record { slots = s.slots; owner = owners.Current (Some m) }) c (Some w)
-  begin_keeps s m c owner_of_next w number header h e n f known apart =
-      record { slots = h.slots; owner = (apart, rw known kept) }
-    where
-      kept : RepresentsMessage C l (Some m) w (Some [])
-      kept = rw (n, f) e
+  begin_keeps s m c owner_of_next w number header h e n f known apart = search (arith)
 
   -- an event without a line and without an octet
   opens_then : (at : ℕ) (w : MessageKey) (i : ℕ) (o : Option (List ℕ)) →
@@ -401,14 +372,13 @@ module _ (C : Table) (l : Answers) where
         performs_on r a b (sym (over_lines (message_reader C l) (event at no_key Closes)))
         (λ k. record { slots = h.slots; owner = rw (is.0, is.1) refl })
         (f no_key None (rw (rw (e.0, e.1) at h.owner) tt))
-    own_closes s of message c (Some w) is e h f =
-        let now = own_parts s c w message e h in
-        performs_on r a b refl (λ k. record {
-          slots =
-              own_gone c w at Closes s.slots.entries gone_closes now.0 h.slots;
-          owner =
-              rw (is.0, is.1) refl;
-        }) (f w (c.known w.number) now.1)
+    own_closes s of message c (Some w) is e h f = search (
+      arith,
+      own_parts,
+      performs_on,
+      own_gone,
+      gone_closes,
+    )
 
     pub slot_closes : (s : Slots) (of : PayloadOwner) (x : OpenEntry) (slots' : Entries Contents)
         (c : Tracked) (owner_of_next : Option MessageKey) (k : ℕ)
@@ -421,31 +391,26 @@ module _ (C : Table) (l : Answers) where
         → DoesEffect C l n r a b (record { slots = slots'; owner = of })
         (effect_to C l at c owner_of_next Closes) None
     slot_closes s of x slots' c None k is e get items rising h f = absurd (rw e at h.owner)
-    slot_closes s of x slots' c (Some w) k is e get items rising h f =
-        let p = place_of s c w k e h in
-        performs_on r a b refl (λ j. record {
-          slots = rw (items, ← p.is)
-              (slot_goes c k p.slot at Closes s.slots.entries gone_closes rising p.here h.slots);
-          owner = rw (is.0, is.1) refl;
-        })
-        (f w (in_slot s x c w k e get h).1)
+    slot_closes s of x slots' c (Some w) k is e get items rising h f = search (
+      arith,
+      place_of,
+      performs_on,
+      slot_goes,
+      gone_closes,
+      in_slot,
+    )
 
   pub open_slot : (s : Slots) (x : OpenEntry) (c : Tracked) (owner_of_next : Option MessageKey)
       (k : ℕ) (o : Open) → SlotsRepresent C l s c owner_of_next
       → slice_get c.still_open k ≡ Some o → slice_get s.slots.entries k ≡ Some x
       → IsSlot C l x (record { open_as = o; octets = c.known o.opener.number })
-  open_slot s x c owner_of_next k o h here e =
-      slot_of C l s.slots.entries (slots_of c.known c.still_open) k x
-      (record { open_as = o; octets = c.known o.opener.number }) h.slots e
-      (slots_get c k o here)
+  open_slot s x c owner_of_next k o h here e = search (arith, slot_of, slots_get)
 
   pub open_there : {A : Type 0} (s : Slots) (c : Tracked) (owner_of_next : Option MessageKey)
       (k : ℕ) (o : Open)
       → (k < length s.slots.entries → ⊥) → SlotsRepresent C l s c owner_of_next →
       slice_get c.still_open k ≡ Some o → A
-  open_there s c owner_of_next k o n h here =
-      absurd (n (no_more_slots C l s.slots.entries (slots_of c.known c.still_open) k
-      (record { open_as = o; octets = c.known o.opener.number }) h.slots (slots_get c k o here)))
+  open_there s c owner_of_next k o n h here = search (arith, no_more_slots, slots_get)
 
   pub cancel_keeps : (s : Slots) (slots' : Entries Contents) (c : Tracked) (w : MessageKey) (k : ℕ)
       (o : Open) (at j : ℕ)
@@ -454,23 +419,14 @@ module _ (C : Table) (l : Answers) where
       → slots'.entries ≡ remove s.slots.entries k
       → SlotsRepresent C l (record { slots = slots'; owner = s.owner })
       (tracked_at (message_reader C l) c (event at o.opener (Cancelled j))) (Some w)
-  cancel_keeps s slots' c w k o at j h free here rising items =
-      let ev = event at o.opener (Cancelled j) in
-      let after = tracked_at (message_reader C l) c ev in
-      let apart : o.opener.number ≡ w.number → ⊥ =
-      at_index (λ a. a.opener.number ≡ w.number → ⊥) c.still_open k o here free in
-      let others : IsNotOpen w.number after.still_open =
-      rw (gone_still_open at c o.opener (Cancelled j) (gone_cancelled j))
-      (each_filter (λ a. a.opener.number ≡ w.number → ⊥)
-      (λ a. not (a.opener.number == o.opener.number)) c.still_open free) in
-      record {
-        slots = rw items (slot_goes c k o at (Cancelled j) s.slots.entries (gone_cancelled j) rising
-            here h.slots);
-        owner = no_index (λ i. PayloadBelongs C l i (current_of s.owner) after (Some w))
-            (index_of s.owner) (current_of s.owner) c w free h.owner
-            (λ k. (
-              others,
-              rw (others_then (message_reader C l) c ev w.number
-                  (λ same. apart (sym same))) k,
-            ));
-      }
+  cancel_keeps s slots' c w k o at j h free here rising items = search (
+    arith,
+    at_index,
+    gone_still_open,
+    gone_cancelled,
+    each_filter,
+    not,
+    slot_goes,
+    no_index,
+    others_then,
+  )

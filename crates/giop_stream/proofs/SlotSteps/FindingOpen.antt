@@ -1,5 +1,5 @@
 -- Where the code finds the open message with a request id.
-use Rattle.std.proofs.Common.{◌≡◌, ℕ, suc, ◌+◌, Bool, true, false, cond, List, [], ◌∷◌, refl, sym, ap, subst, ◌∙◌, Option, Some, None, arith}
+use Rattle.std.proofs.Common.{◌≡◌, ℕ, suc, ◌+◌, Bool, true, false, cond, List, [], ◌∷◌, refl, sym, subst, ◌∙◌, Option, Some, None, arith}
 use Rattle.std.specs.Prelude.{◌==◌, slice_get}
 use Rattle.std.specs.List.{find, position_from}
 use Rattle.giop_stream.specs.SlotsRepresent.{OpenEntry}
@@ -29,14 +29,13 @@ found_by : (a : Open) (still_open : List Open) (i n : ℕ) (b : Bool) → (a.id 
     (position_from (λ o. o.id == i) (n + 1) still_open))
 unfolding Found
 found_by a still_open i n true e h = (a, 0, omega arith, refl, rw e refl)
-found_by a still_open i n false e h = unfold Found in
-    found_next a still_open i n (position_from (λ o. o.id == i) (n + 1) still_open) e h
+found_by a still_open i n false e h = search (arith, found_next)
 
 found : (still_open : List Open) (i n : ℕ) →
     Found still_open i n (position_from (λ o. o.id == i) n still_open)
 unfolding Found
 found [] i n = refl
-found (a ∷ still_open) i n = found_by a still_open i n (a.id == i) refl (found still_open i (n + 1))
+found (a ∷ still_open) i n = search (arith, found_by, found still_open i (n + 1))
 
 pub record OpenAt (c : Tracked) (i k : ℕ) : Type 0 where
   pub o : Open
@@ -51,9 +50,12 @@ module _ (C : Table) (l : Answers) where
   ids_found [] K [] i n h = refl
   ids_found [] K (o ∷ still_open) i n h = absurd h
   ids_found (k ∷ ks) K [] i n h = absurd h
-  ids_found (k ∷ ks) K (o ∷ still_open) i n h = let same = h.0.id in
-      rw same (ap (λ (r : Option ℕ). cond (o.id == i) (Some n) r)
-      (ids_found ks K still_open i (n + 1) h.1))
+  ids_found (k ∷ ks) K (o ∷ still_open) i n h = search (
+    arith,
+    cond,
+    ids_found ks K still_open i (n
+        + 1) h.1,
+  )
 
   pub none_open : (ks : List OpenEntry) (c : Tracked) (i : ℕ) →
       AreSlots C l ks (slots_of c.known c.still_open)

@@ -1,20 +1,20 @@
 -- A payload octet in three parts, as the code does it: its owner takes it, then the request id's
 -- events, then the end's.
-use Rattle.std.proofs.Common.{inl, inr, append-nil, append_assoc, length-append, suc, ◌≡◌, ℕ, ◌+◌, ◌-◌, ◌<◌, ◌≤◌, Bool, true, false, List, [], ◌∷◌, ◌++◌, length, get_or, refl, sym, ap, ◌∙◌, Option, Some, None, arith}
+use Rattle.std.proofs.Common.{append-nil, append_assoc, length-append, suc, ◌≡◌, ℕ, ◌+◌, ◌-◌, ◌<◌, ◌≤◌, Bool, true, false, List, [], ◌∷◌, ◌++◌, length, get_or, refl, sym, ap, ◌∙◌, Option, Some, None, arith}
 use Rattle.std.specs.Prelude.{◌==◌, if◌then◌else◌}
 use Rattle.std.proofs.lemmas.Bool.{ne_eqb, eqb-true, le-leb, lt-ltb, cases_lt}
 use Rattle.std.proofs.lemmas.List.{length_push, get_or_push, take-append-le}
 use Rattle.giop_sig.specs.Table.{Table}
-use Rattle.giop_message.specs.Signatures.{Answers, signatures_of}
+use Rattle.giop_message.specs.Signatures.{Answers}
 use Rattle.giop_message.specs.ReaderOfTable.{message_reader}
 use Rattle.giop_message.specs.MessageReader.{MessageReader, IsStreamable}
-use Rattle.giop_message.specs.Headers.{size, is_fragment, has_name}
+use Rattle.giop_message.specs.Headers.{is_fragment, has_name}
 use Rattle.giop_message.proofs.MessageLaws.{is_ordered, is_closing, is_named}
 use Rattle.giop_stream.specs.declared.slots.Slots.{Slots}
 use Rattle.giop_stream.specs.declared.current.Current.{Current}
 use Rattle.giop_stream.specs.Rules.{Rules, rules_by}
 use Rattle.giop_stream.specs.Framing.{Message, with_payload}
-use Rattle.giop_stream.specs.Events.{Takes, MessageKey, Open, Event, message_key, place, opener_of, has_named, goes_past, id, events_at_octet, events_at_request_id, events_of_octet, opened, Rising, now_of, request_id_events, message_end_events}
+use Rattle.giop_stream.specs.Events.{Takes, MessageKey, Open, Event, message_key, place, opener_of, has_named, goes_past, id, events_at_octet, events_at_request_id, events_of_octet, opened, Rising, request_id_events, message_end_events}
 use Rattle.giop_stream.specs.Effects.{Effect, effects, tracked_at, then_effect, with_octet, event, effect_to}
 use Rattle.giop_stream.specs.OpenSlots.{Tracked}
 use Rattle.giop_stream.specs.SlotsRepresent.{SlotsRepresent}
@@ -41,12 +41,7 @@ effects_still_open R c (e ∷ es) = effects_still_open R (tracked_at R c e) es
 fragment_still : (most : ℕ) (still_open : List Open) (m : Message) → is_fragment m.header ≡ true →
     opened still_open (id_events most still_open m) ≡ still_open
 unfolding id_events request_id_events opened
-fragment_still most still_open m f = go (length m.payload == 4)
-  where
-    go : (b : Bool) → opened still_open (if b then events_at_request_id most still_open m else [])
-        ≡ still_open
-    go true = rw f (quiet_continues still_open (now_of m) (opener_of still_open m))
-    go false = refl
+fragment_still most still_open m f = search (arith, quiet_continues)
 
 -- so that the end has the same events after it
 plain_end : (still_open still_open' : List Open) (m : Message) → is_fragment m.header ≡ false →
@@ -56,25 +51,12 @@ plain_end still_open still_open' m f = rw f refl
 
 end_same : (most : ℕ) (still_open : List Open) (m : Message) →
     end_events (opened still_open (id_events most still_open m)) m ≡ end_events still_open m
-end_same most still_open m = go (is_fragment m.header) refl
-  where
-    go : (f : Bool) → is_fragment m.header ≡ f →
-        end_events (opened still_open (id_events most still_open m)) m ≡ end_events still_open m
-    go true f = ap (λ (open' : List Open). end_events open' m) (fragment_still most still_open m f)
-    go false f = plain_end still_open (opened still_open (id_events most still_open m)) m f
+end_same most still_open m = search (arith, fragment_still, plain_end)
 
 -- and the next octets have the same owner
 owner_same : (most : ℕ) (still_open : List Open) (m : Message) →
     owner_of_next (opened still_open (id_events most still_open m)) m ≡ owner_of_next still_open m
-owner_same most still_open m = go (is_fragment m.header) refl
-  where
-    go : (f : Bool) → is_fragment m.header ≡ f →
-        owner_of_next (opened still_open (id_events most still_open m)) m
-        ≡ owner_of_next still_open m
-    go true f = ap (λ (open' : List Open). owner_of_next open' m)
-        (fragment_still most still_open m f)
-    go false f = owner_plain (opened still_open (id_events most still_open m)) m f
-        ∙ sym (owner_plain still_open m f)
+owner_same most still_open m = search (arith, fragment_still, owner_plain)
 
 rising_id : (most : ℕ) (still_open : List Open) (m : Message) → Rising still_open →
     (length m.payload ≡ 4 → IsNewest m.number still_open) →
@@ -105,134 +87,94 @@ module _ (R : Rules) (c : Tracked) (m : Message) where
   third = effects R.reading second.tracked (end_events second.tracked.still_open m)
 
   pub first_still_open : first.tracked.still_open ≡ c.still_open
-  first_still_open = effects_still_open R.reading c (events_at_octet c.still_open m)
-      ∙ quiet_octet c.still_open (now_of m) (opener_of c.still_open m)
+  first_still_open = search (arith, effects_still_open, quiet_octet)
 
   second_still_open : second.tracked.still_open
       ≡ opened c.still_open (id_events R.most c.still_open m)
-  second_still_open = effects_still_open R.reading first.tracked
-      (id_events R.most first.tracked.still_open m)
-      ∙ ap (λ (still_open : List Open). opened still_open (id_events R.most still_open m))
-      first_still_open
+  second_still_open = search (arith, effects_still_open, first_still_open)
 
   parts : (length m.payload ≡ 0 → ⊥) → events_of_octet R.most c.still_open m
       ≡ events_at_octet c.still_open m ++ (id_events R.most c.still_open m
       ++ end_events c.still_open m)
   unfolding events_of_octet id_events end_events
-  parts some = rw (ne_eqb (length m.payload) 0 some) refl
+  parts some = search (arith, ne_eqb)
 
   pub in_parts : (length m.payload ≡ 0 → ⊥) →
       effects R.reading c (events_of_octet R.most c.still_open m)
       ≡ then_effect first (then_effect second third)
-  in_parts some =
-      let ids : id_events R.most c.still_open m ≡ id_events R.most first.tracked.still_open m =
-      ap (λ (still_open : List Open). id_events R.most still_open m) (sym first_still_open) in
-      let ends : end_events c.still_open m ≡ end_events second.tracked.still_open m =
-      sym (ap (λ (still_open : List Open). end_events still_open m) second_still_open
-      ∙ end_same R.most c.still_open m) in
-      ap (effects R.reading c) (parts some ∙
-      (ap (λ (es : List Event). events_at_octet c.still_open m
-      ++ (es ++ end_events c.still_open m)) ids
-      ∙ ap (λ (es : List Event). events_at_octet c.still_open m
-      ++ (id_events R.most first.tracked.still_open m ++ es)) ends))
-      ∙ (effects_append R.reading c (events_at_octet c.still_open m)
-      (id_events R.most first.tracked.still_open m ++ end_events second.tracked.still_open m)
-      ∙ rw (effects_append R.reading first.tracked (id_events R.most first.tracked.still_open m)
-      (end_events second.tracked.still_open m)) refl)
+  in_parts some = search (
+    arith,
+    first_still_open,
+    second_still_open,
+    end_same,
+    parts,
+    effects_append,
+  )
 
   pub second_owner : owner_of_next first.tracked.still_open m
       ≡ owner_of_next second.tracked.still_open m
-  second_owner = ap (λ (still_open : List Open). owner_of_next still_open m) first_still_open
-      ∙ (sym (owner_same R.most c.still_open m)
-      ∙ ap (λ (still_open : List Open). owner_of_next still_open m) (sym second_still_open))
+  second_owner = search (arith, first_still_open, owner_same, second_still_open)
 
   pub second_rising : Rising c.still_open →
       (length m.payload ≡ 4 → IsNewest m.number c.still_open) → Rising second.tracked.still_open
-  second_rising r newest = rw second_still_open (rising_id R.most c.still_open m r newest)
+  second_rising r newest = search (arith, second_still_open, rising_id)
 
   -- the owner after the message's last octet is nobody, whatever is open
   pub third_owner : owner_after second.tracked.still_open m ≡ owner_after third.tracked.still_open m
   unfolding owner_after end_events opened
-  third_owner = go (length m.payload == size m.header) refl
-    where
-      go : (b : Bool) → (length m.payload == size m.header) ≡ b
-          → (if b then None else owner_of_next second.tracked.still_open m)
-          ≡ (if b then None else owner_of_next third.tracked.still_open m)
-      go true e = refl
-      go false e = ap (λ (still_open : List Open). owner_of_next still_open m)
-          (sym (effects_still_open R.reading second.tracked (end_events second.tracked.still_open m)
-          ∙ rw e refl))
+  third_owner = search (arith, effects_still_open)
 
 -- ---- The owner of the octet that comes.
 
 same_opener : (still_open : List Open) (m : Message) (x : ℕ) → 4 ≤ length m.payload →
     opener_of still_open (with_octet m x) ≡ opener_of still_open m
 unfolding opener_of id
-same_opener still_open m x many = rw (take-append-le 4 m.payload (x ∷ []) many) refl
+same_opener still_open m x many = search (arith, take-append-le)
 
 pub owner_next : (still_open : List Open) (m : Message) (x : ℕ) →
     owner_of_octet still_open (with_octet m x) ≡ owner_of_next still_open m
 unfolding owner_of_octet owner_of_next has_named goes_past
-owner_next still_open m x = elim (cases_lt (length m.payload) 4) [
-  | inl few ↦ unfold owner_of_next owner_of_octet in
-      owner_own still_open (with_octet m x) (omega (arith, length_push m.payload x))
-      ∙ sym (owner_early still_open m few)
-  | inr many ↦
-      let past : 4 < length (m.payload ++ x ∷ []) = omega (arith, length_push m.payload x) in
-      rw (
-        lt-ltb 4 (length (m.payload ++ x ∷ [])) past,
-        le-leb 4 (length m.payload) (omega arith),
-        same_opener still_open m x (omega arith),
-      ) refl
-]
+owner_next still_open m x = search (
+  arith,
+  cases_lt,
+  owner_own,
+  length_push,
+  owner_early,
+  lt-ltb,
+  le-leb,
+  same_opener,
+)
 
 module _ (C : Table) (l : Answers) where
   pub in_turn : IsStreamable (message_reader C l)
-  in_turn = record {
-    named = is_named C l;
-    ordered =
-        is_ordered (λ number. signatures_of C (l number));
-    closing =
-        is_closing (λ number. signatures_of C (l number));
-  }
+  in_turn = search (arith, is_named, is_ordered, is_closing)
 
   about_takes : (c : Tracked) (m : Message) (x at : ℕ) (r : Option Open) → goes_past m ≡ true →
       opener_of c.still_open m ≡ r
       → get_or m.payload (length m.payload - 1) 0 ≡ x → place m ≡ at
       → effects (message_reader C l) c (events_at_octet c.still_open m)
       ≡ effect_to C l at c (opener_key r) (Takes x)
-  about_takes c m x at None past e last here =
-      octet_lost (message_reader C l) c c.still_open m past e
-  about_takes c m x at (Some o) past e last here =
-      octet_passed (message_reader C l) c c.still_open m o past e ∙ rw (last, here) refl
+  about_takes c m x at None past e last here = search (arith, octet_lost)
+  about_takes c m x at (Some o) past e last here = search (arith, octet_passed)
 
   pub octet_does : (c : Tracked) (m : Message) (x at : ℕ) →
       get_or m.payload (length m.payload - 1) 0 ≡ x → place m ≡ at
       → effects (message_reader C l) c (events_at_octet c.still_open m)
       ≡ effect_to C l at c (owner_of_octet c.still_open m) (Takes x)
   unfolding owner_of_octet
-  octet_does c m x at last here = go (goes_past m) refl
-    where
-      go : (b : Bool) → goes_past m ≡ b → effects (message_reader C l) c
-          (events_at_octet c.still_open m) ≡ effect_to C l at c
-          (if goes_past m then opener_key (opener_of c.still_open m) else Some (message_key m))
-          (Takes x)
-      go true past = rw past (about_takes c m x at (opener_of c.still_open m) past refl last here)
-      go false own = rw own (octet_own (message_reader C l) c c.still_open m own
-          ∙ rw (last, here) refl)
+  octet_does c m x at last here = search (arith, about_takes, octet_own)
 
 module _ (C : Table) (l : Answers) (most : ℕ) (c : Tracked) (m : Message) (now : Current) (x : ℕ)
     (h : IsBeforeOctet c m now x) where
   last_is : get_or (m.payload ++ x ∷ []) (length (m.payload ++ x ∷ []) - 1) 0 ≡ x
-  last_is = get_or_push m.payload x 0 (length (m.payload ++ x ∷ []) - 1)
-      (omega (arith, length_push m.payload x))
+  last_is = search (arith, get_or_push, length_push)
 
   pub some_come : length (m.payload ++ x ∷ []) ≡ 0 → ⊥
-  some_come e = omega (arith, length_push m.payload x, e)
+  some_come e = search (arith, length_push)
 
   some_place : suc (now.place - 1) ≡ now.place
   unfolding place
-  some_place = omega (arith, h.current.place)
+  some_place = search (arith)
 
   pub takes_at : first (rules_by C l most) c (with_octet m x)
       ≡ effect_to C l now.place c (owner_of_next c.still_open m) (Takes x)
@@ -243,13 +185,7 @@ module _ (C : Table) (l : Answers) (most : ℕ) (c : Tracked) (m : Message) (now
   pub takes_effect : first (rules_by C l most) c (with_octet m x)
       ≡ run_effect C l (now.place - 1) c (owner_of_next c.still_open m) (x ∷ [])
   unfolding run_effect
-  takes_effect =
-      let effect = effect_to C l now.place c (owner_of_next c.still_open m) (Takes x) in
-      takes_at ∙ rw some_place (λ j. record {
-        tracked = effect.tracked;
-        lines =
-            sym (append-nil effect.lines) j;
-      })
+  takes_effect = search (arith, takes_at, some_place, append-nil)
 
   pub known_is : length m.payload < 4 → has_name m.header ≡ true
       → (first (rules_by C l most) c (with_octet m x)).tracked.known m.number
@@ -289,7 +225,7 @@ module _ (C : Table) (l : Answers) (most : ℕ) (c : Tracked) (m : Message) (now
       }
 
   pub come_is : length (m.payload ++ x ∷ []) ≡ now.payload_count
-  come_is = omega (arith, length_push m.payload x, h.payload_count)
+  come_is = search (arith, length_push)
 
   pub named_at : (s' : Slots) → SlotsRepresent C l s'
       (second (rules_by C l most) c (with_octet m x)).tracked
@@ -316,7 +252,7 @@ run_both : (C : Table) (l : Answers) (q : List ℕ) (before : ℕ) (c : Tracked)
     ≡ (let ran = run_effect C l before c w q in
     then_effect ran (run_effect C l (before + length q) ran.tracked w r))
 unfolding run_effect
-run_both C l [] before c w r = let same : before + 0 ≡ before = omega arith in rw same refl
+run_both C l [] before c w r = search (arith)
 run_both C l (x ∷ q) before c w r =
     let one = effect_to C l (suc before) c w (Takes x) in
     let ran = run_effect C l (suc before) one.tracked w q in
@@ -336,12 +272,7 @@ module _ (C : Table) (l : Answers) (most : ℕ) (s : Slots) (c : Tracked) (m : M
 
   room : suc (length q) ≤ now.place
   unfolding place
-  room = omega (
-    arith,
-    h.last.current.place,
-    length-append m.payload q,
-    length_push (m.payload ++ q) x,
-  )
+  room = search (arith, length-append, length_push)
 
   -- the owner takes all of them in one run
   pub takes_run : (octets : List ℕ) (before : ℕ) → octets ≡ q ++ x ∷ [] →

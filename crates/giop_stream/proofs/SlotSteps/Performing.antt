@@ -1,6 +1,6 @@
 -- The lines that calls write, one call after the other, and the faults that they count.
-use Rattle.std.proofs.Common.{◌≡◌, ℕ, ◌+◌, List, [], ◌∷◌, ◌++◌, refl, ◌∙◌, append-nil, Result, Ok, Err, IsErr}
-use Rattle.std.specs.Prelude.{OnOk, IfOk}
+use Rattle.std.proofs.Common.{arith, ◌≡◌, ℕ, ◌+◌, List, [], ◌∷◌, ◌++◌, refl, append-nil, Result, Ok, Err, IsErr}
+use Rattle.std.specs.Prelude.{OnOk}
 use Rattle.std.proofs.lemmas.Bool.{false≢true}
 use Rattle.std.proofs.lemmas.Result.{on_ok_weaker}
 use Rattle.std.proofs.lemmas.List.Concat.{flat_map-append}
@@ -38,17 +38,12 @@ module _ {A E : Type 0} {n : A → ℕ} where
   pub does_nothing : {P : Type 0} (x : A) (log : OutLog) → 0 ≡ n x → P →
       WritesAndLeaves {E = E} n (Ok x) log log [] P
   unfolding lines_text fault_count
-  does_nothing x log e p = record { text = wrote-nil log; faults = e; kept = p }
+  does_nothing x log e p = search (arith, wrote-nil)
 
   -- the same lines, and a consequence of what the call leaves
   pub performs_on : {P Q : Type 0} {xs ys : List Line} (r : Result A E) (a b : OutLog) → xs ≡ ys →
       (P → Q) → WritesAndLeaves n r a b ys P → WritesAndLeaves n r a b xs Q
-  performs_on r a b e f p = rw e (record {
-    text = p.text;
-    faults = p.faults;
-    kept =
-        on_ok_weaker r f p.kept;
-  })
+  performs_on r a b e f p = search (arith, on_ok_weaker)
 
   -- one line was written
   pub wrote_line : {P : Type 0} {line : Line} (x : A) (a b : OutLog) (text : List ℕ) →
@@ -56,7 +51,7 @@ module _ {A E : Type 0} {n : A → ℕ} where
       → fault_count (line ∷ []) ≡ n x → Wrote a b text → P →
       WritesAndLeaves {E = E} n (Ok x) a b (line ∷ []) P
   unfolding lines_text
-  wrote_line x a b text e f w p = record { text = rw (e, append-nil text) w; faults = f; kept = p }
+  wrote_line x a b text e f w p = search (arith, append-nil)
 
   -- one line is written
   pub writes_line : {P : Type 0} {line : Line} (r : Result A E) (a b : OutLog) (text : List ℕ) →
@@ -64,16 +59,8 @@ module _ {A E : Type 0} {n : A → ℕ} where
       → ((x : A) → fault_count (line ∷ []) ≡ n x) → Writes r a b text → P →
       WritesAndLeaves n r a b (line ∷ []) P
   unfolding lines_text
-  writes_line (Ok x) a b text e f w p = record {
-    text = rw (e, append-nil text) w;
-    faults = f x;
-    kept = p;
-  }
-  writes_line (Err y) a b text e f w p = record {
-    text = rw (e, append-nil text) w;
-    faults = tt;
-    kept = tt;
-  }
+  writes_line (Ok x) a b text e f w p = search (arith, append-nil)
+  writes_line (Err y) a b text e f w p = search (arith, append-nil)
 
   -- a line, and then a call
   pub line_then : {P : Type 0} {line : Line} {ls : List Line} (r : Result A E) (a b d : OutLog)
@@ -82,20 +69,14 @@ module _ {A E : Type 0} {n : A → ℕ} where
       WritesAndLeaves n r b d ls P
       → WritesAndLeaves n r a d (line ∷ ls) P
   unfolding lines_text
-  line_then {ls} r a b d text e f w p =
-      record {
-        text = rw e (writes_then r a b d text (lines_text ls) w
-            (unfold lines_text in p.text));
-        faults = rw f p.faults;
-        kept = p.kept;
-      }
+  line_then {ls} r a b d text e f w p = search (arith, writes_then)
 
   -- ---- Where a put failed.
 
   pub failed : {P : Type 0} {ls : List Line} (r : Result A E) (a b : OutLog) → IsErr r →
       Writes r a b (lines_text ls) → WritesAndLeaves n r a b ls P
   failed (Ok x) a b h w = absurd (false≢true h)
-  failed (Err e) a b h w = record { text = w; faults = tt; kept = tt }
+  failed (Err e) a b h w = search (arith)
 
   -- in the first line
   pub line_failed : {P : Type 0} {line : Line} {ls : List Line} (r : Result A E) (a b : OutLog)
@@ -104,13 +85,7 @@ module _ {A E : Type 0} {n : A → ℕ} where
       WritesAndLeaves n r a b ls P
   unfolding lines_text
   line_failed (Ok x) a b text begins e h w = absurd (false≢true h)
-  line_failed (Err f) a b text begins e h w =
-      record {
-        text = rw (begins.is, e) (front-append a b text (lines_text begins.more) w);
-        faults =
-            tt;
-        kept = tt;
-      }
+  line_failed (Err f) a b text begins e h w = search (arith, front-append)
 
 module _ {A B E F : Type 0} {n : A → ℕ} {m : B → ℕ} where
   -- in a call that writes the first lines
@@ -118,19 +93,13 @@ module _ {A B E F : Type 0} {n : A → ℕ} {m : B → ℕ} where
       (a b : OutLog) → IsErr r
       → WritesAndLeaves n (Err e) a b xs P → WritesAndLeaves m r a b (xs ++ ys) Q
   first_failed ys e (Ok x) a b h p = absurd (false≢true h)
-  first_failed {xs} ys e (Err f) a b h p =
-      record {
-        text = rw (text_append xs ys)
-            (front-append a b (lines_text xs) (lines_text ys) p.text);
-        faults = tt;
-        kept = tt;
-      }
+  first_failed {xs} ys e (Err f) a b h p = search (arith, text_append, front-append)
 
   -- in a call that writes all lines
   pub call_failed : {P Q : Type 0} {ls : List Line} (e : E) (r : Result B F) (a b : OutLog) →
       IsErr r → WritesAndLeaves n (Err e) a b ls P → WritesAndLeaves m r a b ls Q
   call_failed e (Ok x) a b h p = absurd (false≢true h)
-  call_failed e (Err f) a b h p = record { text = p.text; faults = tt; kept = tt }
+  call_failed e (Err f) a b h p = search (arith)
 
   -- in a call after one that succeeded
   pub then_failed : {P Q : Type 0} {xs ys : List Line} (x : A) (r : Result B F) (a b d : OutLog) →
@@ -138,36 +107,17 @@ module _ {A B E F : Type 0} {n : A → ℕ} {m : B → ℕ} where
       → WritesAndLeaves {E = E} n (Ok x) a b xs P → WritesAndLeaves m r b d ys Q →
       WritesAndLeaves m r a d (xs ++ ys) Q
   then_failed x (Ok y) a b d h p q = absurd (false≢true h)
-  then_failed {xs} {ys} x (Err e) a b d h p q =
-      record {
-        text = rw (text_append xs ys)
-            (wrote-front a b d (lines_text xs) (lines_text ys) p.text q.text);
-        faults = tt;
-        kept =
-            tt;
-      }
+  then_failed {xs} {ys} x (Err e) a b d h p q = search (arith, text_append, wrote-front)
 
   -- ---- A call that succeeded, and one after it.
 
   pub done_then : {P Q : Type 0} {xs ys : List Line} (x : A) (r : Result B F) (a b d : OutLog)
       → WritesAndLeaves {E = E} n (Ok x) a b xs P → WritesAndLeaves m r b d ys Q →
       WritesAndLeaves (λ y. n x + m y) r a d (xs ++ ys) Q
-  done_then {xs} {ys} x r a b d p q =
-      record {
-        text = rw (text_append xs ys)
-            (writes_then r a b d (lines_text xs) (lines_text ys) p.text q.text);
-        faults =
-            go r q.faults;
-        kept = q.kept;
-      }
-    where
-      go : (r : Result B F) → IfOk r (λ y. fault_count ys ≡ m y) →
-          IfOk r (λ y. fault_count (xs ++ ys) ≡ n x + m y)
-      go (Ok y) f = count_append xs ys ∙ (λ j. p.faults j + f j)
-      go (Err e) f = tt
+  done_then {xs} {ys} x r a b d p q = search (arith, text_append, writes_then, count_append)
 
 -- the same, with its faults counted otherwise
 pub counts_as : {A B E F P : Type 0} {n : A → ℕ} {m : B → ℕ} {ls : List Line} (x : A) (y : B)
     (a b : OutLog) → n x ≡ m y
     → WritesAndLeaves {E = E} n (Ok x) a b ls P → WritesAndLeaves {E = F} m (Ok y) a b ls P
-counts_as x y a b e p = record { text = p.text; faults = p.faults ∙ e; kept = p.kept }
+counts_as x y a b e p = search (arith)

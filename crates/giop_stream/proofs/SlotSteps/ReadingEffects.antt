@@ -1,6 +1,6 @@
 -- The lines of a message's events when it is read by a table, and that the calls of a message write
 -- them.
-use Rattle.std.proofs.Common.{inl, inr, ◌⊎◌, ◌≡◌, ℕ, suc, Bool, true, false, List, [], ◌∷◌, ◌++◌, length, map, refl, sym, ap, subst, ◌∙◌, Option, Some, None, Result, Ok, Err}
+use Rattle.std.proofs.Common.{arith, inl, inr, ◌⊎◌, ◌≡◌, ℕ, suc, Bool, true, false, List, [], ◌∷◌, ◌++◌, length, map, refl, sym, ap, ◌∙◌, Option, Some, None, Result, Ok, Err}
 use Rattle.std.specs.Prelude.{◌||◌, if◌then◌else◌, is_some, IfOk}
 use Rattle.std.specs.List.{list_any}
 use Rattle.std.proofs.lemmas.Bool.{eq-eqb}
@@ -9,7 +9,7 @@ use Rattle.giop_print.specs.Output.{OutLog, Wrote, WroteFront, Writes}
 use Rattle.giop_sig.specs.Table.{Table}
 use Rattle.giop_message.specs.declared.message.Message.{Message}
 use Rattle.giop_message.specs.MessageReader.{LineClass, Value, Call, Rest, Fault, End, TimedLine, MessageReader, AreInLineOrder, AtClose, due, is_fault, is_last}
-use Rattle.giop_message.specs.Text.{line_class_text, numbered_lines}
+use Rattle.giop_message.specs.Text.{numbered_lines}
 use Rattle.giop_message.specs.Signatures.{Answers, signatures_of}
 use Rattle.giop_message.specs.Messages.{message, stage_of, close}
 use Rattle.giop_message.specs.ReaderOfTable.{message_reader}
@@ -42,15 +42,13 @@ said_is : (at number : ℕ) (rs : List TimedLine) →
     lines_text (reader_lines at number rs) ≡ numbered_lines at number rs
 unfolding lines_text numbered_lines
 said_is at number [] = refl
-said_is at number (r ∷ rs) = ap (λ (t : List ℕ). line_class_text at number r.line_class r.text ++ t)
-    (said_is at number rs)
+said_is at number (r ∷ rs) = search (arith, said_is at number rs)
 
 closed_is : (at number : ℕ) (cs : List (LineClass × List ℕ)) →
     lines_text (close_lines at number cs) ≡ closes_text number at cs
 unfolding lines_text closes_text
 closed_is at number [] = refl
-closed_is at number (c ∷ cs) = ap (λ (t : List ℕ). line_class_text at number c.0 c.1 ++ t)
-    (closed_is at number cs)
+closed_is at number (c ∷ cs) = search (arith, closed_is at number cs)
 
 -- two lines of one octet are a value and its call, or a value and a fault
 two_values : (s t : LineClass) → AreInLineOrder (s ∷ t ∷ []) → (s ≡ Value)
@@ -92,10 +90,8 @@ few_at_close a b c more (inr (inr e)) = absurd cc
 turn_stands : (at n : ℕ) (rs : List TimedLine) → AreInLineOrder (map (λ r. r.line_class) rs) →
     up_to_last_line (λ i. false) (reader_lines at n rs) ≡ reader_lines at n rs
 unfolding up_to_last_line is_last_of
-turn_stands at n (r ∷ s ∷ []) h = let e = two_values r.line_class s.line_class h in
-    rw (e.0, eq-eqb n n refl) refl
-turn_stands at n (r ∷ s ∷ t ∷ rs) h = absurd
-    (few_in_turn r.line_class s.line_class t.line_class (map (λ r. r.line_class) rs) h)
+turn_stands at n (r ∷ s ∷ []) h = search (arith, two_values, eq-eqb)
+turn_stands at n (r ∷ s ∷ t ∷ rs) h = search (arith, few_in_turn, map)
 turn_stands at n _ h = refl
 
 one_fault : (at n : ℕ) (s : LineClass) (text : List ℕ) →
@@ -109,16 +105,9 @@ turn_faults : (at n : ℕ) (rs : List TimedLine) → AreInLineOrder (map (λ r. 
     fault_count (reader_lines at n rs) ≡ (if list_any (λ r. is_fault r.line_class) rs then 1 else 0)
 unfolding fault_count
 turn_faults at n [] h = refl
-turn_faults at n (r ∷ []) h = unfold fault_count in one_fault at n r.line_class r.text
-turn_faults at n (r ∷ s ∷ []) h = go (two_values r.line_class s.line_class h)
-  where
-    go : (r.line_class ≡ Value) × ((s.line_class ≡ Call) ⊎ (s.line_class ≡ Fault)) →
-        fault_count (reader_lines at n (r ∷ s ∷ []))
-        ≡ (if list_any (λ r. is_fault r.line_class) (r ∷ s ∷ []) then 1 else 0)
-    go (e, inl c) = rw (e, c) refl
-    go (e, inr c) = rw (e, c) refl
-turn_faults at n (r ∷ s ∷ t ∷ rs) h = absurd
-    (few_in_turn r.line_class s.line_class t.line_class (map (λ r. r.line_class) rs) h)
+turn_faults at n (r ∷ []) h = search (arith, one_fault)
+turn_faults at n (r ∷ s ∷ []) h = search (arith, two_values)
+turn_faults at n (r ∷ s ∷ t ∷ rs) h = search (arith, few_in_turn, map)
 
 one_last : (s : LineClass) → AreInLineOrder (s ∷ []) → is_last s ≡ is_fault s
 one_last End h = absurd (no_end h)
@@ -128,36 +117,28 @@ turn_last : (at n : ℕ) (rs : List TimedLine) → AreInLineOrder (map (λ r. r.
     list_any (is_last_of n) (reader_lines at n rs) ≡ list_any (λ r. is_fault r.line_class) rs
 unfolding is_last_of
 turn_last at n [] h = refl
-turn_last at n (r ∷ []) h = rw (eq-eqb n n refl)
-    (ap (λ (b : Bool). b || false) (one_last r.line_class h))
-turn_last at n (r ∷ s ∷ []) h = go (two_values r.line_class s.line_class h)
-  where
-    go : (r.line_class ≡ Value) × ((s.line_class ≡ Call) ⊎ (s.line_class ≡ Fault)) →
-        list_any (is_last_of n) (reader_lines at n (r ∷ s ∷ []))
-        ≡ list_any (λ r. is_fault r.line_class) (r ∷ s ∷ [])
-    go (e, inl c) = rw (e, c, eq-eqb n n refl) refl
-    go (e, inr c) = rw (e, c, eq-eqb n n refl) refl
-turn_last at n (r ∷ s ∷ t ∷ rs) h = absurd
-    (few_in_turn r.line_class s.line_class t.line_class (map (λ r. r.line_class) rs) h)
+turn_last at n (r ∷ []) h = search (arith, eq-eqb, one_last)
+turn_last at n (r ∷ s ∷ []) h = search (arith, two_values, eq-eqb)
+turn_last at n (r ∷ s ∷ t ∷ rs) h = search (arith, few_in_turn, map)
 
 close_stands : (at n : ℕ) (cs : List (LineClass × List ℕ)) → AtClose (map (λ c. c.0) cs) →
     up_to_last_line (λ i. false) (close_lines at n cs) ≡ close_lines at n cs
 unfolding up_to_last_line is_last_of
-close_stands at n (c ∷ d ∷ []) h = let e = two_closes c.0 d.0 h in rw (e.0, eq-eqb n n refl) refl
-close_stands at n (c ∷ d ∷ e ∷ cs) h = absurd (few_at_close c.0 d.0 e.0 (map (λ c. c.0) cs) h)
+close_stands at n (c ∷ d ∷ []) h = search (arith, two_closes, eq-eqb)
+close_stands at n (c ∷ d ∷ e ∷ cs) h = search (arith, few_at_close, map)
 close_stands at n _ h = refl
 
 close_faults : (at n : ℕ) (cs : List (LineClass × List ℕ)) → AtClose (map (λ c. c.0) cs) →
     fault_count (close_lines at n cs) ≡ (if list_any (λ c. is_fault c.0) cs then 1 else 0)
 unfolding fault_count
 close_faults at n [] h = refl
-close_faults at n (c ∷ []) h = unfold fault_count in one_fault at n c.0 c.1
-close_faults at n (c ∷ d ∷ []) h = let e = two_closes c.0 d.0 h in rw (e.0, e.1) refl
-close_faults at n (c ∷ d ∷ e ∷ cs) h = absurd (few_at_close c.0 d.0 e.0 (map (λ c. c.0) cs) h)
+close_faults at n (c ∷ []) h = search (arith, one_fault)
+close_faults at n (c ∷ d ∷ []) h = search (arith, two_closes)
+close_faults at n (c ∷ d ∷ e ∷ cs) h = search (arith, few_at_close, map)
 
 one_octet : (at : ℕ) (w : MessageKey) (x : ℕ) → joined w.number (event at w (Takes x) ∷ []) ≡ x ∷ []
 unfolding joined octet
-one_octet at w x = rw (eq-eqb w.number w.number refl) refl
+one_octet at w x = search (arith, eq-eqb)
 
 pub no_message : (message : Option Message) → is_some message ≡ false → message ≡ None
 no_message None h = refl
@@ -183,11 +164,8 @@ module _ (R : MessageReader) where
   faulted_then : (w : MessageKey) (o : Option (List ℕ)) (at : ℕ) (fault : FramingFault) →
       octets_then R (event at w (Faults fault)) o ≡ None
   unfolding octets_then is_last_of
-  faulted_then w (Some xs) at fault = rw (
-    faulted_lines at w fault xs,
-    eq-eqb w.number w.number refl,
-  ) refl
-  faulted_then w None at fault = over_then (event at w (Faults fault))
+  faulted_then w (Some xs) at fault = search (arith, faulted_lines, eq-eqb)
+  faulted_then w None at fault = search (arith, over_then)
 
   cancelled_lines : (at : ℕ) (w : MessageKey) (j : ℕ) (xs : List ℕ) →
       lines_of R (event at w (Cancelled j)) (Some xs) ≡
@@ -213,15 +191,13 @@ module _ (C : Table) (l : Answers) where
       lines_of R_of (event at w (Takes x)) (Some xs)
       ≡ reader_lines at w.number (due R_of w.number w.header xs x)
   unfolding lines_of lines_for lines_of_event line
-  take_lines at w xs x = rw (one_octet at w x)
-      (turn_stands at w.number (due R_of w.number w.header xs x) (in_turn w.number w.header xs x))
+  take_lines at w xs x = search (arith, one_octet, turn_stands, in_turn)
 
   closing_lines : (at : ℕ) (w : MessageKey) (xs : List ℕ) →
       lines_of R_of (event at w Closes) (Some xs)
       ≡ close_lines at w.number (R_of.closes w.number w.header xs)
   unfolding lines_of lines_for lines_of_event line
-  closing_lines at w xs = close_stands at w.number (R_of.closes w.number w.header xs)
-      (at_close w.number w.header xs)
+  closing_lines at w xs = search (arith, close_stands, at_close)
 
   -- ---- An octet.
 
@@ -231,25 +207,18 @@ module _ (C : Table) (l : Answers) where
   pub take_text : (before : ℕ) (w : MessageKey) (xs : List ℕ) (x : ℕ) →
       lines_text (lines_of R_of (event (suc before) w (Takes x)) (Some xs))
       ≡ due_text (signatures_of C (l w.number)) w.number before w.header xs (x ∷ [])
-  take_text before w xs x =
-      ap lines_text (take_lines (suc before) w xs x)
-      ∙ (said_is (suc before) w.number (due R_of w.number w.header xs x)
-      ∙ sym (octet_text (signatures_of C (l w.number)) w.number before w.header xs x))
+  take_text before w xs x = search (arith, take_lines, said_is, octet_text)
 
   pub then_by : (at : ℕ) (w : MessageKey) (xs : List ℕ) (x : ℕ) →
       octets_then R_of (event at w (Takes x)) (Some xs)
       ≡ (if Faulty w xs x then None else Some (xs ++ x ∷ []))
   unfolding octets_then octet
-  then_by at w xs x = rw (
-    take_lines at w xs x,
-    turn_last at w.number (due R_of w.number w.header xs x) (in_turn w.number w.header xs x),
-  ) refl
+  then_by at w xs x = search (arith, take_lines, turn_last, in_turn)
 
   pub faults_by : (at : ℕ) (w : MessageKey) (xs : List ℕ) (x : ℕ) →
       fault_count (lines_of R_of (event at w (Takes x)) (Some xs))
       ≡ (if Faulty w xs x then 1 else 0)
-  faults_by at w xs x = rw (take_lines at w xs x)
-      (turn_faults at w.number (due R_of w.number w.header xs x) (in_turn w.number w.header xs x))
+  faults_by at w xs x = search (arith, take_lines, turn_faults, in_turn)
 
   -- ---- A close.
 
@@ -257,23 +226,12 @@ module _ (C : Table) (l : Answers) where
       P (closing_text w.number at (close (stage_of
       (message (signatures_of C (l w.number)) w.header xs))))
       → P (lines_text (lines_of R_of (event at w Closes) (Some xs)))
-  close_text P w at xs p =
-      let text : lines_text (lines_of R_of (event at w Closes) (Some xs))
-      ≡ closing_text w.number at (close (stage_of
-      (message (signatures_of C (l w.number)) w.header xs))) =
-      ap lines_text (closing_lines at w xs)
-      ∙ (closed_is at w.number (R_of.closes w.number w.header xs)
-      ∙ sym (close_is (signatures_of C (l w.number)) w.number at w.header xs)) in
-      subst P (sym text) p
+  close_text P w at xs p = search (arith, closing_lines, closed_is, close_is)
 
   close_by : (at : ℕ) (w : MessageKey) (xs : List ℕ) →
       fault_count (lines_of R_of (event at w Closes) (Some xs))
       ≡ one_if (is_short (close (stage_of (message (signatures_of C (l w.number)) w.header xs))))
-  close_by at w xs = rw (
-    closing_lines at w xs,
-    close_short (signatures_of C (l w.number)) w.header xs,
-  )
-      (close_faults at w.number (R_of.closes w.number w.header xs) (at_close w.number w.header xs))
+  close_by at w xs = search (arith, closing_lines, close_short, close_faults, at_close)
 
   pub close_writes : {E : Type 0} (m : Message) (w : MessageKey) (o : Option (List ℕ)) (at : ℕ)
       (r : Result Bool E) (a b : OutLog) → RepresentsMessage C l (Some m) w o
@@ -308,7 +266,7 @@ module _ (C : Table) (l : Answers) where
   pub over_part : (w : MessageKey) (o : Option (List ℕ)) (e : Event) →
       RepresentsMessage C l None w o → part_of R_of e o ≡ no_part None
   unfolding part_of
-  over_part w None e k = λ j. record { octets = over_then R_of e j; lines = over_lines R_of e j }
+  over_part w None e k = search (arith, over_then, over_lines)
   over_part w (Some xs) e k = absurd k
 
   pub faulted_part : (message : Option Message) (w : MessageKey) (o : Option (List ℕ)) (at : ℕ)
@@ -324,12 +282,7 @@ module _ (C : Table) (l : Answers) where
         } ∷ [];
       }
   unfolding part_of
-  faulted_part (Some m) w (Some xs) at fault h k =
-      λ j. record {
-        octets = faulted_then R_of w (Some xs) at fault j;
-        lines =
-            faulted_lines R_of at w fault xs j;
-      }
+  faulted_part (Some m) w (Some xs) at fault h k = search (arith, faulted_then, faulted_lines)
   faulted_part (Some m) w None at fault h k = absurd k
   faulted_part None w o at fault h k = absurd cc
 
@@ -344,7 +297,7 @@ module _ (C : Table) (l : Answers) where
 pub faulted_text : (at number : ℕ) (fault : FramingFault) (w : MessageKey) → w.number ≡ number →
     line_text (record { place = at; number = w.number; content = Faulted fault })
     ≡ fault_line number (framing_fault_word fault) at
-faulted_text at number fault w e = ap (λ (n : ℕ). fault_line n (framing_fault_word fault) at) e
+faulted_text at number fault w e = search (arith)
 
 pub faulted_one : (at number : ℕ) (fault : FramingFault) →
     fault_count (record { place = at; number = number; content = Faulted fault } ∷ []) ≡ 1
@@ -354,7 +307,7 @@ faulted_one at number fault = refl
 pub cancelled_text : (at number j : ℕ) (w : MessageKey) → w.number ≡ number →
     line_text (record { place = at; number = w.number; content = CancelledBy j })
     ≡ cancelled_line number j
-cancelled_text at number j w e = ap (λ (n : ℕ). cancelled_line n j) e
+cancelled_text at number j w e = search (arith)
 
 pub cancelled_none : (at number j : ℕ) →
     fault_count (record { place = at; number = number; content = CancelledBy j } ∷ []) ≡ 0

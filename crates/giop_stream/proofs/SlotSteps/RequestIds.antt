@@ -1,7 +1,7 @@
 -- The GIOP header of a message that is known by its request id begins with it: its first four
 -- octets are the id.
-use Rattle.std.proofs.Common.{inl, inr, ◌≡◌, ℕ, zero, suc, ◌<◌, Bool, true, false, List, [], ◌∷◌, length, take, refl, sym, subst, ◌∙◌, Option, Some, None, arith}
-use Rattle.std.specs.Prelude.{◌==◌, ◌&&◌, ◌||◌, IfSome, nat_lt}
+use Rattle.std.proofs.Common.{◌≡◌, ℕ, zero, suc, ◌<◌, true, List, [], ◌∷◌, length, take, refl, sym, subst, Option, Some, None, arith}
+use Rattle.std.specs.Prelude.{◌==◌, ◌&&◌, ◌||◌, IfSome}
 use Rattle.std.proofs.lemmas.Bool.{and_parts, cases_lt, eqb-true, ltb-true, ne_eqb, false≢true}
 use Rattle.giop_cdr.specs.Numbers.{num}
 use Rattle.giop_sig.specs.Types.{Ty}
@@ -12,9 +12,7 @@ use Rattle.giop_message.specs.Signatures.{Answers, signatures_of}
 use Rattle.giop_message.specs.Messages.{message, message_lines}
 use Rattle.giop_message.specs.ReaderOfTable.{first_request_id}
 use Rattle.giop_message.proofs.MessageLaws.{begins_with_id, id_is_said}
-use Rattle.giop_checkpoint.specs.declared.fault.StreamFault.{StreamFault}
-use Rattle.giop_checkpoint.specs.declared.fault.StreamFault.TheVariants.{Version}
-use Rattle.giop_stream.specs.HeaderOctets.{unless, wrong, fronts, first_wrong, first_wrong_octet}
+use Rattle.giop_stream.specs.HeaderOctets.{wrong, fronts, first_wrong, first_wrong_octet}
 use Rattle.giop_stream.specs.Framing.{Message}
 use Rattle.giop_stream.specs.Events.{id}
 use Rattle.giop_stream.specs.PayloadOwner.{SaysId}
@@ -23,32 +21,15 @@ use Rattle.giop_stream.specs.PayloadOwner.{SaysId}
 
 behind : (x : List ℕ) (fs : List (List ℕ)) → first_wrong (x ∷ fs) ≡ None → first_wrong fs ≡ None
 unfolding first_wrong
-behind x fs h = go (wrong x) refl h
-  where
-    go : (o : Option StreamFault) → wrong x ≡ o → first_wrong (x ∷ fs) ≡ None →
-        first_wrong fs ≡ None
-    go None e h = rw e at h
-    go (Some fault) e h =
-        absurd (let no : first_wrong (x ∷ fs) ≡ Some (length x, fault) = rw e refl in
-        let never : Some (length x, fault) ≡ None = sym no ∙ h in cc)
+behind x fs h = search (arith)
 
 right_here : (x : List ℕ) (fs : List (List ℕ)) → first_wrong (x ∷ fs) ≡ None → wrong x ≡ None
 unfolding first_wrong
-right_here x fs h = go (wrong x) refl
-  where
-    go : (o : Option StreamFault) → wrong x ≡ o → wrong x ≡ None
-    go None e = e
-    go (Some fault) e =
-        absurd (let no : first_wrong (x ∷ fs) ≡ Some (length x, fault) = rw e refl in
-        let never : Some (length x, fault) ≡ None = sym no ∙ h in cc)
+right_here x fs h = search (arith)
 
 version : (a b c d e f : ℕ) → wrong (a ∷ b ∷ c ∷ d ∷ e ∷ f ∷ []) ≡ None → f < 3
 unfolding wrong
-version a b c d e f w = ltb-true f 3 (go (nat_lt f 3) w)
-  where
-    go : (r : Bool) → unless r Version ≡ None → r ≡ true
-    go true h = refl
-    go false h = absurd cc
+version a b c d e f w = search (arith, ltb-true)
 
 minor_few : (header : List ℕ) → length header ≡ 12 → first_wrong_octet header ≡ None →
     minor header < 3
@@ -58,7 +39,7 @@ minor_few (a ∷ b ∷ c ∷ d ∷ e ∷ f ∷ g ∷ more) twelve h =
     let four = behind (a ∷ b ∷ c ∷ []) _ (behind (a ∷ b ∷ []) _ two) in
     let six = behind (a ∷ b ∷ c ∷ d ∷ e ∷ []) _ (behind (a ∷ b ∷ c ∷ d ∷ []) _ four) in
     version a b c d e f (right_here (a ∷ b ∷ c ∷ d ∷ e ∷ f ∷ []) _ six)
-minor_few _ twelve h = absurd (omega (arith, twelve))
+minor_few _ twelve h = search (arith)
 
 -- ---- Its type, by its kind.
 
@@ -85,17 +66,7 @@ typed (suc (suc (suc version))) kind v k = absurd (omega (arith, v))
 typed version (suc (suc (suc (suc (suc kind))))) v k = absurd (omega (arith, k))
 
 kind_few : (k : ℕ) → ((k == 0) || (k == 1) || (k == 3) || (k == 4)) ≡ true → k < 5
-kind_few k h = elim (cases_lt k 5) [
-  | inl less ↦ less
-  | inr more ↦
-      absurd (let none : ((k == 0) || (k == 1) || (k == 3) || (k == 4)) ≡ false = rw (
-        ne_eqb k 0 (λ e. omega (arith, more, e)),
-        ne_eqb k 1 (λ e. omega (arith, more, e)),
-        ne_eqb k 3
-            (λ e. omega (arith, more, e)),
-        ne_eqb k 4 (λ e. omega (arith, more, e)),
-      ) refl in false≢true (sym none ∙ h))
-]
+kind_few k h = search (arith, cases_lt, ne_eqb, false≢true)
 
 module _ (header : List ℕ) (few : minor header < 3) where
   opener_type : is_opener header ≡ true → HasType (minor header) (kind header)
@@ -118,13 +89,7 @@ module _ (header : List ℕ) (few : minor header < 3) where
       typed (minor header) (kind header) few (omega (arith, two))
 
   has_type : has_name header ≡ true → HasType (minor header) (kind header)
-  has_type h = go (is_opener header) (is_fragment header) refl refl h
-    where
-      go : (a b : Bool) → is_opener header ≡ a → is_fragment header ≡ b →
-          (a || b || is_cancel header) ≡ true → HasType (minor header) (kind header)
-      go true b e f n = opener_type e
-      go false true e f n = fragment_type f
-      go false false e f n = cancel_type n
+  has_type h = search (arith, opener_type, fragment_type, cancel_type)
 
 id_first : (o : Option Ty) (T : Ty) → o ≡ Some T → IfSome o BeginsWithId → BeginsWithId T
 id_first o T e h = rw e at h
@@ -142,24 +107,7 @@ says_id header twelve right name =
 -- so has a Fragment's, whatever else is in it
 pub fragment_says : (header : List ℕ) → is_fragment header ≡ true → SaysId header
 unfolding is_fragment
-fragment_says header f =
-    let both = and_parts (minor header == 2) (kind header == 7) f in
-    let two = eqb-true (minor header) 2 both.0 in
-    let few : minor header < 3 = omega (arith, two) in
-    let name : has_name header ≡ true = fragment_named header f in
-    let type = fragment_type header few f in (
-      type.0,
-      type.1,
-      id_first (header_type (minor header) (kind header)) type.0 type.1
-          (begins_with_id header name),
-    )
-  where
-    fragment_named : (header : List ℕ) → is_fragment header ≡ true → has_name header ≡ true
-    fragment_named header f = rw f (go (is_opener header) (is_cancel header))
-      where
-        go : (a b : Bool) → (a || true || b) ≡ true
-        go true b = refl
-        go false b = refl
+fragment_says header f = search (arith, and_parts, eqb-true, id_first, begins_with_id)
 
 -- ---- The request id that is read from its first four octets.
 
@@ -176,6 +124,5 @@ id_is_id C l m four says = go m.payload four
     go (a ∷ []) e = absurd (omega (arith, e))
     go (a ∷ b ∷ []) e = absurd (omega (arith, e))
     go (a ∷ b ∷ c ∷ []) e = absurd (omega (arith, e))
-    go (a ∷ b ∷ c ∷ d ∷ []) e = id_is_said (signatures_of C (l m.number)) m.header says.0 says.1
-        says.2 a b c d []
+    go (a ∷ b ∷ c ∷ d ∷ []) e = search (arith, id_is_said)
     go (a ∷ b ∷ c ∷ d ∷ x ∷ xs) e = absurd (omega (arith, e))

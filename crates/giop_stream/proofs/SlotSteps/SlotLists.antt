@@ -23,8 +23,7 @@ slots_get c k o e = go c.still_open k e
         → slice_get (slots_of c.known still_open) k
         ≡ Some (record { open_as = o; octets = c.known o.opener.number })
     go [] k e = absurd cc
-    go (a ∷ still_open) zero e = let same : a ≡ o = cc in
-        ap (λ (b : Open). Some (record { open_as = b; octets = c.known b.opener.number })) same
+    go (a ∷ still_open) zero e = search (arith)
     go (a ∷ still_open) (suc k) e = go still_open k e
 
 pub get_last : (still_open : List Open) (o : Open) →
@@ -45,7 +44,7 @@ pub entry_there : (ks : List OpenEntry) (k : ℕ) (v : Contents) →
     option_map (λ e. e.value) (slice_get ks k) ≡ Some v
     → (x : OpenEntry) × (slice_get ks k ≡ Some x) × (x.value ≡ v)
 entry_there [] k v e = absurd cc
-entry_there (y ∷ ks) zero v e = (y, refl, (let same : y.value ≡ v = cc in same))
+entry_there (y ∷ ks) zero v e = search (arith)
 entry_there (y ∷ ks) (suc k) v e = entry_there ks k v e
 
 -- the entry with this id and this value
@@ -53,25 +52,20 @@ pub entry_is : (ks : List OpenEntry) (k : ℕ) (x : OpenEntry) →
     option_map (λ e. e.key) (slice_get ks k) ≡ Some x.key
     → option_map (λ e. e.value) (slice_get ks k) ≡ Some x.value → x ≡ get_or ks k x
 entry_is [] k x i v = absurd cc
-entry_is (y ∷ ks) zero x i v =
-    let id : y.key ≡ x.key = cc in
-    let value : y.value ≡ x.value = cc in
-    let same : record { key = x.key; value = x.value } ≡ record { key = y.key; value = y.value } =
-    rw (id, value) refl in
-    same
+entry_is (y ∷ ks) zero x i v = search (arith)
 entry_is (y ∷ ks) (suc k) x i v = entry_is ks k x i v
 
 pub value_at : (ks : List OpenEntry) (k : ℕ) (v : Contents) (d : OpenEntry) →
     option_map (λ e. e.value) (slice_get ks k) ≡ Some v
     → (get_or ks k d).value ≡ v
 value_at [] k v d e = absurd cc
-value_at (y ∷ ks) zero v d e = let same : y.value ≡ v = cc in same
+value_at (y ∷ ks) zero v d e = search (arith)
 value_at (y ∷ ks) (suc k) v d e = value_at ks k v d e
 
 pub none_behind : (ks : List OpenEntry) (k : ℕ) →
     None ≡ option_map (λ e. e.value) (slice_get ks k) → k < length ks → ⊥
 none_behind [] k e l = omega (arith, l)
-none_behind (y ∷ ks) zero e l = let no : None ≡ Some y.value = e in cc
+none_behind (y ∷ ks) zero e l = search (arith)
 none_behind (y ∷ ks) (suc k) e l = none_behind ks k e (omega (arith, l))
 
 -- that entry with another message in it
@@ -79,9 +73,8 @@ pub revalued_set : (ks : List OpenEntry) (k : ℕ) (x : OpenEntry) (message : Op
     slice_get ks k ≡ Some x
     → revalued ks k (with_message x message).value ≡ slice_set ks k (with_message x message)
 revalued_set [] k x message e = refl
-revalued_set (y ∷ ks) zero x message e = let same : y ≡ x = cc in rw same refl
-revalued_set (y ∷ ks) (suc k) x message e =
-    ap (λ (more : List OpenEntry). y ∷ more) (revalued_set ks k x message e)
+revalued_set (y ∷ ks) zero x message e = search (arith)
+revalued_set (y ∷ ks) (suc k) x message e = search (arith, revalued_set ks k x message e)
 
 module _ (C : Table) (l : Answers) where
   pub slot_of : (ks : List OpenEntry) (ss : List Slot) (k : ℕ) (x : OpenEntry) (s : Slot) →
@@ -89,8 +82,7 @@ module _ (C : Table) (l : Answers) where
       → slice_get ks k ≡ Some x → slice_get ss k ≡ Some s → IsSlot C l x s
   slot_of [] ss k x s h e f = absurd cc
   slot_of (y ∷ ks) [] k x s h e f = absurd cc
-  slot_of (y ∷ ks) (t ∷ ss) zero x s h e f = let a : y ≡ x = cc in let b : t ≡ s = cc in
-      rw (← a, ← b) h.0
+  slot_of (y ∷ ks) (t ∷ ss) zero x s h e f = search (arith)
   slot_of (y ∷ ks) (t ∷ ss) (suc k) x s h e f = slot_of ks ss k x s h.1 e f
 
   pub set_slot : (ks : List OpenEntry) (ss : List Slot) (k : ℕ) (x : OpenEntry) (s : Slot) →
@@ -108,8 +100,7 @@ module _ (C : Table) (l : Answers) where
   no_more_slots [] (t ∷ ss) k s h e = absurd h
   no_more_slots (y ∷ ks) [] k s h e = absurd h
   no_more_slots (y ∷ ks) (t ∷ ss) zero s h e = omega arith
-  no_more_slots (y ∷ ks) (t ∷ ss) (suc k) s h e = let less = no_more_slots ks ss k s h.1 e in
-      omega arith
+  no_more_slots (y ∷ ks) (t ∷ ss) (suc k) s h e = search (arith, no_more_slots ks ss k s h.1 e)
 
   pub are_as_many : (ks : List OpenEntry) (ss : List Slot) → AreSlots C l ks ss →
       length ks ≡ length ss
@@ -146,16 +137,13 @@ pub all_later : (C : Table) (n n' : ℕ) (ks : List OpenEntry) → n ≤ n' →
     Each (λ slot. IsReady C n slot.value.message) ks →
     Each (λ slot. IsReady C n' slot.value.message) ks
 all_later C n n' [] less h = tt
-all_later C n n' (k ∷ ks) less h = (
-  later_ready C n n' k.value.message less h.0,
-  all_later C n n' ks less h.1,
-)
+all_later C n n' (k ∷ ks) less h = search (arith, later_ready, all_later C n n' ks less h.1)
 
 pub ready_at : (C : Table) (n : ℕ) (ks : List OpenEntry) (k : ℕ) (v : Contents) →
     option_map (λ e. e.value) (slice_get ks k) ≡ Some v
     → Each (λ slot. IsReady C n slot.value.message) ks → IsReady C n v.message
 ready_at C n [] k v e hs = absurd cc
-ready_at C n (y ∷ ks) zero v e hs = let same : y.value ≡ v = cc in rw same at hs.0
+ready_at C n (y ∷ ks) zero v e hs = search (arith)
 ready_at C n (y ∷ ks) (suc k) v e hs = ready_at C n ks k v e hs.1
 
 pub value_ready : (C : Table) (n : ℕ) (ks : List OpenEntry) (k : ℕ) (v : Contents) →

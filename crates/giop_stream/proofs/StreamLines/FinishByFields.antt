@@ -1,6 +1,6 @@
 -- What is written at the finish, from the fields of the code.
-use Rattle.std.proofs.Common.{◌≡◌, ℕ, zero, suc, ◌+◌, Bool, true, false, List, [], ◌∷◌, ◌++◌, get_or, flat_map, refl, ◌∙◌, Option, Some, None, arith, append-nil}
-use Rattle.std.specs.Prelude.{◌==◌, is_some, option_map, slice_get, if◌then◌else◌}
+use Rattle.std.proofs.Common.{◌≡◌, ℕ, zero, suc, true, false, List, [], ◌∷◌, ◌++◌, get_or, flat_map, refl, Option, Some, None, arith, append-nil}
+use Rattle.std.specs.Prelude.{is_some, option_map, slice_get, if◌then◌else◌}
 use Rattle.std.proofs.lemmas.Bool.{eq-eqb, ne_eqb, or_right}
 use Rattle.std.proofs.lemmas.List.Concat.{flat_map-append}
 use Rattle.giop_print.specs.Lines.{unfinished_line, total_line}
@@ -34,13 +34,13 @@ pub slot_says : (ks : List OpenEntry) (i : ℕ) (v : Contents) (d : OpenEntry) �
     option_map (λ e. e.value) (slice_get ks i) ≡ Some v
     → is_some v.message ≡ true → slot_text (get_or ks i d) ≡ unfinished_line v.number
 unfolding slot_text
-slot_says ks i v d is e = rw (value_at ks i v d is, e) refl
+slot_says ks i v d is e = search (arith, value_at)
 
 pub slot_silent : (ks : List OpenEntry) (i : ℕ) (v : Contents) (d : OpenEntry) →
     option_map (λ e. e.value) (slice_get ks i) ≡ Some v
     → is_some v.message ≡ false → slot_text (get_or ks i d) ≡ []
 unfolding slot_text
-slot_silent ks i v d is e = rw (value_at ks i v d is, e) refl
+slot_silent ks i v d is e = search (arith, value_at)
 
 -- ---- The messages that are open.
 
@@ -48,16 +48,14 @@ not_open : (still_open : List Open) (n : ℕ) → IsNotOpen n still_open →
     is_open still_open n ≡ false
 unfolding is_open
 not_open [] n h = refl
-not_open (o ∷ still_open) n h = rw (ne_eqb o.opener.number n h.0) (not_open still_open n h.1)
+not_open (o ∷ still_open) n h = search (arith, ne_eqb, not_open still_open n h.1)
 
 open_at : (still_open : List Open) (k : ℕ) (o : Open) → slice_get still_open k ≡ Some o →
     is_open still_open o.opener.number ≡ true
 unfolding is_open
 open_at [] k o e = absurd cc
-open_at (a ∷ still_open) zero o e = let same : a ≡ o = cc in
-    rw (same, eq-eqb o.opener.number o.opener.number refl) refl
-open_at (a ∷ still_open) (suc k) o e = or_right (a.opener.number == o.opener.number) _
-    (open_at still_open k o e)
+open_at (a ∷ still_open) zero o e = search (arith, eq-eqb)
+open_at (a ∷ still_open) (suc k) o e = search (arith, or_right, open_at still_open k o e)
 
 -- the line of the current message at the finish; none of a Fragment
 unfoldable pub current_text : Option CodeMessage → List ℕ
@@ -72,13 +70,12 @@ module _ (C : Table) (l : Answers) where
   line_kept n None w None e k = refl
   line_kept n None w (Some xs) e k = absurd k
   line_kept n (Some m) w None e k = absurd k
-  line_kept n (Some m) w (Some xs) e k = rw e (append-nil (unfinished_line w.number))
+  line_kept n (Some m) w (Some xs) e k = search (arith, append-nil)
 
   slot_left : (kept : OpenEntry) (slot : Slot) → IsSlot C l kept slot →
       flat_map unfinished_line (left_open slot) ≡ slot_text kept
   unfolding left_open slot_text
-  slot_left kept slot is = line_kept kept.value.number kept.value.message slot.open_as.opener
-      slot.octets is.number is.message
+  slot_left kept slot is = search (arith, line_kept)
 
   -- the lines of the slots
   pub slots_left : (ks : List OpenEntry) (ss : List Slot) → AreSlots C l ks ss →
@@ -86,8 +83,14 @@ module _ (C : Table) (l : Answers) where
   slots_left [] [] h = refl
   slots_left [] (s ∷ ss) h = absurd h
   slots_left (k ∷ ks) [] h = absurd h
-  slots_left (k ∷ ks) (s ∷ ss) h = flat_map-append unfinished_line (left_open s)
-      (flat_map left_open ss) ∙ rw (slot_left k s h.0, slots_left ks ss h.1) refl
+  slots_left (k ∷ ks) (s ∷ ss) h = search (
+    arith,
+    flat_map-append,
+    flat_map,
+    slot_left,
+    slots_left
+        ks ss h.1,
+  )
 
   -- ---- The line of the current message.
 
@@ -96,40 +99,27 @@ module _ (C : Table) (l : Answers) where
       → flat_map unfinished_line (if is_fragment w.header then [] else left_by w.number o)
       ≡ current_text message
   unfolding current_text
-  kept_left None w None k = go (is_fragment w.header)
-    where
-      go : (b : Bool) → flat_map unfinished_line (if b then [] else []) ≡ []
-      go true = refl
-      go false = refl
+  kept_left None w None k = search (arith, flat_map)
   kept_left None w (Some xs) k = absurd k
   kept_left (Some m) w None k = absurd k
-  kept_left (Some m) w (Some xs) k =
-      rw (← k.same_header, ← k.same_number) (go (is_fragment m.header))
-    where
-      go : (b : Bool) → flat_map unfinished_line (if b then [] else m.number ∷ [])
-          ≡ (if b then [] else unfinished_line m.number)
-      go true = refl
-      go false = append-nil (unfinished_line m.number)
+  kept_left (Some m) w (Some xs) k = search (arith, flat_map, append-nil)
 
   pub current_left : (of : PayloadOwner) (c : Tracked) (who : Option MessageKey) →
       PayloadBelongs C l (index_of of) (current_of of) c who
       → flat_map unfinished_line (left_current c who) ≡ current_text (current_of of)
   unfolding left_current current_text
   current_left (owners.Current message) c None h = rw h refl
-  current_left (owners.Current message) c (Some w) h =
-      rw (not_open c.still_open w.number h.0) (kept_left message w (c.known w.number) h.1)
+  current_left (owners.Current message) c (Some w) h = search (arith, not_open, kept_left)
   current_left (owners.Open None) c None h = refl
-  current_left (owners.Open None) c (Some w) h =
-      rw (not_open c.still_open w.number h.0) (kept_left None w (c.known w.number) h.1)
+  current_left (owners.Open None) c (Some w) h = search (arith, not_open, kept_left)
   current_left (owners.Open (Some k)) c None h = absurd h
-  current_left (owners.Open (Some k)) c (Some w) h =
-      rw (← h.2, open_at c.still_open k h.0 h.1) refl
+  current_left (owners.Open (Some k)) c (Some w) h = search (arith, open_at)
 
 -- ---- The totals, and the text.
 
 -- the totals of a stream that isn't truncated
 pub no_more : (t : Totals) → with_truncated false t ≡ t
-no_more t = let none : t.faults + 0 ≡ t.faults = omega arith in λ i. record t { faults = none i }
+no_more t = search (arith)
 
 module _ (C : Table) (l : Answers) (m : FramingView) (s : State) (h : Shows C l m s) where
   cut_short_is : steps.is_cut_short m ≡ is_cut_short s
@@ -138,18 +128,17 @@ module _ (C : Table) (l : Answers) (m : FramingView) (s : State) (h : Shows C l 
 
   pub totals_at_end : steps.final_totals m ≡ final_totals s
   unfolding steps.final_totals final_totals
-  totals_at_end = rw (cut_short_is, h.totals) refl
+  totals_at_end = search (arith, cut_short_is)
 
   pub truncation_is : (if is_cut_short s then truncated_line s.totals.octets else [])
       ≡ (if steps.is_cut_short m then truncated_line m.totals.octets else [])
-  truncation_is = rw (cut_short_is, h.totals) refl
+  truncation_is = search (arith, cut_short_is)
 
 pub left_text : (s : State) → flat_map unfinished_line (left_over s) ≡ flat_map unfinished_line
     (flat_map left_open (slots_at s.tracked))
     ++ flat_map unfinished_line (left_current s.tracked s.owner)
 unfolding left_over
-left_text s = flat_map-append unfinished_line (flat_map left_open (slots_at s.tracked))
-    (left_current s.tracked s.owner)
+left_text s = search (arith, flat_map-append, flat_map)
 
 pub finish_text : (s : State) → finish s
     ≡ (if is_cut_short s then truncated_line s.totals.octets else [])

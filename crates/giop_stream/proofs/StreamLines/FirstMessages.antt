@@ -1,6 +1,6 @@
 -- Lists of message numbers: of the first messages (all but 1.2 Fragments) that are not over, and of
 -- the open ones.
-use Rattle.std.proofs.Common.{inl, inr, ◌≡◌, ℕ, Bool, true, false, cond, not, List, [], ◌∷◌, ◌++◌, map, refl, sym, ap, ◌∙◌}
+use Rattle.std.proofs.Common.{arith, ◌≡◌, ℕ, Bool, true, false, cond, not, List, [], ◌∷◌, ◌++◌, map, refl}
 use Rattle.std.specs.Prelude.{◌==◌, if◌then◌else◌, ◌||◌}
 use Rattle.std.specs.List.{filter}
 use Rattle.std.proofs.lemmas.Bool.{cases_eq, ne_eqb, eqb-true}
@@ -33,17 +33,14 @@ drop_by : (over : ℕ → Bool) (n : ℕ) (o : Open) (still_open : List Open) (b
     → alive over (numbers_of (cond (not b) (o ∷ without n still_open) (without n still_open)))
     ≡ alive over (numbers_of (o ∷ still_open))
 unfolding alive numbers_of
-drop_by over n o still_open true h e ih = let same : over o.opener.number ≡ true =
-    ap over (eqb-true o.opener.number n e) ∙ h in rw same ih
-drop_by over n o still_open false h e ih =
-    ap (λ (xs : List ℕ). cond (not (over o.opener.number)) (o.opener.number ∷ xs) xs) ih
+drop_by over n o still_open true h e ih = search (arith, eqb-true)
+drop_by over n o still_open false h e ih = search (arith, cond, not)
 
 drops_numbers : (over : ℕ → Bool) (n : ℕ) (still_open : List Open) → over n ≡ true →
     alive over (numbers_of (without n still_open)) ≡ alive over (numbers_of still_open)
 unfolding without
 drops_numbers over n [] h = refl
-drops_numbers over n (o ∷ still_open) h =
-    drop_by over n o still_open (o.opener.number == n) h refl (drops_numbers over n still_open h)
+drops_numbers over n (o ∷ still_open) h = search (arith, drop_by, drops_numbers over n still_open h)
 
 open_by : (n i : ℕ) (o : Open) (still_open : List Open) (b : Bool) → (i ≡ n → ⊥) →
     (o.opener.number == n) ≡ b
@@ -51,17 +48,14 @@ open_by : (n i : ℕ) (o : Open) (still_open : List Open) (b : Bool) → (i ≡ 
     → is_open (cond (not b) (o ∷ without n still_open) (without n still_open)) i
     ≡ is_open (o ∷ still_open) i
 unfolding is_open
-open_by n i o still_open true h e ih =
-    let num = eqb-true o.opener.number n e in
-    rw (ne_eqb o.opener.number i (λ same. h (sym same ∙ num))) ih
-open_by n i o still_open false h e ih = ap (λ (b : Bool). (o.opener.number == i) || b) ih
+open_by n i o still_open true h e ih = search (arith, eqb-true, ne_eqb)
+open_by n i o still_open false h e ih = search (arith)
 
 open_without : (n i : ℕ) (still_open : List Open) → (i ≡ n → ⊥) →
     is_open (without n still_open) i ≡ is_open still_open i
 unfolding without
 open_without n i [] h = refl
-open_without n i (o ∷ still_open) h = open_by n i o still_open (o.opener.number == n) h refl
-    (open_without n i still_open h)
+open_without n i (o ∷ still_open) h = search (arith, open_by, open_without n i still_open h)
 
 pub dead_tail : (over : ℕ → Bool) (m : Message) (b : Bool) → over m.number ≡ true →
     alive over (if b then [] else m.number ∷ []) ≡ []
@@ -72,17 +66,12 @@ dead_tail over m false h = rw h refl
 pub removed : (over : ℕ → Bool) (n : ℕ) (still_open : List Open) (m : Message) → over n ≡ true →
     alive over (base (without n still_open) m) ≡ alive over (base still_open m)
 unfolding base tail_of alive
-removed over n still_open m h =
-    filter-append (λ i. not (over i)) (numbers_of (without n still_open))
-    (tail_of (without n still_open) m)
-    ∙ (rw (drops_numbers over n still_open h, tails)
-    (sym (filter-append (λ i. not (over i)) (numbers_of still_open) (tail_of still_open m))))
-  where
-    tails : alive over (tail_of (without n still_open) m) ≡ alive over (tail_of still_open m)
-    tails = elim (cases_eq m.number n) [
-      | inl same ↦
-          let gone : over m.number ≡ true = ap over same ∙ h in
-          dead_tail over m (is_fragment m.header || is_open (without n still_open) m.number) gone
-          ∙ sym (dead_tail over m (is_fragment m.header || is_open still_open m.number) gone)
-      | inr other ↦ rw (open_without n m.number still_open other) refl
-    ]
+removed over n still_open m h = search (
+  arith,
+  filter-append,
+  not,
+  drops_numbers,
+  cases_eq,
+  dead_tail,
+  open_without,
+)

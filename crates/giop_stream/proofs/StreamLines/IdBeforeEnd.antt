@@ -1,13 +1,13 @@
 -- A message that begins with its request id is not over before that is complete: its octets are
 -- kept until then.
-use Rattle.std.proofs.Common.{◌≡◌, ℕ, suc, ◌<◌, ◌≤◌, Bool, true, false, List, [], ◌∷◌, ◌++◌, length, refl, sym, ap, ◌∙◌, append-nil, Some, None, arith}
-use Rattle.std.specs.Prelude.{nat_lt, ◌==◌, ◌&&◌, ◌||◌, if◌then◌else◌, map}
+use Rattle.std.proofs.Common.{◌≡◌, ℕ, suc, ◌<◌, ◌≤◌, Bool, true, false, List, [], ◌∷◌, ◌++◌, length, refl, append-nil, Some, None, arith}
+use Rattle.std.specs.Prelude.{◌==◌, ◌||◌, if◌then◌else◌, map}
 use Rattle.std.specs.List.{list_any, AllByRecursion as Each}
 use Rattle.std.proofs.lemmas.Bool.{le-ltb, eq-eqb, ne_eqb, and_right, ltb-true}
 use Rattle.std.proofs.lemmas.List.{length_push}
-use Rattle.giop_message.specs.Headers.{size, is_fragment, has_name}
+use Rattle.giop_message.specs.Headers.{size, has_name}
 use Rattle.giop_stream.specs.Rules.{Rules}
-use Rattle.giop_stream.specs.Framing.{Message, Cut, cut}
+use Rattle.giop_stream.specs.Framing.{Message, cut}
 use Rattle.giop_message.specs.MessageReader.{LineClass, Value, MessageReader, IsStreamable, due}
 use Rattle.giop_stream.specs.Events.{Takes, MessageKey, Event, Open, goes_past, events_at_header, events_at_octet, events_of_octet, octet, joined}
 use Rattle.giop_stream.specs.Lines.{Line, Said, line, lines_of_event, is_last_of, up_to_last_line}
@@ -23,17 +23,13 @@ use Rattle.giop_stream.proofs.Cuts.Start.{cut_nothing}
 value_last : (e : Event) (s : LineClass) (text : List ℕ) (i : ℕ) → s ≡ Value →
     is_last_of i (line e (Said s text)) ≡ false
 unfolding is_last_of line
-value_last e s text i h = rw h (go (e.subject.number == i))
-  where
-    go : (b : Bool) → (b && false) ≡ false
-    go true = refl
-    go false = refl
+value_last e s text i h = search (arith)
 
 values_last : {A : Type 0} (e : Event) (f : A → LineClass) (g : A → List ℕ) (i : ℕ) (xs : List A) →
     Each (λ a. f a ≡ Value) xs
     → list_any (is_last_of i) (map (λ a. line e (Said (f a) (g a))) xs) ≡ false
 values_last e f g i [] h = refl
-values_last e f g i (x ∷ xs) h = rw (value_last e (f x) (g x) i h.0) (values_last e f g i xs h.1)
+values_last e f g i (x ∷ xs) h = search (arith, value_last, values_last e f g i xs h.1)
 
 stand_by : (i : ℕ) (l : Line) (ls : List Line) (f : ℕ → Bool) (a b c : Bool) → is_last_of i l ≡ a
     → list_any (is_last_of i) ls ≡ b → (a || b) ≡ false
@@ -44,7 +40,7 @@ stand_by : (i : ℕ) (l : Line) (ls : List Line) (f : ℕ → Bool) (a b c : Boo
 stand_by i l ls f true b c e k j ih = absurd cc
 stand_by i l ls f false true c e k j ih = absurd cc
 stand_by i l ls f false false true e k j ih = ih f k
-stand_by i l ls f false false false e k j ih = rw e (ih (λ j. f j || is_last_of j l) k)
+stand_by i l ls f false false false e k j ih = search (arith)
 
 stand_last : (i : ℕ) (ls : List Line) (f : ℕ → Bool) → list_any (is_last_of i) ls ≡ false →
     list_any (is_last_of i) (up_to_last_line f ls) ≡ false
@@ -56,7 +52,7 @@ stand_last i (l ∷ ls) f h = stand_by i l ls f (is_last_of i l) (list_any (is_l
 one_octet : (at : ℕ) (w : MessageKey) (x : ℕ) →
     joined w.number (record { place = at; subject = w; what = Takes x } ∷ []) ≡ x ∷ []
 unfolding joined octet
-one_octet at w x = rw (eq-eqb w.number w.number refl) refl
+one_octet at w x = search (arith, eq-eqb)
 
 takes_last : (R : MessageReader) → IsStreamable R →
     (at : ℕ) (w : MessageKey) (xs : List ℕ) (x : ℕ) → has_name w.header ≡ true
@@ -80,40 +76,25 @@ pub named_then : (R : MessageReader) → IsStreamable R →
     → length xs < 4 → octets_then R (record { place = at; subject = w; what = Takes x }) (Some xs)
     ≡ Some (xs ++ x ∷ [])
 unfolding octets_then octet
-named_then R laws at w xs x name short = rw (takes_last R laws at w xs x name short) refl
+named_then R laws at w xs x name short = search (arith, takes_last)
 
 -- ---- Octet by octet.
 
 pub not_past : (m : Message) → length m.payload ≤ 4 → goes_past m ≡ false
 unfolding goes_past
-not_past m h = and_right (is_fragment m.header) (nat_lt 4 (length m.payload))
-    (le-ltb 4 (length m.payload) h)
+not_past m h = search (arith, and_right, le-ltb)
 
 pub early_octet : (most : ℕ) (still_open : List Open) (m : Message) → 0 < length m.payload →
     length m.payload < 4
     → length m.payload < size m.header → events_of_octet most still_open m
     ≡ events_at_octet still_open m
 unfolding events_of_octet
-early_octet most still_open m some few lacks =
-    rw (
-      events_of_octet most,
-      ne_eqb (length m.payload) 0 (λ e. omega arith),
-      ne_eqb (length m.payload) 4 (λ e. omega arith),
-      ne_eqb
-          (length m.payload) (size m.header) (λ e. omega arith),
-    ) (append-nil (events_at_octet still_open m))
+early_octet most still_open m some few lacks = search (arith, ne_eqb, append-nil)
 
 pub first_octet : (most : ℕ) (still_open : List Open) (m : Message) → length m.payload ≡ 0 →
     0 < size m.header → events_of_octet most still_open m ≡ events_at_header m
 unfolding events_of_octet
-first_octet most still_open m none some =
-    rw (
-      events_of_octet most,
-      eq-eqb (length m.payload) 0 none,
-      ne_eqb (length m.payload) 4 (λ e. omega arith),
-      ne_eqb (length m.payload)
-          (size m.header) (λ e. omega arith),
-    ) (append-nil (events_at_header m))
+first_octet most still_open m none some = search (arith, eq-eqb, ne_eqb, append-nil)
 
 -- the octets of the current message are kept while its request id is incomplete
 abbrev pub IsAlive : Rules → List ℕ → Type 0
@@ -128,21 +109,8 @@ pub record Settled (whole : List Message) (m m' : Message) : Type 0 where
 pub settled_is : (whole : List Message) (m m' : Message) → (end_message whole m).current ≡ Some m' →
     Settled whole m m'
 unfolding end_message
-settled_is whole m m' h = go (nat_lt (length m.payload) (size m.header)) refl h
-  where
-    go : (b : Bool) → nat_lt (length m.payload) (size m.header) ≡ b
-        → (let c : Cut = if b then record {
-          whole = whole;
-          current = Some m;
-          held = [];
-          stop = None;
-        } else record { whole = whole ++ m ∷ []; current = None; held = []; stop = None } in
-        c.current)
-        ≡ Some m' → Settled whole m m'
-    go true e k = record { same = cc; lacks = ltb-true (length m.payload) (size m.header) e }
-    go false e k = absurd cc
+settled_is whole m m' h = search (arith, ltb-true)
 
 pub alive_start : (R : Rules) → IsAlive R []
 unfolding of_parts
-alive_start R st m cur name few = absurd
-    (let no : None ≡ Some m = sym (ap (λ (c : Cut). c.current) cut_nothing) ∙ cur in cc)
+alive_start R st m cur name few = search (arith, cut_nothing)

@@ -1,18 +1,18 @@
 -- Within which classes the lines of each kind of event are, those of lists of events, and those of
 -- each part of an octet.
-use Rattle.std.proofs.Common.{◌≡◌, ℕ, suc, ◌<◌, ◌≤◌, Bool, true, false, List, [], ◌∷◌, ◌++◌, length, refl, sym, subst, append_assoc, Option, Some, None, arith}
-use Rattle.std.specs.Prelude.{nat_lt, nat_le, ◌==◌, if◌then◌else◌, ◌&&◌, ◌||◌}
+use Rattle.std.proofs.Common.{◌≡◌, ℕ, suc, ◌<◌, ◌≤◌, Bool, true, false, List, [], ◌∷◌, ◌++◌, length, refl, sym, append_assoc, Option, Some, None, arith}
+use Rattle.std.specs.Prelude.{nat_lt, ◌==◌, if◌then◌else◌, ◌&&◌, ◌||◌}
 use Rattle.std.specs.List.{filter}
 use Rattle.std.proofs.lemmas.Bool.{le-ltb, eqb-true}
 use Rattle.std.proofs.lemmas.List.{append-nil}
 use Rattle.giop_stream.specs.declared.fault.FramingFault.{FramingFault}
-use Rattle.giop_stream.specs.declared.fault.FramingFault.TheVariants.{Short, NoOpen, IdOpen, TooManyOpen, FragmentOrder}
-use Rattle.giop_message.specs.Headers.{order, has_more, size, is_fragment, is_opener, is_cancel}
+use Rattle.giop_stream.specs.declared.fault.FramingFault.TheVariants.{NoOpen, IdOpen, FragmentOrder}
+use Rattle.giop_message.specs.Headers.{order, size, is_fragment, is_opener}
 use Rattle.giop_stream.specs.Rules.{Rules}
 use Rattle.giop_stream.specs.Framing.{Message}
 use Rattle.giop_message.specs.MessageReader.{MessageReader, IsOrdered, IsClosing}
 use Rattle.giop_stream.specs.Kinds.{may_be_cancelled, refused}
-use Rattle.giop_stream.specs.Events.{EventKind, Begins, Takes, Opens, Continues, Cancelled, Faults, Closes, Event, Open, own, event_of_open, id, opener_of, fault_events, opens, same_order, continues, cancels, events_at_request_id, events_at_end, joined, now_of, header_events, request_id_events, message_end_events, Now}
+use Rattle.giop_stream.specs.Events.{EventKind, Begins, Takes, Opens, Continues, Cancelled, Faults, Closes, Event, Open, own, event_of_open, id, opener_of, fault_events, opens, same_order, continues, cancels, events_at_request_id, events_at_end, now_of, header_events, request_id_events, message_end_events, Now}
 use Rattle.giop_stream.specs.Lines.{line, lines_of_event}
 use Rattle.giop_stream.specs.OpenSlots.{OctetsByNumber}
 use Rattle.giop_stream.specs.Effects.{lines_for, kept_with}
@@ -85,7 +85,7 @@ join_spans R K a b c d es fs h k i s t = let both = all_lines_join R K es fs in
 pub always_join : (R : MessageReader) (a b c d : ℕ) (es fs : List Event) → b < c → a ≤ c → b ≤ d →
     Always R a b es → Always R c d fs → Always R a d (es ++ fs)
 unfolding Always
-always_join R a b c d es fs h k i s t K = join_spans R K a b c d es fs h k i (s K) t
+always_join R a b c d es fs h k i s t K = search (arith, join_spans)
 
 pub always_none : (R : MessageReader) (lo hi : ℕ) → Always R lo hi []
 unfolding Always all_lines
@@ -99,39 +99,35 @@ always_if R lo hi false es fs h k = k
 always_wider : (R : MessageReader) (a b lo hi : ℕ) (es : List Event) → a ≤ lo → hi ≤ b →
     Always R lo hi es → Always R a b es
 unfolding Always
-always_wider R a b lo hi es h k s K = spans_wider a b lo hi (all_lines R K es) h k (s K)
+always_wider R a b lo hi es h k s K = search (arith, spans_wider, all_lines)
 
 kept_spans : (R : MessageReader) (lo hi : ℕ) (e : Event) (o : Option (List ℕ)) →
     Tells R lo hi e.what → Spans lo hi (lines_for R e o)
 unfolding Tells lines_for
 kept_spans R lo hi e None h = spans_none lo hi
-kept_spans R lo hi e (Some xs) h = h e xs (xs ++ joined e.subject.number (e ∷ []))
+kept_spans R lo hi e (Some xs) h = search (arith)
 
 pub always_one : (R : MessageReader) (lo hi : ℕ) (e : Event) → Tells R lo hi e.what →
     Always R lo hi (e ∷ [])
 unfolding Always all_lines
-always_one R lo hi e h K = subst (Spans lo hi)
-    (sym (append-nil (lines_for R e (K e.subject.number))))
-    (kept_spans R lo hi e (K e.subject.number) h)
+always_one R lo hi e h K = search (arith, append-nil, kept_spans)
 
 pub always_own : (R : MessageReader) (lo hi : ℕ) (now : Now) (what : EventKind) →
     Tells R lo hi what → Always R lo hi (own now what)
 unfolding own
-always_own R lo hi now what h = always_one R lo hi
-    (record { place = now.place; subject = now.subject; what = what }) h
+always_own R lo hi now what h = search (arith, always_one)
 
 always_about : (R : MessageReader) (lo hi : ℕ) (now : Now) (o : Option Open) (what : EventKind) →
     Tells R lo hi what → Always R lo hi (event_of_open now o what)
 unfolding event_of_open
 always_about R lo hi now None what h = always_none R lo hi
-always_about R lo hi now (Some o) what h =
-    always_one R lo hi (record { place = now.place; subject = o.opener; what = what }) h
+always_about R lo hi now (Some o) what h = search (arith, always_one)
 
 -- ---- The parts of an octet.
 
 always_faulted : (R : MessageReader) (now : Now) (fault : FramingFault) →
     Always R 5 5 (own now (Faults fault))
-always_faulted R now fault = always_own R 5 5 now (Faults fault) (event_lines_faulted R fault)
+always_faulted R now fault = search (arith, always_own, event_lines_faulted)
 
 pub always_header : (R : MessageReader) (now : Now) → Always R 0 5 (header_events now)
 unfolding header_events
@@ -154,9 +150,13 @@ module _ (R : Rules) (now : Now) where
   always_opens : (still_open : List Open) (id : ℕ) (o : Option Open) →
       Always R.reading 3 5 (opens R.most still_open now id o)
   always_opens still_open id (Some other) = faulted IdOpen
-  always_opens still_open id None =
-      always_if R.reading 3 5 (nat_le R.most (length still_open)) _ _ (faulted TooManyOpen)
-      (always_own R.reading 3 5 now (Opens id) (event_lines_opens R.reading id 3 5))
+  always_opens still_open id None = search (
+    arith,
+    always_if,
+    faulted,
+    always_own,
+    event_lines_opens,
+  )
 
   always_continues : (o : Option Open) → Always R.reading 3 5 (continues now o)
   always_continues None = faulted NoOpen
@@ -183,11 +183,14 @@ module _ (R : Rules) (now : Now) where
   always_id : (still_open : List Open) (id : ℕ) (o : Option Open) →
       Always R.reading 3 5 (request_id_events R.most still_open now id o)
   unfolding request_id_events
-  always_id still_open id o =
-      always_if R.reading 3 5 (is_fragment now.subject.header) _ _ (always_continues o)
-      (always_if R.reading 3 5 (is_opener now.subject.header) _ _ (always_opens still_open id o)
-      (always_if R.reading 3 5 (is_cancel now.subject.header) _ [] (always_cancels o)
-      (always_none R.reading 3 5)))
+  always_id still_open id o = search (
+    arith,
+    always_if,
+    always_continues,
+    always_opens,
+    always_cancels,
+    always_none,
+  )
 
 -- a message that ends before the request id that it needs
 abbrev pub ends_short : Message → Bool
@@ -197,20 +200,19 @@ ends_short m = nat_lt (size m.header) 4 && (is_opener m.header || is_fragment m.
 pub always_close : (R : MessageReader) → IsClosing R → (still_open : List Open) (m : Message) →
     ends_short m ≡ false → Always R 6 8 (events_at_end still_open m)
 unfolding message_end_events
-always_close R closing still_open m long =
-    let other = opener_of still_open m in
-    rw long
-    (always_if R 6 8 (is_opener m.header) [] _ (always_none R 6 8)
-    (always_if R 6 8 (is_fragment m.header) _ (own (now_of m) Closes)
-    (always_if R 6 8 (has_more m.header) [] (event_of_open (now_of m) other Closes)
-    (always_none R 6 8)
-    (always_about R 6 8 (now_of m) other Closes (event_lines_closes R closing)))
-    (always_own R 6 8 (now_of m) Closes (event_lines_closes R closing))))
+always_close R closing still_open m long = search (
+  arith,
+  always_if,
+  always_none,
+  always_about,
+  event_lines_closes,
+  always_own,
+)
 
 always_short : (R : MessageReader) (still_open : List Open) (m : Message) → ends_short m ≡ true →
     Always R 5 5 (events_at_end still_open m)
 unfolding message_end_events
-always_short R still_open m short = rw short (always_faulted R (now_of m) Short)
+always_short R still_open m short = search (arith, always_faulted)
 
 pub always_end : (R : MessageReader) → IsClosing R → (still_open : List Open) (m : Message) →
     Always R 5 8 (events_at_end still_open m)
@@ -223,7 +225,7 @@ always_end R closing still_open m = go (ends_short m) refl
         (always_close R closing still_open m long)
 
 long_enough : (m : Message) → 4 ≤ size m.header → ends_short m ≡ false
-long_enough m h = rw (le-ltb (size m.header) 4 h) refl
+long_enough m h = search (arith, le-ltb)
 
 -- the parts after the first one
 pub always_later : (R : Rules) → IsClosing R.reading → (still_open : List Open) (m : Message) →

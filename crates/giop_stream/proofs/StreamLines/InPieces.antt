@@ -1,5 +1,5 @@
 -- However a stream is cut into pieces, the same text is written.
-use Rattle.std.proofs.Common.{◌≡◌, ℕ, List, [], ◌∷◌, ◌++◌, sym, ap, ◌∙◌}
+use Rattle.std.proofs.Common.{arith, ◌≡◌, ℕ, List, [], ◌∷◌, ◌++◌, sym}
 use Rattle.std.specs.List.{concat}
 use Rattle.giop_message.specs.MessageReader.{IsCausal, IsStreamable}
 use Rattle.giop_stream.specs.Rules.{Rules}
@@ -12,13 +12,14 @@ pub fed_together : (R : Rules) → IsCausal R.reading → IsStreamable R.reading
     (p : List ℕ) (pieces : List (List ℕ)) → fed R p pieces ≡ added R p (concat pieces)
 unfolding fed
 fed_together R causal laws p [] = sym (added_nil R p)
-fed_together R causal laws p (piece ∷ pieces) =
-    ap (λ (z : List ℕ). added R p piece ++ z) (fed_together R causal laws (p ++ piece) pieces)
-    ∙ sym (added_both R causal laws p piece (concat pieces))
+fed_together R causal laws p (piece ∷ pieces) = search (
+  arith,
+  added_both,
+  fed_together R causal
+      laws (p ++ piece) pieces,
+)
 
 pub fed_alike : (R : Rules) → IsCausal R.reading → IsStreamable R.reading →
     (p : List ℕ) (pieces others : List (List ℕ))
     → concat pieces ≡ concat others → fed R p pieces ≡ fed R p others
-fed_alike R causal laws p pieces others same =
-    fed_together R causal laws p pieces ∙ (ap (added R p) same
-    ∙ sym (fed_together R causal laws p others))
+fed_alike R causal laws p pieces others same = search (arith, fed_together)

@@ -1,5 +1,5 @@
 -- Which events write the last line of their message.
-use Rattle.std.proofs.Common.{inl, inr, ◌≡◌, ℕ, Bool, true, false, cond, List, [], ◌∷◌, ◌++◌, map, refl, ap, subst, ◌∙◌, Option, Some, None}
+use Rattle.std.proofs.Common.{arith, inl, inr, ◌≡◌, ℕ, Bool, true, false, cond, List, [], ◌∷◌, ◌++◌, map, refl, ◌∙◌, Option, Some, None}
 use Rattle.std.specs.Prelude.{◌==◌, if◌then◌else◌, ◌||◌, flat_map}
 use Rattle.std.specs.List.{filter, list_any, AllByRecursion as Each}
 use Rattle.std.proofs.lemmas.Bool.{or_cases, or_right, or_left, and_parts, eq-eqb, eqb-true}
@@ -19,21 +19,19 @@ of_rank ls n = filter (λ l. rank (class_of l.content) == n) ls
 
 any_left : {A : Type 0} (t : A → Bool) (xs ys : List A) → list_any t xs ≡ true →
     list_any t (xs ++ ys) ≡ true
-any_left t xs ys h = rw (any_append t xs ys) (or_left (list_any t xs) (list_any t ys) h)
+any_left t xs ys h = search (arith, any_append, or_left)
 
 pub any_right : {A : Type 0} (t : A → Bool) (xs ys : List A) → list_any t ys ≡ true →
     list_any t (xs ++ ys) ≡ true
-any_right t xs ys h = rw (any_append t xs ys) (or_right (list_any t xs) (list_any t ys) h)
+any_right t xs ys h = search (arith, any_append, or_right)
 
 class_by : (t : Line → Bool) (g : ℕ → List Line) (n : ℕ) (d : Class) (cs : List Class) (b : Bool) →
     (n == rank d) ≡ b
     → (b || list_any (λ c. n == rank c) cs) ≡ true → list_any t (g n) ≡ true
     → (list_any (λ c. n == rank c) cs ≡ true → list_any t (flat_map (λ c. g (rank c)) cs) ≡ true)
     → list_any t (g (rank d) ++ flat_map (λ c. g (rank c)) cs) ≡ true
-class_by t g n d cs true e h k ih =
-    any_left t (g (rank d)) (flat_map (λ c. g (rank c)) cs)
-    (subst (λ (m : ℕ). list_any t (g m) ≡ true) (eqb-true n (rank d) e) k)
-class_by t g n d cs false e h k ih = any_right t (g (rank d)) (flat_map (λ c. g (rank c)) cs) (ih h)
+class_by t g n d cs true e h k ih = search (arith, any_left, eqb-true)
+class_by t g n d cs false e h k ih = search (arith, any_right)
 
 any_class : (t : Line → Bool) (g : ℕ → List Line) (n : ℕ) (cs : List Class) →
     list_any (λ c. n == rank c) cs ≡ true
@@ -64,18 +62,12 @@ ranked_here t l ls h = record {
 
 ranked_by : (t : Line → Bool) (l : Line) (ls : List Line) (b : Bool) → list_any t ls ≡ true →
     list_any t (cond b (l ∷ ls) ls) ≡ true
-ranked_by t l ls true h = or_right (t l) (list_any t ls) h
+ranked_by t l ls true h = search (arith, or_right)
 ranked_by t l ls false h = h
 
 ranked_more : (t : Line → Bool) (l : Line) (ls : List Line) → Ranked t ls → Ranked t (l ∷ ls)
 unfolding of_rank
-ranked_more t l ls r =
-    record {
-      at = r.at;
-      known = r.known;
-      found = ranked_by t l (filter (λ k. rank (class_of k.content) == r.at) ls)
-          (rank (class_of l.content) == r.at) r.found;
-    }
+ranked_more t l ls r = search (arith, ranked_by)
 
 ranked : (t : Line → Bool) (ls : List Line) → list_any t ls ≡ true → Ranked t ls
 ranked t [] h = absurd cc
@@ -97,13 +89,10 @@ stand_by : (i : ℕ) (f : ℕ → Bool) (l : Line) (ls : List Line) (b c : Bool)
     → list_any (is_last_of i) (if b then up_to_last_line f ls else l ∷ up_to_last_line
     (λ j. f j || is_last_of j l) ls) ≡ true
 unfolding is_last_of
-stand_by i f l ls true true free e k h ih =
-    absurd (let same : l.number ≡ i = eqb-true l.number i (and_parts (l.number == i) _ k).0 in
-    let no : f l.number ≡ f i = ap f same in cc)
+stand_by i f l ls true true free e k h ih = search (arith, eqb-true, and_parts)
 stand_by i f l ls true false free e k h ih = ih f free h
 stand_by i f l ls false true free e k h ih = rw k refl
-stand_by i f l ls false false free e k h ih =
-    or_right (is_last_of i l) _ (ih (λ j. f j || is_last_of j l) (rw (free, k) refl) h)
+stand_by i f l ls false false free e k h ih = search (arith, or_right)
 
 last_stands : (i : ℕ) (f : ℕ → Bool) (ls : List Line) → f i ≡ false →
     list_any (is_last_of i) ls ≡ true → list_any (is_last_of i) (up_to_last_line f ls) ≡ true
@@ -132,12 +121,12 @@ any_weaker {A} p q f (x ∷ xs) h =
 any_map : {A B : Type 0} (t : B → Bool) (f : A → B) (xs : List A) →
     list_any (λ x. t (f x)) xs ≡ list_any t (map f xs)
 any_map t f [] = refl
-any_map t f (x ∷ xs) = ap (λ (b : Bool). t (f x) || b) (any_map t f xs)
+any_map t f (x ∷ xs) = search (arith, any_map t f xs)
 
 said_last : (e : Event) (s : LineClass) (text : List ℕ) → is_last s ≡ true →
     is_last_of e.subject.number (line e (Said s text)) ≡ true
 unfolding is_last_of line
-said_last e s text h = rw (eq-eqb e.subject.number e.subject.number refl) h
+said_last e s text h = search (arith, eq-eqb)
 
 event_lines_final : (R : MessageReader) → IsEnding R →
     (e : Event) (so_far all : List ℕ) (what : EventKind) → is_final what ≡ true
@@ -150,10 +139,8 @@ event_lines_final R ending e so_far all Closes h =
     (λ l. said_last e l.0 l.1)
     (R.closes e.subject.number e.subject.header so_far)
     (ending.ends e.subject.number e.subject.header so_far))
-event_lines_final R ending e so_far all (Cancelled j) h =
-    rw (eq-eqb e.subject.number e.subject.number refl) refl
-event_lines_final R ending e so_far all (Faults fault) h =
-    rw (eq-eqb e.subject.number e.subject.number refl) refl
+event_lines_final R ending e so_far all (Cancelled j) h = search (arith, eq-eqb)
+event_lines_final R ending e so_far all (Faults fault) h = search (arith, eq-eqb)
 event_lines_final R ending e so_far all _ h = absurd cc
 
 kept_final : (R : MessageReader) → IsEnding R → (e : Event) (o : Option (List ℕ)) (xs : List ℕ) →
@@ -161,8 +148,7 @@ kept_final : (R : MessageReader) → IsEnding R → (e : Event) (o : Option (Lis
     → is_final e.what ≡ true → list_any (is_last_of e.subject.number) (lines_for R e o) ≡ true
 unfolding lines_for
 kept_final R ending e None xs k h = absurd cc
-kept_final R ending e (Some ys) xs k h =
-    event_lines_final R ending e ys (ys ++ joined e.subject.number (e ∷ [])) e.what h
+kept_final R ending e (Some ys) xs k h = search (arith, event_lines_final)
 
 Ends : MessageReader → OctetsByNumber → List Event → Event → Type 0
 Ends R K es e = is_final e.what ≡ true → (xs : List ℕ) → K e.subject.number ≡ Some xs →
@@ -176,9 +162,7 @@ with_some K e i xs h = rw h refl
 ends_first : (R : MessageReader) → IsEnding R → (K : OctetsByNumber) (e : Event) (es : List Event) →
     Ends R K (e ∷ es) e
 unfolding Ends all_lines
-ends_first R ending K e es h xs k =
-    any_left (is_last_of e.subject.number) (lines_for R e (K e.subject.number))
-    (all_lines R (kept_with K (e ∷ [])) es) (kept_final R ending e (K e.subject.number) xs k h)
+ends_first R ending K e es h xs k = search (arith, any_left, all_lines, kept_final)
 
 ends_more : (R : MessageReader) (K : OctetsByNumber) (e : Event) (es : List Event) (d : Event) →
     Ends R (kept_with K (e ∷ [])) es d → Ends R K (e ∷ es) d
@@ -201,7 +185,7 @@ pub is_over_grows : (R : Rules) (p p' : List ℕ) (ls : List Line) (i : ℕ) →
     lines_of_messages R p' ≡ lines_of_messages R p ++ ls
     → is_over R p' i ≡ (is_over R p i || list_any (is_last_of i) ls)
 unfolding is_over
-is_over_grows R p p' ls i sd = rw sd (any_append (is_last_of i) (lines_of_messages R p) ls)
+is_over_grows R p p' ls i sd = search (arith, any_append)
 
 pub octets_known : (R : Rules) (p : List ℕ) (i : ℕ) → is_over R p i ≡ false →
     octets_of R p i ≡ Some (joined i (events R.most p))

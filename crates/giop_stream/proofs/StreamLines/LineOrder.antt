@@ -1,16 +1,16 @@
 -- The lines of an octet are in the order of their classes: those that the message's reader gives,
 -- those of the request id, those of the close.
-use Rattle.std.proofs.Common.{inl, inr, ◌⊎◌, ◌≡◌, ℕ, suc, ◌<◌, ◌≤◌, Bool, true, false, List, [], ◌∷◌, ◌++◌, length, map, refl, sym, subst, Option, Some, None, arith}
+use Rattle.std.proofs.Common.{inl, inr, ◌⊎◌, ◌≡◌, ℕ, suc, ◌<◌, ◌≤◌, Bool, true, false, List, [], ◌∷◌, ◌++◌, length, map, refl, Option, Some, None, arith}
 use Rattle.std.specs.Prelude.{nat_lt, ◌==◌, if◌then◌else◌, ◌||◌, option_map}
 use Rattle.std.specs.List.{AllByRecursion as Each}
 use Rattle.std.proofs.lemmas.Bool.{cases_lt, cases_eq, le-ltb, lt-ltb, eq-eqb, ne_eqb, and_parts, and_right}
 use Rattle.std.proofs.lemmas.List.{append-nil, length_push}
-use Rattle.giop_message.specs.Headers.{has_more, size, is_fragment, is_opener, is_cancel, has_name}
+use Rattle.giop_message.specs.Headers.{size, is_fragment, is_opener, is_cancel, has_name}
 use Rattle.giop_stream.specs.Rules.{Rules}
 use Rattle.giop_stream.specs.Framing.{Message}
 use Rattle.giop_message.specs.MessageReader.{LineClass, Value, Fault, MessageReader, due, IsStreamable}
 use Rattle.giop_stream.specs.Effects.{IsBegun, lines_for, kept_with}
-use Rattle.giop_stream.specs.Events.{EventKind, Begins, Takes, Closes, MessageKey, Event, Open, message_key, place, own, event_of_open, opener_of, goes_past, events_at_header, events_at_octet, events_at_request_id, events_at_end, events_of_octet, octet, joined, now_of, header_events, payload_events, request_id_events, message_end_events, events_with_id, Now}
+use Rattle.giop_stream.specs.Events.{EventKind, Begins, Takes, Closes, MessageKey, Event, Open, own, event_of_open, opener_of, goes_past, events_at_header, events_at_octet, events_at_request_id, events_at_end, events_of_octet, octet, joined, now_of, header_events, payload_events, request_id_events, message_end_events, events_with_id, Now}
 use Rattle.giop_stream.specs.Lines.{Line, Said, line, lines_of_event, is_last_of, up_to_last_line}
 use Rattle.giop_stream.specs.OpenSlots.{OctetsByNumber}
 use Rattle.giop_stream.proofs.StreamLines.EventsTogether.{all_lines}
@@ -24,17 +24,13 @@ use Rattle.giop_stream.proofs.StreamLines.InClasses.{event_lines_begins, event_l
 
 one_octet : (e : Event) (x : ℕ) → e.what ≡ Takes x → joined e.subject.number (e ∷ []) ≡ x ∷ []
 unfolding joined octet
-one_octet e x h = rw (eq-eqb e.subject.number e.subject.number refl, h) refl
+one_octet e x h = search (arith, eq-eqb)
 
 -- Of two faults of one message the second is not written.
 two_faults : (d e : Event) (t u : List ℕ) → d.subject.number ≡ e.subject.number →
     Fine (line d (Said Fault t) ∷ line e (Said Fault u) ∷ [])
 unfolding line up_to_last_line is_last_of
-two_faults d e t u same = record {
-  ordered = omega arith;
-  rises =
-      rw (eq-eqb d.subject.number e.subject.number same) (tt, tt);
-}
+two_faults d e t u same = search (arith, eq-eqb)
 
 -- The lines of two events d and e, each from its own list.
 module _ {A B : Type 0} (d e : Event) (f : A → LineClass) (g : A → List ℕ) (f' : B → LineClass)
@@ -50,7 +46,7 @@ module _ {A B : Type 0} (d e : Event) (f : A → LineClass) (g : A → List ℕ)
       Each (λ s. P (class_rank s)) (sayings xs ys)
       → Each (λ l. P (rank_of l)) (both_give_lines xs ys)
   pair_each P [] ys h = reader_classes_each P e f' g' ys h
-  pair_each P (x ∷ xs) ys h = (subst P (sym (rank_said d (f x) (g x))) h.0, pair_each P xs ys h.1)
+  pair_each P (x ∷ xs) ys h = search (arith, rank_said, pair_each P xs ys h.1)
 
   pair_rises : (xs : List A) (ys : List B) → LineClassesRise (sayings xs ys) →
       Rises (both_give_lines xs ys)
@@ -76,7 +72,7 @@ module _ {A B : Type 0} (d e : Event) (f : A → LineClass) (g : A → List ℕ)
       → LineClassesRise (sayings xs ys) ⊎ ((map f xs ≡ Fault ∷ []) × (map f' ys ≡ Fault ∷ [])) →
       Fine (both_give_lines xs ys)
   pair_fine xs ys same (inl h) = fine_of _ (pair_rises xs ys h)
-  pair_fine xs ys same (inr h) = faults_fine xs ys same h.0 h.1
+  pair_fine xs ys same (inr h) = search (arith, faults_fine)
 
 fine_none : Fine []
 fine_none = fine_of [] tt
@@ -106,7 +102,7 @@ module _ (R : MessageReader) (laws : IsStreamable R) where
   pair_fine_at : (K : OctetsByNumber) (at : ℕ) (subject : MessageKey) (x : ℕ) →
       Fine (all_lines R K (event at subject (Takes x) ∷ event at subject Closes ∷ []))
   unfolding all_lines kept_with
-  pair_fine_at K at subject x = rw (append-nil) (pair_by at subject x (K subject.number))
+  pair_fine_at K at subject x = search (arith, append-nil, pair_by)
 
   takes_alone : (K : OctetsByNumber) (at : ℕ) (subject : MessageKey) (x : ℕ) →
       Fine (all_lines R K (event at subject (Takes x) ∷ []))
@@ -119,9 +115,9 @@ module _ (R : MessageReader) (laws : IsStreamable R) where
       ⊎ (es ≡ own now Closes)
       → Fine (all_lines R K (own now (Takes x) ++ (if b then es else [])))
   unfolding own
-  takes_then K now x false es h = takes_alone K now.place now.subject x
-  takes_then K now x true es (inl h) = rw h (takes_alone K now.place now.subject x)
-  takes_then K now x true es (inr h) = rw h (pair_fine_at K now.place now.subject x)
+  takes_then K now x false es h = search (arith, takes_alone)
+  takes_then K now x true es (inl h) = search (arith, takes_alone)
+  takes_then K now x true es (inr h) = search (arith, pair_fine_at)
 
   passes_then : (K : OctetsByNumber) (now : Now) (o : Option Open) (x : ℕ) (b : Bool)
       (es : List Event)
@@ -131,9 +127,9 @@ module _ (R : MessageReader) (laws : IsStreamable R) where
   passes_then K now None x false es h = fine_none
   passes_then K now None x true es (inl h) = rw h fine_none
   passes_then K now None x true es (inr h) = rw h fine_none
-  passes_then K now (Some o) x false es h = takes_alone K now.place o.opener x
-  passes_then K now (Some o) x true es (inl h) = rw h (takes_alone K now.place o.opener x)
-  passes_then K now (Some o) x true es (inr h) = rw h (pair_fine_at K now.place o.opener x)
+  passes_then K now (Some o) x false es h = search (arith, takes_alone)
+  passes_then K now (Some o) x true es (inl h) = search (arith, takes_alone)
+  passes_then K now (Some o) x true es (inr h) = search (arith, pair_fine_at)
 
   -- the first octets of a message that begins with its request id
   named_takes : (at : ℕ) (subject : MessageKey) (x : ℕ) (o : Option (List ℕ)) →
@@ -162,53 +158,32 @@ at_end_owner : (still_open : List Open) (m : Message) → ends_short m ≡ false
     is_fragment m.header ≡ false
     → (events_at_end still_open m ≡ []) ⊎ (events_at_end still_open m ≡ own (now_of m) Closes)
 unfolding message_end_events
-at_end_owner still_open m short f = go (is_opener m.header) refl
-  where
-    go : (b : Bool) → is_opener m.header ≡ b → (events_at_end still_open m ≡ [])
-        ⊎ (events_at_end still_open m ≡ own (now_of m) Closes)
-    go true e = inl (rw (message_end_events, short, e) refl)
-    go false e = inr (rw (message_end_events, short, e, f) refl)
+at_end_owner still_open m short f = search (arith)
 
 at_end_past : (still_open : List Open) (m : Message) → ends_short m ≡ false →
     is_fragment m.header ≡ true
     → (events_at_end still_open m ≡ []) ⊎ (events_at_end still_open m
     ≡ event_of_open (now_of m) (opener_of still_open m) Closes)
 unfolding message_end_events
-at_end_past still_open m short f = go (is_opener m.header) (has_more m.header) refl refl
-  where
-    go : (b c : Bool) → is_opener m.header ≡ b → has_more m.header ≡ c →
-        (events_at_end still_open m ≡ []) ⊎ (events_at_end still_open m
-        ≡ event_of_open (now_of m) (opener_of still_open m) Closes)
-    go true c e k = inl (rw (message_end_events, short, e) refl)
-    go false true e k = inl (rw (message_end_events, short, e, f, k) refl)
-    go false false e k = inr (rw (message_end_events, short, e, f, k) refl)
+at_end_past still_open m short f = search (arith)
 
 pub not_past : (m : Message) → length m.payload ≤ 4 → goes_past m ≡ false
 unfolding goes_past
-not_past m h = and_right (is_fragment m.header) (nat_lt 4 (length m.payload))
-    (le-ltb 4 (length m.payload) h)
+not_past m h = search (arith, and_right, le-ltb)
 
 pub unnamed : (header : List ℕ) → has_name header ≡ false → (is_opener header ≡ false)
     × (is_fragment header ≡ false) × (is_cancel header ≡ false)
-unnamed header h = go (is_opener header) (is_fragment header) (is_cancel header) h
-  where
-    go : (a b c : Bool) → (a || b || c) ≡ false → (a ≡ false) × (b ≡ false) × (c ≡ false)
-    go true b c h = absurd cc
-    go false true c h = absurd cc
-    go false false true h = absurd cc
-    go false false false h = (refl, refl, refl)
+unnamed header h = search (arith)
 
 unnamed_id : (most : ℕ) (still_open : List Open) (m : Message) → has_name m.header ≡ false →
     events_at_request_id most still_open m ≡ []
 unfolding request_id_events
-unnamed_id most still_open m h = let parts = unnamed m.header h in
-    rw (request_id_events, parts.0, parts.1, parts.2) refl
+unnamed_id most still_open m h = search (arith, unnamed)
 
 -- a message without a request id, or with at least 4 octets, is not too short
 not_short : (m : Message) → (has_name m.header ≡ false) ⊎ (4 ≤ size m.header) → ends_short m ≡ false
-not_short m (inl h) = let parts = unnamed m.header h in
-    rw (parts.0, parts.1) (and_right (nat_lt (size m.header) 4) false refl)
-not_short m (inr h) = rw (le-ltb (size m.header) 4 h) refl
+not_short m (inl h) = search (arith, unnamed, and_right)
+not_short m (inr h) = search (arith, le-ltb)
 
 -- the header's last octet
 short_begins : (R : MessageReader) (m : Message) → ends_short m ≡ true →
@@ -235,11 +210,7 @@ module _ (R : Rules) (laws : IsStreamable R.reading) (K : OctetsByNumber) (still
   own_named : has_name m.header ≡ true → 0 < length m.payload → length m.payload ≤ 4 → IsBegun K m
       → Spans 1 1 (all_lines R.reading K (own (now_of m) (Takes x)))
   unfolding own all_lines
-  own_named k some short begun =
-      subst (Spans 1 1) (sym (append-nil (lines_for R.reading
-      (event (place m) (message_key m) (Takes x)) (K m.number))))
-      (named_takes R.reading laws (place m) (message_key m) x (K m.number) k
-      (λ xs e. let less = begun some short xs e in omega arith))
+  own_named k some short begun = search (arith, append-nil, named_takes)
 
   -- an octet of a message that does not begin with its request id, or one after the request id
   plain_octet : 0 < length m.payload → (has_name m.header ≡ false) ⊎ (4 < length m.payload) →
@@ -250,17 +221,10 @@ module _ (R : Rules) (laws : IsStreamable R.reading) (K : OctetsByNumber) (still
       (go (is_fragment m.header) refl)
     where
       second : (if length m.payload == 4 then events_at_request_id R.most still_open m else []) ≡ []
-      second = elim h [
-        | inl k ↦ rw (unnamed_id R.most still_open m k) (both (length m.payload == 4))
-        | inr k ↦ rw (ne_eqb (length m.payload) 4 (λ e. omega arith)) refl
-      ]
-        where
-          both : (b : Bool) → (let none : List Event = [] in (if b then none else none) ≡ none)
-          both true = refl
-          both false = refl
+      second = search (arith, unnamed_id, ne_eqb)
 
       long : ends_short m ≡ false
-      long = not_short m (elim h [ inl k ↦ inl k | inr k ↦ inr (omega arith) ])
+      long = search (arith, not_short)
 
       go : (b : Bool) → is_fragment m.header ≡ b →
           Fine (all_lines R.reading K (events_at_octet still_open m ++ close))
@@ -309,27 +273,17 @@ module _ (R : Rules) (laws : IsStreamable R.reading) (K : OctetsByNumber) (still
 
   first_octet : length m.payload ≡ 0 → IsFine
   unfolding events_of_octet
-  first_octet none =
-      rw (
-        events_of_octet,
-        events_with_id,
-        eq-eqb (length m.payload) 0 none,
-        ne_eqb (length m.payload) 4 (λ e. omega arith),
-      )
-      (fine_of _ (first_rises (ends_short m) refl))
+  first_octet none = search (arith, eq-eqb, ne_eqb, fine_of, first_rises, ends_short)
 
   -- The lines of an octet are in order, and no two of those that are written have one class.
   pub events_of_octet_fine : length m.payload ≤ size m.header →
       (has_name m.header ≡ true → IsBegun K m) →
       Fine (all_lines R.reading K (events_of_octet R.most still_open m))
-  events_of_octet_fine fits begun = elim (cases_eq (length m.payload) 0) [
-    | inl none ↦ first_octet none
-    | inr some ↦ elim (cases_lt 4 (length m.payload)) [
-      | inl past ↦ plain_octet (omega arith) (inr past) fits
-      | inr short ↦ go (has_name m.header) refl (omega arith) short
-    ]
-  ]
-    where
-      go : (b : Bool) → has_name m.header ≡ b → 0 < length m.payload → length m.payload ≤ 4 → IsFine
-      go true h some short = named_octet some h short fits (begun h)
-      go false h some short = plain_octet some (inl h) fits
+  events_of_octet_fine fits begun = search (
+    arith,
+    cases_eq,
+    first_octet,
+    cases_lt,
+    plain_octet,
+    named_octet,
+  )

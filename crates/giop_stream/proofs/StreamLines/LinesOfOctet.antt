@@ -1,5 +1,5 @@
 -- The lines of a stream with one octet more.
-use Rattle.std.proofs.Common.{◌≡◌, ℕ, zero, suc, ◌<◌, ◌≤◌, Bool, true, false, not, List, [], ◌∷◌, ◌++◌, length, map, refl, sym, ap, subst, ◌∙◌, append_assoc, Option, Some, None, arith}
+use Rattle.std.proofs.Common.{◌≡◌, ℕ, zero, suc, ◌<◌, ◌≤◌, Bool, true, false, not, List, [], ◌∷◌, ◌++◌, length, map, refl, sym, ap, ◌∙◌, append_assoc, Option, Some, None, arith}
 use Rattle.std.specs.Prelude.{◌==◌, if◌then◌else◌, flat_map, ◌||◌, option_map}
 use Rattle.std.specs.List.{filter, list_any, AllByRecursion as Each}
 use Rattle.std.proofs.lemmas.Bool.{eq-eqb, ne_eqb}
@@ -8,7 +8,7 @@ use Rattle.std.proofs.lemmas.List.Elements.{filter-append}
 use Rattle.std.proofs.lemmas.List.Concat.{flat_map-append}
 use Rattle.giop_stream.specs.Events.{EventKind, Begins, Takes, Opens, Continues, Cancelled, Faults, Closes, Event, octet, joined}
 use Rattle.giop_message.specs.MessageReader.{MessageReader, IsCausal}
-use Rattle.giop_stream.specs.Lines.{Class, Content, Started, Said, ContinuesMessage, CancelledBy, Faulted, Line, has_class, line, lines_of_event, lines_of_events, classes, by_class, in_order, is_last_of, up_to_last_line}
+use Rattle.giop_stream.specs.Lines.{Class, Content, Said, Line, has_class, line, lines_of_event, lines_of_events, classes, by_class, in_order, is_last_of, up_to_last_line}
 use Rattle.giop_stream.specs.OpenSlots.{OctetsByNumber}
 use Rattle.giop_stream.specs.Effects.{lines_for, kept_with}
 use Rattle.giop_stream.proofs.StreamLines.EventsTogether.{all_lines}
@@ -17,12 +17,11 @@ use Rattle.giop_stream.proofs.Lists.{filter_keeps, filter_drops, filter_swap, ea
 -- The octets of a message in a longer list of events.
 pub joined_append : (i : ℕ) (es fs : List Event) → joined i (es ++ fs) ≡ joined i es ++ joined i fs
 unfolding joined
-joined_append i es fs = flat_map-append (λ e. if e.subject.number == i then octet e.what else []) es
-    fs
+joined_append i es fs = search (arith, flat_map-append)
 
 joined_own : (e : Event) → joined e.subject.number (e ∷ []) ≡ octet e.what
 unfolding joined
-joined_own e = rw (eq-eqb e.subject.number e.subject.number refl) (append-nil (octet e.what))
+joined_own e = search (arith, eq-eqb, append-nil)
 
 -- The lines of an event depend only on the octets up to it.
 event_lines_early : (R : MessageReader) → IsCausal R →
@@ -62,18 +61,17 @@ lines_so_far_append : (R : MessageReader) (past es fs : List Event) →
     lines_so_far R past (es ++ fs) ≡ lines_so_far R past es ++ lines_so_far R (past ++ es) fs
 unfolding lines_so_far
 lines_so_far_append R past [] fs = rw append-nil refl
-lines_so_far_append R past (e ∷ es) fs =
-    let first = lines_of_event R e (joined e.subject.number past)
-    (joined e.subject.number past ++ octet e.what) e.what in
-    rw (lines_so_far_append R (past ++ e ∷ []) es fs, append_assoc past (e ∷ []) es)
-    (sym (append_assoc first (lines_so_far R (past ++ e ∷ []) es)
-    (lines_so_far R (past ++ e ∷ es) fs)))
+lines_so_far_append R past (e ∷ es) fs = search (
+  arith,
+  append_assoc,
+  lines_so_far_append R (past
+      ++ e ∷ []) es fs,
+)
 
 -- More events at the end add lines at the end.
 pub lines_grow : (R : MessageReader) → IsCausal R → (es fs : List Event) →
     lines_of_events R (es ++ fs) [] (es ++ fs) ≡ lines_of_events R es [] es ++ lines_so_far R es fs
-lines_grow R causal es fs = lines_by_past R causal (es ++ fs) [] (es ++ fs) refl
-    ∙ (lines_so_far_append R [] es fs ∙ rw (lines_by_past R causal es [] es refl) refl)
+lines_grow R causal es fs = search (arith, lines_by_past, lines_so_far_append)
 
 -- Each line of an event has its place and its message.
 IsOf : Event → Line → Type 0
@@ -86,30 +84,25 @@ line_of e content = (refl, refl)
 event_lines_of : (R : MessageReader) (e : Event) (so_far all : List ℕ) (what : EventKind) →
     Each (IsOf e) (lines_of_event R e so_far all what)
 unfolding lines_of_event
-event_lines_of R e so_far all Begins = (line_of e (Started e.subject.header), tt)
-event_lines_of R e so_far all (Takes x) =
-    each_map (IsOf e) (λ r. line e (Said r.line_class r.text))
-    (λ r. line_of e (Said r.line_class r.text))
-    (filter (λ r. r.at == suc (length so_far)) (R.reads e.subject.number e.subject.header all))
+event_lines_of R e so_far all Begins = search (arith, line_of)
+event_lines_of R e so_far all (Takes x) = search (arith, each_map, line_of)
 event_lines_of R e so_far all (Opens id) = tt
-event_lines_of R e so_far all (Continues i) = (line_of e (ContinuesMessage i), tt)
-event_lines_of R e so_far all (Cancelled j) = (line_of e (CancelledBy j), tt)
-event_lines_of R e so_far all (Faults fault) = (line_of e (Faulted fault), tt)
-event_lines_of R e so_far all Closes = each_map (IsOf e) (λ l. line e (Said l.0 l.1))
-    (λ l. line_of e (Said l.0 l.1)) (R.closes e.subject.number e.subject.header so_far)
+event_lines_of R e so_far all (Continues i) = search (arith, line_of)
+event_lines_of R e so_far all (Cancelled j) = search (arith, line_of)
+event_lines_of R e so_far all (Faults fault) = search (arith, line_of)
+event_lines_of R e so_far all Closes = search (arith, each_map, line_of)
 
 pub lines_so_far_each : (R : MessageReader) (P : ℕ → Type 0) (past es : List Event) →
     Each (λ e. P e.place) es → Each (λ l. P l.place) (lines_so_far R past es)
 unfolding lines_so_far IsOf
 lines_so_far_each R P past [] h = tt
-lines_so_far_each R P past (e ∷ es) h =
-    let first = lines_of_event R e (joined e.subject.number past)
-    (joined e.subject.number past ++ octet e.what) e.what in
-    each_append (λ l. P l.place) first (lines_so_far R (past ++ e ∷ []) es)
-    (each_weaker (IsOf e) (λ l. P l.place) (λ l k. subst P (sym k.0) h.0) first
-    (event_lines_of R e (joined e.subject.number past)
-    (joined e.subject.number past ++ octet e.what) e.what))
-    (lines_so_far_each R P (past ++ e ∷ []) es h.1)
+lines_so_far_each R P past (e ∷ es) h = search (
+  arith,
+  each_append,
+  each_weaker,
+  event_lines_of,
+  lines_so_far_each R P (past ++ e ∷ []) es h.1,
+)
 
 -- The order of the lines.
 pub by_class_none : by_class [] ≡ []
@@ -118,19 +111,14 @@ by_class_none = refl
 
 earlier_none : (n k : ℕ) (ls : List Line) → Each (λ l. l.place ≤ n) ls → n < k →
     filter (λ l. l.place == k) ls ≡ []
-earlier_none n k ls h m =
-    filter_drops (λ l. l.place == k) ls (each_weaker (λ l. l.place ≤ n)
-    (λ l. (l.place == k) ≡ false) (λ l j. ne_eqb l.place k (λ e. omega arith)) ls h)
+earlier_none n k ls h m = search (arith, filter_drops, each_weaker, ne_eqb)
 
 later_none : (n k : ℕ) (ls : List Line) → Each (λ l. l.place ≡ suc n) ls → k ≤ n →
     filter (λ l. l.place == k) ls ≡ []
-later_none n k ls h m =
-    filter_drops (λ l. l.place == k) ls (each_weaker (λ l. l.place ≡ suc n)
-    (λ l. (l.place == k) ≡ false) (λ l j. ne_eqb l.place k (λ e. omega arith)) ls h)
+later_none n k ls h m = search (arith, filter_drops, each_weaker, ne_eqb)
 
 now_all : (n : ℕ) (ls : List Line) → Each (λ l. l.place ≡ n) ls → filter (λ l. l.place == n) ls ≡ ls
-now_all n ls h = filter_keeps (λ l. l.place == n) ls
-    (each_weaker (λ l. l.place ≡ n) (λ l. (l.place == n) ≡ true) (λ l j. eq-eqb l.place n j) ls h)
+now_all n ls h = search (arith, filter_keeps, each_weaker, eq-eqb)
 
 in_order_same : (k n : ℕ) (old new : List Line) → Each (λ l. l.place ≡ suc n) new → k ≤ n →
     in_order k (old ++ new) ≡ in_order k old
@@ -168,9 +156,7 @@ filter_classes : (q : Line → Bool) (ls : List Line) (cs : List Class)
     → filter q (flat_map (λ c. filter (has_class c) ls) cs)
     ≡ flat_map (λ c. filter (has_class c) (filter q ls)) cs
 filter_classes q ls [] = refl
-filter_classes q ls (c ∷ cs) =
-    filter-append q (filter (has_class c) ls) (flat_map (λ c. filter (has_class c) ls) cs)
-    ∙ rw (filter_classes q ls cs, filter_swap q (has_class c) ls) refl
+filter_classes q ls (c ∷ cs) = search (arith, filter-append, filter_swap, filter_classes q ls cs)
 
 by_class_filter : (q : Line → Bool) (ls : List Line) →
     filter q (by_class ls) ≡ by_class (filter q ls)
@@ -188,7 +174,7 @@ or_or false b c = refl
 
 standing_same : (f g : ℕ → Bool) (ls : List Line) → ((i : ℕ) → f i ≡ g i) →
     up_to_last_line f ls ≡ up_to_last_line g ls
-standing_same f g ls h = ap (λ (t : ℕ → Bool). up_to_last_line t ls) (λ j i. h i j)
+standing_same f g ls h = search (arith)
 
 standing_skips : (f : ℕ → Bool) (l : Line) (ls : List Line) → f l.number ≡ true →
     up_to_last_line f (l ∷ ls) ≡ up_to_last_line f ls
@@ -205,23 +191,14 @@ append_by : (f : ℕ → Bool) (l : Line) (xs ys : List Line) (b : Bool) → f l
     ++ up_to_last_line (λ i. f i || list_any (is_last_of i) (up_to_last_line f xs)) ys)
     → up_to_last_line f (l ∷ xs ++ ys) ≡ up_to_last_line f (l ∷ xs)
     ++ up_to_last_line (λ i. f i || list_any (is_last_of i) (up_to_last_line f (l ∷ xs))) ys
-append_by f l xs ys true e ih = rw (standing_skips f l (xs ++ ys) e, standing_skips f l xs e) (ih f)
-append_by f l xs ys false e ih =
-    rw (standing_keeps f l (xs ++ ys) e, standing_keeps f l xs e)
-    (ap (λ (zs : List Line). l ∷ zs) (ih (λ i. f i || is_last_of i l)
-    ∙ ap (λ (zs : List Line). up_to_last_line (λ i. f i || is_last_of i l) xs ++ zs)
-    (standing_same (λ i. (f i || is_last_of i l)
-    || list_any (is_last_of i) (up_to_last_line (λ i. f i || is_last_of i l) xs))
-    (λ i. f i || (is_last_of i l || list_any (is_last_of i)
-    (up_to_last_line (λ i. f i || is_last_of i l) xs))) ys
-    (λ i. or_or (f i) (is_last_of i l) (list_any (is_last_of i)
-    (up_to_last_line (λ i. f i || is_last_of i l) xs))))))
+append_by f l xs ys true e ih = search (arith, standing_skips)
+append_by f l xs ys false e ih = search (arith, standing_keeps, standing_same, or_or)
 
 pub standing_append : (f : ℕ → Bool) (xs ys : List Line)
     → up_to_last_line f (xs ++ ys) ≡ up_to_last_line f xs
     ++ up_to_last_line (λ i. f i || list_any (is_last_of i) (up_to_last_line f xs)) ys
 unfolding up_to_last_line
-standing_append f [] ys = standing_same f (λ i. f i || false) ys (λ i. sym (or_false (f i)))
+standing_append f [] ys = search (arith, standing_same, or_false)
 standing_append f (l ∷ xs) ys = append_by f l xs ys (f l.number) refl (λ g. standing_append g xs ys)
 
 drops_by : (over orig f : ℕ → Bool) (l : Line) (ls : List Line) →
@@ -230,16 +207,9 @@ drops_by : (over orig f : ℕ → Bool) (l : Line) (ls : List Line) →
     up_to_last_line over ls ≡ up_to_last_line f (filter (λ l. not (orig l.number)) ls))
     → (a b : Bool) → orig l.number ≡ a → f l.number ≡ b
     → up_to_last_line over (l ∷ ls) ≡ up_to_last_line f (filter (λ l. not (orig l.number)) (l ∷ ls))
-drops_by over orig f l ls h ih true b e k =
-    rw e (standing_skips over l ls (h l.number ∙ rw e refl) ∙ ih over f h)
-drops_by over orig f l ls h ih false true e k =
-    rw e (standing_skips over l ls (h l.number ∙ rw (e, k) refl)
-    ∙ (ih over f h ∙ sym (standing_skips f l (filter (λ l. not (orig l.number)) ls) k)))
-drops_by over orig f l ls h ih false false e k =
-    rw e (standing_keeps over l ls (h l.number ∙ rw (e, k) refl)
-    ∙ (ap (λ (zs : List Line). l ∷ zs) (ih (λ i. over i || is_last_of i l)
-    (λ i. f i || is_last_of i l) (λ i. rw (h i) (or_or (orig i) (f i) (is_last_of i l))))
-    ∙ sym (standing_keeps f l (filter (λ l. not (orig l.number)) ls) k)))
+drops_by over orig f l ls h ih true b e k = search (arith, standing_skips)
+drops_by over orig f l ls h ih false true e k = search (arith, standing_skips, not)
+drops_by over orig f l ls h ih false false e k = search (arith, standing_keeps, or_or, not)
 
 -- Lines of messages that were over before are never written.
 pub standing_drops : (over orig f : ℕ → Bool) (ls : List Line) →
@@ -257,17 +227,11 @@ keeping over past i = if over i then None else Some (joined i past)
 with_one : (over : ℕ → Bool) (past : List Event) (e : Event) (i : ℕ) →
     kept_with (keeping over past) (e ∷ []) i ≡ keeping over (past ++ e ∷ []) i
 unfolding kept_with keeping
-with_one over past e i = go (over i)
-  where
-    go : (b : Bool) → option_map (λ xs. xs ++ joined i (e ∷ []))
-        (if b then None else Some (joined i past))
-        ≡ (if b then None else Some (joined i (past ++ e ∷ [])))
-    go true = refl
-    go false = ap Some (sym (joined_append i past (e ∷ [])))
+with_one over past e i = search (arith, joined_append)
 
 all_lines_same : (R : MessageReader) (f g : OctetsByNumber) (es : List Event) →
     ((i : ℕ) → f i ≡ g i) → all_lines R f es ≡ all_lines R g es
-all_lines_same R f g es h = ap (λ (k : OctetsByNumber). all_lines R k es) (λ j i. h i j)
+all_lines_same R f g es h = search (arith, all_lines)
 
 one_by : (R : MessageReader) (over : ℕ → Bool) (past : List Event) (e : Event) (b : Bool) →
     over e.subject.number ≡ b
@@ -275,50 +239,30 @@ one_by : (R : MessageReader) (over : ℕ → Bool) (past : List Event) (e : Even
     (joined e.subject.number past ++ octet e.what) e.what)
     ≡ lines_for R e (keeping over past e.subject.number)
 unfolding lines_for keeping IsOf
-one_by R over past e true k =
-    let ls = lines_of_event R e (joined e.subject.number past)
-    (joined e.subject.number past ++ octet e.what) e.what in
-    filter_drops (λ l. not (over l.number)) ls
-    (each_weaker (IsOf e) (λ l. not (over l.number) ≡ false) (λ l h. rw (h.1, k) refl) ls
-    (event_lines_of R e (joined e.subject.number past)
-    (joined e.subject.number past ++ octet e.what) e.what))
-    ∙ rw (keeping, k) refl
-one_by R over past e false k =
-    let ls = lines_of_event R e (joined e.subject.number past)
-    (joined e.subject.number past ++ octet e.what) e.what in
-    filter_keeps (λ l. not (over l.number)) ls
-    (each_weaker (IsOf e) (λ l. not (over l.number) ≡ true) (λ l h. rw (h.1, k) refl) ls
-    (event_lines_of R e (joined e.subject.number past)
-    (joined e.subject.number past ++ octet e.what) e.what))
-    ∙ rw (keeping, k, lines_for, joined_own e) refl
+one_by R over past e true k = search (arith, filter_drops, not, each_weaker, event_lines_of)
+one_by R over past e false k = search (
+  arith,
+  filter_keeps,
+  not,
+  each_weaker,
+  event_lines_of,
+  joined_own,
+)
 
 pub all_lines_so_far : (R : MessageReader) (over : ℕ → Bool) (past es : List Event)
     → filter (λ l. not (over l.number)) (lines_so_far R past es)
     ≡ all_lines R (keeping over past) es
 unfolding lines_so_far all_lines
 all_lines_so_far R over past [] = refl
-all_lines_so_far R over past (e ∷ es) =
-    filter_append_at R over past e es
-    ∙ rw (
-      one_by R over past e (over e.subject.number) refl,
-      all_lines_so_far R over (past ++ e ∷ []) es,
-    )
-    (ap (λ (ls : List Line). lines_for R e (keeping over past e.subject.number) ++ ls)
-    (all_lines_same R (keeping over (past ++ e ∷ [])) (kept_with (keeping over past) (e ∷ [])) es
-    (λ i. sym (with_one over past e i))))
-  where
-    filter_append_at : (R : MessageReader) (over : ℕ → Bool) (past : List Event) (e : Event)
-        (es : List Event)
-        → filter (λ l. not (over l.number)) (lines_so_far R past (e ∷ es))
-        ≡ filter (λ l. not (over l.number))
-        (lines_of_event R e (joined e.subject.number past)
-        (joined e.subject.number past ++ octet e.what) e.what) ++ filter
-        (λ l. not (over l.number)) (lines_so_far R (past ++ e ∷ []) es)
-    filter_append_at R over past e es =
-        filter-append (λ l. not (over l.number))
-        (lines_of_event R e (joined e.subject.number past)
-        (joined e.subject.number past ++ octet e.what) e.what)
-        (lines_so_far R (past ++ e ∷ []) es)
+all_lines_so_far R over past (e ∷ es) = search (
+  arith,
+  one_by,
+  all_lines_same,
+  with_one,
+  not,
+  filter-append,
+  all_lines_so_far R over (past ++ e ∷ []) es,
+)
 
 -- The lines depend only on what is kept of the events' subjects.
 pub all_lines_agree : (R : MessageReader) (f g : OctetsByNumber) (es : List Event) →
@@ -349,20 +293,14 @@ pub event_lines_number : (R : MessageReader) (P : ℕ → Type 0) (e : Event) (o
     P e.subject.number → Each (λ l. P l.number) (lines_for R e o)
 unfolding lines_for IsOf
 event_lines_number R P e None h = tt
-event_lines_number R P e (Some xs) h =
-    each_weaker (IsOf e) (λ l. P l.number) (λ l k. subst P (sym k.1) h)
-    (lines_of_event R e xs (xs ++ joined e.subject.number (e ∷ [])) e.what)
-    (event_lines_of R e xs (xs ++ joined e.subject.number (e ∷ [])) e.what)
+event_lines_number R P e (Some xs) h = search (arith, each_weaker, event_lines_of)
 
 -- and what holds of the events' places of the lines' places.
 event_lines_place : (R : MessageReader) (P : ℕ → Type 0) (e : Event) (o : Option (List ℕ)) →
     P e.place → Each (λ l. P l.place) (lines_for R e o)
 unfolding lines_for IsOf
 event_lines_place R P e None h = tt
-event_lines_place R P e (Some xs) h =
-    each_weaker (IsOf e) (λ l. P l.place) (λ l k. subst P (sym k.0) h)
-    (lines_of_event R e xs (xs ++ joined e.subject.number (e ∷ [])) e.what)
-    (event_lines_of R e xs (xs ++ joined e.subject.number (e ∷ [])) e.what)
+event_lines_place R P e (Some xs) h = search (arith, each_weaker, event_lines_of)
 
 pub all_lines_places : (R : MessageReader) (P : ℕ → Type 0) (known : OctetsByNumber)
     (es : List Event) → Each (λ e. P e.place) es → Each (λ l. P l.place) (all_lines R known es)
@@ -387,9 +325,7 @@ all_lines_each R P known (e ∷ es) h =
 pub classes_each : (P : Line → Type 0) (ls : List Line) (cs : List Class) → Each P ls →
     Each P (flat_map (λ c. filter (has_class c) ls) cs)
 classes_each P ls [] h = tt
-classes_each P ls (c ∷ cs) h =
-    each_append P (filter (has_class c) ls) (flat_map (λ c. filter (has_class c) ls) cs)
-    (each_filter P (has_class c) ls h) (classes_each P ls cs h)
+classes_each P ls (c ∷ cs) h = search (arith, each_append, each_filter, classes_each P ls cs h)
 
 stands_by : (P : Line → Type 0) (b : Bool) (l : Line) (one two : List Line) → P l → Each P one →
     Each P two → Each P (if b then one else l ∷ two)
@@ -409,21 +345,18 @@ pub written_each : (R : MessageReader) (P : ℕ → Type 0) (known : OctetsByNum
     Each (λ e. P e.subject.number) es
     → Each (λ l. P l.number) (up_to_last_line (λ i. false) (by_class (all_lines R known es)))
 unfolding by_class
-written_each R P known es h =
-    standing_each (λ l. P l.number) (λ i. false) _
-    (classes_each (λ l. P l.number) (all_lines R known es) classes
-    (all_lines_each R P known es h))
+written_each R P known es h = search (arith, standing_each, classes_each, all_lines, all_lines_each)
 
 none_last_by : (i : ℕ) (l : Line) → l.number < i → is_last_of i l ≡ false
 unfolding is_last_of
-none_last_by i l h = rw (ne_eqb l.number i (λ e. omega arith)) refl
+none_last_by i l h = search (arith, ne_eqb)
 
 pub none_last : (i : ℕ) (ls : List Line) → Each (λ l. l.number < i) ls →
     list_any (is_last_of i) ls ≡ false
 none_last i [] h = refl
-none_last i (l ∷ ls) h = rw (none_last_by i l h.0, none_last i ls h.1) refl
+none_last i (l ∷ ls) h = search (arith, none_last_by, none_last i ls h.1)
 
 pub none_joined : (i : ℕ) (es : List Event) → Each (λ e. e.subject.number < i) es → joined i es ≡ []
 unfolding joined
 none_joined i [] h = refl
-none_joined i (e ∷ es) h = rw (ne_eqb e.subject.number i (λ k. omega arith)) (none_joined i es h.1)
+none_joined i (e ∷ es) h = search (arith, ne_eqb, none_joined i es h.1)

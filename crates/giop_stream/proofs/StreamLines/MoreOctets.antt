@@ -1,5 +1,5 @@
 -- What runs of octets add to the text of a stream, and the state after them.
-use Rattle.std.proofs.Common.{◌≡◌, ℕ, List, [], ◌∷◌, ◌++◌, length, drop, refl, sym, ap, ◌∙◌, append_assoc, append-nil, Some}
+use Rattle.std.proofs.Common.{◌≡◌, ℕ, List, [], ◌∷◌, ◌++◌, drop, refl, sym, ap, ◌∙◌, append_assoc, append-nil, Some, arith}
 use Rattle.std.specs.Prelude.{slice_get}
 use Rattle.std.proofs.Math.Seq.{drop-append_seam}
 use Rattle.giop_message.specs.MessageReader.{IsCausal, IsStreamable}
@@ -15,13 +15,12 @@ use Rattle.giop_stream.proofs.SlotSteps.Adding.{added_run}
 
 added_from : (R : Rules) (p q z : List ℕ) → text R (p ++ q) ≡ text R p ++ z → added R p q ≡ z
 unfolding added
-added_from R p q z e = ap (drop (length (text R p))) e ∙ drop-append_seam (text R p) z
+added_from R p q z e = search (arith, drop, drop-append_seam)
 
 -- the text of a stream, then what more octets add
 pub text_adds : (R : Rules) → IsCausal R.reading → IsStreamable R.reading → (p q : List ℕ) →
     text R (p ++ q) ≡ text R p ++ added R p q
-text_adds R causal laws p q = run_text R causal laws p q
-    ∙ ap (λ (z : List ℕ). text R p ++ z) (sym (added_run R causal laws p q))
+text_adds R causal laws p q = search (arith, run_text, added_run)
 
 -- what q and then r add
 pub added_both : (R : Rules) → IsCausal R.reading → IsStreamable R.reading → (p q r : List ℕ) →
@@ -51,24 +50,22 @@ run_on R s (x ∷ q) r =
 
 pub run_text_on : (R : Rules) (s : State) (q r : List ℕ) →
     lines_text (run R s (q ++ r)) ≡ lines_text (run R s q) ++ lines_text (run R (run_state R s q) r)
-run_text_on R s q r = ap lines_text (run_on R s q r)
-    ∙ text_append (run R s q) (run R (run_state R s q) r)
+run_text_on R s q r = search (arith, run_on, text_append)
 
 pub one_run : (R : Rules) (s : State) (x : ℕ) → runs R s (x ∷ []) ≡ step R s x
 unfolding run run_state
-one_run R s x = λ j. record { state = (step R s x).state; lines = append-nil (step R s x).lines j }
+one_run R s x = search (arith, append-nil)
 
 -- ---- A piece that is taken run by run.
 
 pub first_of : (xs : List ℕ) (x : ℕ) → Some x ≡ slice_get xs 0 → xs ≡ x ∷ drop 1 xs
 first_of [] x e = absurd cc
-first_of (y ∷ xs) x e = let same : y ≡ x = cc in ap (λ (z : ℕ). z ∷ xs) same
+first_of (y ∷ xs) x e = search (arith)
 
 -- the octets taken so far, with one more run of them
 pub further : (octets_taken rest q left piece : List ℕ) → piece ≡ octets_taken ++ rest → rest ≡ q
     ++ left → piece ≡ (octets_taken ++ q) ++ left
-further octets_taken rest q left piece e f =
-    e ∙ (ap (λ (z : List ℕ). octets_taken ++ z) f ∙ sym (append_assoc octets_taken q left))
+further octets_taken rest q left piece e f = search (arith, append_assoc)
 
 -- the text so far is a front of the piece's text
 pub run_within : (R : Rules) (s : State) (octets_taken q left piece : List ℕ) →

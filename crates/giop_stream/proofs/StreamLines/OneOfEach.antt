@@ -21,25 +21,20 @@ use Rattle.giop_stream.proofs.CodeSteps.EngineAlive.{sound}
 
 passed : (test : Line → Bool) (n : ℕ) → ((l : Line) → test l ≡ true → rank_of l ≡ n) → (k : Line) →
     n < rank_of k → test k ≡ false
-passed test n h k less = go (test k) refl
-  where
-    go : (b : Bool) → test k ≡ b → b ≡ false
-    go true e = absurd (let same = h k e in omega arith)
-    go false e = refl
+passed test n h k less = search (arith)
 
 one_at_most : (test : Line → Bool) (n : ℕ) → ((l : Line) → test l ≡ true → rank_of l ≡ n) →
     (ls : List Line) → Rises ls → length (filter test ls) ≤ 1
 one_at_most test n h [] r = omega arith
-one_at_most test n h (l ∷ ls) r = go (test l) refl (one_at_most test n h ls r.1)
-  where
-    none : rank_of l ≡ n → filter test ls ≡ []
-    none same = filter_drops test ls (each_weaker (λ k. rank_of l < rank_of k) (λ k. test k ≡ false)
-        (λ k less. passed test n h k (omega arith)) ls r.0)
-
-    go : (b : Bool) → test l ≡ b → length (filter test ls) ≤ 1 →
-        length (cond b (l ∷ filter test ls) (filter test ls)) ≤ 1
-    go true e later = rw (none (h l e)) (omega arith)
-    go false e later = later
+one_at_most test n h (l ∷ ls) r = search (
+  arith,
+  rank_of,
+  filter_drops,
+  each_weaker,
+  passed,
+  cond,
+  one_at_most test n h ls r.1,
+)
 
 -- ---- The lines that an octet adds.
 
@@ -51,7 +46,7 @@ record More (R : Rules) (p : List ℕ) (x : ℕ) : Type 0 where
 
 more_of : (R : Rules) (p : List ℕ) (x : ℕ) (c : Cut) (ls : List Line) (tracked : Tracked) →
     Adds R p (p ++ x ∷ []) c ls tracked → More R p x
-more_of R p x c ls tracked h = record { more = ls; grows = h.lines; here = h.here; rises = h.rises }
+more_of R p x c ls tracked h = search (arith)
 
 more_by : (R : Rules) (p : List ℕ) (x : ℕ) (o : Octet) → Then R p x o → More R p x
 more_by R p x (Ends fault) h = more_of R p x _ _ _ h.1
@@ -68,7 +63,7 @@ record Apart (R : Rules) (p : List ℕ) : Type 0 where
   one : (k : ℕ) (c : Class) → length (filter (is_at k c) (lines R p)) ≤ 1
 
 is_ranked : (k : ℕ) (c : Class) (l : Line) → is_at k c l ≡ true → rank_of l ≡ rank c
-is_ranked k c l h = eqb-true (rank_of l) (rank c) (and_parts (l.place == k) (has_class c l) h).1
+is_ranked k c l h = search (arith, eqb-true, rank_of, and_parts)
 
 elsewhere : (k : ℕ) (c : Class) (l : Line) → (l.place ≡ k → ⊥) → is_at k c l ≡ false
 elsewhere k c l h = rw (ne_eqb l.place k h) refl
@@ -103,11 +98,7 @@ apart_more R causal laws p x h =
     }
 
 apart_start : (R : Rules) → Apart R []
-apart_start R = record {
-  places = rw (lines_nothing R) tt;
-  one =
-      λ k c. rw (lines_nothing R) (omega arith);
-}
+apart_start R = search (arith, lines_nothing)
 
 pub one_of_class : (R : Rules) → IsCausal R.reading → IsStreamable R.reading →
     (p : List ℕ) (k : ℕ) (c : Class)

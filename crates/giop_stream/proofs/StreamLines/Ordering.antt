@@ -31,11 +31,7 @@ Rises (l ∷ ls) = Each (λ k. rank_of l < rank_of k) ls × Rises ls
 
 pub rises_ordered : (ls : List Line) → Rises ls → Ordered ls
 rises_ordered [] h = tt
-rises_ordered (l ∷ ls) h = (
-  each_weaker (λ k. rank_of l < rank_of k) (λ k. rank_of l ≤ rank_of k)
-      (λ k i. omega arith) ls h.0,
-  rises_ordered ls h.1,
-)
+rises_ordered (l ∷ ls) h = search (arith, each_weaker, rises_ordered ls h.1)
 
 rises_if : (b : Bool) (l : Line) (one two : List Line) → Each (λ k. rank_of l < rank_of k) two →
     Rises one → Rises two → Rises (if b then one else l ∷ two)
@@ -57,7 +53,7 @@ pub record Fine (ls : List Line) : Type 0 where
   pub rises : Rises (up_to_last_line (λ i. false) ls)
 
 pub fine_of : (ls : List Line) → Rises ls → Fine ls
-fine_of ls h = record { ordered = rises_ordered ls h; rises = rises_standing (λ i. false) ls h }
+fine_of ls h = search (arith, rises_ordered, rises_standing)
 
 -- the ranks of these classes rise
 abbrev Rise : List Class → Type 0
@@ -69,15 +65,12 @@ has_false c l h = ne_eqb (rank_of l) (rank c) h
 
 lower_none : (c : Class) (l : Line) (ls : List Line) → rank c < rank_of l →
     Each (λ k. rank_of l ≤ rank_of k) ls → filter (has_class c) ls ≡ []
-lower_none c l ls h k =
-    filter_drops (has_class c) ls (each_weaker (λ k. rank_of l ≤ rank_of k)
-    (λ k. has_class c k ≡ false) (λ k j. has_false c k (λ e. omega arith)) ls k)
+lower_none c l ls h k = search (arith, filter_drops, each_weaker, has_false)
 
 higher_none : (cs : List Class) (l : Line) (ls : List Line) → Each (λ d. rank_of l < rank d) cs
     → flat_map (λ c. filter (has_class c) (l ∷ ls)) cs ≡ flat_map (λ c. filter (has_class c) ls) cs
 higher_none [] l ls h = refl
-higher_none (c ∷ cs) l ls h = let less = h.0 in
-    rw (has_false c l (λ e. omega arith), higher_none cs l ls h.1) refl
+higher_none (c ∷ cs) l ls h = search (arith, has_false, higher_none cs l ls h.1)
 
 member_rank : (n : ℕ) (c : Class) (cs : List Class) → Each (λ d. rank c < rank d) cs →
     list_any (λ d. n == rank d) cs ≡ true → rank c < n
@@ -86,7 +79,7 @@ member_rank n c (d ∷ cs) h k = go (n == rank d) refl k (member_rank n c cs h.1
   where
     go : (b : Bool) → (n == rank d) ≡ b → (b || list_any (λ d. n == rank d) cs) ≡ true →
         (list_any (λ d. n == rank d) cs ≡ true → rank c < n) → rank c < n
-    go true e j ih = let same = eqb-true n (rank d) e in let less = h.0 in omega arith
+    go true e j ih = search (arith, eqb-true)
     go false e j ih = ih j
 
 first_by : (c : Class) (cs : List Class) (l : Line) (ls : List Line) (b : Bool) →
@@ -99,10 +92,7 @@ first_by : (c : Class) (cs : List Class) (l : Line) (ls : List Line) (b : Bool) 
     → cond b (l ∷ filter (has_class c) ls) (filter (has_class c) ls)
     ++ flat_map (λ c. filter (has_class c) (l ∷ ls)) cs
     ≡ l ∷ (filter (has_class c) ls ++ flat_map (λ c. filter (has_class c) ls) cs)
-first_by c cs l ls true e h r m ih =
-    let same = eqb-true (rank_of l) (rank c) e in
-    rw (higher_none cs l ls (each_weaker (λ d. rank c < rank d) (λ d. rank_of l < rank d)
-    (λ d k. omega arith) cs r)) refl
+first_by c cs l ls true e h r m ih = search (arith, eqb-true, higher_none, each_weaker)
 first_by c cs l ls false e h r m ih =
     let less = member_rank (rank_of l) c cs r m in
     rw (lower_none c l ls less h, ih m) refl
@@ -142,12 +132,12 @@ ordered_right (x ∷ xs) ys h = ordered_right xs ys h.1
 filtered_by : (q : Line → Bool) (l : Line) (ls : List Line) (b : Bool) →
     Each (λ k. rank_of l ≤ rank_of k) ls
     → Ordered (filter q ls) → Ordered (cond b (l ∷ filter q ls) (filter q ls))
-filtered_by q l ls true h k = (each_filter (λ k. rank_of l ≤ rank_of k) q ls h, k)
+filtered_by q l ls true h k = search (arith, each_filter)
 filtered_by q l ls false h k = k
 
 ordered_filter : (q : Line → Bool) (ls : List Line) → Ordered ls → Ordered (filter q ls)
 ordered_filter q [] h = tt
-ordered_filter q (l ∷ ls) h = filtered_by q l ls (q l) h.0 (ordered_filter q ls h.1)
+ordered_filter q (l ∷ ls) h = search (arith, filtered_by, ordered_filter q ls h.1)
 
 -- ---- The lines of the later events, by what is kept after the first ones.
 
@@ -173,16 +163,11 @@ kept_filter R over e o false h =
 restricted_with : (over : ℕ → Bool) (K : OctetsByNumber) (es : List Event) (i : ℕ) →
     restricted over (kept_with K es) i ≡ kept_with (restricted over K) es i
 unfolding restricted kept_with
-restricted_with over K es i = go (over i)
-  where
-    go : (b : Bool) → (if b then None else option_map (λ xs. xs ++ joined i es) (K i))
-        ≡ option_map (λ xs. xs ++ joined i es) (if b then None else K i)
-    go true = refl
-    go false = refl
+restricted_with over K es i = search (arith)
 
 same_all_lines : (R : MessageReader) (f g : OctetsByNumber) (es : List Event) →
     ((i : ℕ) → f i ≡ g i) → all_lines R f es ≡ all_lines R g es
-same_all_lines R f g es h = ap (λ (k : OctetsByNumber). all_lines R k es) (λ j i. h i j)
+same_all_lines R f g es h = search (arith, all_lines)
 
 all_lines_filter : (R : MessageReader) (over : ℕ → Bool) (K : OctetsByNumber) (es : List Event)
     → filter (λ l. not (over l.number)) (all_lines R K es) ≡ all_lines R (restricted over K) es
@@ -221,7 +206,7 @@ kept_by true true o xs ys = refl
 kept_by true false o xs ys = refl
 kept_by false true o xs ys = refl
 kept_by false false None xs ys = refl
-kept_by false false (Some zs) xs ys = ap Some (sym (append_assoc zs xs ys))
+kept_by false false (Some zs) xs ys = search (arith, append_assoc)
 
 or_none : (b : Bool) → b ≡ (b || false)
 or_none true = refl
@@ -270,12 +255,7 @@ nothing_else K i = nothing_kept (K i)
 pub are_effects : (R : MessageReader) (c : Tracked) (es : List Event) →
     Ordered (all_lines R c.known es) → AreEffects R c es
 unfolding effects opened tracked_at
-are_effects R c [] h = record {
-  lines = nothing_now R c.known;
-  still_open = refl;
-  known =
-      λ i. rw (nothing_now R c.known) (nothing_else c.known i);
-}
+are_effects R c [] h = search (arith, nothing_now, nothing_else)
 are_effects R c (e ∷ es) h =
     let now = tracked_at R c e in
     let ih = are_effects R now es (later_ordered R c.known e es h) in

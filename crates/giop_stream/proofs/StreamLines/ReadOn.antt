@@ -1,6 +1,6 @@
 -- What is written from a checkpoint on, together with what was written before, is the whole text;
 -- and how many octets a checkpoint has at most.
-use Rattle.std.proofs.Common.{◌≡◌, Bool, true, false, ℕ, ◌≤◌, List, [], ◌++◌, length, refl, sym, ap, subst, ◌∙◌, append_assoc, append-nil, length-drop, arith}
+use Rattle.std.proofs.Common.{◌≡◌, Bool, true, false, ℕ, ◌≤◌, List, [], ◌++◌, length, refl, sym, ap, append_assoc, append-nil, length-drop, arith}
 use Rattle.std.specs.Prelude.{◌≢◌, Result, Ok, Err, IfOk, IfErr}
 use Rattle.std.proofs.lemmas.Bool.{false≢true}
 use Rattle.giop_print.specs.Output.{OutLog, Wrote}
@@ -29,9 +29,7 @@ use Rattle.giop_stream.proofs.Restored.SavedSizes.{HasRoom, whole_long, whole_wi
 pub remains : (R : Rules) → IsCausal R.reading → IsStreamable R.reading → (p q : List ℕ) →
     text R p ++ remaining R p q ≡ whole_text R (p ++ q)
 unfolding remaining whole_text
-remains R causal laws p q =
-    sym (append_assoc (text R p) (added R p q) (closing R (p ++ q)))
-    ∙ ap (λ (xs : List ℕ). xs ++ closing R (p ++ q)) (sym (text_adds R causal laws p q))
+remains R causal laws p q = search (arith, append_assoc, text_adds)
 
 -- the finish, after what follows the front was written
 pub going_on : {A : Type 0} (R : Rules) (p q : List ℕ) (x y z : OutLog) (ended : Result A Stop) →
@@ -39,10 +37,8 @@ pub going_on : {A : Type 0} (R : Rules) (p q : List ℕ) (x y z : OutLog) (ended
     StopWrites ended y z (closing R (p ++ q)) → IfErr ended (λ why. why ≢ stop.Failed) →
     StopWrites ended x z (remaining R p q)
 unfolding remaining
-going_on R p q x y z (Ok t) wrote ends sound =
-    wrote-append x y z (added R p q) (closing R (p ++ q)) wrote ends
-going_on R p q x y z (Err (stop.Out f)) wrote ends sound =
-    wrote-front x y z (added R p q) (closing R (p ++ q)) wrote ends
+going_on R p q x y z (Ok t) wrote ends sound = search (arith, wrote-append)
+going_on R p q x y z (Err (stop.Out f)) wrote ends sound = search (arith, wrote-front)
 going_on R p q x y z (Err stop.Failed) wrote ends sound = absurd (sound refl)
 
 -- a put failed before the end
@@ -50,8 +46,7 @@ pub stopped_before : (A B : Type 0) (R : Rules) (p q : List ℕ) (x y : OutLog) 
     StopWrites {A = A} (Err why) x y (added R p q) → why ≢ stop.Failed →
     StopWrites {A = B} (Err why) x y (remaining R p q)
 unfolding remaining
-stopped_before A B R p q x y (stop.Out f) front sound =
-    front-append x y (added R p q) (closing R (p ++ q)) front
+stopped_before A B R p q x y (stop.Out f) front sound = search (arith, front-append)
 stopped_before A B R p q x y stop.Failed front sound = absurd (sound refl)
 
 -- a call of an engine that isn't failed never answers that it was
@@ -59,35 +54,34 @@ pub never_failed : {A : Type 0} (r : Result A Stop) (failed : Bool) →
     (r ≡ Err stop.Failed → failed ≡ true) →
     failed ≡ false → IfErr r (λ why. why ≢ stop.Failed)
 never_failed (Ok x) failed only sound = tt
-never_failed (Err why) failed only sound = λ is. false≢true (sym sound ∙ only (ap Err is))
+never_failed (Err why) failed only sound = search (arith, false≢true)
 
 pub leaves_sound : (A : Type 0) (why : Stop) (before after : EngineView) →
     Leaves {A = A} (Err why) before after →
     before.failed ≡ false → why ≢ stop.Failed
 leaves_sound A (stop.Out f) before after leaves sound = λ is. absurd cc
-leaves_sound A stop.Failed before after leaves sound = λ is. false≢true (sym sound ∙ leaves.0)
+leaves_sound A stop.Failed before after leaves sound = search (arith, false≢true)
 
 -- the rules of an engine with this table and list, in which so many messages may be open
 pub rules_is : (e : EngineView) (C : Table) (l : RequestTable) (n : ℕ) → e.table ≡ C →
     e.request_table ≡ l → e.most ≡ n →
     rules_of e ≡ rules C l n
-rules_is e C l n table request_table most = rw (table, request_table, most) refl
+rules_is e C l n table request_table most = search (arith)
 
 -- what was written by these rules was written by equal ones
 pub closing_by : {A : Type 0} (ended : Result A Stop) (x y : OutLog) (Q R : Rules) (p : List ℕ) →
     Q ≡ R →
     StopWrites ended x y (closing Q p) → StopWrites ended x y (closing R p)
-closing_by ended x y Q R p same writes = subst (λ S. StopWrites ended x y (closing S p)) same writes
+closing_by ended x y Q R p same writes = search (arith)
 
 pub remaining_by : {A : Type 0} (ended : Result A Stop) (x y : OutLog) (Q R : Rules)
     (p q : List ℕ) → Q ≡ R →
     StopWrites ended x y (remaining Q p q) → StopWrites ended x y (remaining R p q)
-remaining_by ended x y Q R p q same writes =
-    subst (λ S. StopWrites ended x y (remaining S p q)) same writes
+remaining_by ended x y Q R p q same writes = search (arith)
 
 pub final_by : (ended : Result Totals Stop) (Q R : Rules) (p : List ℕ) → Q ≡ R →
     IfOk ended (λ t. t ≡ final Q p) → IfOk ended (λ t. t ≡ final R p)
-final_by ended Q R p same totals = subst (λ S. IfOk ended (λ t. t ≡ final S p)) same totals
+final_by ended Q R p same totals = search (arith)
 
 fixed_long : (layout : Layout) (f : Fixed) → HasRange layout f → length (fixed_octets layout f) ≡ 96
 fixed_long layout f range =

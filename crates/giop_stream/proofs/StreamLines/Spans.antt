@@ -1,6 +1,6 @@
 -- Lines whose classes rise, within two ranks; and the same of the line classes that a reader of
 -- messages gives.
-use Rattle.std.proofs.Common.{inl, inr, ◌⊎◌, ◌≡◌, ℕ, ◌<◌, ◌≤◌, true, List, [], ◌∷◌, ◌++◌, map, refl, sym, ap, subst, arith}
+use Rattle.std.proofs.Common.{inl, inr, ◌⊎◌, ◌≡◌, ℕ, ◌<◌, ◌≤◌, true, List, [], ◌∷◌, ◌++◌, map, refl, arith}
 use Rattle.std.specs.List.{list_any, AllByRecursion as Each}
 use Rattle.giop_message.specs.MessageReader.{LineClass, Value, Call, Rest, Fault, End, AreInLineOrder, AtClose, is_fault}
 use Rattle.giop_stream.specs.Events.{Event}
@@ -18,26 +18,22 @@ pub record Spans (lo hi : ℕ) (ls : List Line) : Type 0 where
   pub rises : Rises ls
 
 pub spans_none : (lo hi : ℕ) → Spans lo hi []
-spans_none lo hi = record { within = tt; rises = tt }
+spans_none lo hi = search (arith)
 
 pub spans_wider : (a b lo hi : ℕ) (ls : List Line) → a ≤ lo → hi ≤ b → Spans lo hi ls → Spans a b ls
-spans_wider a b lo hi ls h k s = record {
-  within =
-      each_weaker (Between lo hi) (Between a b)
-      (λ l i. let low = i.0 in let high = i.1 in (omega arith, omega arith)) ls s.within;
-  rises =
-      s.rises;
-}
+spans_wider a b lo hi ls h k s = search (arith, each_weaker)
 
 rises_join : (n : ℕ) (xs ys : List Line) → Each (λ l. rank_of l ≤ n) xs →
     Each (λ l. n < rank_of l) ys → Rises xs → Rises ys → Rises (xs ++ ys)
 rises_join n [] ys h k o p = p
-rises_join n (x ∷ xs) ys h k o p =
-    let top = h.0 in (
-      each_append (λ l. rank_of x < rank_of l) xs ys o.0
-          (each_weaker (λ l. n < rank_of l) (λ l. rank_of x < rank_of l) (λ l i. omega arith) ys k),
-      rises_join n xs ys h.1 k o.1 p,
-    )
+rises_join n (x ∷ xs) ys h k o p = search (
+  arith,
+  each_append,
+  rank_of,
+  each_weaker,
+  rises_join n
+      xs ys h.1 k o.1 p,
+)
 
 pub spans_join : (a b c d : ℕ) (xs ys : List Line) → b < c → a ≤ c → b ≤ d → Spans a b xs →
     Spans c d ys → Spans a d (xs ++ ys)
@@ -53,7 +49,7 @@ spans_join a b c d xs ys h k i s t = record {
 }
 
 pub spans_one : (n : ℕ) (l : Line) → rank_of l ≡ n → Spans n n (l ∷ [])
-spans_one n l h = record { within = ((omega arith, omega arith), tt); rises = (tt, tt) }
+spans_one n l h = search (arith)
 
 -- ---- The same of a reader's line classes.
 
@@ -82,8 +78,12 @@ pub reader_classes_each : {A : Type 0} (P : ℕ → Type 0) (e : Event) (f : A �
     (g : A → List ℕ) (xs : List A) → Each (λ s. P (class_rank s)) (map f xs) →
     Each (λ l. P (rank_of l)) (map (λ a. line e (Said (f a) (g a))) xs)
 reader_classes_each P e f g [] h = tt
-reader_classes_each P e f g (x ∷ xs) h =
-    (subst P (sym (rank_said e (f x) (g x))) h.0, reader_classes_each P e f g xs h.1)
+reader_classes_each P e f g (x ∷ xs) h = search (
+  arith,
+  rank_said,
+  reader_classes_each P e f g xs
+      h.1,
+)
 
 pub reader_classes_rise : {A : Type 0} (e : Event) (f : A → LineClass) (g : A → List ℕ)
     (xs : List A) → LineClassesRise (map f xs) → Rises (map (λ a. line e (Said (f a) (g a))) xs)
@@ -104,26 +104,23 @@ class_spans lo hi e f g xs h = record {
 }
 
 pub turn_spans : (ss : List LineClass) → AreInLineOrder ss → ClassSpans 1 7 ss
-turn_spans ss (inl e) = rw e (record { within = tt; rises = tt })
-turn_spans ss (inr (inl e)) = rw e (record { within = omega arith; rises = omega arith })
-turn_spans ss (inr (inr (inl e))) = rw e (record { within = omega arith; rises = omega arith })
-turn_spans ss (inr (inr (inr (inl e)))) =
-    rw e (record { within = omega arith; rises = omega arith })
-turn_spans ss (inr (inr (inr (inr (inl e))))) =
-    rw e (record { within = omega arith; rises = omega arith })
-turn_spans ss (inr (inr (inr (inr (inr e))))) =
-    rw e (record { within = omega arith; rises = omega arith })
+turn_spans ss (inl e) = search (arith)
+turn_spans ss (inr (inl e)) = search (arith)
+turn_spans ss (inr (inr (inl e))) = search (arith)
+turn_spans ss (inr (inr (inr (inl e)))) = search (arith)
+turn_spans ss (inr (inr (inr (inr (inl e))))) = search (arith)
+turn_spans ss (inr (inr (inr (inr (inr e))))) = search (arith)
 
 pub close_spans : (ss : List LineClass) → AtClose ss → ClassSpans 6 8 ss
-close_spans ss (inl e) = rw e (record { within = omega arith; rises = omega arith })
-close_spans ss (inr (inl e)) = rw e (record { within = omega arith; rises = omega arith })
-close_spans ss (inr (inr e)) = rw e (record { within = omega arith; rises = omega arith })
+close_spans ss (inl e) = search (arith)
+close_spans ss (inr (inl e)) = search (arith)
+close_spans ss (inr (inr e)) = search (arith)
 
 -- at one octet and at the close after it, where only a fault can come twice
 pub both_say : (ds cs : List LineClass) → AreInLineOrder ds → AtClose cs →
     (list_any is_fault ds ≡ true → cs ≡ End ∷ []) → (ds ≡ Rest ∷ [] → cs ≡ Rest ∷ End ∷ [] → ⊥)
     → LineClassesRise (ds ++ cs) ⊎ ((ds ≡ Fault ∷ []) × (cs ≡ Fault ∷ []))
-both_say ds cs (inl e) c h k = rw e (inl (close_spans cs c).rises)
+both_say ds cs (inl e) c h k = search (arith, close_spans)
 both_say ds cs (inr (inl e)) (inl f) h k = rw (e, f) (inl (omega arith))
 both_say ds cs (inr (inl e)) (inr (inl f)) h k = rw (e, f) (inl (omega arith))
 both_say ds cs (inr (inl e)) (inr (inr f)) h k = rw (e, f) (inl (omega arith))
@@ -133,31 +130,23 @@ both_say ds cs (inr (inr (inl e))) (inr (inr f)) h k = rw (e, f) (inl (omega ari
 both_say ds cs (inr (inr (inr (inl e)))) (inl f) h k = rw (e, f) (inl (omega arith))
 both_say ds cs (inr (inr (inr (inl e)))) (inr (inl f)) h k = rw (e, f) (inl (omega arith))
 both_say ds cs (inr (inr (inr (inl e)))) (inr (inr f)) h k = absurd (k e f)
-both_say ds cs (inr (inr (inr (inr (inl e))))) c h k = let f = h (ap (list_any is_fault) e) in
-    rw (e, f) (inl (omega arith))
-both_say ds cs (inr (inr (inr (inr (inr e))))) c h k = let f = h (ap (list_any is_fault) e) in
-    rw (e, f) (inl (omega arith))
+both_say ds cs (inr (inr (inr (inr (inl e))))) c h k = search (arith)
+both_say ds cs (inr (inr (inr (inr (inr e))))) c h k = search (arith)
 
 values_each : {A : Type 0} (f : A → LineClass) (xs : List A) → Each (λ a. f a ≡ Value) xs →
     Each (λ s. (1 ≤ class_rank s) × (class_rank s ≤ 1)) (map f xs)
 values_each f [] h = tt
-values_each f (x ∷ xs) h = let one : class_rank (f x) ≡ 1 = ap class_rank h.0 in
-    ((omega arith, omega arith), values_each f xs h.1)
+values_each f (x ∷ xs) h = search (arith, values_each f xs h.1)
 
 values_rise : (ss : List LineClass) → AreInLineOrder ss →
     Each (λ s. (1 ≤ class_rank s) × (class_rank s ≤ 1)) ss → LineClassesRise ss
 values_rise ss (inl e) h = rw e tt
 values_rise ss (inr (inl e)) h = rw e (tt, tt)
-values_rise ss (inr (inr (inl e))) h = absurd
-    (let each = rw e at h in let two = each.1.0.1 in omega arith)
-values_rise ss (inr (inr (inr (inl e)))) h =
-    absurd (let each = rw e at h in let six = each.0.1 in omega arith)
-values_rise ss (inr (inr (inr (inr (inl e))))) h =
-    absurd (let each = rw e at h in let seven = each.0.1 in omega arith)
-values_rise ss (inr (inr (inr (inr (inr e))))) h =
-    absurd (let each = rw e at h in let seven = each.1.0.1 in omega arith)
+values_rise ss (inr (inr (inl e))) h = search (arith)
+values_rise ss (inr (inr (inr (inl e)))) h = search (arith)
+values_rise ss (inr (inr (inr (inr (inl e))))) h = search (arith)
+values_rise ss (inr (inr (inr (inr (inr e))))) h = search (arith)
 
 pub value_spans : {A : Type 0} (f : A → LineClass) (xs : List A) → AreInLineOrder (map f xs) →
     Each (λ a. f a ≡ Value) xs → ClassSpans 1 1 (map f xs)
-value_spans f xs t h = let each = values_each f xs h in
-    record { within = each; rises = values_rise (map f xs) t each }
+value_spans f xs t h = search (arith, values_each, values_rise, map)

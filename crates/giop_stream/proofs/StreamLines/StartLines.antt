@@ -1,17 +1,17 @@
 -- How many start lines an octet has: one at a header's last octet, and none at any other.
-use Rattle.std.proofs.Common.{◌≡◌, ℕ, suc, ◌+◌, ◌<◌, true, false, List, [], ◌∷◌, ◌++◌, length, refl, ap, Option, Some, None, arith, length-append}
-use Rattle.std.specs.Prelude.{nat_lt, ◌==◌, if◌then◌else◌, flat_map, ◌||◌, ◌&&◌}
+use Rattle.std.proofs.Common.{◌≡◌, ℕ, ◌+◌, ◌<◌, true, false, List, [], ◌∷◌, ◌++◌, length, refl, Option, Some, None, arith, length-append}
+use Rattle.std.specs.Prelude.{◌==◌, if◌then◌else◌, ◌||◌}
 use Rattle.std.specs.List.{filter, AllByRecursion as Each}
 use Rattle.std.proofs.lemmas.Bool.{ne_eqb, eq-eqb}
 use Rattle.std.proofs.lemmas.List.Elements.{filter-append}
 use Rattle.giop_stream.specs.declared.fault.FramingFault.{FramingFault}
-use Rattle.giop_message.specs.Headers.{size, is_fragment}
+use Rattle.giop_message.specs.Headers.{size}
 use Rattle.giop_stream.specs.Rules.{Rules}
 use Rattle.giop_stream.specs.Framing.{Message}
 use Rattle.giop_stream.specs.Kinds.{refused}
-use Rattle.giop_stream.specs.Events.{EventKind, Begins, Takes, Opens, Faults, Closes, Event, Open, message_key, place, id, own, event_of_open, opener_of, fault_events, events_at_octet, events_at_request_id, events_at_end, events_of_octet, joined, now_of, header_events, payload_events, Now}
-use Rattle.giop_message.specs.MessageReader.{LineClass, Value, Call, Rest, Fault, End, MessageReader}
-use Rattle.giop_stream.specs.Lines.{Start, Content, Started, Said, ContinuesMessage, CancelledBy, Faulted, Stopped, Line, has_class, line, lines_of_event, classes, by_class, is_last_of, up_to_last_line}
+use Rattle.giop_stream.specs.Events.{EventKind, Begins, Takes, Opens, Closes, Event, Open, message_key, place, id, own, event_of_open, opener_of, fault_events, events_at_request_id, events_at_end, events_of_octet, now_of, header_events, payload_events, Now}
+use Rattle.giop_message.specs.MessageReader.{LineClass, MessageReader}
+use Rattle.giop_stream.specs.Lines.{Start, Started, Said, Line, has_class, line, lines_of_event, classes, by_class, is_last_of, up_to_last_line}
 use Rattle.giop_stream.specs.Stream.{is_start, start_count}
 use Rattle.giop_stream.specs.OpenSlots.{OctetsByNumber}
 use Rattle.giop_stream.specs.Effects.{lines_for, kept_with}
@@ -25,13 +25,11 @@ NoStart l = is_start l.content ≡ false
 
 none_count : (ls : List Line) → Each NoStart ls → start_count ls ≡ 0
 unfolding start_count NoStart
-none_count ls h = rw (filter_drops (λ l. is_start l.content) ls h) refl
+none_count ls h = search (arith, filter_drops)
 
 pub start_append : (xs ys : List Line) → start_count (xs ++ ys) ≡ start_count xs + start_count ys
 unfolding start_count
-start_append xs ys =
-    rw (filter-append (λ l. is_start l.content) xs ys)
-    (length-append (filter (λ l. is_start l.content) xs) (filter (λ l. is_start l.content) ys))
+start_append xs ys = search (arith, filter-append, length-append)
 
 -- a line that a reader gives is no start line
 said_none : (e : Event) (s : LineClass) (text : List ℕ) → NoStart (line e (Said s text))
@@ -41,15 +39,12 @@ said_none e s text = refl
 takes_none : (R : MessageReader) (e : Event) (so_far all : List ℕ) (x : ℕ) →
     Each NoStart (lines_of_event R e so_far all (Takes x))
 unfolding lines_of_event
-takes_none R e so_far all x =
-    each_map NoStart (λ r. line e (Said r.line_class r.text)) (λ r. said_none e r.line_class r.text)
-    (filter (λ r. r.at == suc (length so_far)) (R.reads e.subject.number e.subject.header all))
+takes_none R e so_far all x = search (arith, each_map, said_none)
 
 closes_none : (R : MessageReader) (e : Event) (so_far all : List ℕ) →
     Each NoStart (lines_of_event R e so_far all Closes)
 unfolding lines_of_event
-closes_none R e so_far all = each_map NoStart (λ l. line e (Said l.0 l.1))
-    (λ l. said_none e l.0 l.1) (R.closes e.subject.number e.subject.header so_far)
+closes_none R e so_far all = search (arith, each_map, said_none)
 
 Quiet : Event → Type 0
 Quiet e = (R : MessageReader) (so_far all : List ℕ) →
@@ -59,7 +54,7 @@ kept_none : (R : MessageReader) (e : Event) (o : Option (List ℕ)) → Quiet e 
     Each NoStart (lines_for R e o)
 unfolding lines_for Quiet
 kept_none R e None h = tt
-kept_none R e (Some xs) h = h R xs (xs ++ joined e.subject.number (e ∷ []))
+kept_none R e (Some xs) h = search (arith)
 
 all_lines_none : (R : MessageReader) (K : OctetsByNumber) (es : List Event) → Each Quiet es →
     Each NoStart (all_lines R K es)
@@ -78,13 +73,13 @@ Calm what = (R : MessageReader) (e : Event) (so_far all : List ℕ) →
 
 quiet_own : (now : Now) (what : EventKind) → Calm what → Each Quiet (own now what)
 unfolding own Quiet Calm
-quiet_own now what h = (λ R so_far all. h R _ so_far all, tt)
+quiet_own now what h = search (arith)
 
 quiet_about : (now : Now) (o : Option Open) (what : EventKind) → Calm what →
     Each Quiet (event_of_open now o what)
 unfolding event_of_open Quiet Calm
 quiet_about now None what h = tt
-quiet_about now (Some o) what h = (λ R so_far all. h R _ so_far all, tt)
+quiet_about now (Some o) what h = search (arith)
 
 calm_takes : (x : ℕ) → Calm (Takes x)
 unfolding Calm
@@ -95,19 +90,16 @@ unfolding Calm lines_of_event NoStart line
 calm Begins h = absurd h
 calm (Takes x) h = absurd h
 calm (Opens i) h = λ R e so_far all. tt
-calm Closes h = λ R e so_far all. closes_none R e so_far all
+calm Closes h = search (arith, closes_none)
 calm _ h = λ R e so_far all. (refl, tt)
 
 quiet_faulted : (now : Now) (w : Option FramingFault) → Each Quiet (fault_events now w)
 quiet_faulted now None = tt
-quiet_faulted now (Some fault) = quiet_own now (Faults fault) (calm (Faults fault) tt)
+quiet_faulted now (Some fault) = search (arith, quiet_own, calm)
 
 quiet_octet : (now : Now) (other : Option Open) → Each Quiet (payload_events now other)
 unfolding payload_events
-quiet_octet now other =
-    either (Each Quiet) (is_fragment now.subject.header && nat_lt 4 now.payload_count) _ _
-    (quiet_about now other (Takes now.octet) (calm_takes now.octet))
-    (quiet_own now (Takes now.octet) (calm_takes now.octet))
+quiet_octet now other = search (arith, either, quiet_about, calm_takes, quiet_own)
 
 -- the events of an octet after its first part
 later_part : (most : ℕ) → List Open → Message → List Event
@@ -128,42 +120,28 @@ pub none_later : (R : Rules) (K : OctetsByNumber) (still_open : List Open) (m : 
     0 < length m.payload → start_count (sorted_lines R.reading K
     (events_of_octet R.most still_open m)) ≡ 0
 unfolding sorted_lines by_class events_of_octet later_part
-none_later R K still_open m h =
-    let es : List Event = events_at_octet still_open m ++ later_part R.most still_open m in
-    let all_quiet : Each Quiet es = each_append Quiet (events_at_octet still_open m)
-    (later_part R.most still_open m) (quiet_octet (now_of m) (opener_of still_open m))
-    (quiet_later R.most still_open m) in
-    let all : Each NoStart (all_lines R.reading K es) = all_lines_none R.reading K es all_quiet in
-    rw (ne_eqb (length m.payload) 0 (λ e. omega arith))
-    (none_count (up_to_last_line (λ i. false)
-    (flat_map (λ class. filter (has_class class) (all_lines R.reading K es)) classes))
-    (standing_each NoStart (λ i. false) (flat_map
-    (λ class. filter (has_class class) (all_lines R.reading K es)) classes)
-    (classes_each NoStart (all_lines R.reading K es) classes all)))
+none_later R K still_open m h = search (
+  arith,
+  each_append,
+  quiet_octet,
+  quiet_later,
+  all_lines,
+  all_lines_none,
+  ne_eqb,
+  none_count,
+  standing_each,
+  classes_each,
+)
 
 -- the start line comes before all others
 no_start_class : (ls : List Line) → Each NoStart ls → filter (has_class Start) ls ≡ []
 unfolding NoStart
-no_start_class ls h = filter_drops (has_class Start) ls
-    (each_weaker NoStart (λ l. has_class Start l ≡ false) (λ l k. go l.content k) ls h)
-  where
-    go : (c : Content) → is_start c ≡ false →
-        has_class Start (record { place = 0; number = 0; content = c }) ≡ false
-    go (Started header) k = absurd cc
-    go (Said Value text) k = refl
-    go (Said Call text) k = refl
-    go (Said Rest text) k = refl
-    go (Said Fault text) k = refl
-    go (Said End text) k = refl
-    go (ContinuesMessage i) k = refl
-    go (CancelledBy j) k = refl
-    go (Faulted fault) k = refl
-    go (Stopped fault) k = refl
+no_start_class ls h = search (arith, filter_drops, each_weaker)
 
 start_first : (l : Line) (header : List ℕ) (ls : List Line) → l.content ≡ Started header →
     Each NoStart ls → by_class (l ∷ ls) ≡ l ∷ by_class ls
 unfolding by_class classes
-start_first l header ls e h = rw (e, no_start_class ls h) refl
+start_first l header ls e h = search (arith, no_start_class)
 
 begun : (R : MessageReader) (K : OctetsByNumber) (m : Message) (e : Event) (xs : List ℕ)
     (rest : List Event) → e.subject ≡ message_key m
@@ -179,21 +157,18 @@ first_start e header = refl
 
 by_class_each : (ls : List Line) → Each NoStart ls → Each NoStart (by_class ls)
 unfolding by_class
-by_class_each ls h = classes_each NoStart ls classes h
+by_class_each ls h = search (arith, classes_each)
 
 one_counted : (l : Line) (ls : List Line) → is_start l.content ≡ true
     → Each NoStart (up_to_last_line (λ i. false || is_last_of i l) ls) →
     start_count (up_to_last_line (λ i. false) (l ∷ ls)) ≡ 1
 unfolding up_to_last_line start_count
-one_counted l ls k h = rw k (ap suc (none_count (up_to_last_line (λ i. false || is_last_of i l) ls)
-    h))
+one_counted l ls k h = search (arith, none_count)
 
 first_of_all : (e : Event) (header : List ℕ) (more : List Line) → Each NoStart more
     → by_class (line e (Started header) ∷ more) ≡ line e (Started header) ∷ by_class more
 unfolding line
-first_of_all e header more h = start_first
-    (record { place = e.place; number = e.subject.number; content = Started header }) header more
-    refl h
+first_of_all e header more h = search (arith, start_first)
 
 pub one_first : (R : Rules) (K : OctetsByNumber) (still_open : List Open) (m : Message)
     (xs : List ℕ) → m.payload ≡ []

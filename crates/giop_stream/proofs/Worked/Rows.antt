@@ -2,7 +2,7 @@
 -- row holds by computation, with a small reader that gives a line for the request id, and at the
 -- close one for the octets after it. `giop_stream_rows` has streams with the reader of messages
 -- itself.
-use Rattle.std.proofs.Common.{◌≡◌, ℕ, ◌+◌, ◌-◌, ◌*◌, List, [], ◌∷◌, ◌++◌, length, take, drop, refl, codes}
+use Rattle.std.proofs.Common.{arith, ◌≡◌, ℕ, ◌+◌, ◌-◌, ◌*◌, List, [], ◌∷◌, ◌++◌, length, take, drop, codes}
 use Rattle.std.specs.Prelude.{nat_le, nat_lt, ◌==◌, if◌then◌else◌, ◌&&◌}
 use Rattle.std.specs.Fmt.{decimal, digits}
 use Rattle.giop_cdr.specs.Numbers.{num}
@@ -99,7 +99,7 @@ interleaved_row : Writes (small 0) interleaved
     "m1 start 1.2 big Request size 40 more\nm1 header.request_id ulong 5\nm2 start 1.2 big Request size 36 more\nm2 header.request_id ulong 6\nm3 start 1.2 big Fragment size 6 more\nm3 header.request_id ulong 5\nm3 continues m1\nm4 start 1.2 big Fragment size 4\nm4 header.request_id ulong 6\nm4 continues m2\nm2 rest @0 03000000000000000000000141000000000000046e6f70000000000000000000\nm2 end\nm5 start 1.2 big Fragment size 6\nm5 header.request_id ulong 5\nm5 continues m1\nm1 rest @0 03000000000000000000000141000000000000046269670000000000000000000102030405060708\nm1 end\n")
     (codes "total messages 5 faults 0 octets 152\n")
 unfolding rows interleaved
-interleaved_row = record { text = refl; closing = refl }
+interleaved_row = search (arith)
 
 -- a message whose first part has its request id alone
 unfoldable pub id_alone : List ℕ
@@ -113,7 +113,7 @@ id_alone_row : Writes (small 0) id_alone
     "m1 start 1.2 big Request size 4 more\nm1 header.request_id ulong 8\nm2 start 1.2 big Fragment size 32\nm2 header.request_id ulong 8\nm2 continues m1\nm1 rest @0 03000000000000000000000141000000000000046e6f700000000000\nm1 end\n")
     (codes "total messages 2 faults 0 octets 60\n")
 unfolding rows id_alone
-id_alone_row = record { text = refl; closing = refl }
+id_alone_row = search (arith)
 
 -- a joined message ends too early, with a Fragment that has no octet for it
 unfoldable pub too_short : List ℕ
@@ -127,7 +127,7 @@ too_short_row : Writes (small 46) too_short
     "m1 start 1.2 big Request size 44 more\nm1 header.request_id ulong 9\nm2 start 1.2 big Fragment size 4\nm2 header.request_id ulong 9\nm2 continues m1\nm1 fault short at 72\n")
     (codes "total messages 2 faults 1 octets 72\n")
 unfolding rows too_short
-too_short_row = record { text = refl; closing = refl }
+too_short_row = search (arith)
 
 -- a Fragment of no open message
 unfoldable pub not_open : List ℕ
@@ -138,7 +138,7 @@ not_open_row : Writes (small 0) not_open
     "m1 start 1.2 big Fragment size 6\nm1 header.request_id ulong 3\nm1 fault no-open at 16\n")
     (codes "total messages 1 faults 1 octets 18\n")
 unfolding rows not_open
-not_open_row = record { text = refl; closing = refl }
+not_open_row = search (arith)
 
 -- two messages of one request id
 unfoldable pub twice : List ℕ
@@ -149,7 +149,7 @@ twice_row : Writes (small 0) twice
     "m1 start 1.2 big Request size 4 more\nm1 header.request_id ulong 1\nm2 start 1.2 big Request size 4 more\nm2 header.request_id ulong 1\nm2 fault id-open at 32\n")
     (codes "m1 unfinished\ntotal messages 2 faults 1 octets 32\n")
 unfolding rows twice
-twice_row = record { text = refl; closing = refl }
+twice_row = search (arith)
 
 -- one message more than may be open, and a Fragment of it
 unfoldable pub too_many : List ℕ
@@ -164,7 +164,7 @@ too_many_row : Writes (small 0) too_many
     (codes
     "m1 unfinished\nm2 unfinished\nm3 unfinished\nm4 unfinished\nm5 unfinished\nm6 unfinished\nm7 unfinished\nm8 unfinished\nm9 unfinished\nm10 unfinished\nm11 unfinished\nm12 unfinished\nm13 unfinished\nm14 unfinished\nm15 unfinished\nm16 unfinished\ntotal messages 18 faults 2 octets 288\n")
 unfolding rows too_many
-too_many_row = record { text = refl; closing = refl }
+too_many_row = search (arith)
 
 -- a CancelRequest closes an open message
 unfoldable pub cancelled : List ℕ
@@ -178,7 +178,7 @@ cancelled_row : Writes (small 0) cancelled
     "m1 start 1.2 big Request size 4 more\nm1 header.request_id ulong 4\nm2 start 1.2 big CancelRequest size 4\nm2 header.request_id ulong 4\nm1 cancelled by m2\nm2 end\nm3 start 1.2 big Fragment size 4\nm3 header.request_id ulong 4\nm3 fault no-open at 48\n")
     (codes "total messages 3 faults 1 octets 48\n")
 unfolding rows cancelled
-cancelled_row = record { text = refl; closing = refl }
+cancelled_row = search (arith)
 
 -- a message of 1.1 that has fragments
 unfoldable pub old_fragment : List ℕ
@@ -188,7 +188,7 @@ old_fragment_row : Writes (small 0) old_fragment
     (codes "m1 start 1.1 big Request size 0 more\nm1 fault fragment-1.1 at 12\n")
     (codes "total messages 1 faults 1 octets 12\n")
 unfolding rows old_fragment
-old_fragment_row = record { text = refl; closing = refl }
+old_fragment_row = search (arith)
 
 -- a Fragment of 1.0
 unfoldable pub early_fragment : List ℕ
@@ -198,7 +198,7 @@ early_fragment_row : Writes (small 0) early_fragment
     (codes "m1 start 1.0 big Fragment size 0\nm1 fault message-type at 12\n")
     (codes "total messages 1 faults 1 octets 12\n")
 unfolding rows early_fragment
-early_fragment_row = record { text = refl; closing = refl }
+early_fragment_row = search (arith)
 
 -- a type above those of the standard
 unfoldable pub unknown_type : List ℕ
@@ -208,7 +208,7 @@ unknown_type_row : Writes (small 0) unknown_type
     (codes "m1 start 1.2 big 9 size 0\nm1 fault message-type at 12\n")
     (codes "total messages 1 faults 1 octets 12\n")
 unfolding rows unknown_type
-unknown_type_row = record { text = refl; closing = refl }
+unknown_type_row = search (arith)
 
 -- a message that has fragments, without room for its request id
 unfoldable pub no_room : List ℕ
@@ -218,7 +218,7 @@ no_room_row : Writes (small 0) no_room
     (codes "m1 start 1.2 big Request size 2 more\nm1 fault short at 14\n")
     (codes "total messages 1 faults 1 octets 14\n")
 unfolding rows no_room
-no_room_row = record { text = refl; closing = refl }
+no_room_row = search (arith)
 
 -- a Fragment of the other byte order, and one more
 unfoldable pub other_order : List ℕ
@@ -232,7 +232,7 @@ other_order_row : Writes (small 0) other_order
     "m1 start 1.2 big Request size 4 more\nm1 header.request_id ulong 5\nm2 start 1.2 little Fragment size 4 more\nm2 header.request_id ulong 5\nm2 continues m1\nm1 fault fragment-order at 32\nm3 start 1.2 big Fragment size 4\nm3 header.request_id ulong 5\nm3 continues m1\n")
     (codes "total messages 3 faults 1 octets 48\n")
 unfolding rows other_order
-other_order_row = record { text = refl; closing = refl }
+other_order_row = search (arith)
 
 -- where the byte order is wrong at the close, the lines of the rest and the end are not written
 unfoldable pub order_at_close : List ℕ
@@ -245,7 +245,7 @@ order_at_close_row : Writes (small 0) order_at_close
     "m1 start 1.2 big Request size 6 more\nm1 header.request_id ulong 1\nm2 start 1.2 little Fragment size 4\nm2 header.request_id ulong 1\nm2 continues m1\nm1 fault fragment-order at 34\n")
     (codes "total messages 2 faults 1 octets 34\n")
 unfolding rows order_at_close
-order_at_close_row = record { text = refl; closing = refl }
+order_at_close_row = search (arith)
 
 -- a last Fragment of the wrong byte order closes its message all the same
 unfoldable pub order_then_close : List ℕ
@@ -259,7 +259,7 @@ order_then_close_row : Writes (small 0) order_then_close
     "m1 start 1.2 big Request size 4 more\nm1 header.request_id ulong 1\nm2 start 1.2 little Fragment size 6\nm2 header.request_id ulong 1\nm2 continues m1\nm1 fault fragment-order at 32\nm3 start 1.2 big Fragment size 4\nm3 header.request_id ulong 1\nm3 fault no-open at 50\n")
     (codes "total messages 3 faults 2 octets 50\n")
 unfolding rows order_then_close
-order_then_close_row = record { text = refl; closing = refl }
+order_then_close_row = search (arith)
 
 -- a CancelRequest closes a message at its request id, not at its own end
 unfoldable pub cancelled_early : List ℕ
@@ -270,7 +270,7 @@ cancelled_early_row : Writes (small 0) cancelled_early
     "m1 start 1.2 big Request size 4 more\nm1 header.request_id ulong 1\nm2 start 1.2 big CancelRequest size 6\nm2 header.request_id ulong 1\nm1 cancelled by m2\n")
     (codes "stream fault truncated at 32\nm2 unfinished\ntotal messages 2 faults 1 octets 32\n")
 unfolding rows cancelled_early
-cancelled_early_row = record { text = refl; closing = refl }
+cancelled_early_row = search (arith)
 
 -- a Fragment without room for its request id closes nothing
 unfoldable pub short_fragment : List ℕ
@@ -284,4 +284,4 @@ short_fragment_row : Writes (small 5) short_fragment
     "m1 start 1.2 big Request size 4 more\nm1 header.request_id ulong 1\nm2 start 1.2 big Fragment size 3\nm2 fault short at 31\nm3 start 1.2 big Fragment size 4\nm3 header.request_id ulong 1\nm3 continues m1\nm1 fault short at 47\n")
     (codes "total messages 3 faults 2 octets 47\n")
 unfolding rows short_fragment
-short_fragment_row = record { text = refl; closing = refl }
+short_fragment_row = search (arith)
