@@ -59,7 +59,8 @@ pub trait Correspondent {
     fn raised(&mut self, number: u64, name: &[u8])
         ensures { state self.new ≡ notified (state self.old) (Raised number name.now) };
 
-    /// Whether it has something to write after the octet that was read last: the reading stops there.
+    /// Whether it has something to write after the octet that was read last: the reading stops there. Who feeds writes it
+    /// then, and sees that it is due no more: with one that is due already the reading may stop after any octet.
     fn is_due(&self) -> bool
         ensures { result ≡ due (state self.now) };
 

@@ -1,64 +1,12 @@
 //! After which octets of a message the reading stops for a correspondent that is due there.
-ghost use Rattle.std.specs.Prelude.{Bool, None, false};
-ghost use Rattle.giop_message_tests.specs.Waited.{waited};
 
-use giop_message::{Correspondent, Message};
+use crate::waiter::Waiter;
+use giop_message::Message;
 use giop_print::Sheet;
-use giop_sig::{Catalogue, OpId};
+use giop_sig::Catalogue;
 use giop_testing::spelled;
 use std::process::Abort;
 use std::test::Fail;
-
-/// A correspondent that is due from the first that it is told of a Reply, and answers no operation.
-#[derive(Clone, Copy, Debug, PartialEq, Eq)]
-struct Waiter {
-    is_due: bool,
-}
-
-impl Correspondent for Waiter {
-    ghost State = { Bool };
-
-    ghost state = { λ waiter. waiter.is_due };
-
-    ghost answer = { λ is_due id. None };
-
-    ghost notified = { waited };
-
-    ghost due = { λ is_due. is_due };
-
-    ghost awaits_messages = { false };
-
-    fn operation(&self, _id: u32) -> Option<OpId> {
-        None
-    }
-
-    fn called(
-        &mut self,
-        _number: u64,
-        _id: u32,
-        _name: Option<&[u8]>,
-        _operation: Option<OpId>,
-        _expects_reply: bool,
-    ) {}
-
-    fn answered(&mut self, _number: u64, _id: u32) {
-        self.is_due = true;
-    }
-
-    fn raised(&mut self, _number: u64, _name: &[u8]) {
-        self.is_due = true;
-    }
-
-    fn is_due(&self) -> bool {
-        self.is_due
-    }
-
-    fn awaits_messages(&self) -> bool {
-        false
-    }
-
-    ghost known = { λ C s event k h id. tt };
-}
 
 /// A message, after how many of its octets the reading stops first, whether the correspondent is due there, and after how
 /// many it stops then. It stops at the message's end in any case.
@@ -81,7 +29,8 @@ const ROWS: [Row; 5] = [
     },
     Row {
         name: "1.2: a header of 12 + 5 ulongs and an octet, then a system exception from 40 to 64",
-        octets: "47494f50 0102 01 01 37000000 01000000 02000000 01000000 07000000 01000000 aa 99999999999999 0a000000 49444c3a593a312e3000 eeee 2a000000 01000000 010203",
+        octets: "47494f50 0102 01 01 37000000 01000000 02000000 01000000 07000000 01000000 aa 99999999999999 \
+            0a000000 49444c3a593a312e3000 eeee 2a000000 01000000 010203",
         first: 33,
         is_due: true,
         second: 64,

@@ -1,5 +1,5 @@
 //! Tests of messages: what is known of their headers, what is told of exceptions, where the reading stops, and messages
-//! that are stored and restored.
+//! that are stored and restored. `waiter` is a correspondent that other crates' tests use too.
 #![tactic(auto)]
 
 #[cfg(test)]
@@ -14,3 +14,4 @@ mod rows;
 mod stored;
 #[cfg(test)]
 mod tests;
+pub mod waiter;

@@ -1,5 +1,6 @@
 -- The current message after more octets of its payload (steps).
 use Rattle.std.specs.Prelude.{ℕ, ◌+◌, ◌-◌, ◌^◌, min}
+use Rattle.std.proofs.Math.Nat.{le_trans, le-add_right}
 use Rattle.giop_stream.specs.declared.current.Current.{Current}
 
 -- after n more; their count stays at what a field of 32 bits holds
@@ -7,4 +8,5 @@ abbrev pub further : Current → ℕ → Current
 further now n = record now {
   place = now.place + n;
   payload_count = min (now.payload_count + n) (2 ^ 32 - 1);
+  behind_header = le_trans now.behind_header (le-add_right now.place n);
 }

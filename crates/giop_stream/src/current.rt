@@ -1,7 +1,6 @@
 //! The current message, the one that is being read, at one of its octets.
 
-ghost use Rattle.std.specs.Prelude.{◌≡◌, ◌+◌, ◌^◌, ◌<◌};
-ghost use Rattle.giop_stream.specs.Further.{further};
+ghost use Rattle.std.specs.Prelude.{◌≡◌, ◌+◌, ◌^◌, ◌<◌, ◌≤◌};
 
 /// The current message, at an octet of its payload or at the last one of its header.
 #[derive(Clone, Copy, Debug)]
@@ -12,9 +11,12 @@ pub struct Current {
     pub place: u64,
     /// How many octets of the payload were read, this one included.
     pub payload_count: u32,
+    ghost behind_header: { 12 ≤ place },
 }
 
 impl Current {
+    ghost use Rattle.giop_stream.specs.Further.{further};
+
     /// The same message after n octets more of its payload.
     pub fn further(mut self, n: usize) -> Current
         requires { self.place + n < 2 ^ 64 }

@@ -295,7 +295,6 @@ fn starts<O: Out>(
     now: Current,
     out: &mut O,
 ) -> Result<bool, OutFault>
-    requires place { 12 ≤ now.place }
     requires ready { AreReady catalogue.now now.place slots.old }
     ensures does { (l : Answers) (c : Tracked) (who : Option MessageKey) (m : Message) →
         IsBeforeMessage catalogue.now l slots.old c who m now →
@@ -319,7 +318,6 @@ pub fn header<O: Out>(
     now: Current,
     out: &mut O,
 ) -> Result<u8, OutFault>
-    requires place { 12 ≤ now.place }
     requires ready { AreReady catalogue.now now.place slots.old }
     ensures does { (l : Answers) (c : Tracked) (who : Option MessageKey) (m : Message) →
         IsBeforeMessage catalogue.now l slots.old c who m now →

@@ -3,7 +3,8 @@
 ghost use Rattle.giop_stream.specs.EngineHolds.{AreOf};
 
 use super::known::declared;
-use super::waiting::{Timer, Waiter};
+use super::waiting::Timer;
+use giop_message_tests::waiter::Waiter;
 use giop_print::Sheet;
 use giop_sig::{Catalogue, Requests};
 use giop_stream::{Engine, Fed, Stop};

@@ -27,7 +27,7 @@ pub returns-in-Some-clause-ready : goal.returns-in-Some-clause-ready
 returns-in-Some-clause-ready g c =
     all_ok c.fault_message.result (c.fault_message.ensures.room.ready _ _
     (c.begin.ensures.ready _ (ready_later _ _ _ _ (omega arith) c.requires.ready)
-    (omega (arith, c.requires.place))))
+    (omega (arith, c.args.now.behind_header))))
 
 pub returns-in-None-clause-does : goal.returns-in-None-clause-does
 returns-in-None-clause-does g c =
@@ -43,4 +43,4 @@ returns-in-None-clause-does g c =
 pub returns-in-None-clause-ready : goal.returns-in-None-clause-ready
 returns-in-None-clause-ready g c =
     c.begin.ensures.ready _ (ready_later _ _ _ _ (omega arith) c.requires.ready)
-    (omega (arith, c.requires.place))
+    (omega (arith, c.args.now.behind_header))
