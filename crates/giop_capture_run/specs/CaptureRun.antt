@@ -1,6 +1,6 @@
 -- What the reading of a whole capture came to (state).
 use Rattle.std.specs.Prelude.{◌≡◌, ℕ, Bool, true, false, if◌then◌else◌, Some, None, List, [], ◌++◌, length, Option, IsSome, Result, Ok, Err, ◌⊎◌}
-use Rattle.std.specs.Io.KnownBytes.{Consumes, IsAtEnd}
+use Rattle.std.specs.Io.KnownBytes.{Consumes}
 use Rattle.capture_file.specs.declared.capture.Capture.{Capture}
 use Rattle.capture_file.specs.declared.fault.CaptureFault.{CaptureFault}
 use Rattle.capture_file.specs.Reading.{packets, fault, final_fault}
@@ -10,6 +10,7 @@ use Rattle.tcp_connections.specs.declared.connections.Connections.{Connections}
 use Rattle.tcp_connections.specs.Connections.{State}
 use Rattle.tcp_connections.specs.State.{IsAt}
 use Rattle.giop_run.specs.SourceLog.{SourceLog}
+use Rattle.giop_run.specs.Running.{IsEnded}
 use Rattle.giop_run.specs.declared.fault.RunFault.{RunFault}
 use Rattle.capture_file.specs.declared.fault.FaultKind.{FaultKind}
 use Rattle.capture_file.specs.declared.fault.FaultKind.TheVariants as kinds
@@ -19,17 +20,18 @@ use Rattle.giop_capture_run.specs.Packets.{Taken, taken_of, Ran}
 use Rattle.giop_capture_run.specs.Arrivals.{capture_ended, links_told}
 
 -- A capture was read to its end, or to its fault, behind which nothing was read; the source gave
--- the octets s. All that its packets, its fault and its end do to the connections was told, and the
--- link types of those that aren't read.
+-- the octets s, and no read failed. All that its packets, its fault and its end do to the
+-- connections was told, and the link types of those that aren't read.
 pub record ReadWhole (O : List Event → Type 0) (Told : List ℕ → Type 0) (F : Reader)
     (connections : Connections) (live : List ℕ)
     (c : Capture) (start : State) (s : List ℕ) (before after : SourceLog)
     (found : Option CaptureFault) : Type 0 where
   pub given : Consumes before.left after.left s
+  pub failures : after.failures ≡ before.failures
   pub read : List ℕ
   pub rest : List ℕ
   pub parts : s ≡ read ++ rest
-  pub over : (IsAtEnd after.left × (rest ≡ [])) ⊎ IsSome (fault read)
+  pub over : (IsEnded before after × (rest ≡ [])) ⊎ IsSome (fault read)
   pub reads : Reads c read
   pub fault : found ≡ final_fault read
   pub ended : IsAt O live connections (capture_ended F start read)
@@ -62,7 +64,7 @@ ending_of None faulty = if faulty then endings.Faulty else endings.Whole
 -- before the last lines, which say whether it was told of a fault. It has finished behind all of
 -- that.
 pub record Dumped {L N : Type 0} (ending : Ending) (observed : L → List Event → Type 0)
-    (finished : L → List Event → ℕ → ℕ → Type 0) (faulty : L → Bool) (F : Reader)
+    (finished : L → List Event → ℕ → ℕ → Bool → Type 0) (faulty : L → Bool) (F : Reader)
     (told : N → List ℕ → Type 0) (c : Capture) (start : State) (before after : SourceLog)
     (behind : L) : Type 0 where
   pub listener : L
@@ -75,4 +77,4 @@ pub record Dumped {L N : Type 0} (ending : Ending) (observed : L → List Event 
       after found
   pub ends : ending ≡ ending_of found (faulty listener)
   pub last : finished behind (capture_ended F start whole.read).events (length (packets whole.read))
-      (length whole.read)
+      (length whole.read) (faulty listener)

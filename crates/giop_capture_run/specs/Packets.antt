@@ -1,12 +1,14 @@
 -- The packets of a capture that were handed on (meaning).
 use Rattle.std.specs.Prelude.{◌≡◌, ℕ, List, [], ◌++◌, length, Bool, true, false, IsSome, map, Result, Ok, Err, ◌⊎◌, ◌<◌, ◌≤◌, ◌^◌}
-use Rattle.std.specs.Io.KnownBytes.{Consumes, IsAtEnd}
+use Rattle.std.specs.Io.KnownBytes.{Consumes}
 use Rattle.capture_file.specs.declared.capture.Capture.{Capture}
 use Rattle.capture_file.specs.declared.part.Head.{Head}
 use Rattle.capture_file.specs.declared.progress.Packet.{Packet}
 use Rattle.capture_file.specs.Reading.{PacketRecord, packets, fault}
 use Rattle.capture_file.specs.CaptureState.{Reads}
+use Rattle.giop_print.specs.Output.{counted}
 use Rattle.giop_run.specs.SourceLog.{SourceLog}
+use Rattle.giop_run.specs.Running.{IsEnded}
 use Rattle.giop_run.specs.declared.fault.RunFault.{RunFault}
 use Rattle.giop_run.specs.declared.fault.RunFault.TheVariants as faults
 
@@ -47,30 +49,47 @@ HandedWhole false HasTaken c p octets =
 
 -- ---- What a run over a source did, which gave the octets s.
 
--- all that the source gave was read, behind p, and its packets were handed on
+-- all that the source gave was read, behind p, and its packets were handed on; no read failed, and
+-- none came to the end
 pub record ReadAll (HasTaken : List Taken → Type 0) (c : Capture) (p s : List ℕ)
     (before after : SourceLog) : Type 0 where
   pub given : Consumes before.left after.left s
+  pub failures : after.failures ≡ before.failures
+  pub ends : after.ends ≡ before.ends
   pub handed : HandedOn HasTaken c p s s []
 
--- The source came to its end, or the capture to a fault, behind which nothing was read.
+-- a read failed, behind which none was made: the packets of all that was read were handed on
+pub record ReadStopped (HasTaken : List Taken → Type 0) (c : Capture) (p s : List ℕ)
+    (before after : SourceLog) : Type 0 where
+  pub given : Consumes before.left after.left s
+  pub failures : after.failures ≡ counted before.failures
+  pub handed : HandedOn HasTaken c p s s []
+
+-- The source came to its end, or the capture to a fault, behind which nothing was read; no read
+-- failed.
 pub record ReadToEnd (HasTaken : List Taken → Type 0) (c : Capture) (p s : List ℕ)
     (before after : SourceLog) : Type 0 where
   pub given : Consumes before.left after.left s
+  pub failures : after.failures ≡ before.failures
   pub read : List ℕ
   pub rest : List ℕ
   pub handed : HandedOn HasTaken c p s read rest
-  pub over : (IsAtEnd after.left × (rest ≡ [])) ⊎ IsSome (fault (p ++ read))
+  pub over : (IsEnded before after × (rest ≡ [])) ⊎ IsSome (fault (p ++ read))
+
+-- the listener failed, and no read did
+pub record NotTaken (s : List ℕ) (before after : SourceLog) : Type 0 where
+  pub given : Consumes before.left after.left s
+  pub failures : after.failures ≡ before.failures
 
 -- What a run did, by its result: where the listener failed, it alone knows what it has taken. Where
 -- the reads were used up, each gave an octet.
 abbrev pub Ran : Result (Unit {0}) RunFault → (List Taken → Type 0) → Capture → List ℕ → SourceLog →
     SourceLog → Type 0
 Ran (Ok _) HasTaken c s before after = ReadToEnd HasTaken c [] s before after
-Ran (Err faults.Read) HasTaken c s before after = ReadAll HasTaken c [] s before after
+Ran (Err faults.Read) HasTaken c s before after = ReadStopped HasTaken c [] s before after
 Ran (Err faults.Turns) HasTaken c s before after =
     ReadAll HasTaken c [] s before after × (2 ^ 40 ≤ length s)
-Ran (Err faults.Out) HasTaken c s before after = Consumes before.left after.left s
+Ran (Err faults.Out) HasTaken c s before after = NotTaken s before after
 Ran (Err faults.Failed) HasTaken c s before after = ⊥
 
 -- ---- One read of it (steps).
@@ -81,7 +100,7 @@ abbrev pub HasReadOnce : Result Bool RunFault → (List Taken → Type 0) → Ca
 HasReadOnce (Ok true) HasTaken c p s before after =
     ReadAll HasTaken c p s before after × (0 < length s)
 HasReadOnce (Ok false) HasTaken c p s before after = ReadToEnd HasTaken c p s before after
-HasReadOnce (Err faults.Read) HasTaken c p s before after = ReadAll HasTaken c p s before after
+HasReadOnce (Err faults.Read) HasTaken c p s before after = ReadStopped HasTaken c p s before after
 HasReadOnce (Err faults.Turns) HasTaken c p s before after = ⊥
-HasReadOnce (Err faults.Out) HasTaken c p s before after = Consumes before.left after.left s
+HasReadOnce (Err faults.Out) HasTaken c p s before after = NotTaken s before after
 HasReadOnce (Err faults.Failed) HasTaken c p s before after = ⊥

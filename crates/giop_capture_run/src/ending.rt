@@ -1,10 +1,12 @@
 //! A capture from its first packet to its end.
 
-ghost use Rattle.std.specs.Prelude.{◌≡◌, ◌≢◌, ◌⊎◌, ◌≤◌, ◌+◌, ◌^◌, List, ℕ, [], Err, IfOk, OnOk, OnErr};
+ghost use Rattle.std.specs.Prelude.{◌≡◌, ◌≢◌, ◌⊎◌, ◌≤◌, ◌+◌, ◌^◌, List, ℕ, [], length, Err, IfOk, IfErr, OnOk, OnErr};
 ghost use Rattle.capture_file.specs.CaptureState.{Reads};
-ghost use Rattle.capture_file.specs.Reading.{final_fault};
+ghost use Rattle.capture_file.specs.Reading.{packets, final_fault};
+ghost use Rattle.tcp_flow.specs.Flow.{Event};
 ghost use Rattle.tcp_connections.specs.Connections.{State, ended};
 ghost use Rattle.tcp_connections.specs.State.{HasState, IsState, IsAt};
+ghost use Rattle.giop_capture_run.specs.Packets.{Ran};
 ghost use Rattle.giop_capture_run.specs.Arrivals.{with_fault};
 ghost use Rattle.giop_capture_run.specs.PacketState.{HasRead};
 ghost use Rattle.giop_capture_run.specs.CaptureRun.{CaptureRan, Dumped, ending_of};
@@ -75,6 +77,14 @@ pub fn dump_capture<S: Source, L: CaptureListener + Drop, N: Notices + Drop>(
         reader.old.streams.live.items reader.old.unread.told.items w []
         → IfOk result (λ ending. Dumped ending L.observed L.finished L.faulty L.faulted (N.told)
         capture.new w (S.log source.old) (S.log source.new) reader.new.streams.listener) }
+    // Where a read failed or the reads were used up, packets came as always, and the capture has not ended.
+    ensures stopped { (w : State) → HasRead (L.observed reader.old.streams.listener)
+        (N.told reader.old.notices) L.faulted reader.old.connections
+        reader.old.streams.live.items reader.old.unread.told.items w []
+        → IfErr result (λ fault. (s : List ℕ) × Ran (Err fault)
+        (HasRead (L.observed reader.new.streams.listener) (N.told reader.new.notices) L.faulted
+        reader.new.connections reader.new.streams.live.items reader.new.unread.told.items w)
+        capture.new s (S.log source.old) (S.log source.new)) }
     ensures flushed { OnOk result (L.flushed reader.new.streams.listener) }
     ensures seen { (result ≡ Err RunFault.Read) ⊎ (result ≡ Err RunFault.Turns)
         → L.flushed reader.new.streams.listener }
@@ -82,7 +92,28 @@ pub fn dump_capture<S: Source, L: CaptureListener + Drop, N: Notices + Drop>(
     ensures sound { result ≢ Err RunFault.Failed }
     ensures reads { (S.log source.new).reads ≤ (S.log source.old).reads + 2 ^ 40 }
 {
-    let fault = read_capture(source, capture, reader)?;
+    match read_capture(source, capture, reader) {
+        Ok(fault) => finished(fault, capture, reader),
+        Err(why) => Err(why),
+    }
+}
+
+/// Writes what is still due of a capture that has ended, with this fault where it has one. Answers how its dump ended.
+fn finished<L: CaptureListener + Drop, N: Notices + Drop>(
+    fault: Option<CaptureFault>,
+    capture: &Capture,
+    reader: &mut PacketReader<L, N>,
+) -> Result<Ending, RunFault>
+    ensures ends { IfOk result
+        (λ ending. ending ≡ ending_of fault (L.faulty reader.old.streams.listener)) }
+    ensures last { (p : List ℕ) (events : List Event) → Reads capture.now p
+        → L.observed reader.old.streams.listener events
+        → OnOk result (L.finished reader.new.streams.listener events (length (packets p)) (length p)
+        (L.faulty reader.old.streams.listener)) }
+    ensures flushed { OnOk result (L.flushed reader.new.streams.listener) }
+    ensures cause { IfErr result (λ why.
+        (why ≡ RunFault.Out) × L.failed reader.new.streams.listener) }
+{
     match reader.finish(capture.packets(), capture.octets()) {
         Ok(is_faulty) => Ok(ending_of(fault, is_faulty)),
         Err(_) => Err(RunFault::Out),

@@ -50,8 +50,9 @@ pub trait CaptureListener: Listener {
     /// Whether what it was told of has a fault, or a stream that was cut.
     ghost faulty: { Self → Bool };
 
-    /// It has observed these events, and the capture has ended behind them, with so many packets and octets.
-    ghost finished: { Self → List Event → ℕ → ℕ → Type 0 };
+    /// It has observed these events, and the capture has ended behind them, with so many packets and octets; and whether there
+    /// was a fault, or a stream that was cut.
+    ghost finished: { Self → List Event → ℕ → ℕ → Bool → Type 0 };
 
     /// The next packet is read, which came at this time: nanoseconds since 1970-01-01 UTC, where it has one.
     fn arrives(&mut self, time: Option<u128>)
@@ -77,7 +78,7 @@ pub trait CaptureListener: Listener {
     fn finish(&mut self, packets: u64, octets: u64) -> Result<bool, ListenerFault>
         ensures value { IfOk result (λ is_faulty. is_faulty ≡ faulty self.old) }
         ensures finished { (events : List Event) → Self.observed self.old events
-            → OnOk result (finished self.new events packets octets) }
+            → IfOk result (finished self.new events packets octets) }
         ensures flushed { OnOk result (flushed self.new) }
         ensures cause { OnErr result (Self.failed self.new) };
 }

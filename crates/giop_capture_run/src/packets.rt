@@ -102,7 +102,7 @@ impl<L: CaptureListener + Drop, N: Notices + Drop> PacketReader<L, N> {
         ensures value { IfOk result
             (λ is_faulty. is_faulty ≡ L.faulty self.old.streams.listener) }
         ensures finished { (events : List Event) → L.observed self.old.streams.listener events
-            → OnOk result (L.finished self.new.streams.listener events packets octets) }
+            → IfOk result (L.finished self.new.streams.listener events packets octets) }
         ensures flushed { OnOk result (L.flushed self.new.streams.listener) }
         ensures cause { OnErr result (L.failed self.new.streams.listener) }
     {

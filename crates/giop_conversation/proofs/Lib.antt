@@ -4,6 +4,7 @@ mod TagLemmas
 mod TaggedLemmas
 mod TaggedPuts
 mod WholeLines
+mod FailingBelow
 pub mod Tagging
 pub mod FollowedLemmas
 mod FailingLemmas
@@ -17,3 +18,4 @@ mod PartLemmas
 mod StreamNumbers
 mod StreamTextLemmas
 mod StreamEnds
+mod StreamCloses

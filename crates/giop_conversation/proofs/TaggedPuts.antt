@@ -62,10 +62,11 @@ keeps_if (Some xs) None appends = absurd appends
 keeps_if (Some xs) (Some ys) appends = appends ∙ append-nil xs
 
 pub took : (a b : Option (List ℕ)) (tag octets : List ℕ)
-    (since since' due due' n puts puts' failures : ℕ) →
+    (f f' since since' due due' n puts puts' failures : ℕ) →
     PutLine a b tag octets since since' due due' n → puts' ≡ counted puts →
     Took (tagging_log (record {
       whole = a;
+      below = f;
       tag = tag;
       due = due;
       since = since;
@@ -75,6 +76,7 @@ pub took : (a b : Option (List ℕ)) (tag octets : List ℕ)
     }))
     (tagging_log (record {
       whole = b;
+      below = f';
       tag = tag;
       due = due';
       since = since';
@@ -82,7 +84,7 @@ pub took : (a b : Option (List ℕ)) (tag octets : List ℕ)
           puts';
       failures = failures;
     })) octets n
-took a b tag octets since since' due due' n puts puts' failures put more =
+took a b tag octets f f' since since' due due' n puts puts' failures put more =
     record {
       some = λ any. put.some;
       within = put.within;
@@ -94,10 +96,11 @@ took a b tag octets since since' due due' n puts puts' failures put more =
     }
 
 pub failed : (a b : Option (List ℕ)) (tag : List ℕ)
-    (since since' due due' puts puts' failures failures' : ℕ) →
+    (f f' since since' due due' puts puts' failures failures' : ℕ) →
     PutFront a b tag since since' due due' → puts' ≡ counted puts → failures' ≡ counted failures →
     Failed (tagging_log (record {
       whole = a;
+      below = f;
       tag = tag;
       due = due;
       since = since;
@@ -107,6 +110,7 @@ pub failed : (a b : Option (List ℕ)) (tag : List ℕ)
     }))
     (tagging_log (record {
       whole = b;
+      below = f';
       tag = tag;
       due = due';
       since = since';
@@ -114,7 +118,7 @@ pub failed : (a b : Option (List ℕ)) (tag : List ℕ)
           puts';
       failures = failures';
     }))
-failed a b tag since since' due due' puts puts' failures failures' put more one =
+failed a b tag f f' since since' due due' puts puts' failures failures' put more one =
     record {
       written = keeps_if _ _ (rw one (grows a b tag [] since since' due due' failures
           (counted failures)

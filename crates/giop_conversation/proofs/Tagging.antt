@@ -139,10 +139,17 @@ ready_with t w tag r =
       sound = r.sound;
     }
 
-pub ready_new : (w : List ℕ) →
-    IsReady (record { whole = Some w; tag = []; due = 0; since = 0; puts = 0; failures = 0 }) w
+pub ready_new : (w : List ℕ) (below : ℕ) → IsReady (record {
+  whole = Some w;
+  below = below;
+  tag = [];
+  due = 0;
+  since = 0;
+  puts = 0;
+  failures = 0;
+}) w
 unfolding ends_line
-ready_new w =
+ready_new w below =
     record {
       known = refl;
       before = w;

@@ -31,20 +31,29 @@ counted_is n = refl
 pub still_sound : (n : ℕ) → n ≡ 0 → 0 < n → ⊥
 still_sound n none some = omega (arith, none, some)
 
-pub new_ready : (t : Tagging) (whole : Option (List ℕ)) (written : List ℕ) →
-    t ≡ record { whole = whole; tag = []; due = 0; since = 0; puts = 0; failures = 0 } →
+pub new_ready : (t : Tagging) (whole : Option (List ℕ)) (below : ℕ) (written : List ℕ) →
+    t ≡ record {
+      whole = whole;
+      below = below;
+      tag = [];
+      due = 0;
+      since = 0;
+      puts = 0;
+      failures = 0;
+    } →
     whole ≡ Some written → IsReady t written
-new_ready t whole written is known =
+new_ready t whole below written is known =
     subst (λ (x : Tagging). IsReady x written)
     (ap (λ (o : Option (List ℕ)). record {
       whole = o;
+      below = below;
       tag = [];
       due = 0;
       since = 0;
       puts = 0;
       failures = 0;
     }) (sym known) ∙ sym is)
-    (ready_new written)
+    (ready_new written below)
 
 module _ (S : Setup) (written : List ℕ) (events : List Event) where
   -- an event that leads on, whose lines were written or a front of them

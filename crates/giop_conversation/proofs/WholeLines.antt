@@ -253,10 +253,11 @@ front_stands a b before tag since text line n is some few stands appends =
     ]
 
 pub wrote_line : (a b : Option (List ℕ)) (tag line : List ℕ)
-    (since since' due puts failures : ℕ) → IsLine line → 0 < length tag → due ≡ length tag →
+    (f f' since since' due puts failures : ℕ) → IsLine line → 0 < length tag → due ≡ length tag →
     Appends a b (tag ++ line) → since' ≡ since + length (tag ++ line) →
     Wrote (tagging_log (record {
       whole = a;
+      below = f;
       tag = tag;
       due = due;
       since = since;
@@ -265,13 +266,14 @@ pub wrote_line : (a b : Option (List ℕ)) (tag line : List ℕ)
     }))
     (tagging_log (record {
       whole = b;
+      below = f';
       tag = tag;
       due = due;
       since = since';
       puts = puts;
       failures = failures;
     })) line
-wrote_line a b tag line since since' due puts failures is some all appends more =
+wrote_line a b tag line f f' since since' due puts failures is some all appends more =
     let sum : since' ≡ since + (length tag + length line) =
     omega (arith, more, length-append tag line) in
     record {
@@ -284,11 +286,12 @@ wrote_line a b tag line since since' due puts failures is some all appends more 
     }
 
 pub wrote_front : (a b : Option (List ℕ)) (tag line : List ℕ)
-    (since since' due due' n puts failures failures' : ℕ) → IsLine line → 0 < length tag →
+    (f f' since since' due due' n puts failures failures' : ℕ) → IsLine line → 0 < length tag →
     due ≡ length tag → due' ≡ length tag - n → n < length (tag ++ line) →
     Appends a b (take n (tag ++ line)) → since' ≡ since + n → failures' ≡ counted failures →
     WroteFront (tagging_log (record {
       whole = a;
+      below = f;
       tag = tag;
       due = due;
       since = since;
@@ -297,13 +300,14 @@ pub wrote_front : (a b : Option (List ℕ)) (tag line : List ℕ)
     }))
     (tagging_log (record {
       whole = b;
+      below = f';
       tag = tag;
       due = due';
       since = since';
       puts = puts;
       failures = failures';
     })) line
-wrote_front a b tag line since since' due due' n puts failures failures' is some all left few
+wrote_front a b tag line f f' since since' due due' n puts failures failures' is some all left few
     appends more failed =
     let less : n < length tag + length line = omega (arith, few, length-append tag line) in
     let rest = take (n - length tag) line in

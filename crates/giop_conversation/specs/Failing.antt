@@ -1,6 +1,6 @@
--- When a call that writes to an out with tags fails: where a put of that does, and only there
--- (meaning).
-use Rattle.std.specs.Prelude.{◌≡◌, ◌<◌, Result, MatchResult}
+-- When an out with tags fails, and a call that writes to it: where a put of that does, and only
+-- there (meaning).
+use Rattle.std.specs.Prelude.{◌≡◌, ◌⊎◌, ℕ, ◌+◌, ◌-◌, ◌^◌, ◌<◌, List, length, Result, MatchResult}
 use Rattle.giop_print.specs.Output.{counted}
 use Rattle.giop_conversation.specs.TaggedState.{Tagging}
 
@@ -14,3 +14,17 @@ FailsByPut result before after =
 abbrev pub FailsOnce : {A E : Type 0} → Result A E → Tagging → Type 0
 FailsOnce result after =
     MatchResult result (λ _. after.failures ≡ 0) (λ _. 0 < after.failures)
+
+-- ---- By how often the out below has failed before and behind.
+
+-- where puts of it are all that may fail, one did; or there is another cause
+abbrev pub Loses : {A E : Type 0} → Result A E → ℕ → ℕ → Type 0 → Type 0
+Loses result before after Other =
+    MatchResult result (λ _. after ≡ before) (λ _. (after ≡ counted before) ⊎ Other)
+
+-- An out with tags fails where the out below does, or where it could not count all of these octets
+-- and of a tag since the tag was set.
+abbrev pub FailsBelow : {A E : Type 0} → Result A E → Tagging → Tagging → List ℕ → Type 0
+FailsBelow result before after octets =
+    Loses result before.below after.below
+    (2 ^ 64 - 1 < after.since + (length after.tag + length octets))

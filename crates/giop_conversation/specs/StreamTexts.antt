@@ -38,10 +38,16 @@ dumped R s = text R s.octets ++ (if s.is_closed then closing R s.octets else [])
 pub record History : Type 0 where
   pub begun : ℕ  -- how many have begun
   pub stream_of : ℕ → ℕ  -- the number of each flow's last stream, by the flow's id; 0 where none has begun
+  pub has_room : ℕ → Bool  -- whether the stream of each number began in a flow whose connection has a room
   pub stream : ℕ → StreamHistory  -- of the stream of each number
 
 abbrev pub no_history : History
-no_history = record { begun = 0; stream_of = λ flow. 0; stream = λ number. new_stream }
+no_history = record {
+  begun = 0;
+  stream_of = λ flow. 0;
+  has_room = λ number. false;
+  stream = λ number. new_stream;
+}
 
 -- a stream begins in the flow of this id, where its connection has a room or hasn't
 abbrev pub with_begun : History → ℕ → Bool → History
@@ -49,6 +55,7 @@ with_begun h id true =
     record h {
       begun = counted h.begun;
       stream_of = λ flow. if flow == id then counted h.begun else h.stream_of flow;
+      has_room = λ number. if number == counted h.begun then true else h.has_room number;
     }
 with_begun h id false = record h { begun = counted h.begun }
 
@@ -85,6 +92,10 @@ pub record IsDumped (S : Setup) (s : StreamHistory) (reads own : List ℕ) : Typ
 abbrev pub AreGapless : List Event → Type 0
 AreGapless events =
     (flow : ℕ) → (payloads : _) × (due : Option ℕ) × AllFollow payloads flow None events due
+
+-- The same, and each stream that began has closed.
+abbrev pub AreWhole : List Event → Type 0
+AreWhole events = (flow : ℕ) → (payloads : _) × AllFollow payloads flow None events None
 
 -- A number that no two streams have: the count of streams stays at its greatest.
 abbrev pub IsUnique : ℕ → Type 0

@@ -13,6 +13,7 @@ use Rattle.giop_conversation.specs.TaggedText.{is_due, stopped_at, Stands}
 
 pub record Tagging : Type 0 where
   pub whole : Option (List ℕ)  -- what was written to the out below, where that is known
+  pub below : ℕ  -- how often the out below has failed
   pub tag : List ℕ
   pub due : ℕ  -- how many octets of the tag are to be written before the next octet
   pub since : ℕ  -- how many octets were written since the tag was set

@@ -283,7 +283,12 @@ impl<'a, O: Out + Drop> Conversations<'a, O> {
         ensures value { (O.log result.now).written ≡ self.old.out.whole }
         ensures* writes_back { sem 𝓛 (Lends
             (the_row (record { mir = named 1; lft = [] }) O.row O.Out) O.row self.entry result
-            (λ w. record self.old { out = record self.old.out { whole = (O.log w).written } })) }
+            (λ w. record self.old {
+              out = record self.old.out {
+                whole = (O.log w).written;
+                below = (O.log w).failures;
+              };
+            })) }
     {
         self.out.out_mut()
     }

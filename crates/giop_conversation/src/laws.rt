@@ -4,7 +4,7 @@ ghost use Rattle.std.specs.Prelude.{◌≡◌, ◌++◌, List, ℕ, [], true, fa
 ghost use Rattle.giop_print.specs.Output.{Wrote, WroteFront};
 ghost use Rattle.tcp_flow.specs.Flow.{Event};
 ghost use Rattle.giop_conversation.specs.Captured.{Setup, Dump, Leads, start};
-ghost use Rattle.giop_conversation.specs.StreamTexts.{no_history, history, AreGapless, IsUnique, ShowsStreams};
+ghost use Rattle.giop_conversation.specs.StreamTexts.{no_history, history, AreGapless, AreWhole, IsUnique, ShowsStreams};
 ghost use Rattle.giop_conversation.specs.Tags.{with_tags, without_tags};
 ghost use Rattle.giop_conversation.specs.TaggedText.{is_due};
 ghost use Rattle.giop_conversation.specs.TaggedState.{Tagging, tagging_log, IsReady, WroteTaggedFront};
@@ -14,9 +14,16 @@ use giop_stream::answers_agree;
 /// What writing whole lines to an out with tags does to the out below.
 pub fn lines_stand_below()
     // At first, and whenever a tag is set, the next octet begins a line.
-    ensures start { (w : List ℕ) →
-        IsReady (record { whole = Some w; tag = []; due = 0; since = 0; puts = 0; failures = 0 })
-        w }
+    ensures start { (w : List ℕ)
+        (below : ℕ) → IsReady (record {
+          whole = Some w;
+          below = below;
+          tag = [];
+          due = 0;
+          since = 0;
+          puts = 0;
+          failures = 0;
+        }) w }
     ensures again { (t : Tagging) (w tag : List ℕ) → IsReady t w →
         IsReady (record t { tag = tag; due = length tag; since = 0 }) w }
     // Where lines are written, they stand below, each with the tag in front;
@@ -49,6 +56,11 @@ pub fn each_stream_is_dumped()
         (leads : Leads S (start S written) events d) → AreGapless events →
         (number : ℕ) → IsUnique number →
         ((history S no_history (start S written) events d leads).stream number).goes_on ≡ false }
+    // Where each has closed in the end, so it has in its history, if its connection has a room.
+    ensures closes { (S : Setup) (written : List ℕ) (events : List Event) (d : Dump)
+        (leads : Leads S (start S written) events d) → AreWhole events → (number : ℕ) →
+        (history S no_history (start S written) events d leads).has_room number ≡ true →
+        ((history S no_history (start S written) events d leads).stream number).is_closed ≡ true }
 {
     answers_agree();
 }

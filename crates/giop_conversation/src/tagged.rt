@@ -1,10 +1,11 @@
 //! An `Out` that puts a tag in front of each line.
 
-ghost use Rattle.std.specs.Prelude.{◌≡◌, ◌<◌, ◌≤◌, ◌^◌, ◌↔◌, true, List, ℕ, [], length, take, IsTrue, OnOk, MatchResult};
+ghost use Rattle.std.specs.Prelude.{◌≡◌, ◌<◌, ◌≤◌, ◌+◌, ◌-◌, ◌^◌, ◌↔◌, true, List, ℕ, [], length, take, IsTrue, OnOk, MatchResult};
 ghost use Rattle.std.specs.Io.KnownBytes.{Appends};
 ghost use Rattle.giop_print.specs.Line.{line_text, line_room};
 ghost use Rattle.giop_print.specs.Output.{counted};
 ghost use Rattle.giop_conversation.specs.TaggedState.{IsShortDue};
+ghost use Rattle.giop_conversation.specs.Failing.{Loses};
 ghost use Rattle.giop_conversation.specs.TaggedText.{line_size, due_behind, IsLine, StandsIn, PutSome, PutNothing, PutLine, PutFront};
 
 use crate::tag::{BLOCK, Tag, no_tag};
@@ -36,6 +37,7 @@ impl<O: Out> Model for Tagged<O> {
 
     ghost view = { λ t. record {
       whole = (O.log t.out).written;
+      below = (O.log t.out).failures;
       tag = t.tag;
       due = t.due;
       since = t.since;
@@ -58,6 +60,7 @@ impl<O: Out> Tagged<O> {
     pub fn new(out: O) -> Tagged<O>
         ensures { result ≡ record {
           whole = (O.log out).written;
+          below = (O.log out).failures;
           tag = [];
           due = 0;
           since = 0;
@@ -105,7 +108,10 @@ impl<O: Out> Tagged<O> {
     pub fn out_mut(&mut self) -> &mut O
         ensures value { (O.log result.now).written ≡ self.old.whole }
         ensures* writes_back { sem 𝓛 (Lends (the_row O.row O.Out) O.row self.entry result
-            (λ w. record self.old { whole = (O.log w).written })) }
+            (λ w. record self.old {
+              whole = (O.log w).written;
+              below = (O.log w).failures;
+            })) }
     {
         &mut self.out
     }
@@ -119,11 +125,20 @@ impl<O: Out> Tagged<O> {
 }
 
 impl<O: Out> Out for Tagged<O> {
+    ghost use Rattle.std.specs.Prelude.{◌≡◌, ◌⊎◌, OnErr, MatchResult};
+    ghost use Rattle.giop_print.specs.Output.{counted, Took, Failed, Writes};
+    ghost use Rattle.giop_print.specs.Line.{line_text};
     ghost use Rattle.giop_conversation.specs.TaggedState.{tagging_log};
+    ghost use Rattle.giop_conversation.specs.Failing.{FailsBelow};
 
     ghost log = { tagging_log };
 
-    fn put(&mut self, octets: &[u8]) -> Result<usize, OutFault> {
+    fn put(&mut self, octets: &[u8]) -> Result<usize, OutFault>
+        ensures does { MatchResult result
+            (λ n. Took (tagging_log self.old) (tagging_log self.new) octets.now n)
+            (λ _. Failed (tagging_log self.old) (tagging_log self.new)) }
+        ensures cause { FailsBelow result self.old self.new octets.now }
+    {
         self.puts = one_more(self.puts);
         if octets.is_empty() {
             return Ok(0);
@@ -145,7 +160,24 @@ impl<O: Out> Out for Tagged<O> {
         }
     }
 
-    fn put_line(&mut self, line: &mut Line) -> Result<(), OutFault> {
+    // The same as that of an out, by a put whose failure has a cause.
+    fn put_all(&mut self, octets: &[u8]) -> Result<(), OutFault>
+        ensures does { Writes result (tagging_log self.old) (tagging_log self.new) octets.now }
+        ensures cause { FailsBelow result self.old self.new octets.now }
+    {
+        let mut rest = octets;
+        while !rest.is_empty() {
+            let taken = self.put(rest)?;
+            rest = &rest[taken..];
+        }
+        Ok(())
+    }
+
+    fn put_line(&mut self, line: &mut Line) -> Result<(), OutFault>
+        ensures does { Writes result (tagging_log self.old) (tagging_log self.new)
+            (line_text line.old) }
+        ensures cause { FailsBelow result self.old self.new (line_text line.old) }
+    {
         if !fits_before(self.is_short_due, self.since, line) {
             return self.put_all(line.text());
         }
@@ -223,19 +255,23 @@ fn is_long_line(octets: &[u8]) -> bool
     }
 }
 
-/// Puts octets to an out until that has all of them or a put fails, and returns how many it took. Mostly that is one put.
+/// Puts a text to an out until that has all of it or a put fails, and returns how many octets it took. Mostly that is one put.
 #[inline]
-fn put_most<O: Out>(out: &mut O, octets: &[u8]) -> usize
-    ensures within { result ≤ length octets.now }
+fn put_most<O: Out>(out: &mut O, text: &[u8]) -> usize
+    ensures within { result ≤ length text.now }
     ensures written { Appends (O.log out.old).written (O.log out.new).written
-        (take result octets.now) }
+        (take result text.now) }
+    ensures none { result ≡ length text.now → 0 < length text.now →
+        (O.log out.new).failures ≡ (O.log out.old).failures }
+    ensures cause { result < length text.now →
+        (O.log out.new).failures ≡ counted (O.log out.old).failures }
 {
-    match out.put(octets) {
+    match out.put(text) {
         Ok(taken) => {
-            if taken == octets.len() {
+            if taken == text.len() {
                 return taken;
             }
-            taken + put_more(out, &octets[taken..])
+            taken + put_more(out, &text[taken..])
         }
         Err(_) => 0,
     }
@@ -248,6 +284,10 @@ fn put_more<O: Out>(out: &mut O, octets: &[u8]) -> usize
     ensures within { result ≤ length octets.now }
     ensures written { Appends (O.log out.old).written (O.log out.new).written
         (take result octets.now) }
+    ensures none { result ≡ length octets.now → 0 < length octets.now →
+        (O.log out.new).failures ≡ (O.log out.old).failures }
+    ensures cause { result < length octets.now →
+        (O.log out.new).failures ≡ counted (O.log out.old).failures }
 {
     let mut at = 0;
     while at < octets.len() {
@@ -270,10 +310,12 @@ fn one_more(count: u64) -> u64
 /// Puts octets to an out, and counts those that it takes; it fails where the count would pass its greatest.
 #[tactic(auto, using(crate::proofs::TaggedLemmas::keeps_same))]
 fn put_counted<O: Out>(out: &mut O, since: &mut u64, octets: &[u8]) -> Result<usize, OutFault>
-    ensures { MatchResult result
+    ensures does { MatchResult result
         (λ n. PutSome (O.log out.old).written (O.log out.new).written octets.now since.old since.new
         n)
         (λ _. PutNothing (O.log out.old).written (O.log out.new).written since.old since.new) }
+    ensures cause { Loses result (O.log out.old).failures (O.log out.new).failures
+        (2 ^ 64 - 1 < since.new + length octets.now) }
 {
     if octets.len() as u64 > u64::MAX - *since {
         return Err(OutFault);
@@ -300,6 +342,8 @@ fn put_tag<O: Out>(
         StandsIn (O.log out.new).written before tag.now since.new text due.new }
     ensures within { due.new ≤ length tag.now }
     ensures done { OnOk result (due.new ≡ 0) }
+    ensures cause { Loses result (O.log out.old).failures (O.log out.new).failures
+        (2 ^ 64 - 1 < since.new + length tag.now) }
 {
     while *due > 0 {
         match put_counted(out, since, &tag[tag.len() - *due..]) {
@@ -339,11 +383,13 @@ fn put_line<O: Out>(
 ) -> Result<usize, OutFault>
     requires some { 0 < length octets.now }
     requires none { due.old ≡ 0 }
-    ensures { MatchResult result
+    ensures does { MatchResult result
         (λ n. PutLine (O.log out.old).written (O.log out.new).written tag.now octets.now
         since.old since.new due.old due.new n)
         (λ _. PutFront (O.log out.old).written (O.log out.new).written tag.now
         since.old since.new due.old due.new) }
+    ensures cause { Loses result (O.log out.old).failures (O.log out.new).failures
+        (2 ^ 64 - 1 < since.new + (length tag.now + length octets.now)) }
 {
     let size = line_size(octets);
     match put_counted(out, since, &octets[..size]) {
@@ -365,11 +411,13 @@ fn put_tagged<O: Out>(
 ) -> Result<usize, OutFault>
     requires some { 0 < length octets.now }
     requires within { due.old ≤ length tag.now }
-    ensures { MatchResult result
+    ensures does { MatchResult result
         (λ n. PutLine (O.log out.old).written (O.log out.new).written tag.now octets.now
         since.old since.new due.old due.new n)
         (λ _. PutFront (O.log out.old).written (O.log out.new).written tag.now
         since.old since.new due.old due.new) }
+    ensures cause { Loses result (O.log out.old).failures (O.log out.new).failures
+        (2 ^ 64 - 1 < since.new + (length tag.now + length octets.now)) }
 {
     match put_tag(out, tag, due, since) {
         Ok(()) => put_line(out, tag, due, since, octets),

@@ -23,6 +23,7 @@ returns-in-Ok-clause-ran g c =
       ran.0,
       record {
         given = ran.1.given;
+        failures = ran.1.failures;
         read = ran.1.read;
         rest = ran.1.rest;
         parts = handed.parts;

@@ -1,13 +1,21 @@
+use Rattle.std.proofs.Common.{refl, length-take, arith}
+use Rattle.giop_conversation.proofs.FailingBelow.{lost}
 use Rattle.giop_conversation.proofs.TaggedLemmas.{put_line_ok, put_line_err}
 use Rattle.giop_conversation.proofs.tagged.put_line.Goals as goal
 
-pub returns-in-Ok : goal.returns-in-Ok
-returns-in-Ok g c =
+pub returns-in-Ok-clause-does : goal.returns-in-Ok-clause-does
+returns-in-Ok-clause-does g c =
     let size = c.line_size-size.ensures.value in
     put_line_ok _ _ _ c.args.octets.now _ _ _ _ _ c.requires.none c.requires.some
     (rw size at c.line_size-size.ensures.within)
     (rw size at (c.line_size-size.ensures.some c.requires.some))
-    (rw size at c.in-Ok.ensures) c.due_behind.ensures
+    (rw size at c.in-Ok.ensures.does) c.due_behind.ensures
 
-pub returns-in-Err : goal.returns-in-Err
-returns-in-Err g c = put_line_err _ _ _ _ _ _ c.requires.none c.in-Err.ensures
+pub returns-in-Err-clause-does : goal.returns-in-Err-clause-does
+returns-in-Err-clause-does g c = put_line_err _ _ _ _ _ _ c.requires.none c.in-Err.ensures.does
+
+pub returns-in-Err-clause-cause : goal.returns-in-Err-clause-cause
+returns-in-Err-clause-cause g c =
+    let l = length-take c.line_size-size.result c.args.octets.now in
+    lost _ _ _ _ _ _ _ refl (omega (arith, l, c.line_size-size.ensures.within))
+    c.in-Err.ensures.cause

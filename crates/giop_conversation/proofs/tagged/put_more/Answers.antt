@@ -1,5 +1,6 @@
-use Rattle.std.proofs.Common.{take-add, length-drop, arith}
+use Rattle.std.proofs.Common.{◌∙◌, ap, take-add, length-drop, arith}
 use Rattle.std.proofs.KnownBytes.{Appends-trans}
+use Rattle.giop_print.specs.Output.{counted}
 use Rattle.giop_print.proofs.Writing.{rest_from}
 use Rattle.giop_conversation.proofs.tagged.put_more.Goals as goal
 
@@ -11,4 +12,9 @@ loop-at-preserved g c =
       within = omega (arith, l, put.within, c.loop-at-test.true);
       written = rw (take-add c.loop-at.at c.in-Ok.taken c.args.octets.now)
           (Appends-trans _ _ _ _ _ c.loop-at.invariant.written put.written);
+      none = put.failures ∙ c.loop-at.invariant.none;
     }
+
+pub returns-in-Err-clause-cause : goal.returns-in-Err-clause-cause
+returns-in-Err-clause-cause g c = λ less.
+    c.in-Err.ensures.failures ∙ ap counted c.loop-at.invariant.none

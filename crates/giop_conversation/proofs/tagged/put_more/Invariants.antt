@@ -1,4 +1,4 @@
-use Rattle.std.proofs.Common.{length, ◌-◌, ◌≤◌, take}
+use Rattle.std.proofs.Common.{◌≡◌, length, ◌-◌, ◌≤◌, take}
 use Rattle.std.specs.Io.KnownBytes.{Appends}
 use Rattle.giop_conversation.proofs.tagged.put_more.Given as goal
 
@@ -8,6 +8,7 @@ invariant-loop-at g l =
       within : l.at ≤ length l.octets;
       written : Appends (g.O.Out.log l.initial.out).written (g.O.Out.log l.out).written
           (take l.at l.octets);
+      none : (g.O.Out.log l.out).failures ≡ (g.O.Out.log l.initial.out).failures;
     }
 
 abbrev pub decreases-loop-at : goal.decreases-loop-at

@@ -1,6 +1,16 @@
+use Rattle.std.proofs.Common.{refl, arith}
+use Rattle.giop_conversation.proofs.FailingBelow.{lost, loses_on}
 use Rattle.giop_conversation.proofs.TaggedLemmas.{put_both}
 use Rattle.giop_conversation.proofs.tagged.put_tagged.Goals as goal
 
-pub returns-in-Ok : goal.returns-in-Ok
-returns-in-Ok g c = put_both c.put_line.result _ _ _ _ _ _ _ _ _ _ _ c.put_tag.ensures.stands
-    c.put_line.ensures
+pub returns-in-Ok-clause-does : goal.returns-in-Ok-clause-does
+returns-in-Ok-clause-does g c = put_both c.put_line.result _ _ _ _ _ _ _ _ _ _ _ c.put_tag.ensures.stands
+    c.put_line.ensures.does
+
+pub returns-in-Ok-clause-cause : goal.returns-in-Ok-clause-cause
+returns-in-Ok-clause-cause g c =
+    loses_on c.put_line.result _ _ _ _ c.in-Ok.ensures.cause c.put_line.ensures.cause
+
+pub returns-in-Err-clause-cause : goal.returns-in-Err-clause-cause
+returns-in-Err-clause-cause g c =
+    lost _ _ _ _ _ _ _ refl (omega arith) c.in-Err.ensures.cause

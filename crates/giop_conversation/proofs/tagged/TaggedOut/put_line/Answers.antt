@@ -1,4 +1,4 @@
-use Rattle.std.proofs.Common.{◌≡◌, ◌+◌, ◌-◌, ◌<◌, ◌++◌, length, refl, ap, ◌∙◌, arith}
+use Rattle.std.proofs.Common.{◌≡◌, ◌+◌, ◌-◌, ◌<◌, ◌++◌, length, length-append, refl, ap, ◌∙◌, arith}
 use Rattle.std.proofs.lemmas.List.{take_all}
 use Rattle.giop_print.specs.Line.{line_text}
 use Rattle.giop_conversation.proofs.WholeLines.{wrote_line, wrote_front}
@@ -14,8 +14,8 @@ put_end-requires g c =
       room = fits.room refl;
     }
 
-pub returns-then-taken-text : goal.returns-then-taken-text
-returns-then-taken-text g c =
+pub returns-then-taken-text-clause-does : goal.returns-then-taken-text-clause-does
+returns-then-taken-text-clause-does g c =
     let tag = c.self.inside.tag in
     let line = line_text c.args.line.now in
     let fits = c.if-not-fits_before.ensures in
@@ -27,13 +27,13 @@ returns-then-taken-text g c =
     let appends = rw text at (rw all at (rw c.if-taken-text.true at
     c.put_most-taken.ensures.written)) in
     rw (← c.self.view_is)
-    (wrote_line _ _ tag line c.self.inside.since (c.self.inside.since + c.put_most-taken.result)
+    (wrote_line _ _ tag line 0 0 c.self.inside.since (c.self.inside.since + c.put_most-taken.result)
     c.self.inside.due c.self.inside.puts c.self.inside.failures (fits.line refl)
     due.some due.whole appends
     (ap (λ n. c.self.inside.since + n) (c.if-taken-text.true ∙ ap length text)))
 
-pub returns : goal.returns
-returns g c =
+pub returns-clause-does : goal.returns-clause-does
+returns-clause-does g c =
     let tag = c.self.inside.tag in
     let line = line_text c.args.line.now in
     let taken = c.put_most-taken.result in
@@ -47,9 +47,21 @@ returns g c =
     let few : taken < length (tag ++ line) =
     omega (arith, size, c.put_most-taken.ensures.within, c.if-taken-text.false) in
     rw (← c.self.view_is)
-    (wrote_front _ _ tag line c.self.inside.since (c.self.inside.since + taken) c.self.inside.due
+    (wrote_front _ _ tag line 0 0 c.self.inside.since (c.self.inside.since + taken) c.self.inside.due
     c.saturating_sub-self-inside.result taken c.self.inside.puts c.self.inside.failures
     c.one_more-self-inside.result (fits.line refl) due.some
     whole
     (c.saturating_sub-self-inside.ensures ∙ ap (λ d. d - taken) whole) few
     (rw text at c.put_most-taken.ensures.written) refl c.one_more-self-inside.ensures)
+
+pub returns-then-taken-text-clause-cause : goal.returns-then-taken-text-clause-cause
+returns-then-taken-text-clause-cause g c =
+    let due = c.self.invariant.1 (c.if-not-fits_before.ensures.short refl) in
+    let text : length c.text-text.result.now
+    ≡ length (c.self.inside.tag ++ line_text c.args.line.now) =
+    ap length (c.text-text.ensures ∙ (c.put_end.ensures.text
+    ∙ ap (λ t. t ++ line_text c.args.line.now) (rw c.len.ensures (c.block.ensures.value due.short))))
+    in
+    let size = length-append c.self.inside.tag (line_text c.args.line.now) in
+    rw (← c.self.view_is) (c.put_most-taken.ensures.none c.if-taken-text.true
+    (omega (arith, text, size, due.some)))
