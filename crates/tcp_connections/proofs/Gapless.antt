@@ -4,6 +4,7 @@ use Rattle.std.specs.Prelude.{slice_get}
 use Rattle.std.specs.List.{AllByRecursion}
 use Rattle.std.specs.Option.{option_map}
 use Rattle.std.proofs.lemmas.Bool.{cases_Bool, cond-true, cond-false}
+use Rattle.std.proofs.lemmas.List.{length-replicate}
 use Rattle.tcp_segment.specs.Segments.{Segment}
 use Rattle.tcp_waiting.specs.Payload.{Payload}
 use Rattle.tcp_flow.specs.declared.flow.CloseCause.TheVariants.{Syn}
@@ -14,11 +15,12 @@ use Rattle.tcp_streams.specs.declared.pair.EndpointPair.{EndpointPair}
 use Rattle.tcp_streams.specs.declared.pair.Side.{Side}
 use Rattle.tcp_streams.specs.Lives.{lives}
 use Rattle.tcp_streams.specs.Pairs.{compare_pairs, pair_of, opposite, flow_id}
-use Rattle.tcp_connections.specs.Connections.{State, none_known, flow_at, began, live_at, place_of, room_at, forgotten, with_room, next_room, made_known, first_number, is_first, is_anew, fin_taken, unknown_taken, acknowledgement_taken, payload_taken, known_taken, step, after, with_capture_event, gaps_from, all_closed, ended}
-use Rattle.tcp_connections.specs.Gapless.{IsOfSegment, AreGapless}
+use Rattle.tcp_connections.specs.Connections.{State, none_known, flow_at, began, live_at, place_of, room_at, forgotten, with_room, next_room, made_known, first_number, is_first, is_anew, fin_taken, unknown_taken, acknowledgement_taken, payload_taken, known_taken, step, after, with_capture_event, gaps_from, ended}
+use Rattle.tcp_connections.specs.Gapless.{IsOfSegment, AreGapless, AreWhole}
 use Rattle.tcp_connections.specs.State.{times}
 use Rattle.tcp_connections.proofs.Cases.{step_unknown, step_anew, step_known}
-use Rattle.tcp_connections.proofs.Following.{some_same, due_in, Follow, gaps_follow, closes_follow}
+use Rattle.tcp_connections.proofs.Closed.{all_closed_follow}
+use Rattle.tcp_connections.proofs.Following.{some_same, due_in, Follow, gaps_follow}
 use Rattle.tcp_connections.proofs.Forgotten.{forgotten_known}
 use Rattle.tcp_connections.proofs.Kept.{acknowledgement_kept, payload_kept, fin_kept, half}
 use Rattle.tcp_connections.proofs.Search.{forgotten_unknown}
@@ -26,7 +28,7 @@ pub use Rattle.tcp_connections.proofs.SegmentParts.{At}
 use Rattle.tcp_connections.proofs.SegmentParts.{IsIn, either, fin_at, acknowledgement_at, first_at, payload_at, id_within, forgotten_at, reset_at, with_room_at, made_at}
 use Rattle.tcp_connections.proofs.Sound.{IsApart, some_none, apart_taken, room_below, sound_seen}
 use Rattle.tcp_connections.proofs.Start.{none_sound}
-use Rattle.tcp_connections.proofs.Times.{times_at, none_there}
+use Rattle.tcp_connections.proofs.Times.{times_at, no_flow, none_there}
 use Rattle.tcp_connections.proofs.Unknown.{room_enough, next_below, next_vacant, next_taken, made_flows}
 
 -- ---- A segment comes.
@@ -67,7 +69,12 @@ seen_at segments w lasts count e h =
       sound = sound_seen w lasts count w.events e h.sound;
       payloads = h.payloads;
       came = h.came;
-      follow = record { own = h.follow.own; held = h.follow.held; events = h.follow.events };
+      follow = record {
+        own = h.follow.own;
+        held = h.follow.held;
+        events = h.follow.events;
+        few = h.follow.few;
+      };
     }
 
 known_at : (segments : List Segment) (F : Reader) (w : State) (place : ℕ) (s : Segment) →
@@ -213,6 +220,7 @@ told_at segments w event h =
                 runs_more h.payloads id None (due_in (flow_at w id)) (due_in (flow_at w id))
                 w.events (OfCapture event) (h.follow.events id)
                 (inr (λ o. true≢false (sym (ap is_some o)), refl));
+            few = h.follow.few;
           };
     }
 
@@ -231,6 +239,7 @@ start_at ports blocks most some few =
                 (none_there (2 * most) id));
             held = tt;
             events = λ id. sym (ap due_in (none_there (2 * most) id));
+            few = omega (arith, few, length-replicate (2 * most) no_flow);
           };
     }
 
@@ -250,14 +259,23 @@ pub gapless_of : (segments : List Segment) (w : State) → At segments w →
     AreGapless segments w.events
 gapless_of segments w h = gapless_by segments h.payloads w h.came h.follow
 
+pub ended_whole : (segments : List Segment) (F : Reader) (w : State) → At segments w →
+    AreWhole segments (ended F w).events
+unfolding ended
+ended_whole segments F w h =
+    let v : State = gaps_from F (length w.held + length (lives w.events)) 0 w in
+    let gaps = gaps_follow h.payloads F (length w.held + length (lives w.events)) 0 w h.follow in
+    record { payloads = h.payloads; came = h.came; follow = all_closed_follow h.payloads v gaps }
+
 pub ended_gapless : (segments : List Segment) (F : Reader) (w : State) → At segments w →
     AreGapless segments (ended F w).events
-unfolding ended
 ended_gapless segments F w h =
-    let v : State = gaps_from F (length w.held + length (lives w.events)) 0 w in
-    gapless_by segments h.payloads (all_closed (length (lives v.events)) v) h.came
-    (closes_follow h.payloads (length (lives v.events)) v
-    (gaps_follow h.payloads F (length w.held + length (lives w.events)) 0 w h.follow))
+    let whole : AreWhole segments (ended F w).events = ended_whole segments F w h in
+    record {
+      payloads = whole.payloads;
+      came = whole.came;
+      follow = λ flow. (None, whole.follow flow);
+    }
 
 pub after_gapless : (F : Reader) (ports : List ℕ) (blocks most : ℕ) (segments : List Segment) →
     1 ≤ most → most ≤ 65536
@@ -266,9 +284,9 @@ after_gapless F ports blocks most segments some few =
     gapless_of segments (after F (none_known ports blocks most []) segments)
     (after_at [] segments F (none_known ports blocks most []) (start_at ports blocks most some few))
 
-pub all_ended_gapless : (F : Reader) (ports : List ℕ) (blocks most : ℕ) (segments : List Segment) →
+pub after_whole : (F : Reader) (ports : List ℕ) (blocks most : ℕ) (segments : List Segment) →
     1 ≤ most → most ≤ 65536
-    → AreGapless segments (ended F (after F (none_known ports blocks most []) segments)).events
-all_ended_gapless F ports blocks most segments some few =
-    ended_gapless segments F (after F (none_known ports blocks most []) segments)
+    → AreWhole segments (ended F (after F (none_known ports blocks most []) segments)).events
+after_whole F ports blocks most segments some few =
+    ended_whole segments F (after F (none_known ports blocks most []) segments)
     (after_at [] segments F (none_known ports blocks most []) (start_at ports blocks most some few))

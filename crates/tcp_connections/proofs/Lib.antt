@@ -1,5 +1,7 @@
 pub mod Cases
 pub mod Changes
+pub mod Closed
+pub mod Closing
 pub mod Counted
 pub mod Ending
 pub mod Following

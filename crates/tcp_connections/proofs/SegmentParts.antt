@@ -202,6 +202,7 @@ flow_forgotten_at segments w id cause h =
                       (others_kept h.payloads id j (due_in (flow_at w j)) n) f cause
                       (record { same = own; told = h.follow.events j })).told
                 ];
+            few = omega (arith, h.follow.few, length-set w.flows id None);
           };
     })
   where
@@ -229,7 +230,12 @@ forgotten_at segments w place side cause l h =
           (id_within w room FromGreater h.sound (room_below w place h.sound l));
       payloads = v.payloads;
       came = v.came;
-      follow = record { own = v.follow.own; held = v.follow.held; events = v.follow.events };
+      follow = record {
+        own = v.follow.own;
+        held = v.follow.held;
+        events = v.follow.events;
+        few = v.follow.few;
+      };
     }
 
 pub reset_at : (segments : List Segment) (w : State) (place : ℕ) (side : Side) (s : Segment) →
@@ -305,5 +311,6 @@ made_at segments w p l new h =
                 (flow_id room FromGreater) id (flow_from p FromGreater) none.1
                 (opens_more h.payloads w w.events (flow_id room FromLesser) id
                 (flow_from p FromLesser) none.0 (h.follow.events id));
+            few = h.follow.few;
           };
     }

@@ -4,7 +4,7 @@ ghost use Rattle.std.specs.Prelude.{ℕ, ◌≤◌, ◌++◌, ◌∷◌, [], Lis
 ghost use Rattle.tcp_segment.specs.Segments.{Segment};
 ghost use Rattle.tcp_flow.specs.Flow.{CaptureEvent, OfCapture, Reader};
 ghost use Rattle.tcp_connections.specs.Connections.{State, none_known, after, with_capture_event, ended};
-ghost use Rattle.tcp_connections.specs.Gapless.{AreGapless};
+ghost use Rattle.tcp_connections.specs.Gapless.{AreGapless, AreWhole};
 ghost use Rattle.tcp_connections.specs.State.{IsState, HasState};
 
 use crate::connections::Connections;
@@ -25,14 +25,14 @@ pub fn capture_event_is_told<L: Listener + Drop>()
         → HasState (L.observed behind) live c }
 {}
 
-/// Streams are without a gap, whatever segments come, and so they are where the capture ends behind these: octets come and a
-/// stream closes only while it lives, and they stand one behind another, by the numbers of segments that came.
+/// Streams are without a gap, whatever segments come: octets come and a stream closes only while it lives, and they stand one
+/// behind another, by the numbers of segments that came. Where the capture ends after these, each stream has closed too.
 pub fn no_stream_has_a_gap()
     ensures gapless { (faulted : Reader) (ports : List ℕ) (blocks most : ℕ)
         (segments : List Segment) → 1 ≤ most → most ≤ 65536
         → AreGapless segments (after faulted (none_known ports blocks most []) segments).events }
     ensures ended { (faulted : Reader) (ports : List ℕ) (blocks most : ℕ) (segments : List Segment)
         → 1 ≤ most → most ≤ 65536
-        → AreGapless segments
+        → AreWhole segments
         (ended faulted (after faulted (none_known ports blocks most []) segments)).events }
 {}
