@@ -3,6 +3,7 @@ pub mod Changes
 pub mod Closed
 pub mod Closing
 pub mod Counted
+pub mod Eldest
 pub mod Ending
 pub mod Following
 pub mod Forgotten

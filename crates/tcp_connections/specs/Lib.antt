@@ -1,3 +1,4 @@
 pub mod Connections
+pub mod Forgetting
 pub mod Gapless
 pub mod State

@@ -1,9 +1,10 @@
 //! What is so of connections whoever drives them.
 
-ghost use Rattle.std.specs.Prelude.{ℕ, ◌≤◌, ◌++◌, ◌∷◌, [], List};
+ghost use Rattle.std.specs.Prelude.{ℕ, ◌≤◌, ◌<◌, ◌++◌, ◌∷◌, [], List, length};
 ghost use Rattle.tcp_segment.specs.Segments.{Segment};
 ghost use Rattle.tcp_flow.specs.Flow.{CaptureEvent, OfCapture, Reader};
 ghost use Rattle.tcp_connections.specs.Connections.{State, none_known, after, with_capture_event, ended};
+ghost use Rattle.tcp_connections.specs.Forgetting.{MakesRoom};
 ghost use Rattle.tcp_connections.specs.Gapless.{AreGapless, AreWhole};
 ghost use Rattle.tcp_connections.specs.State.{IsState, HasState};
 
@@ -23,6 +24,12 @@ pub fn capture_event_is_told<L: Listener + Drop>()
         → IsState (L.observed before) live c w
         → L.observed behind (w.events ++ OfCapture event ∷ [])
         → HasState (L.observed behind) live c }
+{}
+
+/// Where as many connections are known as may be, the one that makes room for another has no live stream, if there is one
+/// without, and of those alike it is the one whose last segment came first. It has no body, and is called for its contract.
+pub fn the_eldest_makes_room()
+    ensures { (w : State) → 0 < length w.known → length w.lasts ≤ length w.known → MakesRoom w }
 {}
 
 /// Streams are without a gap, whatever segments come: octets come and a stream closes only while it lives, and they stand one

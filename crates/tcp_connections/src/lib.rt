@@ -9,4 +9,4 @@ mod forgetting;
 mod laws;
 
 pub use connections::Connections;
-pub use laws::{capture_event_is_told, no_stream_has_a_gap};
+pub use laws::{capture_event_is_told, no_stream_has_a_gap, the_eldest_makes_room};
