@@ -1,7 +1,7 @@
 -- The connection that makes room is the eldest.
-use Rattle.std.proofs.Common.{◌≡◌, ℕ, zero, suc, ◌+◌, ◌<◌, ◌≤◌, Bool, true, false, cond, nat_lt, ◌&&◌, ◌||◌, length, refl, sym, ◌∙◌, ap, subst, arith, inl, inr, true≢false}
+use Rattle.std.proofs.Common.{◌≡◌, ℕ, zero, suc, ◌<◌, ◌≤◌, Bool, true, false, cond, nat_lt, ◌&&◌, ◌||◌, length, refl, sym, ◌∙◌, subst, arith, inl, inr, true≢false}
 use Rattle.std.proofs.lemmas.Bool.{cases_Bool, cases_lt, cond-true, cond-false, lt-ltb, ltb-true, ltb-false, le-ltb}
-use Rattle.tcp_connections.specs.Connections.{State, room_at, is_live, is_older, goes_before, eldest}
+use Rattle.tcp_connections.specs.Connections.{State, room_at, is_live, goes_before, eldest}
 use Rattle.tcp_connections.specs.Forgetting.{last_at, IsEldest, MakesRoom}
 use Rattle.tcp_connections.proofs.Cases.{room_made}
 use Rattle.tcp_connections.proofs.Unknown.{eldest_within}

@@ -198,7 +198,7 @@ follow_grown payloads p w t =
 
 -- ---- The capture ends.
 
-gapped_follow : (payloads : List Payload) (F : Reader) (w : State) (id : ℕ) → Follow payloads w →
+pub gapped_follow : (payloads : List Payload) (F : Reader) (w : State) (id : ℕ) → Follow payloads w →
     Follow payloads (gapped F w id)
 gapped_follow payloads F w id h = by (flow_at w id) refl
   where
@@ -216,7 +216,7 @@ gapped_follow payloads F w id h = by (flow_at w id) refl
         (others_kept payloads id other (due_in (flow_at w other)) apart) F f
         (record { same = own; told = h.events other })).told))
 
-closed_follow : (payloads : List Payload) (w : State) (id : ℕ) (cause : CloseCause) →
+pub closed_follow : (payloads : List Payload) (w : State) (id : ℕ) (cause : CloseCause) →
     Follow payloads w → Follow payloads (closed_at w id cause)
 closed_follow payloads w id cause h = by (flow_at w id) refl
   where

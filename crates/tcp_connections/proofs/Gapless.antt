@@ -1,5 +1,5 @@
 -- Streams are without a gap, whatever segments come.
-use Rattle.std.proofs.Common.{◌≡◌, ℕ, zero, suc, ◌+◌, ◌*◌, ◌/◌, ◌<◌, ◌≤◌, List, [], ◌∷◌, ◌++◌, length, set, Option, Some, None, is_some, is_eq, refl, sym, ◌∙◌, ap, subst, arith, inl, inr, true≢false, length-set, append_assoc, append-nil}
+use Rattle.std.proofs.Common.{◌≡◌, ℕ, suc, ◌+◌, ◌*◌, ◌/◌, ◌<◌, ◌≤◌, List, [], ◌∷◌, ◌++◌, length, set, get_or, Option, Some, None, is_some, is_eq, refl, sym, ◌∙◌, ap, subst, arith, inl, inr, true≢false, length-set, append_assoc, append-nil}
 use Rattle.std.specs.Prelude.{slice_get}
 use Rattle.std.specs.List.{AllByRecursion}
 use Rattle.std.specs.Option.{option_map}
@@ -14,18 +14,24 @@ use Rattle.tcp_flow.proofs.Truth.{runs_more}
 use Rattle.tcp_streams.specs.declared.pair.EndpointPair.{EndpointPair}
 use Rattle.tcp_streams.specs.declared.pair.Side.{Side}
 use Rattle.tcp_streams.specs.Lives.{lives}
-use Rattle.tcp_streams.specs.Pairs.{compare_pairs, pair_of, opposite, flow_id}
+use Rattle.tcp_streams.specs.Pairs.{compare_pairs, pair_of, opposite, flow_id, flow_from}
 use Rattle.tcp_connections.specs.Connections.{State, none_known, flow_at, began, live_at, place_of, room_at, forgotten, with_room, next_room, made_known, first_number, is_first, is_anew, fin_taken, unknown_taken, acknowledgement_taken, payload_taken, known_taken, step, after, with_capture_event, gaps_from, ended}
 use Rattle.tcp_connections.specs.Gapless.{IsOfSegment, AreGapless, AreWhole}
+use Rattle.tcp_connections.specs.Owned.{AreOwned}
 use Rattle.tcp_connections.specs.State.{times}
 use Rattle.tcp_connections.proofs.Cases.{step_unknown, step_anew, step_known}
 use Rattle.tcp_connections.proofs.Closed.{all_closed_follow}
 use Rattle.tcp_connections.proofs.Following.{some_same, due_in, Follow, gaps_follow}
 use Rattle.tcp_connections.proofs.Forgotten.{forgotten_known}
 use Rattle.tcp_connections.proofs.Kept.{acknowledgement_kept, payload_kept, fin_kept, half}
+use Rattle.tcp_connections.proofs.Owners.{owner_of}
+use Rattle.tcp_connections.proofs.OwnersEnd.{end_owns}
+use Rattle.tcp_connections.proofs.OwnersGrown.{slice_more, owns_grown, none_owns}
+use Rattle.tcp_connections.proofs.OwnersKnown.{told_owns, theirs_at, flow_of_pair}
+use Rattle.tcp_connections.proofs.Owning.{either}
 use Rattle.tcp_connections.proofs.Search.{forgotten_unknown}
 pub use Rattle.tcp_connections.proofs.SegmentParts.{At}
-use Rattle.tcp_connections.proofs.SegmentParts.{IsIn, either, fin_at, acknowledgement_at, first_at, payload_at, id_within, forgotten_at, reset_at, with_room_at, made_at}
+use Rattle.tcp_connections.proofs.SegmentParts.{IsIn, fin_at, acknowledgement_at, first_at, payload_at, id_within, forgotten_at, reset_at, with_room_at, made_owner, made_at}
 use Rattle.tcp_connections.proofs.Sound.{IsApart, some_none, apart_taken, room_below, sound_seen}
 use Rattle.tcp_connections.proofs.Start.{none_sound}
 use Rattle.tcp_connections.proofs.Times.{times_at, no_flow, none_there}
@@ -56,7 +62,10 @@ unknown_at segments F w s among new h =
     subst (λ (n : ℕ). 0 < times n made.rooms) (sym (half room side)) (next_taken v pair) in
     let apart : IsApart made id = apart_taken made id m.sound taken in
     let began_there : State = began F made id (first_number s) s.payload in
-    let b : At segments began_there = first_at segments F made id s among m
+    let own : owner_of made.events id ≡ Some s.flow =
+    (made_owner segments v pair enough.1 roomy.sound roomy.owns).own side
+    ∙ ap Some (flow_of_pair s.flow) in
+    let b : At segments began_there = first_at segments F made id s among own m
     (next_vacant v pair side roomy.sound enough.1) within apart in
     either (At segments) (is_first w.ports s) (fin_taken F began_there id s) w
     (fin_at segments F began_there id s b) h
@@ -75,12 +84,19 @@ seen_at segments w lasts count e h =
         events = h.follow.events;
         few = h.follow.few;
       };
+      owns = record {
+        come = h.owns.come;
+        flows = h.owns.flows;
+        held = h.owns.held;
+        known = h.owns.known;
+      };
     }
 
 known_at : (segments : List Segment) (F : Reader) (w : State) (place : ℕ) (s : Segment) →
-    IsIn segments s → place < length w.known → At segments w → At segments (known_taken F w place s)
+    IsIn segments s → place_of (pair_of s.flow).0 w.known ≡ Some place → place < length w.known →
+    At segments w → At segments (known_taken F w place s)
 unfolding known_taken
-known_at segments F w place s among l h =
+known_at segments F w place s among is l h =
     let side : Side = (pair_of s.flow).1 in
     let room : ℕ = room_at w place in
     let id : ℕ = flow_id room side in
@@ -98,7 +114,16 @@ known_at segments F w place s among l h =
     let taken : 0 < times (id / 2) heard.rooms =
     subst (λ (rs : List ℕ). 0 < times (id / 2) rs) (sym kept.rooms)
     (subst (λ (n : ℕ). 0 < times n w.rooms) (sym (half room side)) own) in
-    let at_paid : At segments paid = payload_at segments F heard id s among at_heard within
+    let there : owner_of heard.events (flow_id (get_or heard.rooms place 0) side)
+    ≡ Some (flow_from (pair_of s.flow).0 side) =
+    theirs_at (owner_of heard.events) (pair_of s.flow).0 heard.known heard.rooms place side
+    (sym at_heard.sound.pairs) (ap (place_of (pair_of s.flow).0) kept.known ∙ is)
+    at_heard.owns.known in
+    let mine : owner_of heard.events id ≡ Some s.flow =
+    subst (λ (rs : List ℕ). owner_of heard.events (flow_id (get_or rs place 0) side)
+    ≡ Some (flow_from (pair_of s.flow).0 side)) kept.rooms there
+    ∙ ap Some (flow_of_pair s.flow) in
+    let at_paid : At segments paid = payload_at segments F heard id s among mine at_heard within
     (apart_taken heard id at_heard.sound taken) in
     let known : (fin_taken F paid id s).known ≡ w.known =
     (fin_kept F paid id s).known ∙ (payload_kept F heard id s).known ∙ kept.known in
@@ -150,14 +175,8 @@ step_at_in segments F w s among h = by (place_of (pair_of s.flow).0 w.known) ref
               ∙ forgotten_unknown (pair_of s.flow).0 w.known place h.sound.order e)
               (forgotten_at segments v place side Syn within counted))
           | inr a ↦ subst (At segments) (sym (step_known F w s place e a))
-              (known_at segments F v place s among within counted)
+              (known_at segments F v place s among e within counted)
         ]
-
-slice_more : {X : Type 0} (xs : List X) (y : X) (i : ℕ) (x : X) → slice_get xs i ≡ Some x →
-    slice_get (xs ++ y ∷ []) i ≡ Some x
-slice_more [] y i x e = absurd (true≢false (sym (ap is_some e)))
-slice_more (z ∷ zs) y zero x e = e
-slice_more (z ∷ zs) y (suc i) x e = slice_more zs y i x e
 
 slice_last : {X : Type 0} (xs : List X) (y : X) → slice_get (xs ++ y ∷ []) (length xs) ≡ Some y
 slice_last [] y = refl
@@ -191,6 +210,7 @@ step_at segments F w s h =
       came =
           all_of_more segments s h.payloads h.came;
       follow = h.follow;
+      owns = owns_grown segments s w h.owns;
     })
 
 after_at : (before segments : List Segment) (F : Reader) (w : State) → At before w →
@@ -222,6 +242,7 @@ told_at segments w event h =
                 (inr (λ o. true≢false (sym (ap is_some o)), refl));
             few = h.follow.few;
           };
+      owns = told_owns segments w event h.owns;
     }
 
 -- no connection is known
@@ -241,6 +262,7 @@ start_at ports blocks most some few =
             events = λ id. sym (ap due_in (none_there (2 * most) id));
             few = omega (arith, few, length-replicate (2 * most) no_flow);
           };
+      owns = none_owns ports blocks most;
     }
 
 -- ---- Streams are without a gap.
@@ -289,4 +311,24 @@ pub after_whole : (F : Reader) (ports : List ℕ) (blocks most : ℕ) (segments 
     → AreWhole segments (ended F (after F (none_known ports blocks most []) segments)).events
 after_whole F ports blocks most segments some few =
     ended_whole segments F (after F (none_known ports blocks most []) segments)
+    (after_at [] segments F (none_known ports blocks most []) (start_at ports blocks most some few))
+
+-- ---- What is delivered is of the stream's own flow.
+
+pub after_owned : (F : Reader) (ports : List ℕ) (blocks most : ℕ) (segments : List Segment) →
+    1 ≤ most → most ≤ 65536
+    → AreOwned segments (after F (none_known ports blocks most []) segments).events
+after_owned F ports blocks most segments some few =
+    (after_at [] segments F (none_known ports blocks most [])
+    (start_at ports blocks most some few)).owns.come
+
+pub ended_owned : (segments : List Segment) (F : Reader) (w : State) → At segments w →
+    AreOwned segments (ended F w).events
+ended_owned segments F w h = (end_owns segments h.payloads F w h.follow h.owns).come
+
+pub after_end_owned : (F : Reader) (ports : List ℕ) (blocks most : ℕ) (segments : List Segment) →
+    1 ≤ most → most ≤ 65536
+    → AreOwned segments (ended F (after F (none_known ports blocks most []) segments)).events
+after_end_owned F ports blocks most segments some few =
+    ended_owned segments F (after F (none_known ports blocks most []) segments)
     (after_at [] segments F (none_known ports blocks most []) (start_at ports blocks most some few))

@@ -10,6 +10,12 @@ pub mod Forgotten
 pub mod Gapless
 pub mod Kept
 pub mod Living
+pub mod Owners
+pub mod OwnersEnd
+pub mod OwnersGrown
+pub mod OwnersKnown
+pub mod Owning
+pub mod SamePairs
 pub mod Search
 pub mod SegmentParts
 pub mod Sound

@@ -6,6 +6,7 @@ ghost use Rattle.tcp_flow.specs.Flow.{CaptureEvent, OfCapture, Reader};
 ghost use Rattle.tcp_connections.specs.Connections.{State, none_known, after, with_capture_event, ended};
 ghost use Rattle.tcp_connections.specs.Forgetting.{MakesRoom};
 ghost use Rattle.tcp_connections.specs.Gapless.{AreGapless, AreWhole};
+ghost use Rattle.tcp_connections.specs.Owned.{AreOwned};
 ghost use Rattle.tcp_connections.specs.State.{IsState, HasState};
 
 use crate::connections::Connections;
@@ -33,7 +34,8 @@ pub fn the_eldest_makes_room()
 {}
 
 /// Streams are without a gap, whatever segments come: octets come and a stream closes only while it lives, and they stand one
-/// behind another, by the numbers of segments that came. Where the capture ends after these, each stream has closed too.
+/// behind another, by the numbers of segments that came, each of the stream's own flow. Where the capture ends after these,
+/// each stream has closed too.
 pub fn no_stream_has_a_gap()
     ensures gapless { (faulted : Reader) (ports : List ℕ) (blocks most : ℕ)
         (segments : List Segment) → 1 ≤ most → most ≤ 65536
@@ -41,5 +43,12 @@ pub fn no_stream_has_a_gap()
     ensures ended { (faulted : Reader) (ports : List ℕ) (blocks most : ℕ) (segments : List Segment)
         → 1 ≤ most → most ≤ 65536
         → AreWhole segments
+        (ended faulted (after faulted (none_known ports blocks most []) segments)).events }
+    ensures own { (faulted : Reader) (ports : List ℕ) (blocks most : ℕ) (segments : List Segment)
+        → 1 ≤ most → most ≤ 65536
+        → AreOwned segments (after faulted (none_known ports blocks most []) segments).events }
+    ensures own_to_the_end { (faulted : Reader) (ports : List ℕ) (blocks most : ℕ)
+        (segments : List Segment) → 1 ≤ most → most ≤ 65536
+        → AreOwned segments
         (ended faulted (after faulted (none_known ports blocks most []) segments)).events }
 {}
