@@ -130,7 +130,7 @@ known_at segments F w place s among is l h =
     reset_at segments (fin_taken F paid id s) place side s (omega (arith, l, ap length known))
     (fin_at segments F paid id s at_paid)
 
-place_within : (p : EndpointPair) (ps : List EndpointPair) (i : ℕ) → place_of p ps ≡ Some i →
+pub place_within : (p : EndpointPair) (ps : List EndpointPair) (i : ℕ) → place_of p ps ≡ Some i →
     i < length ps
 unfolding place_of
 place_within p [] i e = absurd (true≢false (sym (ap is_some e)))
@@ -213,7 +213,7 @@ step_at segments F w s h =
       owns = owns_grown segments s w h.owns;
     })
 
-after_at : (before segments : List Segment) (F : Reader) (w : State) → At before w →
+pub after_at : (before segments : List Segment) (F : Reader) (w : State) → At before w →
     At (before ++ segments) (after F w segments)
 unfolding after
 after_at before [] F w h = subst (λ (ss : List Segment). At ss w) (sym (append-nil before)) h

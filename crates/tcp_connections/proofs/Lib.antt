@@ -8,6 +8,7 @@ pub mod Ending
 pub mod Following
 pub mod Forgotten
 pub mod Gapless
+pub mod Gone
 pub mod Kept
 pub mod Living
 pub mod Owners

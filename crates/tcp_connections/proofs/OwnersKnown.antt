@@ -248,7 +248,7 @@ theirs_with owners owners' p room (q ∷ ps) (r ∷ rs) (suc i) none a b same l 
 
 -- ---- Whose a segment is.
 
-equal_of : (r : Ordering) → is_eq r ≡ true → r ≡ Equal
+pub equal_of : (r : Ordering) → is_eq r ≡ true → r ≡ Equal
 equal_of Less e = absurd (true≢false (sym e))
 equal_of Equal e = refl
 equal_of Greater e = absurd (true≢false (sym e))

@@ -1,10 +1,11 @@
 //! What is so of connections whoever drives them.
 
-ghost use Rattle.std.specs.Prelude.{ℕ, ◌≤◌, ◌<◌, ◌++◌, ◌∷◌, [], List, length};
+ghost use Rattle.std.specs.Prelude.{ℕ, ◌≡◌, ◌≤◌, ◌<◌, ◌++◌, ◌∷◌, [], List, length, is_some, None, true};
 ghost use Rattle.tcp_segment.specs.Segments.{Segment};
 ghost use Rattle.tcp_flow.specs.Flow.{CaptureEvent, OfCapture, Reader};
-ghost use Rattle.tcp_connections.specs.Connections.{State, none_known, after, with_capture_event, ended};
-ghost use Rattle.tcp_connections.specs.Forgetting.{MakesRoom};
+ghost use Rattle.tcp_streams.specs.declared.pair.EndpointPair.{EndpointPair};
+ghost use Rattle.tcp_connections.specs.Connections.{State, none_known, place_of, after, with_capture_event, ended};
+ghost use Rattle.tcp_connections.specs.Forgetting.{IsForgottenBy, MakesRoom};
 ghost use Rattle.tcp_connections.specs.Gapless.{AreGapless, AreWhole};
 ghost use Rattle.tcp_connections.specs.Owned.{AreOwned};
 ghost use Rattle.tcp_connections.specs.State.{IsState, HasState};
@@ -25,6 +26,18 @@ pub fn capture_event_is_told<L: Listener + Drop>()
         → IsState (L.observed before) live c w
         → L.observed behind (w.events ++ OfCapture event ∷ [])
         → HasState (L.observed behind) live c }
+{}
+
+/// A connection that is known is forgotten by a segment only where it is a SYN or RST of one of the connection's own flows, or
+/// the first payload of another, where as many are known as may be and this is the one that makes room.
+pub fn nothing_else_forgets()
+    ensures { (faulted : Reader) (ports : List ℕ) (blocks most : ℕ) (segments : List Segment)
+        (s : Segment) (p : EndpointPair) → 1 ≤ most → most ≤ 65536
+        → is_some (place_of p (after faulted (none_known ports blocks most []) segments).known)
+        ≡ true
+        → place_of p (after faulted (none_known ports blocks most []) (segments ++ s ∷ [])).known
+        ≡ None
+        → IsForgottenBy (after faulted (none_known ports blocks most []) segments) s p }
 {}
 
 /// Where as many connections are known as may be, the one that makes room for another has no live stream, if there is one
