@@ -104,7 +104,8 @@ reads_version f p q at r e minor =
       minor,
       major_long f.order,
     ) in
-    let is : file_version (magic_of f) (take 4 (drop 0 q)) ≡ Continues (parts.FileRest (magic_of f)) =
+    let is : file_version (magic_of f) (take 4 (drop 0 q))
+    ≡ Continues (parts.FileRest (magic_of f)) =
     ap (λ (xs : List ℕ). file_version (magic_of f) (take 4 (drop 0 xs))) e
     ∙ version_is (magic_of f) f.minor in
     completes p q (record { part = parts.FileVersion (magic_of f); interfaces = [] }) at []
@@ -252,7 +253,8 @@ reads_one f p r at h ending =
     ∙ take_all 12 (a ++ b ++ c) (omega (arith, twelve)) in
     let back : drop 16 q ≡ r.octets =
     drop-append-le 16 (a ++ b ++ c ++ o) r.octets (omega (arith, sixteen))
-    ∙ ap (λ (xs : List ℕ). xs ++ r.octets) (drop_all 16 (a ++ b ++ c ++ o) (omega (arith, sixteen))) in
+    ∙ ap (λ (xs : List ℕ). xs ++ r.octets)
+    (drop_all 16 (a ++ b ++ c ++ o) (omega (arith, sixteen))) in
     let place : length (p ++ q) ≡ length p + (16 + length r.octets) =
     omega (arith, length-append p q, all) in
     reads_record p q (header_of f) [] at (head_of f r) (length r.octets) ending all

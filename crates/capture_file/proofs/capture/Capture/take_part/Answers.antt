@@ -84,7 +84,8 @@ returns-clause-reads c p r =
     omega (arith, c.if-missing-rest.false, left, c.requires.some) in
     (takes_at_once p octets end count c.args.self.now c.advance.new.self c.complete.new.self
     c.complete.result start r
-    c.requires.running fresh whole within c.advance.ensures.advances.part c.advance.ensures.advances.interfaces
+    c.requires.running fresh whole within c.advance.ensures.advances.part
+    c.advance.ensures.advances.interfaces
     (c.advance.ensures.advances.fault
     ∙ c.requires.running) c.advance.ensures.advances.packets c.advance.ensures.advances.octets
     (end_of_piece octets start count c.back-back.result _ c.back-back.ensures.value)
@@ -107,7 +108,8 @@ returns-clause-answers c p r =
     omega (arith, c.if-missing-rest.false, left, c.requires.some) in
     (takes_at_once p octets end count c.args.self.now c.advance.new.self c.complete.new.self
     c.complete.result start r
-    c.requires.running fresh whole within c.advance.ensures.advances.part c.advance.ensures.advances.interfaces
+    c.requires.running fresh whole within c.advance.ensures.advances.part
+    c.advance.ensures.advances.interfaces
     (c.advance.ensures.advances.fault
     ∙ c.requires.running) c.advance.ensures.advances.packets c.advance.ensures.advances.octets
     (end_of_piece octets start count c.back-back.result _ c.back-back.ensures.value)
