@@ -50,7 +50,8 @@ beside_times : (id : ℕ) (live : List ℕ) (event : Event) → (flow_of event �
     times id (behind live event) ≡ times id live
 unfolding behind
 beside_times id live (Opens flow endpoints) apart = refl
-beside_times id live (Begins flow n) apart = begun_beside flow id live (λ o. apart (ap Some (sym o)))
+beside_times id live (Begins flow n) apart =
+    begun_beside flow id live (λ o. apart (ap Some (sym o)))
 beside_times id live (Delivers flow octets) apart = refl
 beside_times id live (Closes flow cause) apart =
     times_without flow id live (λ o. apart (ap Some (sym o)))

@@ -198,8 +198,8 @@ follow_grown payloads p w t =
 
 -- ---- The capture ends.
 
-pub gapped_follow : (payloads : List Payload) (F : Reader) (w : State) (id : ℕ) → Follow payloads w →
-    Follow payloads (gapped F w id)
+pub gapped_follow : (payloads : List Payload) (F : Reader) (w : State) (id : ℕ) →
+    Follow payloads w → Follow payloads (gapped F w id)
 gapped_follow payloads F w id h = by (flow_at w id) refl
   where
     by : (o : Option FlowState) → flow_at w id ≡ o → Follow payloads (gapped F w id)

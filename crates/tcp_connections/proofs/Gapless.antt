@@ -28,7 +28,7 @@ use Rattle.tcp_connections.proofs.Owners.{owner_of}
 use Rattle.tcp_connections.proofs.OwnersEnd.{end_owns}
 use Rattle.tcp_connections.proofs.OwnersGrown.{slice_more, owns_grown, none_owns}
 use Rattle.tcp_connections.proofs.OwnersKnown.{told_owns, theirs_at, flow_of_pair}
-use Rattle.tcp_connections.proofs.Owning.{either}
+use Rattle.tcp_connections.proofs.OwnFlows.{either}
 use Rattle.tcp_connections.proofs.Search.{forgotten_unknown}
 pub use Rattle.tcp_connections.proofs.SegmentParts.{At}
 use Rattle.tcp_connections.proofs.SegmentParts.{IsIn, fin_at, acknowledgement_at, first_at, payload_at, id_within, forgotten_at, reset_at, with_room_at, made_owner, made_at}

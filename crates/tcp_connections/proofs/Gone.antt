@@ -91,7 +91,8 @@ both p k e = true≢false (sym k ∙ ap is_some e)
 
 -- of a connection that isn't known
 unknown_gone : (F : Reader) (w : State) (s : Segment) (p : EndpointPair) →
-    1 ≤ length w.lasts → place_of (pair_of s.flow).0 w.known ≡ None → is_some (place_of p w.known) ≡ true
+    1 ≤ length w.lasts → place_of (pair_of s.flow).0 w.known ≡ None →
+    is_some (place_of p w.known) ≡ true
     → place_of p (unknown_taken F w s).known ≡ None → MakesWay w s p
 unfolding made_known
 unknown_gone F w s p some new k e =
@@ -197,7 +198,7 @@ syn_of live s a =
       | inl e ↦ e
       | inr e ↦ absurd (true≢false (sym a ∙ ap (λ (b : Bool).
           b && not (is_some s.acknowledgement)
-          && not (elim live [ None ↦ false | Some number ↦ nat_eq number (onward s.sequence 1) ])) e))
+          && not (elim live [ None ↦ false | Some n ↦ nat_eq n (onward s.sequence 1) ])) e))
     ]
 
 -- of one that begins anew

@@ -15,7 +15,7 @@ pub mod Owners
 pub mod OwnersEnd
 pub mod OwnersGrown
 pub mod OwnersKnown
-pub mod Owning
+pub mod OwnFlows
 pub mod SamePairs
 pub mod Search
 pub mod SegmentParts

@@ -16,7 +16,7 @@ use Rattle.tcp_streams.specs.Pairs.{flow_from}
 use Rattle.tcp_connections.specs.Connections.{State, flow_at, flow_state, with_flow, arrived, began, gapped, closed_at}
 use Rattle.tcp_connections.specs.Owned.{IsPartOf, Standing, Unopened, Idle, Live, owner, is_of, standing, AllMayCome}
 use Rattle.tcp_connections.proofs.Cases.{arrived_none, arrived_some, gapped_none, gapped_some, closed_none, closed_some}
-use Rattle.tcp_connections.proofs.Owning.{Stands, other_more, IsPartOfOwn, stand_of, IsOwn, closed_own, came_own, step_own, gap_own}
+use Rattle.tcp_connections.proofs.OwnFlows.{Stands, other_more, IsPartOfOwn, stand_of, IsOwn, closed_own, came_own, step_own, gap_own}
 use Rattle.tcp_connections.proofs.Sound.{some_within}
 
 some_number : (x y : ℕ) → Some x ≡ Some y → x ≡ y
@@ -74,7 +74,8 @@ all_map P Q [] f h = tt
 all_map P Q (p ∷ ps) f h = (f p h.0, all_map P Q ps f h.1)
 
 -- the owners of some are as they were
-pub held_same : (segments : List Segment) (owners owners' : ℕ → Option Endpoints) (ps : List Payload) →
+pub held_same : (segments : List Segment) (owners owners' : ℕ → Option Endpoints)
+    (ps : List Payload) →
     ((j : ℕ) → owners' j ≡ owners j) → AllByRecursion (IsPartOfOwn segments owners) ps →
     AllByRecursion (IsPartOfOwn segments owners') ps
 held_same segments owners owners' ps same h = all_map (IsPartOfOwn segments owners)

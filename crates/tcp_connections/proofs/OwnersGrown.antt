@@ -7,7 +7,7 @@ use Rattle.tcp_flow.specs.Flow.{Event, Opens, Begins, Delivers, Closes, OfCaptur
 use Rattle.tcp_connections.specs.Connections.{State, none_known}
 use Rattle.tcp_connections.specs.Owned.{IsPartOf, Standing, Unopened, Idle, Live, is_of, behind, MayCome, standing, AllMayCome}
 use Rattle.tcp_connections.proofs.Owners.{all_map, owner_of, StandsAs, Owns}
-use Rattle.tcp_connections.proofs.Owning.{IsPartOfOwn}
+use Rattle.tcp_connections.proofs.OwnFlows.{IsPartOfOwn}
 use Rattle.tcp_connections.proofs.Times.{none_there}
 
 unopened : (o : Endpoints) (n : ℕ) → Unopened ≡ Live o n → ⊥

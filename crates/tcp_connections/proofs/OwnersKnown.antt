@@ -20,7 +20,7 @@ use Rattle.tcp_connections.specs.Connections.{State, flow_at, flow_forgotten, pl
 use Rattle.tcp_connections.specs.Owned.{Standing, Unopened, Idle, Live, owner, MayCome, AllMayCome}
 use Rattle.tcp_connections.specs.State.{times}
 use Rattle.tcp_connections.proofs.Forgotten.{forgot_either}
-use Rattle.tcp_connections.proofs.Owning.{either, Stands, own_more, other_more, IsPartOfOwn, IsOwn, closed_own}
+use Rattle.tcp_connections.proofs.OwnFlows.{either, Stands, own_more, other_more, IsPartOfOwn, IsOwn, closed_own}
 use Rattle.tcp_connections.proofs.Owners.{others_stand, stands_for, owner_of, IsQuiet, StandsAs, AreTheirs, Owns, held_same, theirs_same, owner_stand, own_before, stands_now, AreNumbered}
 use Rattle.tcp_connections.proofs.SamePairs.{same_pair_of}
 use Rattle.tcp_connections.proofs.Sound.{some_within}

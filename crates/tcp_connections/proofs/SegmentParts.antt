@@ -31,7 +31,7 @@ use Rattle.tcp_connections.proofs.Following.{due_in, Follow, others_kept, flow_b
 use Rattle.tcp_connections.proofs.Forgotten.{forgot_either, both_forgotten, forgotten_sound}
 use Rattle.tcp_connections.proofs.Owners.{owner_of, Owns, arrived_owns, began_owns}
 use Rattle.tcp_connections.proofs.OwnersKnown.{MadeKnown, forgot_owns, theirs_without, made_owns}
-use Rattle.tcp_connections.proofs.Owning.{either, all_push}
+use Rattle.tcp_connections.proofs.OwnFlows.{either, all_push}
 use Rattle.tcp_connections.proofs.Sound.{IsApart, some_none, some_within, room_below, forgot_sound, known_sound}
 use Rattle.tcp_connections.proofs.Unknown.{eldest_within, next_free}
 
