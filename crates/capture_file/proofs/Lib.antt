@@ -1,6 +1,7 @@
 mod Fitting
 mod WindowLemmas
 mod ReadingSteps
+mod PcapFileReading
 mod Sizes
 mod StateLemmas
 mod Taking

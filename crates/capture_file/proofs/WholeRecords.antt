@@ -17,7 +17,7 @@ use Rattle.capture_file.proofs.ReadingSteps.{completes}
 use Rattle.capture_file.proofs.Taking.{Takes, begun, none_of, slice_front}
 
 -- a record header is due
-abbrev at_header : FileHeader → List Interface → ParserState
+abbrev pub at_header : FileHeader → List Interface → ParserState
 at_header file interfaces = record { part = parts.RecordHeader file; interfaces = interfaces }
 
 -- the reading of a header's octets
@@ -54,7 +54,7 @@ reads_rest p q file interfaces at head captured ending long =
     ∙ rw all refl
 
 -- the reading of a whole record
-reads_record : (p q : List ℕ) (file : FileHeader) (interfaces : List Interface) (at : ℕ)
+pub reads_record : (p q : List ℕ) (file : FileHeader) (interfaces : List Interface) (at : ℕ)
     (head : Head) (captured : ℕ) →
     (reading p).ending ≡ Within (at_header file interfaces) at [] → length q ≡ 16 + captured →
     record_header file (take 12 q) ≡ Continues (parts.Record file head captured) →

@@ -1,6 +1,6 @@
 -- What a capture holds of the octets that were taken: each of its fields is determined by all of
 -- them (state).
-use Rattle.std.specs.Prelude.{◌≡◌, ℕ, ◌+◌, ◌≤◌, Bool, true, false, List, [], ◌∷◌, ◌++◌, length, slice_range, Some, None, if◌then◌else◌}
+use Rattle.std.specs.Prelude.{◌≡◌, ℕ, ◌+◌, ◌≤◌, Bool, true, false, List, [], ◌∷◌, ◌++◌, length, slice_range, vec_capacity, Some, None, if◌then◌else◌}
 use Rattle.capture_file.specs.declared.capture.Capture.{Capture}
 use Rattle.capture_file.specs.declared.part.Head.{Head}
 use Rattle.capture_file.specs.declared.progress.Progress.{Progress}
@@ -28,6 +28,11 @@ pub record Reads (c : Capture) (p : List ℕ) : Type 0 where
   pub octets : c.octets ≡ length p
   pub packets : c.packets ≡ length (packets p)
   pub stands : Stands c (reading p).ending
+
+-- there is room for as many interfaces, and for as many octets of a packet
+pub record HasSameRoom (old new : Capture) : Type 0 where
+  pub interfaces : vec_capacity new.interfaces ≡ vec_capacity old.interfaces
+  pub packet_octets : vec_capacity new.packet_octets ≡ vec_capacity old.packet_octets
 
 -- how many octets a capture has taken
 abbrev pub octets_of : Capture → ℕ

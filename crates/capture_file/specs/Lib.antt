@@ -8,5 +8,6 @@ pub mod Window
 pub mod Laws
 pub mod Numbers
 pub mod Parts
+pub mod PcapFiles
 pub mod Reading
 pub mod Records

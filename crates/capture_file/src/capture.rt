@@ -57,7 +57,7 @@ pub struct Capture {
 }
 
 impl Capture {
-    ghost use Rattle.capture_file.specs.CaptureState.{Reads, octets_of, Answers, IsRunning, IsIn, head_in, octets_in};
+    ghost use Rattle.capture_file.specs.CaptureState.{Reads, HasSameRoom, octets_of, Answers, IsRunning, IsIn, head_in, octets_in};
     ghost use Rattle.capture_file.specs.Reading.{packets, final_fault};
     ghost use Rattle.capture_file.specs.CaptureSteps.{Completes, PartBegins, EndsPacketAt, HoldsPiece, Advances};
     ghost use Rattle.capture_file.specs.CaptureSteps.{IsRecordDue, TakesRecord};
@@ -117,6 +117,7 @@ impl Capture {
         ensures some { result.1 ≡ Progress.Packet → 0 < result.0 }
         ensures within { result.0 ≤ length octets.now }
         ensures all { result.1 ≡ Progress.More → result.0 ≡ length octets.now }
+        ensures memory { HasSameRoom self.old self.new }
     {
         if let Some(fault) = self.fault {
             return (0, Progress::Fault(fault));
@@ -147,6 +148,7 @@ impl Capture {
         ensures octets { self.new.octets ≡ self.old.octets + result.0 }
         ensures some { 0 < result.0 }
         ensures within { start + result.0 ≤ length octets.now }
+        ensures memory { HasSameRoom self.old self.new }
     {
         if let Some((head, captured)) = self.due_record(&octets[start..]) {
             return (self.take_record(head, start, captured), Progress::Packet);
@@ -191,6 +193,7 @@ impl Capture {
         requires within { start + (16 + captured) < 2 ^ 64 }
         ensures takes { TakesRecord self.old self.new head start captured }
         ensures count { result ≡ 16 + captured }
+        ensures memory { HasSameRoom self.old self.new }
     {
         let count = 16 + captured;
         self.advance(count);
@@ -207,6 +210,7 @@ impl Capture {
         ensures kept { HoldsPiece self.old self.new piece.now }
         ensures taken { self.new.taken ≡ self.old.taken + length piece.now }
         ensures octets { self.new.octets ≡ self.old.octets + length piece.now }
+        ensures memory { HasSameRoom self.old self.new }
     {
         self.hold_piece(piece);
         self.taken += piece.len() as u64;
@@ -226,6 +230,7 @@ impl Capture {
         ensures packet { (octets : List ℕ) → result ≡ Progress.Packet → IsIn self.new octets }
         ensures running { IsRunning result self.new }
         ensures octets { self.new.octets ≡ self.old.octets + length piece.now }
+        ensures memory { HasSameRoom self.old self.new }
     {
         let back = self.part.back() as usize;
         self.hold_piece(piece);
@@ -237,7 +242,8 @@ impl Capture {
     fn advance(&mut self, count: usize)
         requires running { self.old.fault ≡ None }
         requires room { self.old.octets + count < 2 ^ 64 }
-        ensures { Advances self.old self.new count }
+        ensures advances { Advances self.old self.new count }
+        ensures memory { HasSameRoom self.old self.new }
     {
         self.octets += count as u64;
     }
@@ -250,6 +256,7 @@ impl Capture {
         ensures kept { HoldsPiece self.old self.new piece.now }
         ensures taken { self.new.taken ≡ self.old.taken }
         ensures octets { self.new.octets ≡ self.old.octets + length piece.now }
+        ensures memory { HasSameRoom self.old self.new }
     {
         let front = self.part.front();
         push_front(&mut self.packet_octets, front, self.taken, piece);
@@ -265,8 +272,9 @@ impl Capture {
         requires back { length end.now ≡ back self.old.part }
         requires some { self.old.packets < self.old.octets }
         requires room { start + front self.old.part < 2 ^ 64 }
-        ensures { Completes (next self.old.part self.old.interfaces.items end.now)
+        ensures completes { Completes (next self.old.part self.old.interfaces.items end.now)
             self.old self.new result start held }
+        ensures memory { HasSameRoom self.old self.new }
     {
         match next(&self.part, &self.interfaces, end) {
             Outcome::Continues(part) => {
@@ -294,8 +302,9 @@ impl Capture {
     fn end_packet(&mut self, head: Head, start: usize, end: usize, held: bool)
         requires some { self.old.packets < self.old.octets }
         requires order { start ≤ end }
-        ensures { EndsPacketAt self.old self.new
+        ensures ends { EndsPacketAt self.old self.new
             (record { head = head; start = start; end = end; held = held }) }
+        ensures memory { HasSameRoom self.old self.new }
     {
         self.packet_range = PacketRange {
             head,
@@ -314,14 +323,11 @@ impl Capture {
         ensures begins { PartBegins self.old self.new part }
         ensures packets { self.new.packets ≡ self.old.packets }
         ensures kept { self.new.packet_range ≡ self.old.packet_range }
+        ensures memory { HasSameRoom self.old self.new }
     {
         match self.part {
             Part::ByteOrderMagic(_) => self.interfaces.clear(),
-            Part::InterfaceEnd(_, interface) => {
-                if self.interfaces.push(interface).is_err() {
-                    unreachable!();
-                }
-            }
+            Part::InterfaceEnd(_, interface) => self.interfaces.push_reserved(interface),
             _ => {}
         }
         self.part = part;

@@ -1,6 +1,7 @@
 //! The laws of a capture's reading.
 
 ghost use Rattle.capture_file.specs.Laws.{PacketsBegin, FaultStays};
+ghost use Rattle.capture_file.specs.PcapFiles.{AFileHasItsRecords};
 
 /// What has been read of a capture stays as it is, whatever comes. It has no body, and is called for its contract.
 pub fn packets_begin()
@@ -8,4 +9,10 @@ pub fn packets_begin()
     ensures packets { PacketsBegin }
     // and behind a fault nothing is read.
     ensures stays { FaultStays }
+{}
+
+/// A pcap file that is written record by record is read record by record: its packets are those of the records, with their
+/// times and places, and it has no fault. It has no body, and is called for its contract.
+pub fn a_file_has_its_records()
+    ensures { AFileHasItsRecords }
 {}

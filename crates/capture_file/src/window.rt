@@ -1,6 +1,6 @@
 //! What is held of the octets of a part that comes in pieces.
 
-ghost use Rattle.std.specs.Prelude.{◌≡◌, ℕ, ◌+◌, ◌^◌, ◌<◌, ◌≤◌, min, List, ◌++◌, length, vec_capacity};
+ghost use Rattle.std.specs.Prelude.{◌≡◌, ℕ, ◌+◌, ◌^◌, ◌<◌, ◌≤◌, min, List, ◌++◌, length, vec_len, vec_capacity};
 ghost use Rattle.capture_file.specs.Window.{IsHeld};
 
 /// Where a part has come up to an offset, copies those octets of its next piece into a window that are among so many of
@@ -28,13 +28,23 @@ pub fn push_front(front: &mut Vec<u8>, size: u64, at: u64, piece: &[u8])
     ensures held { (had : List ℕ) → length had ≡ at → IsHeld 0 size had front.old.items →
         IsHeld 0 size (had ++ piece.now) front.new.items }
     ensures come { min (at + length piece.now) size ≤ length front.new.items }
-    ensures capacity { vec_capacity front.old ≤ vec_capacity front.new }
+    ensures capacity { vec_capacity front.new ≡ vec_capacity front.old }
 {
     if at < size {
         let count = (size - at).min(piece.len() as u64) as usize;
         front.truncate(at as usize);
-        if front.extend_from_slice(&piece[..count]).is_err() {
-            unreachable!();
-        }
+        push_all(front, &piece[..count]);
+    }
+}
+
+/// Puts octets behind those that are there, where there is room for them: none is taken. (What `extend_from_slice` says of its
+/// room doesn't tell that.)
+fn push_all(to: &mut Vec<u8>, octets: &[u8])
+    requires room { vec_len to.old + length octets.now ≤ vec_capacity to.old }
+    ensures items { to.new.items ≡ to.old.items ++ octets.now }
+    ensures capacity { vec_capacity to.new ≡ vec_capacity to.old }
+{
+    for &octet in octets {
+        to.push_reserved(octet);
     }
 }

@@ -9,37 +9,20 @@ use Rattle.tcp_flow.specs.declared.flow.CloseCause.TheVariants.{Fault, Gap}
 use Rattle.tcp_flow.specs.declared.flow.FlowState.{FlowState}
 use Rattle.tcp_waiting.specs.Numbers.{onward}
 use Rattle.tcp_waiting.specs.Payload.{Payload, payload, first, count_of}
-use Rattle.tcp_flow.specs.Flow.{Flow, Event, Opens, Begins, Delivers, Closes, OfCapture, Reader, left, with_event, delivered, begun as flow_begun, taken, header_at, at, closed, gap, first_of, held_by_others}
+use Rattle.tcp_flow.specs.Flow.{Flow, Begins, Delivers, Closes, Reader, left, with_event, delivered, begun as flow_begun, taken, header_at, at, closed, gap, first_of, held_by_others}
 use Rattle.tcp_flow.specs.State.{state}
 use Rattle.tcp_flow.proofs.Preserving.{Keeps, gone_on_keeps}
 use Rattle.tcp_flow.proofs.Room.{gap_fewer}
 use Rattle.tcp_flow.proofs.Others.{gap_others, others_all}
-use Rattle.tcp_streams.specs.Lives.{lives, lives_from, behind, begun, without, most_ids, AreIds}
-use Rattle.tcp_streams.proofs.Ids.{none_ids, begun_ids, without_ids, none_left}
+use Rattle.tcp_streams.specs.Lives.{lives, behind, begun, without, most_ids}
+use Rattle.tcp_streams.proofs.Ids.{none_left}
 use Rattle.tcp_streams.proofs.Order.{lives_more}
 use Rattle.tcp_connections.specs.Connections.{State, flow_at, live_of, live_at, with_flow, gapped, is_holding}
 use Rattle.tcp_connections.specs.State.{IsSound, times}
 use Rattle.tcp_connections.proofs.Cases.{gapped_some}
+use Rattle.tcp_connections.proofs.Living.{lives_ids}
 use Rattle.tcp_connections.proofs.Sound.{count_beside, count_gone, some_within}
 use Rattle.tcp_connections.proofs.States.{small_id}
-
--- ---- The streams that live stand there once each.
-
-behind_ids : (live : List ℕ) (e : Event) → AreIds live → AreIds (behind live e)
-unfolding behind
-behind_ids live (Opens id endpoints) h = h
-behind_ids live (Begins id number) h = begun_ids id live h
-behind_ids live (Delivers id octets) h = h
-behind_ids live (Closes id cause) h = without_ids id live h
-behind_ids live (OfCapture event) h = h
-
-from_ids : (live : List ℕ) (es : List Event) → AreIds live → AreIds (lives_from live es)
-unfolding lives_from
-from_ids live [] h = h
-from_ids live (e ∷ es) h = from_ids (behind live e) es (behind_ids live e h)
-
-pub lives_ids : (es : List Event) → AreIds (lives es)
-lives_ids es = from_ids [] es none_ids
 
 -- where a number stands
 times_index : (n : ℕ) (xs : List ℕ) → 0 < times n xs → (r : ℕ)
@@ -74,7 +57,7 @@ at_without n (x ∷ xs) (suc r) (suc k) d l e b =
     (cond-false (nat_eq x n) xs (x ∷ without n xs) (differs x n k xs d (omega (arith, l)) e))
     ∙ at_without n xs r k d.1 (omega (arith, l)) e (omega (arith, b))
 
-length_without : (n : ℕ) (xs : List ℕ) (k : ℕ) → k < length xs → get_or xs k 0 ≡ n →
+pub length_without : (n : ℕ) (xs : List ℕ) (k : ℕ) → k < length xs → get_or xs k 0 ≡ n →
     length (without n xs) + 1 ≡ length xs
 unfolding without
 length_without n [] k l e = absurd (omega (arith, l))
@@ -285,7 +268,7 @@ pub record SoFar (left rank : ℕ) (w : State) : Type 0 where
   pub before : (r : ℕ) → r < rank → count_of (get_or (lives w.events) r 0) w.held ≡ 0
 
 abbrev pub AreTold : State → Type 0
-AreTold w = (id : ℕ) → is_some (live_at w id) ≡ true → 0 < times id (lives w.events)
+AreTold w = (id : ℕ) → is_some (live_at w id) ≡ nat_lt 0 (times id (lives w.events))
 
 none_held : (id next : ℕ) (ps : List Payload) → is_some (first id next ps) ≡ false →
     count_of id ps ≡ 0
@@ -435,7 +418,8 @@ all_so_far left rank w h told over so = empty_by w.held (λ id. by id (flow_at w
           | inl e ↦
               (let live : is_some (live_at w id) ≡ true =
               ap (λ (o : Option FlowState). is_some (live_of o)) a ∙ holds_live w id s h a e in
-              let i = times_index id (lives w.events) (told id live) in
+              let i = times_index id (lives w.events)
+              (ltb-true 0 (times id (lives w.events)) (sym (told id) ∙ live)) in
               subst (λ (n : ℕ). count_of n w.held ≡ 0) i.1.1
               (so.before i.0 (omega (arith, i.1.0, over))))
           | inr e ↦ subst (λ (n : ℕ). count_of n w.held ≡ 0) (h.ids id s a)

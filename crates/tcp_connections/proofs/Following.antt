@@ -1,6 +1,6 @@
 -- The flows of a state follow payloads: what each delivers is of them, whatever comes for a flow,
 -- and where the capture ends.
-use Rattle.std.proofs.Common.{◌≡◌, ℕ, zero, suc, ◌+◌, ◌-◌, ◌<◌, ◌≤◌, ◌^◌, false, cond, List, [], ◌∷◌, ◌++◌, length, set, get_or, Option, Some, None, is_some, unwrap_or, refl, sym, ◌∙◌, ap, subst, arith, inl, inr, get_or-set_same, get_or-set_other}
+use Rattle.std.proofs.Common.{◌≡◌, ℕ, zero, suc, ◌+◌, ◌-◌, ◌<◌, ◌≤◌, ◌^◌, false, cond, List, [], ◌∷◌, ◌++◌, length, set, get_or, Option, Some, None, is_some, unwrap_or, refl, sym, ◌∙◌, ap, subst, arith, inl, inr, length-set, get_or-set_same, get_or-set_other}
 use Rattle.std.proofs.lemmas.Bool.{cases_eq, cases_lt, cases_Bool}
 use Rattle.tcp_waiting.specs.Payload.{Payload, payload, blocks_of}
 use Rattle.tcp_waiting.proofs.Counts.{first_none}
@@ -15,7 +15,7 @@ use Rattle.tcp_flow.proofs.Room.{room_after, fin_blocks, missed_blocks}
 use Rattle.tcp_flow.proofs.States.{settled_whatever}
 use Rattle.tcp_flow.proofs.Truth.{runs_more, runs_grow, all_grow, came_true, gap_true, true_keeps}
 use Rattle.tcp_flow.proofs.Told.{IsKept, closed_told, came_told, step_told, gap_told}
-use Rattle.tcp_streams.specs.Lives.{lives}
+use Rattle.tcp_streams.specs.Lives.{lives, most_ids}
 use Rattle.tcp_connections.specs.Connections.{State, flow_at, flow_state, with_flow, arrived, began, gapped, closed_at, is_holding, gaps_from, end_cause, all_closed}
 use Rattle.tcp_connections.specs.State.{IsSound}
 use Rattle.tcp_connections.proofs.Cases.{arrived_none, arrived_some, gapped_none, gapped_some, closed_none, closed_some, gaps_none, gaps_over, gaps_gap, gaps_next, closes_none, closes_over, closes_one}
@@ -37,6 +37,7 @@ pub record Follow (payloads : List Payload) (w : State) : Type 0 where
   pub own : (id : ℕ) (s : FlowState) → flow_at w id ≡ Some s → (s.id ≡ id) × (s.next < 2 ^ 32)
   pub held : AllArePartsOf payloads w.held
   pub events : (id : ℕ) → AllFollow payloads id None w.events (due_in (flow_at w id))
+  pub few : length w.flows ≤ most_ids
 
 -- what a flow does is nothing to another
 pub others_kept : (payloads : List Payload) (id other : ℕ) (due : Option ℕ) → (other ≡ id → ⊥) →
@@ -96,6 +97,7 @@ flow_behind payloads w id f h l own g beside =
             | inr n ↦ subst (λ (p : Option FlowState).
                 AllFollow payloads j None f.events (due_in p)) (sym (there j n)) (beside j n)
           ];
+      few = omega (arith, h.few, length-set w.flows id o);
     }
 
 -- ---- What comes for a flow.
@@ -191,12 +193,13 @@ follow_grown payloads p w t =
       own = t.own;
       held = all_grow payloads p w.held t.held;
       events = λ id. runs_grow payloads p id None w.events (due_in (flow_at w id)) (t.events id);
+      few = t.few;
     }
 
 -- ---- The capture ends.
 
-gapped_follow : (payloads : List Payload) (F : Reader) (w : State) (id : ℕ) → Follow payloads w →
-    Follow payloads (gapped F w id)
+pub gapped_follow : (payloads : List Payload) (F : Reader) (w : State) (id : ℕ) →
+    Follow payloads w → Follow payloads (gapped F w id)
 gapped_follow payloads F w id h = by (flow_at w id) refl
   where
     by : (o : Option FlowState) → flow_at w id ≡ o → Follow payloads (gapped F w id)
@@ -213,7 +216,7 @@ gapped_follow payloads F w id h = by (flow_at w id) refl
         (others_kept payloads id other (due_in (flow_at w other)) apart) F f
         (record { same = own; told = h.events other })).told))
 
-closed_follow : (payloads : List Payload) (w : State) (id : ℕ) (cause : CloseCause) →
+pub closed_follow : (payloads : List Payload) (w : State) (id : ℕ) (cause : CloseCause) →
     Follow payloads w → Follow payloads (closed_at w id cause)
 closed_follow payloads w id cause h = by (flow_at w id) refl
   where

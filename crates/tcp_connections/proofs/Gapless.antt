@@ -1,9 +1,10 @@
 -- Streams are without a gap, whatever segments come.
-use Rattle.std.proofs.Common.{◌≡◌, ℕ, zero, suc, ◌+◌, ◌*◌, ◌/◌, ◌<◌, ◌≤◌, List, [], ◌∷◌, ◌++◌, length, set, Option, Some, None, is_some, is_eq, refl, sym, ◌∙◌, ap, subst, arith, inl, inr, true≢false, length-set, append_assoc, append-nil}
+use Rattle.std.proofs.Common.{◌≡◌, ℕ, suc, ◌+◌, ◌*◌, ◌/◌, ◌<◌, ◌≤◌, List, [], ◌∷◌, ◌++◌, length, set, get_or, Option, Some, None, is_some, is_eq, refl, sym, ◌∙◌, ap, subst, arith, inl, inr, true≢false, length-set, append_assoc, append-nil}
 use Rattle.std.specs.Prelude.{slice_get}
 use Rattle.std.specs.List.{AllByRecursion}
 use Rattle.std.specs.Option.{option_map}
 use Rattle.std.proofs.lemmas.Bool.{cases_Bool, cond-true, cond-false}
+use Rattle.std.proofs.lemmas.List.{length-replicate}
 use Rattle.tcp_segment.specs.Segments.{Segment}
 use Rattle.tcp_waiting.specs.Payload.{Payload}
 use Rattle.tcp_flow.specs.declared.flow.CloseCause.TheVariants.{Syn}
@@ -13,20 +14,27 @@ use Rattle.tcp_flow.proofs.Truth.{runs_more}
 use Rattle.tcp_streams.specs.declared.pair.EndpointPair.{EndpointPair}
 use Rattle.tcp_streams.specs.declared.pair.Side.{Side}
 use Rattle.tcp_streams.specs.Lives.{lives}
-use Rattle.tcp_streams.specs.Pairs.{compare_pairs, pair_of, opposite, flow_id}
-use Rattle.tcp_connections.specs.Connections.{State, none_known, flow_at, began, live_at, place_of, room_at, forgotten, with_room, next_room, made_known, first_number, is_first, is_anew, fin_taken, unknown_taken, acknowledgement_taken, payload_taken, known_taken, step, after, with_capture_event, gaps_from, all_closed, ended}
-use Rattle.tcp_connections.specs.Gapless.{IsOfSegment, AreGapless}
+use Rattle.tcp_streams.specs.Pairs.{compare_pairs, pair_of, opposite, flow_id, flow_from}
+use Rattle.tcp_connections.specs.Connections.{State, none_known, flow_at, began, live_at, place_of, room_at, forgotten, with_room, next_room, made_known, first_number, is_first, is_anew, fin_taken, unknown_taken, acknowledgement_taken, payload_taken, known_taken, step, after, with_capture_event, gaps_from, ended}
+use Rattle.tcp_connections.specs.Gapless.{IsOfSegment, AreGapless, AreWhole}
+use Rattle.tcp_connections.specs.Owned.{AreOwned}
 use Rattle.tcp_connections.specs.State.{times}
 use Rattle.tcp_connections.proofs.Cases.{step_unknown, step_anew, step_known}
-use Rattle.tcp_connections.proofs.Following.{some_same, due_in, Follow, gaps_follow, closes_follow}
+use Rattle.tcp_connections.proofs.Closed.{all_closed_follow}
+use Rattle.tcp_connections.proofs.Following.{some_same, due_in, Follow, gaps_follow}
 use Rattle.tcp_connections.proofs.Forgotten.{forgotten_known}
 use Rattle.tcp_connections.proofs.Kept.{acknowledgement_kept, payload_kept, fin_kept, half}
+use Rattle.tcp_connections.proofs.Owners.{owner_of}
+use Rattle.tcp_connections.proofs.OwnersEnd.{end_owns}
+use Rattle.tcp_connections.proofs.OwnersGrown.{slice_more, owns_grown, none_owns}
+use Rattle.tcp_connections.proofs.OwnersKnown.{told_owns, theirs_at, flow_of_pair}
+use Rattle.tcp_connections.proofs.OwnFlows.{either}
 use Rattle.tcp_connections.proofs.Search.{forgotten_unknown}
 pub use Rattle.tcp_connections.proofs.SegmentParts.{At}
-use Rattle.tcp_connections.proofs.SegmentParts.{IsIn, either, fin_at, acknowledgement_at, first_at, payload_at, id_within, forgotten_at, reset_at, with_room_at, made_at}
+use Rattle.tcp_connections.proofs.SegmentParts.{IsIn, fin_at, acknowledgement_at, first_at, payload_at, id_within, forgotten_at, reset_at, with_room_at, made_owner, made_at}
 use Rattle.tcp_connections.proofs.Sound.{IsApart, some_none, apart_taken, room_below, sound_seen}
 use Rattle.tcp_connections.proofs.Start.{none_sound}
-use Rattle.tcp_connections.proofs.Times.{times_at, none_there}
+use Rattle.tcp_connections.proofs.Times.{times_at, no_flow, none_there}
 use Rattle.tcp_connections.proofs.Unknown.{room_enough, next_below, next_vacant, next_taken, made_flows}
 
 -- ---- A segment comes.
@@ -54,7 +62,10 @@ unknown_at segments F w s among new h =
     subst (λ (n : ℕ). 0 < times n made.rooms) (sym (half room side)) (next_taken v pair) in
     let apart : IsApart made id = apart_taken made id m.sound taken in
     let began_there : State = began F made id (first_number s) s.payload in
-    let b : At segments began_there = first_at segments F made id s among m
+    let own : owner_of made.events id ≡ Some s.flow =
+    (made_owner segments v pair enough.1 roomy.sound roomy.owns).own side
+    ∙ ap Some (flow_of_pair s.flow) in
+    let b : At segments began_there = first_at segments F made id s among own m
     (next_vacant v pair side roomy.sound enough.1) within apart in
     either (At segments) (is_first w.ports s) (fin_taken F began_there id s) w
     (fin_at segments F began_there id s b) h
@@ -67,13 +78,25 @@ seen_at segments w lasts count e h =
       sound = sound_seen w lasts count w.events e h.sound;
       payloads = h.payloads;
       came = h.came;
-      follow = record { own = h.follow.own; held = h.follow.held; events = h.follow.events };
+      follow = record {
+        own = h.follow.own;
+        held = h.follow.held;
+        events = h.follow.events;
+        few = h.follow.few;
+      };
+      owns = record {
+        come = h.owns.come;
+        flows = h.owns.flows;
+        held = h.owns.held;
+        known = h.owns.known;
+      };
     }
 
 known_at : (segments : List Segment) (F : Reader) (w : State) (place : ℕ) (s : Segment) →
-    IsIn segments s → place < length w.known → At segments w → At segments (known_taken F w place s)
+    IsIn segments s → place_of (pair_of s.flow).0 w.known ≡ Some place → place < length w.known →
+    At segments w → At segments (known_taken F w place s)
 unfolding known_taken
-known_at segments F w place s among l h =
+known_at segments F w place s among is l h =
     let side : Side = (pair_of s.flow).1 in
     let room : ℕ = room_at w place in
     let id : ℕ = flow_id room side in
@@ -91,14 +114,23 @@ known_at segments F w place s among l h =
     let taken : 0 < times (id / 2) heard.rooms =
     subst (λ (rs : List ℕ). 0 < times (id / 2) rs) (sym kept.rooms)
     (subst (λ (n : ℕ). 0 < times n w.rooms) (sym (half room side)) own) in
-    let at_paid : At segments paid = payload_at segments F heard id s among at_heard within
+    let there : owner_of heard.events (flow_id (get_or heard.rooms place 0) side)
+    ≡ Some (flow_from (pair_of s.flow).0 side) =
+    theirs_at (owner_of heard.events) (pair_of s.flow).0 heard.known heard.rooms place side
+    (sym at_heard.sound.pairs) (ap (place_of (pair_of s.flow).0) kept.known ∙ is)
+    at_heard.owns.known in
+    let mine : owner_of heard.events id ≡ Some s.flow =
+    subst (λ (rs : List ℕ). owner_of heard.events (flow_id (get_or rs place 0) side)
+    ≡ Some (flow_from (pair_of s.flow).0 side)) kept.rooms there
+    ∙ ap Some (flow_of_pair s.flow) in
+    let at_paid : At segments paid = payload_at segments F heard id s among mine at_heard within
     (apart_taken heard id at_heard.sound taken) in
     let known : (fin_taken F paid id s).known ≡ w.known =
     (fin_kept F paid id s).known ∙ (payload_kept F heard id s).known ∙ kept.known in
     reset_at segments (fin_taken F paid id s) place side s (omega (arith, l, ap length known))
     (fin_at segments F paid id s at_paid)
 
-place_within : (p : EndpointPair) (ps : List EndpointPair) (i : ℕ) → place_of p ps ≡ Some i →
+pub place_within : (p : EndpointPair) (ps : List EndpointPair) (i : ℕ) → place_of p ps ≡ Some i →
     i < length ps
 unfolding place_of
 place_within p [] i e = absurd (true≢false (sym (ap is_some e)))
@@ -143,14 +175,8 @@ step_at_in segments F w s among h = by (place_of (pair_of s.flow).0 w.known) ref
               ∙ forgotten_unknown (pair_of s.flow).0 w.known place h.sound.order e)
               (forgotten_at segments v place side Syn within counted))
           | inr a ↦ subst (At segments) (sym (step_known F w s place e a))
-              (known_at segments F v place s among within counted)
+              (known_at segments F v place s among e within counted)
         ]
-
-slice_more : {X : Type 0} (xs : List X) (y : X) (i : ℕ) (x : X) → slice_get xs i ≡ Some x →
-    slice_get (xs ++ y ∷ []) i ≡ Some x
-slice_more [] y i x e = absurd (true≢false (sym (ap is_some e)))
-slice_more (z ∷ zs) y zero x e = e
-slice_more (z ∷ zs) y (suc i) x e = slice_more zs y i x e
 
 slice_last : {X : Type 0} (xs : List X) (y : X) → slice_get (xs ++ y ∷ []) (length xs) ≡ Some y
 slice_last [] y = refl
@@ -184,9 +210,10 @@ step_at segments F w s h =
       came =
           all_of_more segments s h.payloads h.came;
       follow = h.follow;
+      owns = owns_grown segments s w h.owns;
     })
 
-after_at : (before segments : List Segment) (F : Reader) (w : State) → At before w →
+pub after_at : (before segments : List Segment) (F : Reader) (w : State) → At before w →
     At (before ++ segments) (after F w segments)
 unfolding after
 after_at before [] F w h = subst (λ (ss : List Segment). At ss w) (sym (append-nil before)) h
@@ -213,7 +240,9 @@ told_at segments w event h =
                 runs_more h.payloads id None (due_in (flow_at w id)) (due_in (flow_at w id))
                 w.events (OfCapture event) (h.follow.events id)
                 (inr (λ o. true≢false (sym (ap is_some o)), refl));
+            few = h.follow.few;
           };
+      owns = told_owns segments w event h.owns;
     }
 
 -- no connection is known
@@ -231,7 +260,9 @@ start_at ports blocks most some few =
                 (none_there (2 * most) id));
             held = tt;
             events = λ id. sym (ap due_in (none_there (2 * most) id));
+            few = omega (arith, few, length-replicate (2 * most) no_flow);
           };
+      owns = none_owns ports blocks most;
     }
 
 -- ---- Streams are without a gap.
@@ -250,14 +281,23 @@ pub gapless_of : (segments : List Segment) (w : State) → At segments w →
     AreGapless segments w.events
 gapless_of segments w h = gapless_by segments h.payloads w h.came h.follow
 
+pub ended_whole : (segments : List Segment) (F : Reader) (w : State) → At segments w →
+    AreWhole segments (ended F w).events
+unfolding ended
+ended_whole segments F w h =
+    let v : State = gaps_from F (length w.held + length (lives w.events)) 0 w in
+    let gaps = gaps_follow h.payloads F (length w.held + length (lives w.events)) 0 w h.follow in
+    record { payloads = h.payloads; came = h.came; follow = all_closed_follow h.payloads v gaps }
+
 pub ended_gapless : (segments : List Segment) (F : Reader) (w : State) → At segments w →
     AreGapless segments (ended F w).events
-unfolding ended
 ended_gapless segments F w h =
-    let v : State = gaps_from F (length w.held + length (lives w.events)) 0 w in
-    gapless_by segments h.payloads (all_closed (length (lives v.events)) v) h.came
-    (closes_follow h.payloads (length (lives v.events)) v
-    (gaps_follow h.payloads F (length w.held + length (lives w.events)) 0 w h.follow))
+    let whole : AreWhole segments (ended F w).events = ended_whole segments F w h in
+    record {
+      payloads = whole.payloads;
+      came = whole.came;
+      follow = λ flow. (None, whole.follow flow);
+    }
 
 pub after_gapless : (F : Reader) (ports : List ℕ) (blocks most : ℕ) (segments : List Segment) →
     1 ≤ most → most ≤ 65536
@@ -266,9 +306,29 @@ after_gapless F ports blocks most segments some few =
     gapless_of segments (after F (none_known ports blocks most []) segments)
     (after_at [] segments F (none_known ports blocks most []) (start_at ports blocks most some few))
 
-pub all_ended_gapless : (F : Reader) (ports : List ℕ) (blocks most : ℕ) (segments : List Segment) →
+pub after_whole : (F : Reader) (ports : List ℕ) (blocks most : ℕ) (segments : List Segment) →
     1 ≤ most → most ≤ 65536
-    → AreGapless segments (ended F (after F (none_known ports blocks most []) segments)).events
-all_ended_gapless F ports blocks most segments some few =
-    ended_gapless segments F (after F (none_known ports blocks most []) segments)
+    → AreWhole segments (ended F (after F (none_known ports blocks most []) segments)).events
+after_whole F ports blocks most segments some few =
+    ended_whole segments F (after F (none_known ports blocks most []) segments)
+    (after_at [] segments F (none_known ports blocks most []) (start_at ports blocks most some few))
+
+-- ---- What is delivered is of the stream's own flow.
+
+pub after_owned : (F : Reader) (ports : List ℕ) (blocks most : ℕ) (segments : List Segment) →
+    1 ≤ most → most ≤ 65536
+    → AreOwned segments (after F (none_known ports blocks most []) segments).events
+after_owned F ports blocks most segments some few =
+    (after_at [] segments F (none_known ports blocks most [])
+    (start_at ports blocks most some few)).owns.come
+
+pub ended_owned : (segments : List Segment) (F : Reader) (w : State) → At segments w →
+    AreOwned segments (ended F w).events
+ended_owned segments F w h = (end_owns segments h.payloads F w h.follow h.owns).come
+
+pub after_end_owned : (F : Reader) (ports : List ℕ) (blocks most : ℕ) (segments : List Segment) →
+    1 ≤ most → most ≤ 65536
+    → AreOwned segments (ended F (after F (none_known ports blocks most []) segments)).events
+after_end_owned F ports blocks most segments some few =
+    ended_owned segments F (after F (none_known ports blocks most []) segments)
     (after_at [] segments F (none_known ports blocks most []) (start_at ports blocks most some few))

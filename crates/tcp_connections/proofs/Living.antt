@@ -1,17 +1,38 @@
 -- A flow whose stream lives is one of those of whose streams the listener was told that they live.
-use Rattle.std.proofs.Common.{◌≡◌, ℕ, ◌+◌, ◌<◌, Bool, true, false, cond, nat_eq, nat_lt, ◌&&◌, ◌||◌, List, [], ◌∷◌, ◌++◌, length, drop, Option, Some, None, is_some, refl, sym, ◌∙◌, ap, subst, arith, inl, inr, true≢false}
-use Rattle.std.specs.List.{remove}
-use Rattle.std.proofs.lemmas.Bool.{cases_Bool, cond-true, cond-false, eqb-true, ne_eqb, lt-ltb}
+use Rattle.std.proofs.Common.{◌≡◌, ℕ, ◌+◌, ◌<◌, Bool, true, false, cond, eqb, nat_eq, nat_lt, ◌&&◌, ◌||◌, List, [], ◌∷◌, ◌++◌, length, drop, Option, Some, None, is_some, refl, sym, ◌∙◌, ap, subst, arith, inl, inr, true≢false}
+use Rattle.std.specs.List.{AllByRecursion, IsDistinct, remove}
+use Rattle.std.proofs.lemmas.Bool.{cases_Bool, cond-true, cond-false, eqb-true, eq-eqb, ne_eqb, lt-ltb}
 use Rattle.tcp_flow.specs.declared.flow.CloseCause.{CloseCause}
 use Rattle.tcp_flow.specs.declared.flow.CloseCause.TheVariants.{Fault}
 use Rattle.tcp_waiting.specs.Numbers.{onward, age}
 use Rattle.tcp_waiting.specs.Payload.{Payload, payload, has_as_much}
-use Rattle.tcp_flow.specs.Flow.{Flow, Event, Begins, Delivers, Closes, Reader, Setting, Arrival, Octets, End, Acknowledged, left, with_event, delivered, begun as flow_begun, taken, header_at, at, closed, holding, gone_on, within_bounds, payload_came, fin_came, gap, fresh, first_payload, step}
+use Rattle.tcp_flow.specs.Flow.{Flow, Event, Opens, Begins, Delivers, Closes, OfCapture, Reader, Setting, Arrival, Octets, End, Acknowledged, left, with_event, delivered, begun as flow_begun, taken, header_at, at, closed, holding, gone_on, within_bounds, payload_came, fin_came, gap, fresh, first_payload, step}
 use Rattle.tcp_flow.proofs.Preserving.{Keeps, gone_on_keeps, relieved_keeps, missed_keeps, gap_keeps}
-use Rattle.tcp_streams.specs.Lives.{lives, behind, begun, without, most_ids}
+use Rattle.tcp_streams.specs.Lives.{lives, lives_from, behind, begun, without, most_ids, AreIds}
+use Rattle.tcp_streams.proofs.Ids.{none_ids, begun_ids, without_ids, none_left}
 use Rattle.tcp_streams.proofs.Order.{lives_more}
 use Rattle.tcp_connections.specs.State.{times}
 use Rattle.tcp_connections.proofs.Times.{times_last, times_own}
+
+-- ---- The streams that live stand there once each.
+
+pub behind_ids : (live : List ℕ) (e : Event) → AreIds live → AreIds (behind live e)
+unfolding behind
+behind_ids live (Opens id endpoints) h = h
+behind_ids live (Begins id number) h = begun_ids id live h
+behind_ids live (Delivers id octets) h = h
+behind_ids live (Closes id cause) h = without_ids id live h
+behind_ids live (OfCapture event) h = h
+
+from_ids : (live : List ℕ) (es : List Event) → AreIds live → AreIds (lives_from live es)
+unfolding lives_from
+from_ids live [] h = h
+from_ids live (e ∷ es) h = from_ids (behind live e) es (behind_ids live e h)
+
+pub lives_ids : (es : List Event) → AreIds (lives es)
+lives_ids es = from_ids [] es none_ids
+
+-- ---- How often a flow stands there, behind an event.
 
 without_by : (n j x : ℕ) (xs : List ℕ) (b : Bool) → nat_eq x n ≡ b → (j ≡ n → ⊥) →
     times j (without n xs) ≡ times j xs → times j (cond b xs (x ∷ without n xs))
@@ -26,6 +47,19 @@ unfolding times without
 times_without n j [] apart = refl
 times_without n j (x ∷ xs) apart = without_by n j x xs (nat_eq x n) refl apart
     (times_without n j xs apart)
+
+pub times_none : (n : ℕ) (xs : List ℕ) → AllByRecursion (λ y. eqb n y ≡ false) xs → times n xs ≡ 0
+unfolding times
+times_none n [] h = refl
+times_none n (x ∷ xs) h =
+    let other : nat_eq x n ≡ false =
+    ne_eqb x n (λ o. absurd (true≢false (sym (eq-eqb n x (sym o)) ∙ h.0))) in
+    let zero : ◌≡◌ {A = ℕ} (cond (nat_eq x n) 1 0) 0 = rw other refl in
+    omega (arith, zero, times_none n xs h.1)
+
+-- what is taken away of ids that differ stands there no longer
+pub times_gone : (n : ℕ) (xs : List ℕ) → IsDistinct eqb xs → times n (without n xs) ≡ 0
+times_gone n xs d = times_none n (without n xs) (none_left n xs d)
 
 pub begun_own : (id : ℕ) (xs : List ℕ) → id < most_ids → 0 < times id (begun id xs)
 unfolding begun
@@ -46,11 +80,11 @@ begun_beside id j xs apart =
       | inr e ↦ ap (times j) (cond-false (nat_lt id most_ids) (without id xs ++ id ∷ []) xs e)
     ]
 
--- what a flow of this id has done since: its stream is told where it lives, and those of others
--- stay
+-- what a flow of this id has done since: its stream is told where it lives and only there, and
+-- those of others stay
 pub record IsTurn (id : ℕ) (es : List Event) (g : Flow) : Type 0 where
   pub same : g.id ≡ id
-  pub own : is_some g.live ≡ true → 0 < times id (lives g.events)
+  pub own : is_some g.live ≡ nat_lt 0 (times id (lives g.events))
   pub beside : (j : ℕ) → (j ≡ id → ⊥) → times j (lives g.events) ≡ times j (lives es)
 
 either : {X : Type 0} (P : X → Type 0) (b : Bool) (x y : X) → P x → P y → P (cond b x y)
@@ -70,7 +104,9 @@ unfolding behind
 closing_turn id es g cause t =
     record {
       same = t.same;
-      own = λ e. absurd (true≢false (sym e));
+      own = sym (ap (nat_lt 0) (ap (times id) (lives_more [] g.events (Closes g.id cause)
+          ∙ ap (λ (n : ℕ). without n (lives g.events)) t.same)
+          ∙ times_gone id (lives g.events) (lives_ids g.events).1));
       beside = λ j n. ap (times j) (lives_more [] g.events (Closes g.id cause))
           ∙ times_without g.id j (lives g.events) (λ o. n (o ∙ t.same)) ∙ t.beside j n;
     }
@@ -107,7 +143,7 @@ delivered_turn F id es g p t =
     let u : IsTurn id es d =
     record {
       same = t.same;
-      own = λ e. subst (λ (xs : List ℕ). 0 < times id xs) (sym more) (t.own e);
+      own = t.own ∙ ap (λ (xs : List ℕ). nat_lt 0 (times id xs)) (sym more);
       beside = λ j n. ap (times j) more ∙ t.beside j n;
     } in
     either (IsTurn id es) (F d.events) (record {
@@ -138,9 +174,9 @@ begun_turn F id es g q (Some i) l t =
     }) (payload q.flow n (drop i q.octets))
     (record {
       same = t.same;
-      own = λ e. subst (λ (xs : List ℕ). 0 < times id xs) (sym more)
-          (subst (λ (k : ℕ). 0 < times id (begun k (lives g.events))) (sym t.same)
-          (begun_own id (lives g.events) l));
+      own = sym (ap (λ (xs : List ℕ). nat_lt 0 (times id xs)) (more
+          ∙ ap (λ (k : ℕ). begun k (lives g.events)) t.same)
+          ∙ lt-ltb 0 (times id (begun id (lives g.events))) (begun_own id (lives g.events) l));
       beside = λ j k. ap (times j) more ∙ begun_beside g.id j (lives g.events) (λ o. k (o ∙ t.same))
           ∙ t.beside j k;
     })
@@ -202,13 +238,14 @@ pub gap_turn : (F : Reader) (id : ℕ) (es : List Event) (f : Flow) → id < mos
 gap_turn F id es f l t = gap_keeps F (IsTurn id es) (turn_keeps F id es l) f t
 
 pub first_turn : (A : Setting) (id n : ℕ) (octets : List ℕ) (held : List Payload)
-    (es : List Event) → id < most_ids → IsTurn id es (first_payload A id n octets held es)
+    (es : List Event) → id < most_ids → false ≡ nat_lt 0 (times id (lives es)) →
+    IsTurn id es (first_payload A id n octets held es)
 unfolding first_payload
-first_turn A id n octets held es l =
+first_turn A id n octets held es l none =
     came_turn A id es (fresh id n held es) (payload id n octets) l
-    (record { same = refl; own = λ e. absurd (true≢false (sym e)); beside = λ j k. refl })
+    (record { same = refl; own = none; beside = λ j k. refl })
 
 -- what a flow has done so far is nothing yet
 pub no_turn : (id : ℕ) (f : Flow) → f.id ≡ id →
-    (is_some f.live ≡ true → 0 < times id (lives f.events)) → IsTurn id f.events f
+    is_some f.live ≡ nat_lt 0 (times id (lives f.events)) → IsTurn id f.events f
 no_turn id f same own = record { same = same; own = own; beside = λ j n. refl }

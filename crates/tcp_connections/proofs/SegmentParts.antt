@@ -1,6 +1,6 @@
 -- What is so of a state behind segments is so behind each part of what one more does: what comes
 -- for a flow, a connection is forgotten, one becomes known.
-use Rattle.std.proofs.Common.{◌≡◌, ℕ, zero, suc, ◌-◌, ◌<◌, ◌^◌, Bool, true, false, cond, nat_eq, List, [], ◌∷◌, ◌++◌, length, take, set, get_or, Option, Some, None, is_some, refl, sym, ◌∙◌, ap, subst, arith, inl, inr, length-set, get_or-set_same, get_or-set_other}
+use Rattle.std.proofs.Common.{◌≡◌, ℕ, zero, suc, ◌+◌, ◌*◌, ◌-◌, ◌<◌, ◌^◌, Bool, true, false, cond, nat_eq, List, [], ◌∷◌, ◌++◌, length, take, set, get_or, Option, Some, None, is_some, unwrap_or, refl, sym, ◌∙◌, ap, subst, arith, inl, inr, true≢false, length-set, get_or-set_same, get_or-set_other}
 use Rattle.std.specs.Prelude.{slice_get}
 use Rattle.std.specs.List.{AllByRecursion}
 use Rattle.std.proofs.lemmas.Bool.{cases_eq, cases_lt, cond-false}
@@ -10,7 +10,7 @@ use Rattle.tcp_waiting.specs.Payload.{Payload, payload}
 use Rattle.tcp_flow.specs.declared.flow.CloseCause.{CloseCause}
 use Rattle.tcp_flow.specs.declared.flow.CloseCause.TheVariants.{Reset, Room}
 use Rattle.tcp_flow.specs.declared.flow.FlowState.{FlowState}
-use Rattle.tcp_flow.specs.Flow.{Flow, Event, Opens, Reader, Setting, Octets, End, Acknowledged, setting, payload_came, closed, step as flow_step, held_by_others}
+use Rattle.tcp_flow.specs.Flow.{Flow, Event, Opens, Reader, Setting, Arrival, Octets, End, Acknowledged, setting, payload_came, closed, step as flow_step, held_by_others}
 use Rattle.tcp_flow.specs.Laws.{AllFollow, OwnMayFollow, AllArePartsOf, IsGapless, due_of}
 use Rattle.tcp_flow.specs.State.{state}
 use Rattle.tcp_flow.proofs.Room.{closed_dead}
@@ -23,11 +23,15 @@ use Rattle.tcp_streams.specs.Lives.{lives, elder_side}
 use Rattle.tcp_streams.specs.Pairs.{opposite, flow_id, flow_from}
 use Rattle.tcp_connections.specs.Connections.{State, flow_at, arrived, began, flow_forgotten, place_of, room_at, forgotten, eldest, with_room, next_room, rest_of_rooms, made_known, first_number, number_behind, is_first, fin_taken, acknowledgement_taken, payload_taken, reset_taken}
 use Rattle.tcp_connections.specs.Gapless.{IsOfSegment}
-use Rattle.tcp_connections.specs.State.{IsSound}
-use Rattle.tcp_connections.proofs.Cases.{room_there, room_made}
+use Rattle.tcp_connections.specs.Owned.{IsPartOf}
+use Rattle.tcp_connections.specs.State.{IsSound, times}
+use Rattle.tcp_connections.proofs.Cases.{forgot_some, room_there, room_made}
 use Rattle.tcp_connections.proofs.Changes.{opened}
 use Rattle.tcp_connections.proofs.Following.{due_in, Follow, others_kept, flow_before, Goes, arrived_both, began_both, follow_grown}
-use Rattle.tcp_connections.proofs.Forgotten.{forgot_either, forgotten_sound}
+use Rattle.tcp_connections.proofs.Forgotten.{forgot_either, both_forgotten, forgotten_sound}
+use Rattle.tcp_connections.proofs.Owners.{owner_of, Owns, arrived_owns, began_owns}
+use Rattle.tcp_connections.proofs.OwnersKnown.{MadeKnown, forgot_owns, theirs_without, made_owns}
+use Rattle.tcp_connections.proofs.OwnFlows.{either, all_push}
 use Rattle.tcp_connections.proofs.Sound.{IsApart, some_none, some_within, room_below, forgot_sound, known_sound}
 use Rattle.tcp_connections.proofs.Unknown.{eldest_within, next_free}
 
@@ -38,18 +42,45 @@ pub record At (segments : List Segment) (w : State) : Type 0 where
   pub payloads : List Payload
   pub came : AllByRecursion (IsOfSegment segments) payloads
   pub follow : Follow payloads w
+  pub owns : Owns segments w
 
 unfoldable pub IsIn : List Segment → Segment → Type 0
 IsIn segments s = (index : ℕ) × (slice_get segments index ≡ Some s)
 
-all_push : (P : Payload → Type 0) (ps : List Payload) (p : Payload) → AllByRecursion P ps → P p →
-    AllByRecursion P (ps ++ p ∷ [])
-all_push P [] p h x = (x, tt)
-all_push P (q ∷ ps) p h x = (h.0, all_push P ps p h.1 x)
+abbrev is_octets : Arrival → Bool
+is_octets (Octets n octets) = true
+is_octets (End n) = false
+is_octets (Acknowledged n) = false
 
-pub either : {X : Type 0} (P : X → Type 0) (b : Bool) (x y : X) → P x → P y → P (cond b x y)
-either P true x y p q = p
-either P false x y p q = q
+-- a segment's payload is that of its flow
+own_part : (segments : List Segment) (w : State) (id : ℕ) (s : Segment) → IsIn segments s →
+    owner_of w.events id ≡ Some s.flow → (o : Endpoints) → owner_of w.events id ≡ Some o → (n : ℕ)
+    (octets : List ℕ) → Octets (first_number s) s.payload ≡ Octets n octets →
+    IsPartOf segments o n octets
+unfolding IsIn
+own_part segments w id s among own o is n octets e =
+    subst (λ (x : Endpoints). IsPartOf segments x n octets)
+    (ap (λ (x : Option Endpoints). unwrap_or x s.flow) (sym own ∙ is))
+    (subst (λ (k : ℕ). IsPartOf segments s.flow k octets) (ap number_of e)
+    (subst (IsPartOf segments s.flow (first_number s)) (ap octets_of e) (record {
+      index = among.0;
+      segment = s;
+      among = among.1;
+      flow_is = refl;
+      skipped = 0;
+      number_is = omega arith;
+      octets_are = refl;
+    })))
+  where
+    number_of : Arrival → ℕ
+    number_of (Octets k xs) = k
+    number_of (End k) = k
+    number_of (Acknowledged k) = k
+
+    octets_of : Arrival → List ℕ
+    octets_of (Octets k xs) = xs
+    octets_of (End k) = []
+    octets_of (Acknowledged k) = []
 
 pub fin_at : (segments : List Segment) (F : Reader) (w : State) (id : ℕ) (s : Segment) →
     At segments w → At segments (fin_taken F w id s)
@@ -59,7 +90,14 @@ fin_at segments F w id s h =
     let both = arrived_both h.payloads h.payloads F w id (End n) h.sound h.follow h.follow
     (λ f own g. fin_true F h.payloads f n g) in
     either (At segments) s.fin (arrived F w id (End n)) w
-    (record { sound = both.0; payloads = h.payloads; came = h.came; follow = both.1 }) h
+    (record {
+      sound = both.0;
+      payloads = h.payloads;
+      came = h.came;
+      follow = both.1;
+      owns = arrived_owns segments F w id (End n) h.follow.own
+          (λ o own k octets e. absurd (true≢false (sym (ap is_octets e)))) h.owns;
+    }) h
 
 pub acknowledgement_at : (segments : List Segment) (F : Reader) (w : State) (id : ℕ) (s : Segment) →
     At segments w → At segments (acknowledgement_taken F w id s)
@@ -72,7 +110,14 @@ acknowledgement_at segments F w id s h =
           (let both = arrived_both h.payloads h.payloads F w id (Acknowledged number) h.sound
           h.follow h.follow
           (λ f own g. missed_true F h.payloads (length f.held) number f g) in
-          record { sound = both.0; payloads = h.payloads; came = h.came; follow = both.1 })
+          record {
+            sound = both.0;
+            payloads = h.payloads;
+            came = h.came;
+            follow = both.1;
+            owns = arrived_owns segments F w id (Acknowledged number) h.follow.own
+                (λ o own k octets e. absurd (true≢false (sym (ap is_octets e)))) h.owns;
+          })
     ]
 
 -- the payload of a segment, for a flow
@@ -88,10 +133,11 @@ payload_came_of segments payloads id s among came =
     (record { index = among.0; segment = s; among = among.1; number_is = refl; octets_are = refl })
 
 pub first_at : (segments : List Segment) (F : Reader) (w : State) (id : ℕ) (s : Segment) →
-    IsIn segments s → At segments w → flow_at w id ≡ None → id < length w.flows → IsApart w id
+    IsIn segments s → owner_of w.events id ≡ Some s.flow → At segments w → flow_at w id ≡ None →
+    id < length w.flows → IsApart w id
     → At segments (began F w id (first_number s) s.payload)
 unfolding with_payload
-first_at segments F w id s among h e within apart =
+first_at segments F w id s among own h e within apart =
     let n : ℕ = first_number s in
     let small : n < 2 ^ 32 = omega arith in
     let both = began_both h.payloads F w id n s.payload small h.sound h.follow
@@ -102,22 +148,24 @@ first_at segments F w id s among h e within apart =
       came =
           payload_came_of segments h.payloads id s among h.came;
       follow = both.1;
+      owns = began_owns segments F w id n s.payload s.flow small e within own
+          (own_part segments w id s among own s.flow own n s.payload refl) h.owns;
     }
 
 later_at : (segments : List Segment) (F : Reader) (w : State) (id : ℕ) (s : Segment) →
-    IsIn segments s → At segments w → At segments
+    IsIn segments s → owner_of w.events id ≡ Some s.flow → At segments w → At segments
     (arrived F w id (Octets (first_number s) s.payload))
 unfolding with_payload flow_step Goes
-later_at segments F w id s among h =
+later_at segments F w id s among own h =
     let A : Setting = setting F w.blocks in
     let n : ℕ = first_number s in
     let small : n < 2 ^ 32 = omega arith in
     let both =
     arrived_both h.payloads (with_payload h.payloads id s) F w id (Octets n s.payload) h.sound
     h.follow (follow_grown h.payloads (payload id n s.payload) w h.follow)
-    (λ f own g.
+    (λ f same g.
     subst (λ (k : ℕ). IsGapless (h.payloads ++ payload k n s.payload ∷ [])
-    (payload_came A f (payload f.id n s.payload))) own
+    (payload_came A f (payload f.id n s.payload))) same
     (came_true A h.payloads f (payload f.id n s.payload) small g)) in
     record {
       sound = both.0;
@@ -125,23 +173,25 @@ later_at segments F w id s among h =
       came =
           payload_came_of segments h.payloads id s among h.came;
       follow = both.1;
+      owns = arrived_owns segments F w id (Octets n s.payload) h.follow.own
+          (own_part segments w id s among own) h.owns;
     }
 
 pub payload_at : (segments : List Segment) (F : Reader) (w : State) (id : ℕ) (s : Segment) →
-    IsIn segments s → At segments w → id < length w.flows → IsApart w id
-    → At segments (payload_taken F w id s)
+    IsIn segments s → owner_of w.events id ≡ Some s.flow → At segments w → id < length w.flows →
+    IsApart w id → At segments (payload_taken F w id s)
 unfolding payload_taken
-payload_at segments F w id s among h within apart =
+payload_at segments F w id s among own h within apart =
     elim (flow_at w id) as (λ (o : Option FlowState). flow_at w id ≡ o → At segments (elim o [
       | None ↦ cond (is_first w.ports s) (began F w id (first_number s) s.payload) w
       | Some f ↦ cond s.reset w (arrived F w id (Octets (first_number s) s.payload))
     ])) [
       | None ↦ (λ e. either (At segments) (is_first w.ports s)
           (began F w id (first_number s) s.payload) w
-          (first_at segments F w id s among h e within apart) h)
+          (first_at segments F w id s among own h e within apart) h)
       | Some f ↦ (λ e. either (At segments) s.reset w
           (arrived F w id (Octets (first_number s) s.payload)) h
-          (later_at segments F w id s among h))
+          (later_at segments F w id s among own h))
     ] refl
 
 -- ---- A connection is forgotten.
@@ -202,7 +252,10 @@ flow_forgotten_at segments w id cause h =
                       (others_kept h.payloads id j (due_in (flow_at w j)) n) f cause
                       (record { same = own; told = h.follow.events j })).told
                 ];
+            few = omega (arith, h.follow.few, length-set w.flows id None);
           };
+      owns = subst (Owns segments) (forgot_some w id cause s e)
+          (forgot_owns segments w id cause h.follow.own h.owns);
     })
   where
     gone : (w : State) (id j : ℕ) → id < length w.flows → j ≡ id →
@@ -229,7 +282,20 @@ forgotten_at segments w place side cause l h =
           (id_within w room FromGreater h.sound (room_below w place h.sound l));
       payloads = v.payloads;
       came = v.came;
-      follow = record { own = v.follow.own; held = v.follow.held; events = v.follow.events };
+      follow = record {
+        own = v.follow.own;
+        held = v.follow.held;
+        events = v.follow.events;
+        few = v.follow.few;
+      };
+      owns = record {
+        come = v.owns.come;
+        flows = v.owns.flows;
+        held = v.owns.held;
+        known = theirs_without (owner_of (both_forgotten w room side cause).events)
+            (both_forgotten w room side cause).known (both_forgotten w room side cause).rooms place
+            v.owns.known;
+      };
     }
 
 pub reset_at : (segments : List Segment) (w : State) (place : ℕ) (side : Side) (s : Segment) →
@@ -279,6 +345,16 @@ opens_more payloads w es id other endpoints none t =
           refl t
     ]
 
+pub made_owner : (segments : List Segment) (w : State) (p : EndpointPair) →
+    length w.known < length w.lasts → IsSound w → Owns segments w →
+    MadeKnown segments w p (next_room w.free)
+made_owner segments w p l h owns =
+    let room : ℕ = next_room w.free in
+    let free : 0 < times room w.free = next_free w h l in
+    let none = h.freed room free in
+    made_owns segments w p none.0 none.1 (h.vacant (2 * room) none.0)
+    (h.vacant (2 * room + 1) none.1) (omega (arith, free, h.once room)) (sym h.pairs) owns
+
 pub made_at : (segments : List Segment) (w : State) (p : EndpointPair) →
     length w.known < length w.lasts → place_of p w.known ≡ None → At segments w →
     At segments (made_known w p)
@@ -305,5 +381,7 @@ made_at segments w p l new h =
                 (flow_id room FromGreater) id (flow_from p FromGreater) none.1
                 (opens_more h.payloads w w.events (flow_id room FromLesser) id
                 (flow_from p FromLesser) none.0 (h.follow.events id));
+            few = h.follow.few;
           };
+      owns = (made_owner segments w p l h.sound h.owns).owns;
     }

@@ -23,3 +23,9 @@ pub record AreGapless (segments : List Segment) (events : List Event) : Type 0 w
   pub payloads : List Payload
   pub came : AllByRecursion (IsOfSegment segments) payloads
   pub follow : (flow : ℕ) → (due : Option ℕ) × AllFollow payloads flow None events due
+
+-- the same where each stream that began has closed
+pub record AreWhole (segments : List Segment) (events : List Event) : Type 0 where
+  pub payloads : List Payload
+  pub came : AllByRecursion (IsOfSegment segments) payloads
+  pub follow : (flow : ℕ) → AllFollow payloads flow None events None

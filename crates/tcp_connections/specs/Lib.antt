@@ -1,3 +1,5 @@
 pub mod Connections
+pub mod Forgetting
 pub mod Gapless
+pub mod Owned
 pub mod State

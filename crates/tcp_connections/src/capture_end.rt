@@ -21,6 +21,7 @@ impl Connections {
             → OnOk result (IsAt (L.observed to.new.listener) to.new.live.items self.new
             (ended L.faulted w)) }
         ensures held { OnOk result (self.new.pool.held ≡ []) }
+        ensures none { OnOk result (to.new.live.items ≡ []) }
         ensures cause { OnErr result (L.failed to.new.listener) }
     {
         self.end_gaps(to)?;

@@ -1,10 +1,13 @@
 //! What is so of connections whoever drives them.
 
-ghost use Rattle.std.specs.Prelude.{ℕ, ◌≤◌, ◌++◌, ◌∷◌, [], List};
+ghost use Rattle.std.specs.Prelude.{ℕ, ◌≡◌, ◌≤◌, ◌<◌, ◌++◌, ◌∷◌, [], List, length, is_some, None, true};
 ghost use Rattle.tcp_segment.specs.Segments.{Segment};
 ghost use Rattle.tcp_flow.specs.Flow.{CaptureEvent, OfCapture, Reader};
-ghost use Rattle.tcp_connections.specs.Connections.{State, none_known, after, with_capture_event, ended};
-ghost use Rattle.tcp_connections.specs.Gapless.{AreGapless};
+ghost use Rattle.tcp_streams.specs.declared.pair.EndpointPair.{EndpointPair};
+ghost use Rattle.tcp_connections.specs.Connections.{State, none_known, place_of, after, with_capture_event, ended};
+ghost use Rattle.tcp_connections.specs.Forgetting.{IsForgottenBy, MakesRoom};
+ghost use Rattle.tcp_connections.specs.Gapless.{AreGapless, AreWhole};
+ghost use Rattle.tcp_connections.specs.Owned.{AreOwned};
 ghost use Rattle.tcp_connections.specs.State.{IsState, HasState};
 
 use crate::connections::Connections;
@@ -25,14 +28,40 @@ pub fn capture_event_is_told<L: Listener + Drop>()
         → HasState (L.observed behind) live c }
 {}
 
-/// Streams are without a gap, whatever segments come, and so they are where the capture ends behind these: octets come and a
-/// stream closes only while it lives, and they stand one behind another, by the numbers of segments that came.
+/// A connection that is known is forgotten by a segment only where it is a SYN or RST of one of the connection's own flows, or
+/// the first payload of another, where as many are known as may be and this is the one that makes room.
+pub fn nothing_else_forgets()
+    ensures { (faulted : Reader) (ports : List ℕ) (blocks most : ℕ) (segments : List Segment)
+        (s : Segment) (p : EndpointPair) → 1 ≤ most → most ≤ 65536
+        → is_some (place_of p (after faulted (none_known ports blocks most []) segments).known)
+        ≡ true
+        → place_of p (after faulted (none_known ports blocks most []) (segments ++ s ∷ [])).known
+        ≡ None
+        → IsForgottenBy (after faulted (none_known ports blocks most []) segments) s p }
+{}
+
+/// Where as many connections are known as may be, the one that makes room for another has no live stream, if there is one
+/// without, and of those alike it is the one whose last segment came first. It has no body, and is called for its contract.
+pub fn the_eldest_makes_room()
+    ensures { (w : State) → 0 < length w.known → length w.lasts ≤ length w.known → MakesRoom w }
+{}
+
+/// Streams are without a gap, whatever segments come: octets come and a stream closes only while it lives, and they stand one
+/// behind another, by the numbers of segments that came, each of the stream's own flow. Where the capture ends after these,
+/// each stream has closed too.
 pub fn no_stream_has_a_gap()
     ensures gapless { (faulted : Reader) (ports : List ℕ) (blocks most : ℕ)
         (segments : List Segment) → 1 ≤ most → most ≤ 65536
         → AreGapless segments (after faulted (none_known ports blocks most []) segments).events }
     ensures ended { (faulted : Reader) (ports : List ℕ) (blocks most : ℕ) (segments : List Segment)
         → 1 ≤ most → most ≤ 65536
-        → AreGapless segments
+        → AreWhole segments
+        (ended faulted (after faulted (none_known ports blocks most []) segments)).events }
+    ensures own { (faulted : Reader) (ports : List ℕ) (blocks most : ℕ) (segments : List Segment)
+        → 1 ≤ most → most ≤ 65536
+        → AreOwned segments (after faulted (none_known ports blocks most []) segments).events }
+    ensures own_to_the_end { (faulted : Reader) (ports : List ℕ) (blocks most : ℕ)
+        (segments : List Segment) → 1 ≤ most → most ≤ 65536
+        → AreOwned segments
         (ended faulted (after faulted (none_known ports blocks most []) segments)).events }
 {}

@@ -9,4 +9,6 @@ mod forgetting;
 mod laws;
 
 pub use connections::Connections;
-pub use laws::{capture_event_is_told, no_stream_has_a_gap};
+pub use laws::{
+    capture_event_is_told, no_stream_has_a_gap, nothing_else_forgets, the_eldest_makes_room,
+};

@@ -36,6 +36,7 @@ impl FreeRooms {
         ensures some { (room : ℕ) → (result ≡ Some room)
             → self.old.free.items ≡ self.new.free.items ++ room ∷ [] }
         ensures most { self.new.most ≡ self.old.most }
+        ensures memory { vec_capacity self.new.free ≡ vec_capacity self.old.free }
     {
         self.free.pop()
     }
@@ -45,8 +46,8 @@ impl FreeRooms {
         requires { vec_len self.old.free < self.old.most }
         ensures free { self.new.free.items ≡ self.old.free.items ++ room ∷ [] }
         ensures most { self.new.most ≡ self.old.most }
+        ensures memory { vec_capacity self.new.free ≡ vec_capacity self.old.free }
     {
-        // It does not fail: there has been room for the most of them since they were made.
-        let _kept = self.free.push(room);
+        self.free.push_reserved(room);
     }
 }

@@ -76,6 +76,8 @@ impl<K: Ord + Drop> RoomTable<K> {
         ensures keys { self.new.keys.items ≡ insert self.old.keys.items place key }
         ensures rooms { self.new.rooms.items ≡ insert self.old.rooms.items place room }
         ensures most { self.new.most ≡ self.old.most }
+        ensures memory { (vec_capacity self.new.keys ≡ vec_capacity self.old.keys)
+            × (vec_capacity self.new.rooms ≡ vec_capacity self.old.rooms) }
     {
         // Neither fails: there has been room for the most keys since the table was made.
         let _key = self.keys.insert(place, key);
@@ -89,6 +91,8 @@ impl<K: Ord + Drop> RoomTable<K> {
         ensures rooms { self.new.rooms.items ≡ remove self.old.rooms.items place }
         ensures room { result ≡ get_or self.old.rooms.items place 0 }
         ensures most { self.new.most ≡ self.old.most }
+        ensures memory { (vec_capacity self.new.keys ≡ vec_capacity self.old.keys)
+            × (vec_capacity self.new.rooms ≡ vec_capacity self.old.rooms) }
     {
         self.keys.remove(place);
         self.rooms.remove(place)

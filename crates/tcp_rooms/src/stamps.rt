@@ -1,7 +1,7 @@
 //! When each room was last used, in memory that is allocated once.
 
 ghost use Rattle.std.specs.Prelude.{◌≡◌, ◌<◌, IfOk, get_or, set, replicate};
-ghost use Rattle.std.specs.Vec.{vec_len};
+ghost use Rattle.std.specs.Vec.{vec_len, vec_capacity};
 
 use std::alloc::{AllocError, Global};
 
@@ -25,6 +25,7 @@ impl Stamps {
         requires { room < vec_len self.old.last }
         ensures last { self.new.last.items ≡ set self.old.last.items room stamp }
         ensures rooms { vec_len self.new.last ≡ vec_len self.old.last }
+        ensures memory { vec_capacity self.new.last ≡ vec_capacity self.old.last }
     {
         self.last[room as usize] = stamp;
     }

@@ -10,7 +10,8 @@ returns-clause-reads c p r =
     c.complete.result r c.requires.running c.requires.whole c.hold_piece.ensures.kept
     c.hold_piece.ensures.octets
     (omega (arith, mid.end_room))
-    (ap (λ n. take n mid.end_octets) c.back-back.ensures.value) c.complete.ensures).reads
+    (ap (λ n. take n mid.end_octets) c.back-back.ensures.value)
+    c.complete.ensures.completes).reads
 
 pub returns-clause-answers : goal.returns-clause-answers
 returns-clause-answers c p octets r =
@@ -20,4 +21,5 @@ returns-clause-answers c p octets r =
     c.complete.result r c.requires.running c.requires.whole c.hold_piece.ensures.kept
     c.hold_piece.ensures.octets
     (omega (arith, mid.end_room))
-    (ap (λ n. take n mid.end_octets) c.back-back.ensures.value) c.complete.ensures).answers
+    (ap (λ n. take n mid.end_octets) c.back-back.ensures.value)
+    c.complete.ensures.completes).answers

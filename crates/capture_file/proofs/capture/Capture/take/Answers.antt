@@ -1,5 +1,6 @@
 use Rattle.std.proofs.Common.{◌≡◌, ◌+◌, ◌++◌, ℕ, List, take, drop, take-add, append_assoc, subst, sym, ap, ◌∙◌, arith}
-use Rattle.capture_file.specs.CaptureState.{Reads}
+use Rattle.capture_file.specs.declared.capture.Capture.{Capture}
+use Rattle.capture_file.specs.CaptureState.{Reads, HasSameRoom}
 use Rattle.capture_file.specs.Reading.{packets}
 use Rattle.capture_file.proofs.Taking.{answers_behind}
 use Rattle.capture_file.proofs.capture.Capture.take.Goals as goal
@@ -10,6 +11,12 @@ behind p octets t n =
     append_assoc p (take t octets) (take n (drop t octets))
     ∙ ap (λ x. p ++ x) (sym (take-add t n octets))
 
+then_same : {a b c : Capture} → HasSameRoom a b → HasSameRoom b c → HasSameRoom a c
+then_same h k = record {
+  interfaces = k.interfaces ∙ h.interfaces;
+  packet_octets = k.packet_octets ∙ h.packet_octets;
+}
+
 pub loop-start-preserved : goal.loop-start-preserved
 loop-start-preserved c =
     let t = c.loop-start.start in
@@ -19,6 +26,7 @@ loop-start-preserved c =
     let after = c.take_part-count.ensures in
     record {
       within = after.within;
+      memory = then_same before.memory after.memory;
       running = rw c.in-More.is at after.running;
       octets = omega (arith, after.octets, before.octets);
       reads = λ p r. subst (Reads c.take_part-count.new.self) (behind p octets t n)
@@ -47,5 +55,6 @@ returns-in_default-progress c =
       octets = omega (arith, after.octets, before.octets);
       some = λ is. omega (arith, after.some);
       within = after.within;
+      memory = then_same before.memory after.memory;
       all = λ is. absurd (c.in_default-progress.not-More is);
     }

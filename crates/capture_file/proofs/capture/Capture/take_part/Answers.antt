@@ -84,11 +84,12 @@ returns-clause-reads c p r =
     omega (arith, c.if-missing-rest.false, left, c.requires.some) in
     (takes_at_once p octets end count c.args.self.now c.advance.new.self c.complete.new.self
     c.complete.result start r
-    c.requires.running fresh whole within c.advance.ensures.part c.advance.ensures.interfaces
-    (c.advance.ensures.fault
-    ∙ c.requires.running) c.advance.ensures.packets c.advance.ensures.octets
+    c.requires.running fresh whole within c.advance.ensures.advances.part
+    c.advance.ensures.advances.interfaces
+    (c.advance.ensures.advances.fault
+    ∙ c.requires.running) c.advance.ensures.advances.packets c.advance.ensures.advances.octets
     (end_of_piece octets start count c.back-back.result _ c.back-back.ensures.value)
-    c.complete.ensures).reads
+    c.complete.ensures.completes).reads
 
 pub returns-clause-answers : goal.returns-clause-answers
 returns-clause-answers c p r =
@@ -107,8 +108,9 @@ returns-clause-answers c p r =
     omega (arith, c.if-missing-rest.false, left, c.requires.some) in
     (takes_at_once p octets end count c.args.self.now c.advance.new.self c.complete.new.self
     c.complete.result start r
-    c.requires.running fresh whole within c.advance.ensures.part c.advance.ensures.interfaces
-    (c.advance.ensures.fault
-    ∙ c.requires.running) c.advance.ensures.packets c.advance.ensures.octets
+    c.requires.running fresh whole within c.advance.ensures.advances.part
+    c.advance.ensures.advances.interfaces
+    (c.advance.ensures.advances.fault
+    ∙ c.requires.running) c.advance.ensures.advances.packets c.advance.ensures.advances.octets
     (end_of_piece octets start count c.back-back.result _ c.back-back.ensures.value)
-    c.complete.ensures).answers
+    c.complete.ensures.completes).answers

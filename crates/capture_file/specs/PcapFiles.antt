@@ -1,0 +1,102 @@
+-- A pcap file as it is written: its header, and its records (the libpcap file format; meaning).
+use Rattle.std.specs.Prelude.{◌≡◌, ℕ, ◌+◌, ◌*◌, ◌%◌, ◌^◌, ◌<◌, ◌≤◌, List, [], ◌∷◌, ◌++◌, length, None, Some}
+use Rattle.std.specs.Int.{w32, to_be_bytes, to_le_bytes}
+use Rattle.std.specs.List.{AllByRecursion}
+use Rattle.capture_file.specs.declared.part.ByteOrder.{ByteOrder}
+use Rattle.capture_file.specs.declared.part.ByteOrder.TheVariants.{Big, Little}
+use Rattle.capture_file.specs.Reading.{PacketRecord, packets, final_fault}
+
+-- the unit of the fractions of seconds
+pub data Fractions : Type 0 where
+  Microseconds : Fractions
+  Nanoseconds : Fractions
+
+-- how many nanoseconds it has
+abbrev pub nanoseconds_in : Fractions → ℕ
+nanoseconds_in Microseconds = 1000
+nanoseconds_in Nanoseconds = 1
+
+-- the magic tells it, and the order of the file's numbers
+abbrev pub magic_octets : ByteOrder → Fractions → List ℕ
+magic_octets Big Microseconds = 0xa1 ∷ 0xb2 ∷ 0xc3 ∷ 0xd4 ∷ []
+magic_octets Big Nanoseconds = 0xa1 ∷ 0xb2 ∷ 0x3c ∷ 0x4d ∷ []
+magic_octets Little Microseconds = 0xd4 ∷ 0xc3 ∷ 0xb2 ∷ 0xa1 ∷ []
+magic_octets Little Nanoseconds = 0x4d ∷ 0x3c ∷ 0xb2 ∷ 0xa1 ∷ []
+
+-- major version 2
+abbrev pub major_octets : ByteOrder → List ℕ
+major_octets Big = 0 ∷ 2 ∷ []
+major_octets Little = 2 ∷ 0 ∷ []
+
+-- a number of the file
+unfoldable pub number_octets : ByteOrder → ℕ → List ℕ
+number_octets Big n = to_be_bytes w32 n
+number_octets Little n = to_le_bytes w32 n
+
+-- a file: its order and unit, the octets that nothing is read of (those of the minor version, and
+-- behind it those without a use and of the snapshot length), and the number of its link type
+pub record PcapFile : Type 0 where
+  pub order : ByteOrder
+  pub fractions : Fractions
+  pub minor : List ℕ
+  pub unused : List ℕ
+  pub link : ℕ
+
+abbrev pub header_octets : PcapFile → List ℕ
+header_octets f = magic_octets f.order f.fractions ++ (major_octets f.order ++ f.minor)
+    ++ (f.unused ++ number_octets f.order f.link)
+
+-- a record: its time, how many octets its packet had, and those that were captured
+pub record PcapRecord : Type 0 where
+  pub seconds : ℕ
+  pub fraction : ℕ
+  pub original : ℕ
+  pub octets : List ℕ
+
+unfoldable pub record_octets : ByteOrder → PcapRecord → List ℕ
+record_octets order r =
+    number_octets order r.seconds ++ number_octets order r.fraction
+    ++ number_octets order (length r.octets) ++ number_octets order r.original ++ r.octets
+
+unfoldable pub records_octets : ByteOrder → List PcapRecord → List ℕ
+records_octets order [] = []
+records_octets order (r ∷ rs) = record_octets order r ++ records_octets order rs
+
+abbrev pub file_octets : PcapFile → List PcapRecord → List ℕ
+file_octets f rs = header_octets f ++ records_octets f.order rs
+
+-- the parts of a file have their lengths
+pub record IsPcapFile (f : PcapFile) : Type 0 where
+  pub minor : length f.minor ≡ 2
+  pub unused : length f.unused ≡ 12
+  pub link : f.link < 2 ^ 32
+
+pub record IsPcapRecord (r : PcapRecord) : Type 0 where
+  pub seconds : r.seconds < 2 ^ 32
+  pub fraction : r.fraction < 2 ^ 32
+  pub few : length r.octets ≤ 262144
+
+-- the packet of a record that ends at a place
+abbrev pub packet_of : PcapFile → ℕ → PcapRecord → PacketRecord
+packet_of f place r = record {
+  place = place;
+  head = record {
+    link = f.link % 2 ^ 16;
+    time = Some (r.seconds * 1000000000 + r.fraction * nanoseconds_in f.fractions);
+  };
+  octets = r.octets;
+}
+
+-- the packets of records that begin at a place
+unfoldable pub packets_of : PcapFile → ℕ → List PcapRecord → List PacketRecord
+packets_of f place [] = []
+packets_of f place (r ∷ rs) =
+    packet_of f (place + (16 + length r.octets)) r
+    ∷ packets_of f (place + (16 + length r.octets)) rs
+
+-- What is read of a file are the packets of its records, with their times and places, and it has no
+-- fault.
+abbrev pub AFileHasItsRecords : Type 0
+AFileHasItsRecords = (f : PcapFile) (rs : List PcapRecord) → IsPcapFile f
+    → AllByRecursion IsPcapRecord rs
+    → (packets (file_octets f rs) ≡ packets_of f 24 rs) × (final_fault (file_octets f rs) ≡ None)

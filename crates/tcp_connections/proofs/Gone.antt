@@ -1,0 +1,293 @@
+-- By what a connection is forgotten.
+use Rattle.std.proofs.Common.{◌≡◌, ℕ, zero, suc, ◌+◌, ◌<◌, ◌≤◌, Bool, true, false, cond, not, nat_eq, ◌&&◌, List, [], ◌∷◌, ◌++◌, length, set, get_or, Option, Some, None, is_some, is_eq, unwrap_or, refl, sym, ◌∙◌, ap, arith, inl, inr, true≢false}
+use Rattle.std.specs.List.{insert, remove}
+use Rattle.std.specs.Option.{option_map}
+use Rattle.std.proofs.lemmas.Bool.{cases_Bool, cases_lt, cond-true, cond-false}
+use Rattle.std.proofs.lemmas.List.Edits.{length-remove}
+use Rattle.tcp_segment.specs.Segments.{Segment}
+use Rattle.tcp_flow.specs.declared.flow.CloseCause.TheVariants.{Reset, Syn, Room}
+use Rattle.tcp_waiting.specs.Numbers.{onward}
+use Rattle.tcp_flow.specs.Flow.{Reader}
+use Rattle.tcp_streams.specs.declared.pair.EndpointPair.{EndpointPair}
+use Rattle.tcp_streams.specs.declared.pair.Side.{Side}
+use Rattle.tcp_streams.specs.Lives.{lives, elder_side}
+use Rattle.tcp_streams.specs.Pairs.{compare_pairs, pair_of, opposite, flow_id}
+use Rattle.tcp_connections.specs.Connections.{State, none_known, place_of, place_among, live_at, room_at, forgotten, with_room, next_room, made_known, began, first_number, is_first, is_anew, fin_taken, payload_taken, acknowledgement_taken, unknown_taken, known_taken, step, after}
+use Rattle.tcp_connections.specs.Forgetting.{MakesRoom, MakesWay, IsForgottenBy}
+use Rattle.tcp_connections.specs.State.{IsSound}
+use Rattle.tcp_connections.proofs.Cases.{no_reset, a_reset, unknown_nothing, unknown_first, room_there, step_unknown, step_anew, step_known}
+use Rattle.tcp_connections.proofs.Eldest.{eldest_makes_room}
+use Rattle.tcp_connections.proofs.Forgotten.{forgotten_known, forgotten_lasts}
+use Rattle.tcp_connections.proofs.Gapless.{place_within, start_at, after_at}
+use Rattle.tcp_connections.proofs.Kept.{began_kept, acknowledgement_kept, payload_kept, fin_kept}
+use Rattle.tcp_connections.proofs.OwnersKnown.{equal_of}
+use Rattle.tcp_connections.proofs.SamePairs.{same_pair_of}
+use Rattle.tcp_connections.proofs.Search.{forgotten_unknown}
+use Rattle.tcp_connections.proofs.Sound.{sound_seen}
+
+-- ---- Which pairs are known.
+
+-- the pair at a place, which is another's or this one
+at_place : (p : EndpointPair) (ps : List EndpointPair) (i : ℕ) → i < length ps →
+    is_some (place_of p ps) ≡ true → place_of p (remove ps i) ≡ None → get_or ps i p ≡ p
+unfolding place_of
+at_place p [] i l k e = absurd (omega (arith, l))
+at_place p (q ∷ qs) zero l k e =
+    elim (cases_Bool (is_eq (compare_pairs q p))) [
+      | inl b ↦ same_pair_of q p (equal_of (compare_pairs q p) b)
+      | inr b ↦ absurd (true≢false (sym k
+          ∙ ap is_some (cond-false (is_eq (compare_pairs q p)) (Some 0)
+          (option_map suc (place_of p qs)) b ∙ ap (option_map suc) e)))
+    ]
+at_place p (q ∷ qs) (suc i) l k e =
+    elim (cases_Bool (is_eq (compare_pairs q p))) [
+      | inl b ↦ absurd (true≢false (ap is_some (sym (cond-true (is_eq (compare_pairs q p)) (Some 0)
+          (option_map suc (place_of p (remove qs i))) b) ∙ e)))
+      | inr b ↦
+          at_place p qs i (omega (arith, l))
+          (mapped (place_of p qs) (ap is_some (sym (cond-false (is_eq (compare_pairs q p)) (Some 0)
+          (option_map suc (place_of p qs)) b)) ∙ k))
+          (unmapped (place_of p (remove qs i)) (sym (cond-false (is_eq (compare_pairs q p)) (Some 0)
+          (option_map suc (place_of p (remove qs i))) b) ∙ e))
+    ]
+  where
+    mapped : (o : Option ℕ) → is_some (option_map suc o) ≡ true → is_some o ≡ true
+    mapped None h = h
+    mapped (Some n) h = refl
+
+    unmapped : (o : Option ℕ) → option_map suc o ≡ None → o ≡ None
+    unmapped None h = refl
+    unmapped (Some n) h = absurd (true≢false (ap is_some h))
+
+-- who isn't known behind one more wasn't before
+none_before_insert : (p x : EndpointPair) (ps : List EndpointPair) (i : ℕ) →
+    place_of p (insert ps i x) ≡ None → place_of p ps ≡ None
+unfolding place_of
+none_before_insert p x [] i e = refl
+none_before_insert p x (q ∷ qs) zero e = unmapped (place_of p (q ∷ qs))
+    (second (is_eq (compare_pairs x p)) (option_map suc (place_of p (q ∷ qs))) e)
+  where
+    unmapped : (o : Option ℕ) → option_map suc o ≡ None → o ≡ None
+    unmapped None h = refl
+    unmapped (Some n) h = absurd (true≢false (ap is_some h))
+
+    second : (b : Bool) (o : Option ℕ) → cond b (Some 0) o ≡ None → o ≡ None
+    second true o h = absurd (true≢false (ap is_some h))
+    second false o h = h
+none_before_insert p x (q ∷ qs) (suc i) e =
+    by (is_eq (compare_pairs q p)) (place_of p (insert qs i x)) (place_of p qs)
+    (λ d. none_before_insert p x qs i d) e
+  where
+    by : (b : Bool) (o r : Option ℕ) → (o ≡ None → r ≡ None) →
+        cond b (Some 0) (option_map suc o) ≡ None → cond b (Some 0) (option_map suc r) ≡ None
+    by true o r f h = h
+    by false None r f h = ap (option_map suc) (f refl)
+    by false (Some n) r f h = absurd (true≢false (ap is_some h))
+
+both : {X : Type 0} (p : Option X) → is_some p ≡ true → p ≡ None → ⊥
+both p k e = true≢false (sym k ∙ ap is_some e)
+
+-- ---- What a segment does.
+
+-- of a connection that isn't known
+unknown_gone : (F : Reader) (w : State) (s : Segment) (p : EndpointPair) →
+    1 ≤ length w.lasts → place_of (pair_of s.flow).0 w.known ≡ None →
+    is_some (place_of p w.known) ≡ true
+    → place_of p (unknown_taken F w s).known ≡ None → MakesWay w s p
+unfolding made_known
+unknown_gone F w s p some new k e =
+    elim (cases_Bool (is_first w.ports s)) [
+      | inr f ↦ absurd (both (place_of p w.known) k
+          (sym (ap (λ (u : State). place_of p u.known) (unknown_nothing F w s f)) ∙ e))
+      | inl f ↦
+          (let v : State = with_room w in
+          let pair : EndpointPair = (pair_of s.flow).0 in
+          let made : State = made_known v pair in
+          let id : ℕ = flow_id (next_room v.free) (pair_of s.flow).1 in
+          let begun : State = began F made id (first_number s) s.payload in
+          let known : (fin_taken F begun id s).known ≡ made.known =
+          (fin_kept F begun id s).known ∙ (began_kept F made id (first_number s) s.payload).known in
+          let gone : place_of p v.known ≡ None =
+          none_before_insert p pair v.known (place_among pair v.known)
+          (sym (ap (place_of p) known)
+          ∙ sym (ap (λ (u : State). place_of p u.known) (unknown_first F w s f)) ∙ e) in
+          elim (cases_lt (length w.known) (length w.lasts)) [
+            | inl l ↦ absurd (both (place_of p w.known) k
+                (sym (ap (λ (u : State). place_of p u.known) (room_there w l)) ∙ gone))
+            | inr g ↦
+                (let room : MakesRoom w =
+                eldest_makes_room w (omega (arith, g, some)) g in
+                record {
+                  begins = f;
+                  new = new;
+                  full = g;
+                  place = room.place;
+                  eldest = room.eldest;
+                  is = at_place p w.known room.place room.eldest.within k
+                      (sym (ap (place_of p) (ap (λ (u : State). u.known) room.forgotten
+                      ∙ forgotten_known w room.place
+                      (elder_side (room_at w room.place) (lives w.events)) Room)) ∙ gone);
+                })
+          ])
+    ]
+
+-- the pair that stands at a place
+at_own : (q d : EndpointPair) (ps : List EndpointPair) (i : ℕ) → place_of q ps ≡ Some i →
+    get_or ps i d ≡ q
+unfolding place_of
+at_own q d [] i e = absurd (true≢false (sym (ap is_some e)))
+at_own q d (x ∷ xs) i e =
+    elim (cases_Bool (is_eq (compare_pairs x q))) [
+      | inl b ↦
+          (let z : 0 ≡ i = some_number 0 i (sym (cond-true (is_eq (compare_pairs x q)) (Some 0)
+          (option_map suc (place_of q xs)) b) ∙ e) in
+          ap (λ (n : ℕ). get_or (x ∷ xs) n d) (sym z)
+          ∙ same_pair_of x q (equal_of (compare_pairs x q) b))
+      | inr b ↦ further (place_of q xs) i (λ k r. at_own q d xs k r)
+          (sym (cond-false (is_eq (compare_pairs x q)) (Some 0) (option_map suc (place_of q xs)) b)
+          ∙ e)
+    ]
+  where
+    some_number : (m n : ℕ) → Some m ≡ Some n → m ≡ n
+    some_number m n r = ap (λ (s : Option ℕ). unwrap_or s m) r
+
+    further : (o : Option ℕ) (i : ℕ) → ((k : ℕ) → o ≡ Some k → get_or xs k d ≡ q) →
+        option_map suc o ≡ Some i → get_or (x ∷ xs) i d ≡ q
+    further None i f r = absurd (true≢false (sym (ap is_some r)))
+    further (Some k) i f r = ap (λ (n : ℕ). get_or (x ∷ xs) n d) (sym (some_number (suc k) i r))
+        ∙ f k refl
+
+-- the connection of the segment goes
+own_gone : (q p : EndpointPair) (ps : List EndpointPair) (place : ℕ) → place < length ps →
+    place_of q ps ≡ Some place → is_some (place_of p ps) ≡ true
+    → place_of p (remove ps place) ≡ None → q ≡ p
+own_gone q p ps place l found k e =
+    sym (at_own q p ps place found) ∙ at_place p ps place l k e
+
+-- of a connection that is known
+known_gone : (F : Reader) (w : State) (place : ℕ) (s : Segment) (p : EndpointPair) →
+    place < length w.known → place_of (pair_of s.flow).0 w.known ≡ Some place
+    → is_some (place_of p w.known) ≡ true → place_of p (known_taken F w place s).known ≡ None
+    → ((pair_of s.flow).0 ≡ p) × (s.reset ≡ true)
+unfolding known_taken
+known_gone F w place s p l found k e =
+    let side : Side = (pair_of s.flow).1 in
+    let room : ℕ = room_at w place in
+    let id : ℕ = flow_id room side in
+    let seen : State = record w { lasts = set w.lasts room w.segments } in
+    let heard : State = acknowledgement_taken F seen (flow_id room (opposite side)) s in
+    let paid : State = payload_taken F heard id s in
+    let ended : State = fin_taken F paid id s in
+    let known : ended.known ≡ w.known =
+    (fin_kept F paid id s).known ∙ (payload_kept F heard id s).known
+    ∙ (acknowledgement_kept F seen (flow_id room (opposite side)) s).known in
+    elim (cases_Bool s.reset) [
+      | inr r ↦ absurd (both (place_of p w.known) k (sym (ap (place_of p) known)
+          ∙ sym (ap (λ (u : State). place_of p u.known) (no_reset ended place side s r)) ∙ e))
+      | inl r ↦
+          (let gone : place_of p (remove w.known place) ≡ None =
+          ap (λ (ps : List EndpointPair). place_of p (remove ps place)) (sym known)
+          ∙ sym (ap (place_of p) (forgotten_known ended place side Reset))
+          ∙ sym (ap (λ (u : State). place_of p u.known) (a_reset ended place side s r)) ∙ e in
+          (own_gone (pair_of s.flow).0 p w.known place l found k gone, r))
+    ]
+
+syn_of : (live : Option ℕ) (s : Segment) → is_anew live s ≡ true → s.syn ≡ true
+syn_of live s a =
+    elim (cases_Bool s.syn) [
+      | inl e ↦ e
+      | inr e ↦ absurd (true≢false (sym a ∙ ap (λ (b : Bool).
+          b && not (is_some s.acknowledgement)
+          && not (elim live [ None ↦ false | Some n ↦ nat_eq n (onward s.sequence 1) ])) e))
+    ]
+
+-- of one that begins anew
+anew_gone : (F : Reader) (w : State) (place : ℕ) (side : Side) (s : Segment) (p : EndpointPair) →
+    IsSound w → place < length w.known → place_of (pair_of s.flow).0 w.known ≡ Some place
+    → is_some (place_of p w.known) ≡ true
+    → place_of p (unknown_taken F (forgotten w place side Syn) s).known ≡ None →
+    (pair_of s.flow).0 ≡ p
+anew_gone F w place side s p h l found k e =
+    let f : State = forgotten w place side Syn in
+    let known : f.known ≡ remove w.known place = forgotten_known w place side Syn in
+    let less : length f.known + 1 ≡ length w.known =
+    omega (arith, ap {B = ℕ} length known, length-remove w.known place l) in
+    let lasts : length f.lasts ≡ length w.lasts = ap length (forgotten_lasts w place side Syn) in
+    elim (cases_Bool (is_some (place_of p f.known))) [
+      | inr gone ↦ own_gone (pair_of s.flow).0 p w.known place l found k
+          (ap (place_of p) (sym known) ∙ none_of (place_of p f.known) gone)
+      | inl there ↦
+          (let way : MakesWay f s p = unknown_gone F f s p (omega (arith, lasts, h.some))
+          (ap (place_of (pair_of s.flow).0) known
+          ∙ forgotten_unknown (pair_of s.flow).0 w.known place h.order found) there e in
+          absurd (omega (arith, way.full, less, lasts, h.all)))
+    ]
+  where
+    none_of : (o : Option ℕ) → is_some o ≡ false → o ≡ None
+    none_of None d = refl
+    none_of (Some n) d = absurd (true≢false d)
+
+pub step_gone : (F : Reader) (w : State) (s : Segment) (p : EndpointPair) → IsSound w →
+    is_some (place_of p w.known) ≡ true → place_of p (step F w s).known ≡ None →
+    IsForgottenBy w s p
+step_gone F w s p h k e = by (place_of (pair_of s.flow).0 w.known) refl
+  where
+    v : State
+    v = record w { segments = w.segments + 1 }
+
+    sound : IsSound v
+    sound = sound_seen w w.lasts (w.segments + 1) w.events refl h
+
+    after_step : (u : State) → step F w s ≡ u → place_of p u.known ≡ None
+    after_step u d = sym (ap (λ (x : State). place_of p x.known) d) ∙ e
+
+    by : (o : Option ℕ) → place_of (pair_of s.flow).0 w.known ≡ o → IsForgottenBy w s p
+    by None d =
+        let way : MakesWay v s p = unknown_gone F v s p h.some d k
+        (after_step (unknown_taken F v s) (step_unknown F w s d)) in
+        inr (record {
+          begins = way.begins;
+          new = way.new;
+          full = way.full;
+          place = way.place;
+          eldest = record {
+            within = way.eldest.within;
+            idle = way.eldest.idle;
+            oldest = way.eldest.oldest;
+          };
+          is = way.is;
+        })
+    by (Some place) d =
+        let side : Side = (pair_of s.flow).1 in
+        let within : place < length w.known = place_within (pair_of s.flow).0 w.known place d in
+        elim (cases_Bool (is_anew (live_at w (flow_id (room_at w place) side)) s)) [
+          | inl a ↦ inl (
+            anew_gone F v place side s p sound within d k
+                (after_step (unknown_taken F (forgotten v place side Syn) s)
+                (step_anew F w s place d a)),
+            inl (syn_of (live_at w (flow_id (room_at w place) side)) s a),
+          )
+          | inr a ↦
+              (let own = known_gone F v place s p within d k
+              (after_step (known_taken F v place s) (step_known F w s place d a)) in
+              inl (own.0, inr own.1))
+        ]
+
+after_last : (F : Reader) (w : State) (ss : List Segment) (s : Segment) →
+    after F w (ss ++ s ∷ []) ≡ step F (after F w ss) s
+unfolding after
+after_last F w [] s = refl
+after_last F w (x ∷ ss) s = after_last F (step F w x) ss s
+
+pub after_gone : (F : Reader) (ports : List ℕ) (blocks most : ℕ) (segments : List Segment)
+    (s : Segment) (p : EndpointPair) → 1 ≤ most → most ≤ 65536
+    → is_some (place_of p (after F (none_known ports blocks most []) segments).known) ≡ true
+    → place_of p (after F (none_known ports blocks most []) (segments ++ s ∷ [])).known ≡ None
+    → IsForgottenBy (after F (none_known ports blocks most []) segments) s p
+after_gone F ports blocks most segments s p some few k e =
+    let w : State = after F (none_known ports blocks most []) segments in
+    step_gone F w s p
+    (after_at [] segments F (none_known ports blocks most [])
+    (start_at ports blocks most some few)).sound k
+    (sym (ap (λ (u : State). place_of p u.known)
+    (after_last F (none_known ports blocks most []) segments s)) ∙ e)

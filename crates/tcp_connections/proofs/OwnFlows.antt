@@ -1,0 +1,357 @@
+-- What a flow delivers is of its own segments, whatever comes for it.
+use Rattle.std.proofs.Common.{◌≡◌, ℕ, zero, suc, ◌+◌, ◌^◌, ◌<◌, Bool, true, false, cond, nat_eq, nat_lt, ◌&&◌, ◌||◌, not, List, [], ◌∷◌, ◌++◌, length, drop, get_or, Option, Some, None, is_some, unwrap_or, refl, sym, ◌∙◌, ap, subst, arith, inl, inr, true≢false}
+use Rattle.std.specs.List.{AllByRecursion, remove}
+use Rattle.std.proofs.lemmas.Bool.{cases_Bool, cond-true, cond-false, and_cases, not-true, and_right, not_from_true, both_ways, eq-eqb}
+use Rattle.std.proofs.lemmas.List.{drop-drop}
+use Rattle.tcp_segment.specs.declared.endpoint.Flow.{Flow as Endpoints}
+use Rattle.tcp_segment.specs.Segments.{Segment}
+use Rattle.tcp_flow.specs.declared.flow.CloseCause.{CloseCause}
+use Rattle.tcp_flow.specs.declared.flow.CloseCause.TheVariants.{Fault}
+use Rattle.tcp_waiting.specs.Numbers.{onward, age, is_to_come}
+use Rattle.tcp_waiting.specs.Payload.{Payload, payload, window, has_as_much}
+use Rattle.tcp_waiting.proofs.Firsts.{first_within, first_own}
+use Rattle.tcp_flow.specs.Flow.{Flow, Event, Begins, Delivers, Closes, Reader, Setting, Arrival, Octets, End, Acknowledged, left, with_event, delivered, begun as flow_begun, taken, header_at, first_of, is_due, at, closed, holding, gone_on, within_bounds, payload_came, fin_came, gap, step}
+use Rattle.tcp_flow.proofs.Preserving.{Keeps, gone_on_keeps, relieved_keeps, missed_keeps, gap_keeps}
+use Rattle.tcp_flow.proofs.Truth.{reached}
+use Rattle.tcp_connections.specs.Owned.{IsPartOf, Standing, Unopened, Idle, Live, is_of, behind, MayCome, standing, AllMayCome}
+
+-- ---- One more event.
+
+pub standing_more : (id : ℕ) (s : Standing) (es : List Event) (e : Event) →
+    standing id s (es ++ e ∷ [])
+    ≡ cond (is_of id e) (behind (standing id s es) e) (standing id s es)
+unfolding standing
+standing_more id s [] e = refl
+standing_more id s (x ∷ es) e = standing_more id (cond (is_of id x) (behind s x) s) es e
+
+pub come_more : (segments : List Segment) (id : ℕ) (s : Standing) (es : List Event) (e : Event) →
+    AllMayCome segments id s es → (is_of id e ≡ true → MayCome segments (standing id s es) e) →
+    AllMayCome segments id s (es ++ e ∷ [])
+unfolding standing AllMayCome
+come_more segments id s [] e h m = (m, tt)
+come_more segments id s (x ∷ es) e h m =
+    (h.0, come_more segments id (cond (is_of id x) (behind s x) s) es e h.1 m)
+
+-- where an id stands behind events, all of which may have come
+pub record Stands (segments : List Segment) (id : ℕ) (es : List Event) (s : Standing)
+    : Type 0 where
+  pub come : AllMayCome segments id Unopened es
+  pub is : standing id Unopened es ≡ s
+
+-- one of its own
+pub own_more : (segments : List Segment) (id : ℕ) (es : List Event) (s : Standing) (e : Event) →
+    is_of id e ≡ true → MayCome segments s e → Stands segments id es s →
+    Stands segments id (es ++ e ∷ []) (behind s e)
+own_more segments id es s e own may t = record {
+  come = come_more segments id Unopened es e t.come
+      (λ o. subst (λ (x : Standing). MayCome segments x e) (sym t.is) may);
+  is = standing_more id Unopened es e
+      ∙ cond-true (is_of id e) (behind (standing id Unopened es) e) (standing id Unopened es) own
+      ∙ ap (λ (x : Standing). behind x e) t.is;
+}
+
+-- one of another
+pub other_more : (segments : List Segment) (id : ℕ) (es : List Event) (s : Standing) (e : Event) →
+    is_of id e ≡ false → Stands segments id es s → Stands segments id (es ++ e ∷ []) s
+other_more segments id es s e other t = record {
+  come = come_more segments id Unopened es e t.come
+      (λ o. absurd (true≢false (sym o ∙ other)));
+  is = standing_more id Unopened es e
+      ∙ cond-false (is_of id e) (behind (standing id Unopened es) e) (standing id Unopened es) other
+      ∙ t.is;
+}
+
+-- ---- A payload.
+
+part_more : (segments : List Segment) (o : Endpoints) (n a : ℕ) (xs : List ℕ) →
+    IsPartOf segments o n xs → IsPartOf segments o (onward n a) (drop a xs)
+part_more segments o n a xs h =
+    record {
+      index = h.index;
+      segment = h.segment;
+      among = h.among;
+      flow_is = h.flow_is;
+      skipped = h.skipped + a;
+      number_is = rw h.number_is (omega arith);
+      octets_are = rw h.octets_are (drop-drop a h.skipped h.segment.payload);
+    }
+
+pub either : {X : Type 0} (P : X → Type 0) (b : Bool) (x y : X) → P x → P y → P (cond b x y)
+either P true x y p q = p
+either P false x y p q = q
+
+part_left : (segments : List Segment) (o : Endpoints) (next : ℕ) (live : Bool) (p : Payload) →
+    IsPartOf segments o p.number p.octets →
+    IsPartOf segments o (left next live p).number (left next live p).octets
+unfolding left
+part_left segments o next live p h =
+    either (λ (q : Payload). IsPartOf segments o q.number q.octets)
+    (nat_lt window (age next p.number) && not live) p
+    (payload p.flow (onward p.number (age next p.number)) (drop (age next p.number) p.octets)) h
+    (part_more segments o p.number (age next p.number) p.octets h)
+
+flow_left : (next : ℕ) (live : Bool) (p : Payload) → (left next live p).flow ≡ p.flow
+unfolding left
+flow_left next live p = either (λ (q : Payload). q.flow ≡ p.flow)
+    (nat_lt window (age next p.number) && not live) p
+    (payload p.flow (onward p.number (age next p.number)) (drop (age next p.number) p.octets)) refl
+    refl
+
+due_left : (next : ℕ) (live : Bool) (p : Payload) → next < 2 ^ 32 → live ≡ true →
+    is_to_come next p.number ≡ false → (left next live p).number ≡ next
+unfolding left
+due_left next live p small l h =
+    subst (λ (q : Payload). q.number ≡ next)
+    (sym (cond-false (nat_lt window (age next p.number) && not live) p
+    (payload p.flow (onward p.number (age next p.number)) (drop (age next p.number) p.octets))
+    (and_right (nat_lt window (age next p.number)) (not live) (not_from_true live l))))
+    (reached next p.number small h)
+
+-- ---- A flow.
+
+some_endpoints : (x y : Endpoints) → Some x ≡ Some y → x ≡ y
+some_endpoints x y e = ap (λ (s : Option Endpoints). unwrap_or s x) e
+
+-- the payloads that are held, of whichever flows, are parts of segments of their flows
+abbrev pub IsPartOfOwn : List Segment → (ℕ → Option Endpoints) → Payload → Type 0
+IsPartOfOwn segments owners p =
+    (o : Endpoints) → owners p.flow ≡ Some o → IsPartOf segments o p.number p.octets
+
+abbrev pub stand_of : Endpoints → Bool → ℕ → Standing
+stand_of o live next = cond live (Live o next) (Idle o)
+
+-- a flow between these endpoints
+pub record IsOwn (segments : List Segment) (owners : ℕ → Option Endpoints) (id : ℕ)
+    (o : Endpoints) (f : Flow) : Type 0 where
+  pub same : f.id ≡ id
+  pub next : f.next < 2 ^ 32
+  pub held : AllByRecursion (IsPartOfOwn segments owners) f.held
+  pub stands : Stands segments id f.events (stand_of o (is_some f.live) f.next)
+
+all_at : (P : Payload → Type 0) (ps : List Payload) (i : ℕ) (d : Payload) → AllByRecursion P ps →
+    i < length ps → P (get_or ps i d)
+all_at P [] i d h l = absurd (omega (arith, l))
+all_at P (p ∷ ps) zero d h l = h.0
+all_at P (p ∷ ps) (suc i) d h l = all_at P ps i d h.1 (omega (arith, l))
+
+all_remove : (P : Payload → Type 0) (ps : List Payload) (i : ℕ) → AllByRecursion P ps →
+    AllByRecursion P (remove ps i)
+all_remove P [] zero h = h
+all_remove P [] (suc i) h = h
+all_remove P (p ∷ ps) zero h = h.1
+all_remove P (p ∷ ps) (suc i) h = (h.0, all_remove P ps i h.1)
+
+pub all_push : (P : Payload → Type 0) (ps : List Payload) (p : Payload) → AllByRecursion P ps →
+    P p → AllByRecursion P (ps ++ p ∷ [])
+all_push P [] p h x = (x, tt)
+all_push P (q ∷ ps) p h x = (h.0, all_push P ps p h.1 x)
+
+module _ (segments : List Segment) (owners : ℕ → Option Endpoints) (id : ℕ) (o : Endpoints)
+    (own : owners id ≡ Some o) where
+  closing_own : (g : Flow) (cause : CloseCause) (n : ℕ) → g.id ≡ id → g.next < 2 ^ 32 →
+      AllByRecursion (IsPartOfOwn segments owners) g.held → Stands segments id g.events (Live o n)
+      → IsOwn segments owners id o (record {
+        id = g.id;
+        next = g.next;
+        live = None;
+        fin = g.fin;
+        held = g.held;
+        events = g.events ++ Closes g.id cause ∷ [];
+      })
+  closing_own g cause n same small held stands = record {
+    same = same;
+    next = small;
+    held = held;
+    stands = own_more segments id g.events (Live o n) (Closes g.id cause) (eq-eqb g.id id same) tt
+        stands;
+  }
+
+  live_stands : (g : Flow) → is_some g.live ≡ true → IsOwn segments owners id o g →
+      Stands segments id g.events (Live o g.next)
+  live_stands g live t = subst (Stands segments id g.events)
+      (cond-true (is_some g.live) (Live o g.next) (Idle o) live) t.stands
+
+  pub closed_own : (g : Flow) (cause : CloseCause) → IsOwn segments owners id o g →
+      IsOwn segments owners id o (closed g cause)
+  unfolding closed with_event
+  closed_own g cause t =
+      let c : Flow = record {
+        id = g.id;
+        next = g.next;
+        live = None;
+        fin = g.fin;
+        held = g.held;
+        events = g.events ++ Closes g.id cause ∷ [];
+      } in
+      elim (cases_Bool (is_some g.live)) [
+        | inl e ↦ subst (IsOwn segments owners id o) (sym (cond-true (is_some g.live) c g e))
+            (closing_own g cause g.next t.same t.next t.held (live_stands g e t))
+        | inr e ↦ subst (IsOwn segments owners id o) (sym (cond-false (is_some g.live) c g e)) t
+      ]
+
+  delivered_own : (F : Reader) (g : Flow) (p : Payload) (n : ℕ) → g.id ≡ id →
+      AllByRecursion (IsPartOfOwn segments owners) g.held → Stands segments id g.events (Live o n)
+      → IsPartOf segments o n p.octets → p.number ≡ n → is_some g.live ≡ true
+      → IsOwn segments owners id o (delivered F g p)
+  unfolding delivered with_event
+  delivered_own F g p n same held stands part e live =
+      let next : ℕ = onward p.number (length p.octets) in
+      let small : next < 2 ^ 32 = omega arith in
+      let d : Flow = record {
+        id = g.id;
+        next = next;
+        live = g.live;
+        fin = g.fin;
+        held = g.held;
+        events = g.events ++ Delivers g.id p.octets ∷ [];
+      } in
+      let there : Stands segments id d.events (Live o next) =
+      subst (λ (k : ℕ). Stands segments id d.events (Live o (onward k (length p.octets)))) (sym e)
+      (own_more segments id g.events (Live o n) (Delivers g.id p.octets) (eq-eqb g.id id same) part
+      stands) in
+      either (IsOwn segments owners id o) (F d.events)
+      (record {
+        id = d.id;
+        next = d.next;
+        live = None;
+        fin = d.fin;
+        held = d.held;
+        events = d.events ++ Closes d.id Fault ∷ [];
+      }) d
+      (closing_own d Fault next same small held there)
+      (record {
+        same = same;
+        next = small;
+        held = held;
+        stands = subst (Stands segments id d.events)
+            (sym (cond-true (is_some g.live) (Live o next) (Idle o) live)) there;
+      })
+
+  begun_own : (F : Reader) (g : Flow) (q : Payload) (r : Option ℕ) → IsOwn segments owners id o g →
+      is_some g.live ≡ false → IsPartOf segments o q.number q.octets →
+      IsOwn segments owners id o (flow_begun F g q r)
+  unfolding flow_begun with_event
+  begun_own F g q None t dead part = t
+  begun_own F g q (Some i) t dead part =
+      let n : ℕ = onward q.number i in
+      let idle : Stands segments id g.events (Idle o) =
+      subst (Stands segments id g.events)
+      (cond-false (is_some g.live) (Live o g.next) (Idle o) dead) t.stands in
+      delivered_own F (record {
+        id = g.id;
+        next = g.next;
+        live = Some n;
+        fin = g.fin;
+        held = g.held;
+        events = g.events ++ Begins g.id n ∷ [];
+      }) (payload q.flow n (drop i q.octets)) n t.same t.held
+      (own_more segments id g.events (Idle o) (Begins g.id n) (eq-eqb g.id id t.same) tt idle)
+      (part_more segments o q.number i q.octets part) refl refl
+
+  taken_own : (F : Reader) (f : Flow) (p : Payload) → IsOwn segments owners id o f →
+      IsPartOf segments o p.number p.octets →
+      (is_some f.live ≡ true → is_to_come f.next p.number ≡ false) →
+      IsOwn segments owners id o (taken F f p)
+  unfolding taken
+  taken_own F f p t part reach =
+      let q : Payload = left f.next (is_some f.live) p in
+      let has : IsPartOf segments o q.number q.octets =
+      part_left segments o f.next (is_some f.live) p part in
+      let d : Flow = delivered F f q in
+      let b : Flow = flow_begun F f q (header_at q.octets) in
+      let all : IsOwn segments owners id o (cond (is_some f.live) d b) =
+      elim (cases_Bool (is_some f.live)) [
+        | inl e ↦
+            (let due : q.number ≡ f.next = due_left f.next (is_some f.live) p t.next e (reach e) in
+            subst (IsOwn segments owners id o) (sym (cond-true (is_some f.live) d b e))
+            (delivered_own F f q f.next t.same t.held (live_stands f e t)
+            (subst (λ (n : ℕ). IsPartOf segments o n q.octets) due has) due e))
+        | inr e ↦ subst (IsOwn segments owners id o) (sym (cond-false (is_some f.live) d b e))
+            (begun_own F f q (header_at q.octets) t e has)
+      ] in
+      either (IsOwn segments owners id o) (nat_eq (length q.octets) 0) f (cond (is_some f.live) d b)
+      t all
+
+  own_keeps : (F : Reader) → Keeps F (IsOwn segments owners id o)
+  unfolding first_of is_due at
+  own_keeps F =
+      record {
+        takes =
+            λ f i e d t.
+            let within : i < length f.held = rw e at (first_within f.id f.next f.held) in
+            let mine : (get_or f.held i (payload 0 0 [])).flow ≡ f.id =
+            rw e at (first_own f.id f.next (payload 0 0 []) f.held) in
+            let p : Payload = get_or f.held i (payload 0 0 []) in
+            let part : IsPartOf segments o p.number p.octets =
+            all_at (IsPartOfOwn segments owners) f.held i (payload 0 0 []) t.held within o
+            (ap owners (mine ∙ t.same) ∙ own) in
+            taken_own F (record f { held = remove f.held i }) p (record {
+              same = t.same;
+              next = t.next;
+              held = all_remove (IsPartOfOwn segments owners) f.held i t.held;
+              stands = t.stands;
+            }) part
+            (λ l.
+            elim (and_cases (is_some f.live) (is_to_come f.next p.number)
+            (not-true (is_some f.live && is_to_come f.next p.number) d)) [
+              | inl x ↦ absurd (both_ways (is_some f.live) x l)
+              | inr x ↦ x
+            ]);
+        closes = λ f cause t. closed_own f cause t;
+        fins = λ f n t. record {
+          same = t.same;
+          next = t.next;
+          held = t.held;
+          stands = t.stands;
+        };
+      }
+
+  pub came_own : (A : Setting) (f : Flow) (p : Payload) → p.flow ≡ id →
+      IsPartOf segments o p.number p.octets → IsOwn segments owners id o f →
+      IsOwn segments owners id o (payload_came A f p)
+  unfolding payload_came holding
+  came_own A f p mine part t =
+      let q : Payload = left f.next (is_some f.live) p in
+      let k : Keeps A.faulted (IsOwn segments owners id o) = own_keeps A.faulted in
+      let h : Flow = record f { held = f.held ++ q ∷ [] } in
+      let of : owners q.flow ≡ Some o =
+      ap owners (flow_left f.next (is_some f.live) p ∙ mine) ∙ own in
+      let has : IsPartOfOwn segments owners q = λ x e.
+      subst (λ (y : Endpoints). IsPartOf segments y q.number q.octets)
+      (some_endpoints o x (sym of ∙ e)) (part_left segments o f.next (is_some f.live) p part) in
+      let v : IsOwn segments owners id o h = record {
+        same = t.same;
+        next = t.next;
+        held = all_push (IsPartOfOwn segments owners) f.held q t.held has;
+        stands = t.stands;
+      } in
+      either (IsOwn segments owners id o) (nat_eq (length q.octets) 0
+      || has_as_much f.id q.number (length q.octets) f.held) f
+      (within_bounds A (length f.held + 1) (gone_on A.faulted h)) t
+      (relieved_keeps A (IsOwn segments owners id o) k (length f.held + 1) (gone_on A.faulted h)
+      (gone_on_keeps A.faulted (IsOwn segments owners id o) k h v))
+
+  fin_own : (F : Reader) (f : Flow) (n : ℕ) → IsOwn segments owners id o f →
+      IsOwn segments owners id o (fin_came F f n)
+  unfolding fin_came
+  fin_own F f n t =
+      let k : Keeps F (IsOwn segments owners id o) = own_keeps F in
+      either (IsOwn segments owners id o) (is_some f.live && nat_eq (age f.next n) 0)
+      (gone_on F (record f { fin = Some n })) f
+      (gone_on_keeps F (IsOwn segments owners id o) k (record f { fin = Some n })
+      (k.fins f (Some n) t)) t
+
+  -- what comes is, where it is octets, part of a segment of the flow
+  pub step_own : (A : Setting) (f : Flow) (a : Arrival) →
+      ((n : ℕ) (octets : List ℕ) → a ≡ Octets n octets → IsPartOf segments o n octets) →
+      IsOwn segments owners id o f → IsOwn segments owners id o (step A f a)
+  unfolding step
+  step_own A f (Octets n octets) part t =
+      came_own A f (payload f.id n octets) t.same (part n octets refl) t
+  step_own A f (End n) part t = fin_own A.faulted f n t
+  step_own A f (Acknowledged n) part t = missed_keeps A.faulted (IsOwn segments owners id o)
+      (own_keeps A.faulted) (length f.held) n f t
+
+  pub gap_own : (F : Reader) (f : Flow) → IsOwn segments owners id o f →
+      IsOwn segments owners id o (gap F f)
+  gap_own F f t = gap_keeps F (IsOwn segments owners id o) (own_keeps F) f t

@@ -1,0 +1,258 @@
+-- Which flows are whose, behind each change of a state.
+use Rattle.std.proofs.Common.{◌≡◌, ℕ, ◌+◌, ◌*◌, ◌^◌, ◌<◌, Bool, true, false, List, [], ◌∷◌, length, set, get_or, Option, Some, None, is_some, unwrap_or, refl, sym, ◌∙◌, ap, subst, inl, inr, true≢false, get_or-set_same, get_or-set_other}
+use Rattle.std.specs.List.{AllByRecursion}
+use Rattle.std.proofs.lemmas.Bool.{cases_eq, ne_eqb}
+use Rattle.tcp_segment.specs.declared.endpoint.Flow.{Flow as Endpoints}
+use Rattle.tcp_segment.specs.Segments.{Segment}
+use Rattle.tcp_flow.specs.declared.flow.CloseCause.{CloseCause}
+use Rattle.tcp_flow.specs.declared.flow.FlowState.{FlowState}
+use Rattle.tcp_waiting.specs.Payload.{Payload, payload}
+use Rattle.tcp_flow.specs.Flow.{Flow, Event, Opens, Begins, Delivers, Closes, OfCapture, flow_of, Reader, Setting, Arrival, Octets, setting, fresh, payload_came, closed, gap, step as flow_step, first_payload}
+use Rattle.tcp_flow.specs.State.{state}
+use Rattle.tcp_flow.proofs.Told.{IsKept, closed_told, came_told, step_told, gap_told}
+use Rattle.tcp_streams.specs.declared.pair.EndpointPair.{EndpointPair}
+use Rattle.tcp_streams.specs.declared.pair.Side.TheVariants.{FromLesser, FromGreater}
+use Rattle.tcp_streams.specs.Pairs.{flow_from}
+use Rattle.tcp_connections.specs.Connections.{State, flow_at, flow_state, with_flow, arrived, began, gapped, closed_at}
+use Rattle.tcp_connections.specs.Owned.{IsPartOf, Standing, Unopened, Idle, Live, owner, is_of, standing, AllMayCome}
+use Rattle.tcp_connections.proofs.Cases.{arrived_none, arrived_some, gapped_none, gapped_some, closed_none, closed_some}
+use Rattle.tcp_connections.proofs.OwnFlows.{Stands, other_more, IsPartOfOwn, stand_of, IsOwn, closed_own, came_own, step_own, gap_own}
+use Rattle.tcp_connections.proofs.Sound.{some_within}
+
+some_number : (x y : ℕ) → Some x ≡ Some y → x ≡ y
+some_number x y e = ap (λ (s : Option ℕ). unwrap_or s x) e
+
+-- an event of another flow
+not_of : (j id : ℕ) (e : Event) → flow_of e ≡ Some id → (j ≡ id → ⊥) → is_of j e ≡ false
+not_of j id (Opens flow endpoints) of n = ne_eqb flow j
+    (λ o. n (sym o ∙ some_number flow id of))
+not_of j id (Begins flow number) of n = ne_eqb flow j (λ o. n (sym o ∙ some_number flow id of))
+not_of j id (Delivers flow octets) of n = ne_eqb flow j (λ o. n (sym o ∙ some_number flow id of))
+not_of j id (Closes flow cause) of n = ne_eqb flow j (λ o. n (sym o ∙ some_number flow id of))
+not_of j id (OfCapture event) of n = refl
+
+-- what a flow does is nothing to where another stands
+pub others_stand : (segments : List Segment) (j id : ℕ) (s : Standing) → (j ≡ id → ⊥) →
+    IsKept (λ es. Stands segments j es s) id
+others_stand segments j id s n es e of t = other_more segments j es s e (not_of j id e of n) t
+
+-- ---- What is so of a state.
+
+-- what an id stands for, and whose it is
+abbrev pub stands_for : List Event → ℕ → Standing
+stands_for es id = standing id Unopened es
+
+abbrev pub owner_of : List Event → ℕ → Option Endpoints
+owner_of es id = owner (stands_for es id)
+
+-- no stream of it lives
+abbrev pub IsQuiet : Standing → Type 0
+IsQuiet s = (o : Endpoints) (n : ℕ) → s ≡ Live o n → ⊥
+
+-- a flow stands where its id does
+abbrev pub StandsAs : Standing → Option FlowState → Type 0
+StandsAs s None = IsQuiet s
+StandsAs s (Some f) = (o : Endpoints) × (s ≡ stand_of o (is_some f.live) f.next)
+
+-- the flows of the connections that are known are theirs
+abbrev pub AreTheirs : (ℕ → Option Endpoints) → List EndpointPair → List ℕ → Type 0
+AreTheirs owners [] rooms = Unit {0}
+AreTheirs owners (p ∷ ps) [] = Unit {0}
+AreTheirs owners (p ∷ ps) (r ∷ rs) =
+    (owners (2 * r) ≡ Some (flow_from p FromLesser))
+    × (owners (2 * r + 1) ≡ Some (flow_from p FromGreater)) × AreTheirs owners ps rs
+
+pub record Owns (segments : List Segment) (w : State) : Type 0 where
+  pub come : (id : ℕ) → AllMayCome segments id Unopened w.events
+  pub flows : (id : ℕ) → StandsAs (stands_for w.events id) (flow_at w id)
+  pub held : AllByRecursion (IsPartOfOwn segments (owner_of w.events)) w.held
+  pub known : AreTheirs (owner_of w.events) w.known w.rooms
+
+pub all_map : (P Q : Payload → Type 0) (ps : List Payload) → ((p : Payload) → P p → Q p) →
+    AllByRecursion P ps → AllByRecursion Q ps
+all_map P Q [] f h = tt
+all_map P Q (p ∷ ps) f h = (f p h.0, all_map P Q ps f h.1)
+
+-- the owners of some are as they were
+pub held_same : (segments : List Segment) (owners owners' : ℕ → Option Endpoints)
+    (ps : List Payload) →
+    ((j : ℕ) → owners' j ≡ owners j) → AllByRecursion (IsPartOfOwn segments owners) ps →
+    AllByRecursion (IsPartOfOwn segments owners') ps
+held_same segments owners owners' ps same h = all_map (IsPartOfOwn segments owners)
+    (IsPartOfOwn segments owners') ps (λ p part o e. part o (sym (same p.flow) ∙ e)) h
+
+pub theirs_same : (owners owners' : ℕ → Option Endpoints) (ps : List EndpointPair) (rs : List ℕ) →
+    ((j : ℕ) → owners' j ≡ owners j) → AreTheirs owners ps rs → AreTheirs owners' ps rs
+theirs_same owners owners' [] rs same h = tt
+theirs_same owners owners' (p ∷ ps) [] same h = tt
+theirs_same owners owners' (p ∷ ps) (r ∷ rs) same h = (
+  same (2 * r) ∙ h.0,
+  same (2 * r + 1) ∙ h.1,
+  theirs_same owners owners' ps rs same h.2,
+)
+
+pub owner_stand : (o : Endpoints) (b : Bool) (n : ℕ) → owner (stand_of o b n) ≡ Some o
+owner_stand o true n = refl
+owner_stand o false n = refl
+
+-- ---- A flow does something.
+
+owned_flow : (segments : List Segment) (w : State) (id : ℕ) (o : Endpoints) (f : Flow) →
+    Owns segments w → id < length w.flows → owner_of w.events id ≡ Some o →
+    IsOwn segments (owner_of w.events) id o f
+    → ((j : ℕ) → (j ≡ id → ⊥) → Stands segments j f.events (stands_for w.events j))
+    → Owns segments (with_flow w id f)
+unfolding with_flow
+owned_flow segments w id o f h l own t others =
+    let p : Option FlowState = Some (flow_state f) in
+    let here : (j : ℕ) → j ≡ id → get_or (set w.flows id p) j None ≡ p =
+    λ j y. ap (λ (k : ℕ). get_or (set w.flows id p) k None) y
+    ∙ get_or-set_same w.flows id p None l in
+    let there : (j : ℕ) → (j ≡ id → ⊥) → get_or (set w.flows id p) j None ≡ flow_at w j =
+    λ j n. get_or-set_other w.flows id j p None n in
+    let same : (j : ℕ) → owner_of f.events j ≡ owner_of w.events j =
+    λ j.
+    elim (cases_eq j id) [
+      | inl y ↦ ap (owner_of f.events) y
+          ∙ ap owner t.stands.is ∙ owner_stand o (is_some f.live) f.next ∙ sym own
+          ∙ ap (owner_of w.events) (sym y)
+      | inr n ↦ ap owner (others j n).is
+    ] in
+    record {
+      come =
+          λ j.
+          elim (cases_eq j id) [
+            | inl y ↦ subst (λ (k : ℕ). AllMayCome segments k Unopened f.events) (sym y)
+                t.stands.come
+            | inr n ↦ (others j n).come
+          ];
+      flows =
+          λ j.
+          elim (cases_eq j id) [
+            | inl y ↦ subst (StandsAs (stands_for f.events j)) (sym (here j y))
+                (o, ap (stands_for f.events) y ∙ t.stands.is)
+            | inr n ↦ subst (StandsAs (stands_for f.events j)) (sym (there j n))
+                (subst (λ (s : Standing). StandsAs s (flow_at w j)) (sym (others j n).is)
+                (h.flows j))
+          ];
+      held = held_same segments (owner_of w.events) (owner_of f.events) f.held same t.held;
+      known = theirs_same (owner_of w.events) (owner_of f.events) w.known w.rooms same h.known;
+    }
+
+-- a flow that there is, before it does anything
+pub own_before : (segments : List Segment) (w : State) (id : ℕ) (s : FlowState) (o : Endpoints) →
+    Owns segments w → s.id ≡ id → s.next < 2 ^ 32 →
+    stands_for w.events id ≡ stand_of o (is_some s.live) s.next →
+    IsOwn segments (owner_of w.events) id o (state s w.held w.events)
+own_before segments w id s o h same small is = record {
+  same = same;
+  next = small;
+  held = h.held;
+  stands = record { come = h.come id; is = is };
+}
+
+pub stands_now : (segments : List Segment) (w : State) (j : ℕ) → Owns segments w →
+    Stands segments j w.events (stands_for w.events j)
+stands_now segments w j h = record { come = h.come j; is = refl }
+
+-- the flows have their ids, and their numbers are sequence numbers
+abbrev pub AreNumbered : State → Type 0
+AreNumbered w = (id : ℕ) (s : FlowState) → flow_at w id ≡ Some s → (s.id ≡ id) × (s.next < 2 ^ 32)
+
+pub arrived_owns : (segments : List Segment) (F : Reader) (w : State) (id : ℕ) (a : Arrival) →
+    AreNumbered w → ((o : Endpoints) → owner_of w.events id ≡ Some o → (n : ℕ)
+    (octets : List ℕ) → a ≡ Octets n octets → IsPartOf segments o n octets)
+    → Owns segments w → Owns segments (arrived F w id a)
+arrived_owns segments F w id a numbers part h = by (flow_at w id) refl
+  where
+    by : (p : Option FlowState) → flow_at w id ≡ p → Owns segments (arrived F w id a)
+    by None e = subst (Owns segments) (sym (arrived_none F w id a e)) h
+    by (Some s) e =
+        let A : Setting = setting F w.blocks in
+        let f : Flow = state s w.held w.events in
+        let st = subst (StandsAs (stands_for w.events id)) e (h.flows id) in
+        let o : Endpoints = st.0 in
+        let own : owner_of w.events id ≡ Some o =
+        ap owner st.1 ∙ owner_stand o (is_some s.live) s.next in
+        let same : s.id ≡ id = (numbers id s e).0 in
+        let t : IsOwn segments (owner_of w.events) id o f =
+        own_before segments w id s o h same (numbers id s e).1 st.1 in
+        subst (Owns segments) (sym (arrived_some F w id a s e))
+        (owned_flow segments w id o (flow_step A f a) h (some_within w.flows id s e) own
+        (step_own segments (owner_of w.events) id o own A f a (part o own) t)
+        (λ j n. (step_told (λ es. Stands segments j es (stands_for w.events j)) id
+        (others_stand segments j id (stands_for w.events j) n) A f a
+        (record { same = same; told = stands_now segments w j h })).told))
+
+-- the first payload of a flow comes
+idle_of : (s : Standing) (o : Endpoints) → IsQuiet s → owner s ≡ Some o → s ≡ Idle o
+idle_of Unopened o q e = absurd (true≢false (sym (ap is_some e)))
+idle_of (Idle x) o q e = ap Idle (ap (λ (s : Option Endpoints). unwrap_or s x) e)
+idle_of (Live x n) o q e = absurd (q x n refl)
+
+pub began_owns : (segments : List Segment) (F : Reader) (w : State) (id n : ℕ)
+    (octets : List ℕ) (o : Endpoints) → n < 2 ^ 32 → flow_at w id ≡ None → id < length w.flows →
+    owner_of w.events id ≡ Some o → IsPartOf segments o n octets
+    → Owns segments w → Owns segments (began F w id n octets)
+unfolding began first_payload
+began_owns segments F w id n octets o small e within own part h =
+    let A : Setting = setting F w.blocks in
+    let before : Flow = fresh id n w.held w.events in
+    let idle : stands_for w.events id ≡ Idle o =
+    idle_of (stands_for w.events id) o (subst (StandsAs (stands_for w.events id)) e (h.flows id))
+    own in
+    owned_flow segments w id o (payload_came A before (payload id n octets)) h within own
+    (came_own segments (owner_of w.events) id o own A before (payload id n octets) refl part
+    (record {
+      same = refl;
+      next = small;
+      held = h.held;
+      stands = record { come = h.come id; is = idle };
+    }))
+    (λ j m. (came_told (λ es. Stands segments j es (stands_for w.events j)) id
+    (others_stand segments j id (stands_for w.events j) m) A before (payload id n octets)
+    (record { same = refl; told = stands_now segments w j h })).told)
+
+pub gapped_owns : (segments : List Segment) (F : Reader) (w : State) (id : ℕ) → AreNumbered w →
+    Owns segments w → Owns segments (gapped F w id)
+gapped_owns segments F w id numbers h = by (flow_at w id) refl
+  where
+    by : (p : Option FlowState) → flow_at w id ≡ p → Owns segments (gapped F w id)
+    by None e = subst (Owns segments) (sym (gapped_none F w id e)) h
+    by (Some s) e =
+        let f : Flow = state s w.held w.events in
+        let st = subst (StandsAs (stands_for w.events id)) e (h.flows id) in
+        let o : Endpoints = st.0 in
+        let own : owner_of w.events id ≡ Some o =
+        ap owner st.1 ∙ owner_stand o (is_some s.live) s.next in
+        let same : s.id ≡ id = (numbers id s e).0 in
+        let t : IsOwn segments (owner_of w.events) id o f =
+        own_before segments w id s o h same (numbers id s e).1 st.1 in
+        subst (Owns segments) (sym (gapped_some F w id s e))
+        (owned_flow segments w id o (gap F f) h (some_within w.flows id s e) own
+        (gap_own segments (owner_of w.events) id o own F f t)
+        (λ j n. (gap_told (λ es. Stands segments j es (stands_for w.events j)) id
+        (others_stand segments j id (stands_for w.events j) n) F f
+        (record { same = same; told = stands_now segments w j h })).told))
+
+pub closed_owns : (segments : List Segment) (w : State) (id : ℕ) (cause : CloseCause) →
+    AreNumbered w → Owns segments w → Owns segments (closed_at w id cause)
+closed_owns segments w id cause numbers h = by (flow_at w id) refl
+  where
+    by : (p : Option FlowState) → flow_at w id ≡ p → Owns segments (closed_at w id cause)
+    by None e = subst (Owns segments) (sym (closed_none w id cause e)) h
+    by (Some s) e =
+        let f : Flow = state s w.held w.events in
+        let st = subst (StandsAs (stands_for w.events id)) e (h.flows id) in
+        let o : Endpoints = st.0 in
+        let own : owner_of w.events id ≡ Some o =
+        ap owner st.1 ∙ owner_stand o (is_some s.live) s.next in
+        let same : s.id ≡ id = (numbers id s e).0 in
+        let t : IsOwn segments (owner_of w.events) id o f =
+        own_before segments w id s o h same (numbers id s e).1 st.1 in
+        subst (Owns segments) (sym (closed_some w id cause s e))
+        (owned_flow segments w id o (closed f cause) h (some_within w.flows id s e) own
+        (closed_own segments (owner_of w.events) id o own f cause t)
+        (λ j n. (closed_told (λ es. Stands segments j es (stands_for w.events j)) id
+        (others_stand segments j id (stands_for w.events j) n) f cause
+        (record { same = same; told = stands_now segments w j h })).told))

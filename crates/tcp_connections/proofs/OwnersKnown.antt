@@ -1,0 +1,344 @@
+-- Whose flows are, where connections are forgotten and become known.
+use Rattle.std.proofs.Common.{◌≡◌, ℕ, zero, suc, ◌+◌, ◌*◌, Bool, true, false, cond, nat_eq, List, [], ◌∷◌, ◌++◌, length, set, get_or, Option, Some, None, is_some, unwrap_or, is_eq, refl, sym, ◌∙◌, ap, subst, arith, inl, inr, true≢false, Ordering, Less, Equal, Greater, get_or-set_same, get_or-set_other}
+use Rattle.std.specs.List.{AllByRecursion, insert, remove}
+use Rattle.std.specs.Option.{option_map}
+use Rattle.std.proofs.lemmas.Bool.{cases_eq, cases_Bool, cond-true, cond-false, ne_eqb, eq-eqb}
+use Rattle.tcp_segment.specs.declared.endpoint.Flow.{Flow as Endpoints}
+use Rattle.tcp_segment.specs.Segments.{Segment}
+use Rattle.tcp_flow.specs.declared.flow.CloseCause.{CloseCause}
+use Rattle.tcp_flow.specs.declared.flow.FlowState.{FlowState}
+use Rattle.tcp_waiting.specs.Payload.{Payload, count_of}
+use Rattle.tcp_flow.specs.Flow.{Flow, Event, Opens, OfCapture, CaptureEvent, closed, held_by_others}
+use Rattle.tcp_flow.specs.State.{state}
+use Rattle.tcp_flow.proofs.Room.{closed_dead}
+use Rattle.tcp_flow.proofs.Told.{closed_told}
+use Rattle.tcp_streams.specs.declared.pair.EndpointPair.{EndpointPair}
+use Rattle.tcp_streams.specs.declared.pair.Side.{Side}
+use Rattle.tcp_streams.specs.declared.pair.Side.TheVariants.{FromLesser, FromGreater}
+use Rattle.tcp_streams.specs.Pairs.{compare_pairs, compare_endpoints, pair_of, ordered, flow_id, flow_from}
+use Rattle.tcp_connections.specs.Connections.{State, flow_at, flow_forgotten, place_of, place_among, next_room, made_known, with_capture_event}
+use Rattle.tcp_connections.specs.Owned.{Standing, Unopened, Idle, Live, owner, MayCome, AllMayCome}
+use Rattle.tcp_connections.specs.State.{times}
+use Rattle.tcp_connections.proofs.Forgotten.{forgot_either}
+use Rattle.tcp_connections.proofs.OwnFlows.{either, Stands, own_more, other_more, IsPartOfOwn, IsOwn, closed_own}
+use Rattle.tcp_connections.proofs.Owners.{others_stand, stands_for, owner_of, IsQuiet, StandsAs, AreTheirs, Owns, held_same, theirs_same, owner_stand, own_before, stands_now, AreNumbered}
+use Rattle.tcp_connections.proofs.SamePairs.{same_pair_of}
+use Rattle.tcp_connections.proofs.Sound.{some_within}
+
+abbrev is_idle : Standing → Bool
+is_idle (Idle x) = true
+is_idle s = false
+
+quiet_idle : (o x : Endpoints) (n : ℕ) → Idle o ≡ Live x n → ⊥
+quiet_idle o x n e = true≢false (ap is_idle e)
+
+-- ---- A flow is forgotten.
+
+all_others : (P : Payload → Type 0) (id : ℕ) (ps : List Payload) → AllByRecursion P ps →
+    AllByRecursion P (held_by_others id ps)
+unfolding held_by_others
+all_others P id [] h = tt
+all_others P id (p ∷ ps) h = either (AllByRecursion P) (nat_eq p.flow id) (held_by_others id ps)
+    (p ∷ held_by_others id ps) (all_others P id ps h.1) (h.0, all_others P id ps h.1)
+
+pub forgot_owns : (segments : List Segment) (w : State) (id : ℕ) (cause : CloseCause) →
+    AreNumbered w → Owns segments w → Owns segments (flow_forgotten w id cause)
+forgot_owns segments w id cause numbers h =
+    forgot_either (Owns segments) w id cause (λ e. h)
+    (λ s e.
+    let f : Flow = state s w.held w.events in
+    let c : Flow = closed f cause in
+    let st = subst (StandsAs (stands_for w.events id)) e (h.flows id) in
+    let o : Endpoints = st.0 in
+    let own : owner_of w.events id ≡ Some o =
+    ap owner st.1 ∙ owner_stand o (is_some s.live) s.next in
+    let same : s.id ≡ id = (numbers id s e).0 in
+    let t : IsOwn segments (owner_of w.events) id o c =
+    closed_own segments (owner_of w.events) id o own f cause
+    (own_before segments w id s o h same (numbers id s e).1 st.1) in
+    let idle : stands_for c.events id ≡ Idle o =
+    t.stands.is
+    ∙ cond-false (is_some c.live) (Live o c.next) (Idle o) (closed_dead f cause) in
+    let others : (j : ℕ) → (j ≡ id → ⊥) → Stands segments j c.events (stands_for w.events j) =
+    λ j n. (closed_told (λ es. Stands segments j es (stands_for w.events j)) id
+    (others_stand segments j id (stands_for w.events j) n) f cause
+    (record { same = same; told = stands_now segments w j h })).told in
+    let there : (j : ℕ) → owner_of c.events j ≡ owner_of w.events j =
+    λ j.
+    elim (cases_eq j id) [
+      | inl y ↦ ap (owner_of c.events) y ∙ ap owner idle ∙ sym own ∙ ap (owner_of w.events) (sym y)
+      | inr n ↦ ap owner (others j n).is
+    ] in
+    record {
+      come =
+          λ j.
+          elim (cases_eq j id) [
+            | inl y ↦ subst (λ (k : ℕ). AllMayCome segments k Unopened c.events) (sym y)
+                t.stands.come
+            | inr n ↦ (others j n).come
+          ];
+      flows =
+          λ j.
+          elim (cases_eq j id) [
+            | inl y ↦ subst (StandsAs (stands_for c.events j))
+                (sym (ap (λ (k : ℕ). get_or (set w.flows id None) k None) y
+                ∙ get_or-set_same w.flows id None None (some_within w.flows id s e)))
+                (λ x n l. quiet_idle o x n (sym (ap (stands_for c.events) y ∙ idle) ∙ l))
+            | inr n ↦ subst (StandsAs (stands_for c.events j))
+                (sym (get_or-set_other w.flows id j None None n))
+                (subst (λ (x : Standing). StandsAs x (flow_at w j)) (sym (others j n).is)
+                (h.flows j))
+          ];
+      held = held_same segments (owner_of w.events) (owner_of c.events)
+          (held_by_others id w.held) there
+          (all_others (IsPartOfOwn segments (owner_of w.events)) id w.held h.held);
+      known = theirs_same (owner_of w.events) (owner_of c.events) w.known w.rooms there h.known;
+    })
+
+-- of the connections that are known one goes
+pub theirs_without : (owners : ℕ → Option Endpoints) (ps : List EndpointPair) (rs : List ℕ)
+    (i : ℕ) → AreTheirs owners ps rs → AreTheirs owners (remove ps i) (remove rs i)
+theirs_without owners [] rs i h = none (remove rs i)
+  where
+    none : (xs : List ℕ) → AreTheirs owners (remove [] i) xs
+    none xs = by i
+      where
+        by : (k : ℕ) → AreTheirs owners (remove [] k) xs
+        by zero = tt
+        by (suc k) = tt
+theirs_without owners (p ∷ ps) [] zero h = none ps
+  where
+    none : (qs : List EndpointPair) → AreTheirs owners qs []
+    none [] = tt
+    none (q ∷ qs) = tt
+theirs_without owners (p ∷ ps) [] (suc i) h = tt
+theirs_without owners (p ∷ ps) (r ∷ rs) zero h = h.2
+theirs_without owners (p ∷ ps) (r ∷ rs) (suc i) h = (
+  h.0,
+  h.1,
+  theirs_without owners ps rs i h.2,
+)
+
+-- ---- The capture.
+
+pub told_owns : (segments : List Segment) (w : State) (event : CaptureEvent) → Owns segments w →
+    Owns segments (with_capture_event w event)
+told_owns segments w event h =
+    let events : List Event = w.events ++ OfCapture event ∷ [] in
+    let all : (j : ℕ) → Stands segments j events (stands_for w.events j) =
+    λ j. other_more segments j w.events (stands_for w.events j) (OfCapture event) refl
+    (stands_now segments w j h) in
+    record {
+      come = λ j. (all j).come;
+      flows = λ j. subst (λ (s : Standing). StandsAs s (flow_at w j)) (sym (all j).is) (h.flows j);
+      held = held_same segments (owner_of w.events) (owner_of events) w.held
+          (λ j. ap owner (all j).is) h.held;
+      known = theirs_same (owner_of w.events) (owner_of events) w.known w.rooms
+          (λ j. ap owner (all j).is) h.known;
+    }
+
+-- ---- An id opens.
+
+may_open : (segments : List Segment) (s : Standing) (id : ℕ) (o : Endpoints) → IsQuiet s →
+    MayCome segments s (Opens id o)
+may_open segments Unopened id o q = tt
+may_open segments (Idle x) id o q = tt
+may_open segments (Live x n) id o q = absurd (q x n refl)
+
+all_beside : (P Q : Payload → Type 0) (id : ℕ) (ps : List Payload) → count_of id ps ≡ 0 →
+    ((p : Payload) → (p.flow ≡ id → ⊥) → P p → Q p) → AllByRecursion P ps → AllByRecursion Q ps
+unfolding count_of
+all_beside P Q id [] none f h = tt
+all_beside P Q id (p ∷ ps) none f h = (
+  f p (λ o. let own : ◌≡◌ {A = ℕ} (cond (nat_eq p.flow id) 1 0) 1 = rw (eq-eqb p.flow id o) refl in
+      absurd (omega (arith, none, own))) h.0,
+  all_beside P Q id ps (omega (arith, none)) f h.1,
+)
+
+-- what is so but for which connections are known
+pub record OwnsFlows (segments : List Segment) (kept : List (Option FlowState))
+    (waiting : List Payload) (events : List Event) : Type 0 where
+  pub come : (id : ℕ) → AllMayCome segments id Unopened events
+  pub flows : (id : ℕ) → StandsAs (stands_for events id) (get_or kept id None)
+  pub held : AllByRecursion (IsPartOfOwn segments (owner_of events)) waiting
+
+-- an id opens, of which nothing is held, and the others stand as they did
+pub record HasOpened (events events' : List Event) (id : ℕ) (o : Endpoints) : Type 0 where
+  pub own : owner_of events' id ≡ Some o
+  pub others : (j : ℕ) → (j ≡ id → ⊥) → owner_of events' j ≡ owner_of events j
+
+pub opens_owns : (segments : List Segment) (flows : List (Option FlowState)) (held : List Payload)
+    (events : List Event) (id : ℕ) (o : Endpoints) → get_or flows id None ≡ None →
+    count_of id held ≡ 0 → OwnsFlows segments flows held events
+    → OwnsFlows segments flows held (events ++ Opens id o ∷ [])
+    × HasOpened events (events ++ Opens id o ∷ []) id o
+opens_owns segments flows held events id o e none h =
+    let all : List Event = events ++ Opens id o ∷ [] in
+    let quiet : IsQuiet (stands_for events id) =
+    subst (StandsAs (stands_for events id)) e (h.flows id) in
+    let here : Stands segments id all (Idle o) =
+    own_more segments id events (stands_for events id) (Opens id o) (eq-eqb id id refl)
+    (may_open segments (stands_for events id) id o quiet)
+    (record { come = h.come id; is = refl }) in
+    let there : (j : ℕ) → (j ≡ id → ⊥) → Stands segments j all (stands_for events j) =
+    λ j n. other_more segments j events (stands_for events j) (Opens id o)
+    (ne_eqb id j (λ x. n (sym x))) (record { come = h.come j; is = refl }) in (
+      record {
+        come =
+            λ j.
+            elim (cases_eq j id) [
+              | inl y ↦ subst (λ (k : ℕ). AllMayCome segments k Unopened all) (sym y) here.come
+              | inr n ↦ (there j n).come
+            ];
+        flows =
+            λ j.
+            elim (cases_eq j id) [
+              | inl y ↦ subst (StandsAs (stands_for all j))
+                  (sym (ap (λ (k : ℕ). get_or flows k None) y ∙ e))
+                  (λ x n l. quiet_idle o x n (sym (ap (stands_for all) y ∙ here.is) ∙ l))
+              | inr n ↦ subst (λ (s : Standing). StandsAs s (get_or flows j None))
+                  (sym (there j n).is) (h.flows j)
+            ];
+        held = all_beside (IsPartOfOwn segments (owner_of events))
+            (IsPartOfOwn segments (owner_of all)) id held none
+            (λ p apart part x y. part x (sym (ap owner (there p.flow apart).is) ∙ y)) h.held;
+      },
+      record { own = ap owner here.is; others = λ j n. ap owner (there j n).is },
+    )
+
+-- those of other rooms are as they were
+theirs_kept : (owners owners' : ℕ → Option Endpoints) (room : ℕ) (ps : List EndpointPair)
+    (rs : List ℕ) → times room rs ≡ 0
+    → ((j : ℕ) → (j ≡ 2 * room → ⊥) → (j ≡ 2 * room + 1 → ⊥) → owners' j ≡ owners j)
+    → AreTheirs owners ps rs → AreTheirs owners' ps rs
+unfolding times
+theirs_kept owners owners' room [] rs none same h = tt
+theirs_kept owners owners' room (q ∷ ps) [] none same h = tt
+theirs_kept owners owners' room (q ∷ ps) (r ∷ rs) none same h =
+    let apart : r ≡ room → ⊥ = λ o. (let own : ◌≡◌ {A = ℕ} (cond (nat_eq r room) 1 0) 1 =
+    rw (eq-eqb r room o) refl in absurd (omega (arith, none, own))) in (
+      same (2 * r) (λ o. apart (omega (arith, o))) (λ o. absurd (omega (arith, o))) ∙ h.0,
+      same (2 * r + 1) (λ o. absurd (omega (arith, o))) (λ o. apart (omega (arith, o))) ∙ h.1,
+      theirs_kept owners owners' room ps rs (omega (arith, none)) same h.2,
+    )
+
+-- a room's flows are theirs from now on
+pub theirs_with : (owners owners' : ℕ → Option Endpoints) (p : EndpointPair) (room : ℕ)
+    (ps : List EndpointPair) (rs : List ℕ) (i : ℕ) → times room rs ≡ 0
+    → owners' (2 * room) ≡ Some (flow_from p FromLesser) →
+    owners' (2 * room + 1) ≡ Some (flow_from p FromGreater)
+    → ((j : ℕ) → (j ≡ 2 * room → ⊥) → (j ≡ 2 * room + 1 → ⊥) → owners' j ≡ owners j)
+    → length ps ≡ length rs → AreTheirs owners ps rs →
+    AreTheirs owners' (insert ps i p) (insert rs i room)
+unfolding times
+theirs_with owners owners' p room [] [] zero none a b same l h = (a, b, tt)
+theirs_with owners owners' p room [] [] (suc i) none a b same l h = (a, b, tt)
+theirs_with owners owners' p room [] (r ∷ rs) i none a b same l h = absurd (omega (arith, l))
+theirs_with owners owners' p room (q ∷ ps) [] i none a b same l h = absurd (omega (arith, l))
+theirs_with owners owners' p room (q ∷ ps) (r ∷ rs) zero none a b same l h =
+    (a, b, theirs_kept owners owners' room (q ∷ ps) (r ∷ rs) none same h)
+theirs_with owners owners' p room (q ∷ ps) (r ∷ rs) (suc i) none a b same l h =
+    let apart : r ≡ room → ⊥ = λ o. (let own : ◌≡◌ {A = ℕ} (cond (nat_eq r room) 1 0) 1 =
+    rw (eq-eqb r room o) refl in absurd (omega (arith, none, own))) in (
+      same (2 * r) (λ o. apart (omega (arith, o))) (λ o. absurd (omega (arith, o))) ∙ h.0,
+      same (2 * r + 1) (λ o. absurd (omega (arith, o))) (λ o. apart (omega (arith, o))) ∙ h.1,
+      theirs_with owners owners' p room ps rs i (omega (arith, none)) a b same (omega (arith, l))
+          h.2,
+    )
+
+-- ---- Whose a segment is.
+
+pub equal_of : (r : Ordering) → is_eq r ≡ true → r ≡ Equal
+equal_of Less e = absurd (true≢false (sym e))
+equal_of Equal e = refl
+equal_of Greater e = absurd (true≢false (sym e))
+
+pub theirs_at : (owners : ℕ → Option Endpoints) (p : EndpointPair) (ps : List EndpointPair)
+    (rs : List ℕ) (i : ℕ) (side : Side) → length ps ≡ length rs → place_of p ps ≡ Some i →
+    AreTheirs owners ps rs → owners (flow_id (get_or rs i 0) side) ≡ Some (flow_from p side)
+unfolding place_of
+theirs_at owners p [] rs i side l e h = absurd (true≢false (sym (ap is_some e)))
+theirs_at owners p (q ∷ ps) [] i side l e h = absurd (omega (arith, l))
+theirs_at owners p (q ∷ ps) (r ∷ rs) i side l e h =
+    elim (cases_Bool (is_eq (compare_pairs q p))) [
+      | inl b ↦
+          (let same : q ≡ p = same_pair_of q p (equal_of (compare_pairs q p) b) in
+          let z : 0 ≡ i = some_number 0 i (sym (cond-true (is_eq (compare_pairs q p)) (Some 0)
+          (option_map suc (place_of p ps)) b) ∙ e) in
+          subst (λ (k : ℕ). owners (flow_id (get_or (r ∷ rs) k 0) side) ≡ Some (flow_from p side)) z
+          (subst (λ (x : EndpointPair). owners (flow_id r side) ≡ Some (flow_from x side)) same
+          (first side)))
+      | inr b ↦ further (place_of p ps) i
+          (λ k d. theirs_at owners p ps rs k side (omega (arith, l)) d h.2)
+          (sym (cond-false (is_eq (compare_pairs q p)) (Some 0) (option_map suc (place_of p ps)) b)
+          ∙ e)
+    ]
+  where
+    some_number : (x y : ℕ) → Some x ≡ Some y → x ≡ y
+    some_number x y e = ap (λ (s : Option ℕ). unwrap_or s x) e
+
+    first : (d : Side) → owners (flow_id r d) ≡ Some (flow_from q d)
+    first FromLesser = h.0
+    first FromGreater = h.1
+
+    further : (x : Option ℕ) (i : ℕ) → ((k : ℕ) → x ≡ Some k →
+        owners (flow_id (get_or rs k 0) side) ≡ Some (flow_from p side)) →
+        option_map suc x ≡ Some i
+        → owners (flow_id (get_or (r ∷ rs) i 0) side) ≡ Some (flow_from p side)
+    further None i f d = absurd (true≢false (sym (ap is_some d)))
+    further (Some k) i f d =
+        subst (λ (n : ℕ). owners (flow_id (get_or (r ∷ rs) n 0) side) ≡ Some (flow_from p side))
+        (some_number (suc k) i d) (f k refl)
+
+-- a flow is that of its pair and side
+pub flow_of_pair : (flow : Endpoints) → flow_from (pair_of flow).0 (pair_of flow).1 ≡ flow
+flow_of_pair flow = by (compare_endpoints flow.from flow.to)
+  where
+    by : (r : Ordering) → flow_from (ordered r flow).0 (ordered r flow).1 ≡ flow
+    by Less = refl
+    by Equal = refl
+    by Greater = refl
+
+-- ---- A connection becomes known.
+
+pub record MadeKnown (segments : List Segment) (w : State) (p : EndpointPair) (room : ℕ)
+    : Type 0 where
+  pub owns : Owns segments (made_known w p)
+  pub own : (side : Side) → owner_of (made_known w p).events (flow_id room side)
+      ≡ Some (flow_from p side)
+
+pub made_owns : (segments : List Segment) (w : State) (p : EndpointPair) →
+    flow_at w (2 * next_room w.free) ≡ None → flow_at w (2 * next_room w.free + 1) ≡ None
+    → count_of (2 * next_room w.free) w.held ≡ 0 → count_of (2 * next_room w.free + 1) w.held ≡ 0
+    → times (next_room w.free) w.rooms ≡ 0 → length w.known ≡ length w.rooms → Owns segments w →
+    MadeKnown segments w p (next_room w.free)
+unfolding made_known
+made_owns segments w p lesser greater none none' apart l h =
+    let room : ℕ = next_room w.free in
+    let a : Endpoints = flow_from p FromLesser in
+    let b : Endpoints = flow_from p FromGreater in
+    let one : List Event = w.events ++ Opens (2 * room) a ∷ [] in
+    let two : List Event = one ++ Opens (2 * room + 1) b ∷ [] in
+    let first = opens_owns segments w.flows w.held w.events (2 * room) a lesser none
+    (record { come = h.come; flows = h.flows; held = h.held }) in
+    let second = opens_owns segments w.flows w.held one (2 * room + 1) b greater none' first.0 in
+    let own : owner_of two (2 * room) ≡ Some a =
+    second.1.others (2 * room) (λ o. absurd (omega (arith, o))) ∙ first.1.own in
+    record {
+      owns = record {
+        come = second.0.come;
+        flows = second.0.flows;
+        held = second.0.held;
+        known = theirs_with (owner_of w.events) (owner_of two) p room w.known w.rooms
+            (place_among p w.known) apart own second.1.own
+            (λ j m n. second.1.others j n ∙ first.1.others j m) l h.known;
+      };
+      own = λ side. by (owner_of two) room p own second.1.own side;
+    }
+  where
+    by : (owners : ℕ → Option Endpoints) (room : ℕ) (q : EndpointPair) →
+        owners (2 * room) ≡ Some (flow_from q FromLesser) →
+        owners (2 * room + 1) ≡ Some (flow_from q FromGreater) → (side : Side) →
+        owners (flow_id room side) ≡ Some (flow_from q side)
+    by owners room q x y FromLesser = x
+    by owners room q x y FromGreater = y
