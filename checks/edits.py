@@ -167,7 +167,7 @@ GONE = re.compile(r"(?:record|module) `[^`]*`(?: \(nearest: [^)]*\))? has no |is
 
 def part_of(goal: str) -> tuple[str, str]:
     """What a goal is of, without the branches in which it is asked: `returns-in-Some-clause-most` is of the clause `most`."""
-    return re.split(r"-(?:in|then|clause)-", goal)[0], goal.partition("-clause-")[2]
+    return re.split(r"-(?:in|in_\w+|then|else|after|clause)(?:-|$)", goal)[0], goal.partition("-clause-")[2]
 
 
 def failed(said: str, crate: str) -> tuple[dict[str, str], dict[str, str]]:
