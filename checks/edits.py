@@ -12,8 +12,9 @@ A function is proved from the contracts of what it calls and not from their bodi
 don't touch each other. All edits of a crate are made in one copy, and one check of the copy tells of each function which
 goals of its own fail; to call a function that isn't proved is no goal of its own. So a function has one edit at most. The
 status is 0 where each edited function has a failed goal of its own and no other function has one. Else it is 1, and each
-fault is told by name: an edit that isn't refused, one whose text is missing or stands there twice, one in no function, two
-of one function, and a function that has no edit and fails.
+fault is told by name: an edit that isn't refused, one after which a proof names what is gone and no goal fails by what it
+says, one whose text is missing or stands there twice, one in no function, two of one function, and a function that has no
+edit and fails.
 
 The libraries below a crate are used as `rt ci` leaves them in out/; `rt check` would prove them once more, since it takes
 only what checks have kept. At its end `rt ci` puts back what stood in out/rlib before, so an old library there is used, and
@@ -160,17 +161,45 @@ def apply(edits: list[Edit], crate: Path) -> None:
         file.write_text("\n".join(made), encoding="utf-8")
 
 
-def failed(said: str, crate: str) -> dict[str, str]:
-    """The functions with a failed goal of their own, by the names that a check prints, and which goal it is."""
-    found = {}
-    for name, told in re.findall(rf"(?m)^fn {crate}::(\S+): ((?:not proved|no proof).*)$", said):
-        own = re.search(r"`search` did not prove (.*?)(?:;|$)", told)
-        folder = "proofs/" + name.replace("::", "/") + "/"
-        error = re.search(rf"(?m)^(?:\./)?{re.escape(folder)}\S*?: error: (`[^`]*`)", said)
-        goal = own or error
-        if goal:
-            found[name] = goal[1]
-    return found
+# How a check says that what a proof names isn't there any more: a goal, a fact of a place, or a lemma that names one.
+GONE = re.compile(r"(?:record|module) `[^`]*`(?: \(nearest: [^)]*\))? has no |is not in scope|was not admitted")
+
+
+def part_of(goal: str) -> tuple[str, str]:
+    """What a goal is of, without the branches in which it is asked: `returns-in-Some-clause-most` is of the clause `most`."""
+    return re.split(r"-(?:in|in_\w+|then|else|after|clause)(?:-|$)", goal)[0], goal.partition("-clause-")[2]
+
+
+def failed(said: str, crate: str) -> tuple[dict[str, str], dict[str, str]]:
+    """The functions with a failed goal of their own, by the names that a check prints, and which goal it is; and those that
+    fail since their proof names what isn't there any more, with what the check says of that.
+
+    Where the name of a goal that a proof answers is gone, one of the same clause in another branch has lost its answer: its
+    failure shows nothing, unless the check knows values at which it is false. Nothing does where an invariant is gone.
+    """
+    found, gone = {}, {}
+    asked: list[tuple[str, str]] = []
+    # A long message goes on in lines that begin with two blanks.
+    said = said.replace("\n  ", " ")
+    for line in said.split("\n"):
+        if note := re.match(r"note: src/\S+: .*\(`([^`]*)`\)(.*)", line):
+            asked.append((note[1], note[2]))
+        if head := re.match(rf"fn {crate}::(\S+): (?:not proved|no proof)", line):
+            folder = re.escape("proofs/" + head[1].replace("::", "/") + "/")
+            errors = re.findall(rf"(?m)^(?:\./)?{folder}(\w+)\.antt:\S+ error: (?:`([^`]*)`: )?(.*)$", said)
+            missing = [why for file, _, why in errors if file == "Invariants" or GONE.search(why)]
+            lost = {
+                part_of(goal) for why in missing for goal in re.findall(r"`goal\.([^`]*)`: module .* has no `", why)
+            }
+            goals = [goal for goal, why in asked if part_of(goal) not in lost or "this goal is false" in why]
+            goals += [goal or why for _, goal, why in errors if why not in missing]
+            if goals and not any(file == "Invariants" for file, _, _ in errors):
+                found[head[1]] = f"`{goals[0]}`"
+            elif missing:
+                gone[head[1]] = missing[0][:200]
+        if line.startswith("fn "):
+            asked = []
+    return found, gone
 
 
 def uses_of(top: Path) -> dict[str, list[str]]:
@@ -241,15 +270,19 @@ def tried(name: str, edits: list[Edit], top: Path) -> tuple[list[str], list[str]
         return [], [f"{name}: {why}"]
     if not re.search(r"(?m)^logic=(?:not-)?proved", said):
         return [], [f"{name}: the check did not come to its end:\n{said[-1500:]}"]
-    left = failed(said, name)
+    left, gone = failed(said, name)
     told, faults = [], []
     for edit in edits:
-        hits = [it for it in left if it == edit.function or it.endswith("::" + edit.function)]
-        if hits:
-            told.append(f"{name}/{edit.name}: refused in {hits[0]} by {left.pop(hits[0])}")
-        else:
+        hits = [it for it in [*left, *gone] if it == edit.function or it.endswith("::" + edit.function)]
+        if not hits:
             faults.append(f"{name}/{edit.name}: not refused in {edit.function}")
-    faults += [f"{name}: {it} has no edit, and fails by {goal}" for it, goal in left.items()]
+        elif goal := left.pop(hits[0], ""):
+            told.append(f"{name}/{edit.name}: refused in {hits[0]} by {goal}")
+        else:
+            faults.append(
+                f"{name}/{edit.name}: takes a name away in {hits[0]}, and no goal refuses it: {gone.pop(hits[0])}"
+            )
+    faults += [f"{name}: {it} has no edit, and fails by {goal}" for it, goal in (left | gone).items()]
     return told, faults
 
 

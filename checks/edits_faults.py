@@ -1,6 +1,7 @@
 """What checks/edits.py says of edits that show nothing: each is told by name, and the status is 1.
 
-The edits below take the place of those of giop_octets, in a copy of it in which the contract of one reader is weaker.
+The edits below take the place of those of giop_octets, in a copy of it in which the contract of one reader is weaker, and two
+functions have answers that the check finds by itself.
 """
 
 from __future__ import annotations
@@ -20,6 +21,14 @@ CONTRACT = (
     "drop at octets.now ≡ n ∷ rest → result ≡ n }",
     "drop at octets.now ≡ n ∷ rest → result ≡ result }",
 )
+
+# Answers that are put into the copy: the function's folder, and for each goal what the answer is.
+ANSWERS = {
+    "reading/optional_at": {"four_at-requires c": "omega (arith, c.requires.room)"},
+    "writing/put_held": {
+        "returns-clause-len g c": "omega (arith, c.push.ensures.len, c.put_octets.ensures.len, c.put_zeros.ensures.len)"
+    },
+}
 
 # Name, file, `old:`, `new:`, the function that the edit names (none where it stands in one), and what is told of it.
 # fmt: off
@@ -42,6 +51,12 @@ EDITS = [
      "stands in src/writing.rt 0 times"),
     ("two_of_one_function", "src/writing.rt", "in 0..count {", "in 2..count {", None,
      "writing::put_zeros has an edit already: is_refused"),
+    ("takes_an_invariant_away", "src/writing.rt", "for octet in octets {", "for one in octets { let octet = one;", None,
+     "takes a name away in writing::put_octets, and no goal refuses it"),
+    ("takes_a_goal_away", "src/reading.rt", "Some(four_at(octets, at + 1))", "let n = four_at(octets, at + 1); Some(n)", None,
+     "takes a name away in reading::optional_at, and no goal refuses it"),
+    ("is_refused_by_another_goal", "src/writing.rt", "put_octets(out, octets);", "put_zeros(out, octets.len());", None,
+     "refused in writing::put_held by `returns-clause-put`"),
 ]
 # fmt: on
 
@@ -55,6 +70,14 @@ def copied(room: Path) -> None:
     text = (crate / file).read_text(encoding="utf-8")
     assert text.count(strong) == 1, f"{strong!r} stands in {file} {text.count(strong)} times"
     (crate / file).write_text(text.replace(strong, weak), encoding="utf-8")
+    for folder, answers in ANSWERS.items():
+        goals = f"Rattle.{CRATE}.proofs.{folder.replace('/', '.')}.Goals as goal"
+        lines = ["use Rattle.std.proofs.Common.{arith}", f"use {goals}"]
+        for goal, answer in answers.items():
+            name = goal.split()[0]
+            lines += [f"pub {name} : goal.{name}", f"{goal} = {answer}"]
+        (crate / "proofs" / folder).mkdir(parents=True, exist_ok=True)
+        (crate / "proofs" / folder / "Answers.antt").write_text("\n".join(lines) + "\n", encoding="utf-8")
     (crate / "wrong").mkdir()
     for name, path, old, new, function, _ in EDITS:
         named = f"in: {function}\n" if function else ""
