@@ -1,6 +1,7 @@
 #!/usr/bin/env bash
 # The manual pages have no fault that mandoc finds, name each option of their programs and each of their exit statuses, and
-# their examples run. Installs mandoc, jq and mscgen where they are missing.
+# their examples run. All programs have one version, which CHANGES.md begins with.
+# Installs mandoc, jq, mscgen and omniidl where they are missing.
 set -euo pipefail
 cd "$(dirname "$0")/.."
 . checks/packages.sh
@@ -8,6 +9,7 @@ cd "$(dirname "$0")/.."
 need_program mandoc mandoc
 need_program jq jq
 need_program mscgen mscgen
+need_program omniidl omniidl
 need_giopdump
 need_giopcap
 export PATH=$(dirname "$giopdump"):$(dirname "$giopcap"):$PWD/scripts:$PATH PYTHONDONTWRITEBYTECODE=1
@@ -52,3 +54,10 @@ check_page giop-json 0 2 3 4
 check_page giop-stat 0 2 3 4
 check_page giop-chart 0 2 3 4
 ls "$folder"/naming.svg "$folder"/orders.png > /dev/null
+
+version=$(sed -nE '/^## /{s/^## ([^ ]+).*/\1/p; q}' CHANGES.md)
+for program in giopdump giopcap giop-stat giop-chart; do
+    [ "$("$program" --version)" = "$program $version" ] || { echo "$program --version isn't $version" >&2; exit 1; }
+done
+omniidl -p idl -bgiopdump_signatures -u | grep -cx "giopdump_signatures $version" > /dev/null
+echo "version $version"

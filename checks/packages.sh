@@ -33,7 +33,7 @@ install_package() {
 need_giopdump() {
     giopdump=$PWD/crates/giopdump/out/giopdump
     [ -x "$giopdump" ] && return 0
-    echo "$0: $giopdump is missing: build it with: cd crates/giopdump && rt run -- --version" >&2
+    echo "$0: $giopdump is missing: scripts/build makes it" >&2
     exit 1
 }
 
@@ -41,7 +41,7 @@ need_giopdump() {
 need_giopcap() {
     giopcap=$PWD/crates/giopcap/out/giopcap
     [ -x "$giopcap" ] && return 0
-    echo "$0: $giopcap is missing: build it with: cd crates/giopcap && rt run -- --version" >&2
+    echo "$0: $giopcap is missing: scripts/build makes it" >&2
     exit 1
 }
 

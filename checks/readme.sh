@@ -1,12 +1,15 @@
 #!/usr/bin/env bash
-# The commands of README.md and docs/USE.md print what stands beside them, the files that its pages link to are there, and the code
-# of docs/LIBRARY.md is that of the source.
-# Installs jq where it is missing.
+# Each command in the blocks of README.md and docs/USE.md runs, and prints what stands beside it; the files that the pages link to
+# are there, and the code of docs/LIBRARY.md is that of the source.
+# Installs what these commands use where it is missing.
 set -euo pipefail
 cd "$(dirname "$0")/.."
 . checks/packages.sh
 
-need_program jq jq
+for program in jq mscgen omniidl parallel pv tcpdump; do
+    need_program "$program" "$program"
+done
+need_program objdump binutils
 need_giopdump
 need_giopcap
 exec env PYTHONDONTWRITEBYTECODE=1 python3 checks/readme.py

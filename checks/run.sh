@@ -4,9 +4,7 @@
 set -uo pipefail
 cd "$(dirname "$0")/.."
 
-for program in giopdump giopcap; do
-    [ -x crates/$program/out/$program ] || (cd crates/$program && rt run -- --version) || exit 1
-done
+scripts/build || exit 1
 
 passed=0 failed=0 not_run=0
 for script in edits edits_faults words python program idl views package manual readme memory calls checkpoints captures streams generated; do

@@ -20,6 +20,7 @@ import sys
 from collections import Counter
 from typing import List, Sequence
 
+from giopdump_idl import VERSION
 from giopdump_idl.model import MOST_OCTETS
 from giopdump_idl.selection import Selection
 from giopdump_idl.sheet import Sheet
@@ -28,8 +29,8 @@ from omniidl import idlast
 
 PROGRAM = "giopdump_signatures"
 
-usage_string = """\
-  -Wbonly=<Module::Interface>  Write one interface and what it inherits (may be given more than once)"""
+WORDS = "  -Wbonly=<Module::Interface>  Write one interface and what it inherits (may be given more than once)"
+usage_string = f"{PROGRAM} {VERSION}\n\n{WORDS}"  # what omniidl -u prints
 
 
 def counted(counts: Counter[str], kinds: Sequence[str]) -> str:
@@ -61,7 +62,7 @@ def wanted_interfaces(arguments: Sequence[str]) -> List[str]:
     for argument in arguments:
         word, equals, name = argument.partition("=")
         if word != "only" or not equals or not name:
-            sys.exit(f"{PROGRAM}: unknown argument {shown(argument)}; there is\n{usage_string}")
+            sys.exit(f"{PROGRAM}: unknown argument {shown(argument)}; there is\n{WORDS}")
         only.append(name)
     return only
 

@@ -464,8 +464,15 @@ def shown(text: str) -> str:
     return "".join(chr(octet) if 0x20 <= octet <= 0x7E else f"\\x{octet:02x}" for octet in os.fsencode(text))
 
 
+VERSION = "1.0.0"  # as giopdump has it: checks/manual.sh
+
+
 class Words(argparse.ArgumentParser):
     """The words of a command line; what is wrong with them is shown."""
+
+    def add_version(self) -> None:
+        """The word that prints the version."""
+        self.add_argument("-V", "--version", action="version", version=f"%(prog)s {VERSION}", help="print the version")
 
     def error(self, message: str) -> NoReturn:
         super().error(shown(message))
