@@ -1,10 +1,9 @@
-"""The words and the definitions of the code: no word that was given up comes back, nothing stands there unused, and no line of
-definitions, clauses and proofs goes beyond 100 columns, those apart that import names.
+"""The definitions of the code: nothing stands there unused, and no line of definitions, clauses and proofs goes beyond 100
+columns, those apart that import names.
 
-Words are compared in code, with comments and strings left out, and in the names of files. Used is what another function,
-definition, clause or lemma names: a function of src/, a definition of specs/ and a lemma of proofs/. Laws, which are functions
-without a body or call others without arguments, tests, the functions of a trait and answers of goals need no use, and no rows of
-computation.
+Comments and strings are left out. Used is what another function, definition, clause or lemma names: a function of src/, a
+definition of specs/ and a lemma of proofs/. Laws, which are functions without a body or call others without arguments, tests,
+the functions of a trait and answers of goals need no use, and no rows of computation.
 """
 
 from __future__ import annotations
@@ -15,30 +14,6 @@ from collections import defaultdict
 from pathlib import Path
 
 TOP = Path(__file__).resolve().parent.parent
-
-# Coined words, and words of more than one meaning, for which the code has plain names now (docs/ARCHITECTURE.md).
-GIVEN_UP = frozenset(
-    """
-    Acts Ahead AreAhead CanSpeak Completing Doing Ended_by EngineMemory Finishing Goes_on Grab Happening
-    Happenings HappeningsKeep HasHead HeadFits Headed Heading Heard Hearing HerePosition Holding Imposed
-    ImposedFault Imposing InPlace InTurn IsAhead IsHere IsInTurn IsSpoken IsWhose Keepers Keeping Kept_message
-    Kept_slot Knows LastHeard Memories MemoryHasRange MessageReading Minds Moves Naming Owning PartTakesEffect
-    Patience Patient PatientWrite Performs Placed Recalling Recalls Remembering Roll Roster SECOND_OPEN
-    Said_call Said_end Said_fault Said_rest Said_value Saying Seg Settling Showing Shown Speech Spine Spoken
-    StandingHasRange Staying TakesEffect Telling Together Turned Turning TurnsIn Voices Walking WantedHasRange
-    WayViews Ways Whereabouts Whose acts at_end at_id at_octet behind_a_stop behind_counts behind_element
-    behind_held behind_param disorder dues end_acts end_segs giop_roster grab_of happens has_head head_width
-    header_acts hear_number hear_piece hear_value heard_of heard_piece here_text hushed hushes id_acts id_said
-    impose imposed imposed_line imposed_word is_behind_header kept_as ladder may_lack memory_at memory_laws
-    memory_octets message_reading minds no_way octet_acts offence opener_title pass_on patient patient_inner
-    place_call place_cases place_choice place_encapsulation place_item place_items place_length place_operation
-    place_params place_return place_sequence place_struct place_text place_union put_memory raise_at reading_by
-    remark_of remarks_text roll_code said_by saying saying_laws saying_line saying_of seg_in seg_of seg_text
-    segs_text settle shut size_behind speaks speech speech_line spoken spokens standing_octet switch_seg
-    taken_as taken_by taken_in told_text turn_in_string turns_in voices wanted_after wanted_octets wanteds
-    way_by way_view ways whom whose_after whose_in whose_named whose_octet
-""".split()
-)
 
 # How many columns a line may have: of code, which rt fmt sees to, a clause, a definition or a proof.
 WIDEST = 100
@@ -55,12 +30,6 @@ def code(file: Path) -> str:
     if file.suffix == ".antt":
         return re.sub(r'"[^"\n]*"|(?m:(?:^|(?<=[\s(]))--(?=[ -]|$).*$)', "", text)
     return re.sub(r'r#".*?"#|"(?:[^"\\]|\\.)*"|\'(?:[^\'\\]|\\.)\'|//[^\n]*', "", text, flags=re.S)
-
-
-def given_up(file: Path, text: str) -> list[str]:
-    """The words in a file, and in its name, that were given up."""
-    found = sorted(GIVEN_UP & (set(re.findall(r"[A-Za-z_]\w*", text)) | set(file.with_suffix("").parts)))
-    return [f"{file.relative_to(TOP)}: {word}" for word in found]
 
 
 def functions(text: str) -> list[tuple[str, int, int]]:
@@ -137,7 +106,7 @@ def main() -> int:
         for file in sorted(TOP.glob(f"crates/*/{part}/**/*"))
         if file.suffix in (".rt", ".antt")
     }
-    faults = [fault for file, text in files.items() for fault in given_up(file, text)]
+    faults: list[str] = []
     faults += unused(files) + wide(files)
     for fault in faults:
         print(fault)
