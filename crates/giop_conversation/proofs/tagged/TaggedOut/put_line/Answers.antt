@@ -47,10 +47,9 @@ returns-clause-does g c =
     let few : taken < length (tag ++ line) =
     omega (arith, size, c.put_most-taken.ensures.within, c.if-taken-text.false) in
     rw (← c.self.view_is)
-    (wrote_front _ _ tag line 0 0 c.self.inside.since (c.self.inside.since + taken) c.self.inside.due
-    c.saturating_sub-self-inside.result taken c.self.inside.puts c.self.inside.failures
-    c.one_more-self-inside.result (fits.line refl) due.some
-    whole
+    (wrote_front _ _ tag line 0 0 c.self.inside.since (c.self.inside.since + taken)
+    c.self.inside.due c.saturating_sub-self-inside.result taken c.self.inside.puts
+    c.self.inside.failures c.one_more-self-inside.result (fits.line refl) due.some whole
     (c.saturating_sub-self-inside.ensures ∙ ap (λ d. d - taken) whole) few
     (rw text at c.put_most-taken.ensures.written) refl c.one_more-self-inside.ensures)
 
@@ -60,8 +59,8 @@ returns-then-taken-text-clause-cause g c =
     let text : length c.text-text.result.now
     ≡ length (c.self.inside.tag ++ line_text c.args.line.now) =
     ap length (c.text-text.ensures ∙ (c.put_end.ensures.text
-    ∙ ap (λ t. t ++ line_text c.args.line.now) (rw c.len.ensures (c.block.ensures.value due.short))))
-    in
+    ∙ ap (λ t. t ++ line_text c.args.line.now)
+    (rw c.len.ensures (c.block.ensures.value due.short)))) in
     let size = length-append c.self.inside.tag (line_text c.args.line.now) in
     rw (← c.self.view_is) (c.put_most-taken.ensures.none c.if-taken-text.true
     (omega (arith, text, size, due.some)))
