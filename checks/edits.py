@@ -1,7 +1,7 @@
 #!/usr/bin/env python3
 """Tries wrong bodies: all those of a crate in one check of it, each refused by a goal of the function that it changes.
 
-    edits.py [--plan] [--lanes N] [CRATE ..]
+    edits.py [--plan] [--strict] [--lanes N] [CRATE ..]
 
 It works on the repository in the current folder; with no crate, on each that has a folder wrong/. An edit is a file
 crates/CRATE/wrong/NAME.edit: a line `file: src/FILE.rt`, and then pairs of lines `old: TEXT` and `new: TEXT`, each TEXT a
@@ -12,9 +12,9 @@ A function is proved from the contracts of what it calls and not from their bodi
 don't touch each other. All edits of a crate are made in one copy, and one check of the copy tells of each function which
 goals of its own fail; to call a function that isn't proved is no goal of its own. So a function has one edit at most. The
 status is 0 where each edited function has a failed goal of its own and no other function has one. Else it is 1, and each
-fault is told by name: an edit that isn't refused, one after which a proof names what is gone and no goal fails by what it
-says, one whose text is missing or stands there twice, one in no function, two of one function, and a function that has no
-edit and fails.
+fault is told by name: an edit that isn't refused, one whose text is missing or stands there twice, one in no function, two
+of one function, and a function that has no edit and fails. An edit after which a proof names what is gone, and no goal fails
+by what it says, shows nothing: it is told, and with --strict it is a fault.
 
 The libraries below a crate are used as `rt ci` leaves them in out/; `rt check` would prove them once more, since it takes
 only what checks have kept. At its end `rt ci` puts back what stood in out/rlib before, so an old library there is used, and
@@ -262,16 +262,16 @@ def checked(name: str, edits: list[Edit], top: Path) -> str:
         return ran.stdout
 
 
-def tried(name: str, edits: list[Edit], top: Path) -> tuple[list[str], list[str]]:
-    """What refuses each edit of a crate, a line each, and what is wrong."""
+def tried(name: str, edits: list[Edit], top: Path) -> tuple[list[str], list[str], list[str]]:
+    """What refuses each edit of a crate, a line each; those that only take a name away; and what is wrong."""
     try:
         said = checked(name, edits, top)
     except Fault as why:
-        return [], [f"{name}: {why}"]
+        return [], [], [f"{name}: {why}"]
     if not re.search(r"(?m)^logic=(?:not-)?proved", said):
-        return [], [f"{name}: the check did not come to its end:\n{said[-1500:]}"]
+        return [], [], [f"{name}: the check did not come to its end:\n{said[-1500:]}"]
     left, gone = failed(said, name)
-    told, faults = [], []
+    told, nameless, faults = [], [], []
     for edit in edits:
         hits = [it for it in [*left, *gone] if it == edit.function or it.endswith("::" + edit.function)]
         if not hits:
@@ -279,11 +279,11 @@ def tried(name: str, edits: list[Edit], top: Path) -> tuple[list[str], list[str]
         elif goal := left.pop(hits[0], ""):
             told.append(f"{name}/{edit.name}: refused in {hits[0]} by {goal}")
         else:
-            faults.append(
+            nameless.append(
                 f"{name}/{edit.name}: takes a name away in {hits[0]}, and no goal refuses it: {gone.pop(hits[0])}"
             )
     faults += [f"{name}: {it} has no edit, and fails by {goal}" for it, goal in (left | gone).items()]
-    return told, faults
+    return told, nameless, faults
 
 
 def size_of(crate: Path) -> int:
@@ -301,13 +301,14 @@ def lanes_of() -> int:
 def main() -> int:
     words = argparse.ArgumentParser(description=__doc__, formatter_class=argparse.RawDescriptionHelpFormatter)
     words.add_argument("--plan", action="store_true", help="read the edits and try none")
+    words.add_argument("--strict", action="store_true", help="an edit that only takes a name away is a fault")
     words.add_argument("--lanes", type=int, default=lanes_of(), help="how many checks run side by side")
     words.add_argument("crates", nargs="*")
     asked = words.parse_args()
     top = Path.cwd()
     names = asked.crates or [it.parent.name for it in top.glob("crates/*/wrong")]
     names.sort(key=lambda it: -size_of(top / "crates" / it))
-    plans, faults = {}, []
+    plans, nameless, faults = {}, [], []
     for name in names:
         plans[name], wrong = edits_of(top / "crates" / name)
         faults += wrong
@@ -318,12 +319,16 @@ def main() -> int:
         with ThreadPoolExecutor(asked.lanes) as lanes:
             runs = [lanes.submit(tried, name, edits, top) for name, edits in plans.items() if edits]
             for run in as_completed(runs):
-                told, wrong = run.result()
+                told, without, wrong = run.result()
                 print("\n".join(told), flush=True)
+                nameless += without
                 faults += wrong
-    for fault in faults:
-        print(fault)
-    print(f"edits: {sum(map(len, plans.values()))} tried of {len(plans)} crates, {len(faults)} faults")
+    if asked.strict:
+        faults, nameless = faults + nameless, []
+    for line in nameless + faults:
+        print(line)
+    counts = f"{len(nameless)} of which take a name away alone, {len(faults)} faults"
+    print(f"edits: {sum(map(len, plans.values()))} tried of {len(plans)} crates, {counts}")
     return 1 if faults else 0
 
 

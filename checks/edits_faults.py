@@ -90,7 +90,7 @@ def main() -> int:
     with tempfile.TemporaryDirectory(prefix="edits-faults-") as made:
         copied(Path(made))
         ran = subprocess.run(
-            [sys.executable, str(TOP / "checks" / "edits.py")],
+            [sys.executable, str(TOP / "checks" / "edits.py"), "--strict"],
             cwd=made,
             check=False,
             stdin=subprocess.DEVNULL,
