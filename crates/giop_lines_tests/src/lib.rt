@@ -1,0 +1,5 @@
+//! Tests of the reader of lines.
+#![tactic(auto)]
+
+#[cfg(test)]
+mod tests;
