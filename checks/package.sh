@@ -11,6 +11,7 @@ need_program objdump binutils
 need_program omniidl omniidl
 need_giopdump
 need_giopcap
+need_giop_json
 
 work=$(mktemp -d)
 trap 'rm -rf "$work"' EXIT

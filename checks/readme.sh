@@ -9,4 +9,5 @@ cd "$(dirname "$0")/.."
 need_program jq jq
 need_giopdump
 need_giopcap
+need_giop_json
 exec env PYTHONDONTWRITEBYTECODE=1 python3 checks/readme.py

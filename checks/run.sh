@@ -4,7 +4,7 @@
 set -uo pipefail
 cd "$(dirname "$0")/.."
 
-for program in giopdump giopcap; do
+for program in giopdump giopcap giop_json; do
     [ -x crates/$program/out/$program ] || (cd crates/$program && rt run -- --version) || exit 1
 done
 

@@ -26,10 +26,10 @@ const HOLD_HELP: &str =
 const FILE_HELP: &str = "The lines; standard input where it is missing";
 
 const EXAMPLES: &str = "\
-The arguments of an operation:
+The object keys that an operation was called at:
 
-    giopcap --signatures orders.sig orders.pcap | giop-json |
-        jq -c 'select(.type == \"Request\" and .operation == \"place\") | .body'
+    giopcap orders.pcap | giop-json |
+        jq -c 'select(.type == \"Request\" and .operation == \"place\") | .header.object_key'
 
 FORMATS.md has every member (docs/ of the sources, /usr/share/doc/giopdump/docs of the package).";
 

@@ -71,7 +71,10 @@ fn report_run(rt: &HostRuntime, asked: Arguments<'_>, report: Report) -> u8
     let mut status = 0;
     if let Some(number) = report.unknown {
         let name = asked.file.unwrap_or("standard input");
-        let _ = eprintln!(rt; "{PROGRAM}: {}:{number}: no dump has this line", ShownName(name));
+        let _ = eprintln!(rt;
+            "{PROGRAM}: {}:{number}: no dump has this line",
+            ShownName(name)
+        );
         status = UNKNOWN;
     }
     match report.in_parts {

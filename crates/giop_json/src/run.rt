@@ -78,11 +78,7 @@ fn flush<O: Flush>(out: &mut O) -> Result<(), Failure> {
 }
 
 /// Takes the lines that were read. Answers whether each is one of a dump.
-fn take_lines<O: Flush>(
-    input: &mut Input,
-    out: &mut O,
-    dump: &mut Dump,
-) -> Result<bool, Failure> {
+fn take_lines<O: Flush>(input: &mut Input, out: &mut O, dump: &mut Dump) -> Result<bool, Failure> {
     for _ in 0..u64::MAX {
         let Some(text) = input.next() else {
             break;

@@ -107,7 +107,11 @@ impl Connections {
             return Ok(());
         }
         let is_finished = word == b"fin".as_slice();
-        known.flows[side_of(ends)] = if is_finished { Flow::Finished } else { Flow::Closed };
+        known.flows[side_of(ends)] = if is_finished {
+            Flow::Finished
+        } else {
+            Flow::Closed
+        };
         known.is_over |= matches!(word, b"reset" | b"syn" | b"room")
             || known.flows == [Flow::Finished, Flow::Finished];
         Ok(())
@@ -121,7 +125,11 @@ fn side_of(ends: (&str, &str)) -> usize {
 
 /// Both endpoints, the one whose text comes first before the other.
 fn key_of(alloc: Global, ends: (&str, &str)) -> Result<String, AllocError> {
-    let (first, second) = if side_of(ends) == 0 { ends } else { (ends.1, ends.0) };
+    let (first, second) = if side_of(ends) == 0 {
+        ends
+    } else {
+        (ends.1, ends.0)
+    };
     let mut key = String::from_str(alloc, first)?;
     key.push(' ')?;
     key.push_str(second)?;

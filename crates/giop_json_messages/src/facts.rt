@@ -63,9 +63,10 @@ impl Facts {
         self.header.is_some()
     }
 
-    /// Whether no more than its end may tell of the message: it has its time, and if it is a Reply what it answers.
+    /// Whether no line after its end may tell of it: its time is known, and what it answers unless it is no Reply.
     pub(crate) fn are_whole(&self) -> bool {
-        self.has_time && (self.answers.is_some() || self.kind.as_slice() != b"Reply".as_slice())
+        let is_other = self.has_begun() && self.kind.as_slice() != b"Reply".as_slice();
+        self.has_time && (is_other || self.answers.is_some())
     }
 
     pub(crate) fn take_start(&mut self, start: Start<'_>) -> Result<(), AllocError> {

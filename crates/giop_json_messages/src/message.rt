@@ -123,6 +123,7 @@ impl Message {
         path: &[u8],
         value: Value<'_>,
     ) -> Result<(), AllocError> {
+        self.note_status(path, value);
         if self.parts > 1 && self.at.is_empty() {
             let offset = match value {
                 Value::Piece(piece) => u64::from(piece.offset),
@@ -134,10 +135,19 @@ impl Message {
             self.values.set_lacks(lacks);
             return Ok(());
         }
-        if path == b"exception".as_slice() {
-            self.has_exception = true;
-        }
         self.values.take(options, path, value)
+    }
+
+    /// Notes what tells that a Reply has an exception: its status, or the exception's id.
+    #[inline]
+    fn note_status(&mut self, path: &[u8], value: Value<'_>) {
+        self.has_exception |= match value {
+            Value::Enum(b"USER_EXCEPTION" | b"SYSTEM_EXCEPTION") => {
+                path == b"header.reply_status".as_slice()
+            }
+            Value::Piece(_) => path == b"exception".as_slice(),
+            _ => false,
+        };
     }
 
     /// Says where a part begins.
@@ -226,7 +236,11 @@ impl Message {
     }
 
     /// Writes what comes after the values; of a part that others follow the lines of later versions alone. Gives the text.
-    pub(crate) fn put_values(&mut self, alloc: Global, is_last: bool) -> Result<Vec<u8>, AllocError> {
+    pub(crate) fn put_values(
+        &mut self,
+        alloc: Global,
+        is_last: bool,
+    ) -> Result<Vec<u8>, AllocError> {
         let is_cut = self.values.lacks() || !self.facts.has_begun() || !self.has_ended;
         let text = self.values.close()?;
         if is_last {
@@ -248,11 +262,7 @@ impl Message {
 }
 
 /// Adds a line of a later version to others, without its LF.
-pub(crate) fn put_later_line(
-    lines: &mut Vec<u8>,
-    key: Key,
-    text: &[u8],
-) -> Result<(), AllocError> {
+pub(crate) fn put_later_line(lines: &mut Vec<u8>, key: Key, text: &[u8]) -> Result<(), AllocError> {
     for (letter, number) in [(b's', key.stream), (b'm', key.number)] {
         if number > 0 {
             lines.push(letter)?;

@@ -188,7 +188,11 @@ impl Open {
     }
 
     /// Puts back a message that goes on with nothing held.
-    pub(crate) fn put_back(&mut self, message: Box<Message>, is_current: bool) -> Result<(), AllocError> {
+    pub(crate) fn put_back(
+        &mut self,
+        message: Box<Message>,
+        is_current: bool,
+    ) -> Result<(), AllocError> {
         if is_current {
             self.current = Some(message);
             return Ok(());

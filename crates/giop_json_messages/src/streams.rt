@@ -195,7 +195,10 @@ impl Streams {
         let Some(stream) = self.streams.peek_mut(&number) else {
             return Ok(());
         };
-        stream.is_told |= matches!(said, Said::Closed(_) | Said::StreamFault(_) | Said::Total(_));
+        stream.is_told |= matches!(
+            said,
+            Said::Closed(_) | Said::StreamFault(_) | Said::Total(_)
+        );
         match said {
             Said::StreamFault(fault) => stream.fault.take(fault),
             Said::Total(total) => {

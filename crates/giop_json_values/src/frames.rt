@@ -1,7 +1,7 @@
 //! The objects and lists that are open, by the paths that they stand at.
 
 use crate::text::{Text, shown_text};
-use giop_lines::{Part, first_part};
+use giop_lines::number;
 use std::alloc::{AllocError, Global};
 
 /// How many parts a path has at most, with its root.
@@ -14,14 +14,16 @@ const OPEN_MAX: usize = 96;
 #[derive(Clone, Copy)]
 pub(crate) enum Key<'a> {
     Name(&'a str),
-    Index(u32),
+    Index(u64),
 }
 
 impl<'a> Key<'a> {
-    fn of(part: Part<'a>) -> Key<'a> {
+    /// A part of a path: a root, or with the dot or the brackets before and around it.
+    fn of(part: &'a [u8]) -> Key<'a> {
         match part {
-            Part::Root(name) | Part::Name(name) => Key::Name(shown_text(name)),
-            Part::Index(index) => Key::Index(index),
+            [b'[', digits @ .., b']'] => Key::Index(number(digits).unwrap_or(0)),
+            [b'.', name @ ..] => Key::Name(shown_text(name)),
+            root => Key::Name(shown_text(root)),
         }
     }
 
@@ -64,9 +66,7 @@ impl Frame {
     fn fits(&self, path: &[u8]) -> bool {
         match path.get(self.end) {
             None => true,
-            Some(b'[') => {
-                self.is_list() || self.shape == Shape::Encapsulation && !self.is_value
-            }
+            Some(b'[') => { self.is_list() || self.shape == Shape::Encapsulation && !self.is_value }
             Some(b'.') => !self.is_list(),
             Some(_) => false,
         }
@@ -81,6 +81,8 @@ pub(crate) struct Frames {
     open: Vec<Frame>,
     // Whether elements are missing.
     lacks: bool,
+    // Whether all of them were closed at the end of a part: those on the way to the next value are opened again.
+    is_closed: bool,
 }
 
 impl Frames {
@@ -89,12 +91,63 @@ impl Frames {
             path: Vec::new(alloc),
             open: Vec::new(alloc),
             lacks: false,
+            is_closed: false,
         }
     }
 
+    /// Nothing is open, and nothing is missing.
     pub(crate) fn clear(&mut self) {
         self.path.clear();
         self.open.clear();
+        self.lacks = false;
+        self.is_closed = false;
+    }
+
+    /// Closes all at the end of a part.
+    pub(crate) fn close(&mut self, text: &mut Text) -> Result<(), AllocError> {
+        if !self.is_closed {
+            for frame in self.open.iter().rev() {
+                text.close(frame.is_list())?;
+            }
+        }
+        self.is_closed = true;
+        Ok(())
+    }
+
+    /// Opens again, after the end of a part, what is on the way to a path.
+    #[inline]
+    pub(crate) fn resume(&mut self, text: &mut Text, path: &[u8]) -> Result<(), AllocError> {
+        if self.is_closed {
+            self.open_again(text, path)
+        } else {
+            Ok(())
+        }
+    }
+
+    fn open_again(&mut self, text: &mut Text, path: &[u8]) -> Result<(), AllocError> {
+        self.is_closed = false;
+        let (count, at) = self.reached(path);
+        self.open.truncate(count);
+        self.path.truncate(at);
+        let mut start = 0;
+        let mut is_element = false;
+        for frame in &self.open {
+            if !is_element {
+                let part = self
+                    .path
+                    .as_slice()
+                    .get(start..frame.end)
+                    .unwrap_or_default();
+                match Key::of(part) {
+                    Key::Name(name) if !frame.is_value => text.key(name)?,
+                    _ => text.key("@value")?,
+                }
+            }
+            text.open(frame.is_list())?;
+            start = frame.end;
+            is_element = frame.is_list();
+        }
+        Ok(())
     }
 
     pub(crate) fn lacks(&self) -> bool {
@@ -137,8 +190,8 @@ impl Frames {
             && frame.shape == Shape::List
         {
             if let Key::Index(index) = key {
-                self.lacks |= u64::from(index) != frame.next;
-                frame.next = u64::from(index) + 1;
+                self.lacks |= index != frame.next;
+                frame.next = index.saturating_add(1);
             }
             return Ok(());
         }
@@ -179,6 +232,7 @@ impl Frames {
         text: &mut Text,
         path: &'p [u8],
     ) -> Result<Key<'p>, AllocError> {
+        self.resume(text, path)?;
         let (count, at) = self.reached(path);
         if at >= path.len() {
             return self.place_again(text, path, count);
@@ -204,7 +258,10 @@ impl Frames {
     ) -> Result<Key<'p>, AllocError> {
         if count > 0
             && count <= OPEN_MAX
-            && self.open.get(count - 1).is_some_and(|frame| frame.is_open_encapsulation())
+            && self
+                .open
+                .get(count - 1)
+                .is_some_and(|frame| frame.is_open_encapsulation())
         {
             self.close_to(text, count)?;
             return Ok(Key::VALUE);
@@ -236,28 +293,37 @@ impl Frames {
         path: &'p [u8],
         at: usize,
     ) -> Result<Key<'p>, AllocError> {
-        let mut rest = path.get(at..).unwrap_or_default();
-        let mut key = Key::VALUE;
+        let mut start = at;
         for _ in 0..PARTS_MAX {
-            let Some((part, next)) = first_part(rest) else {
-                break;
+            let end = part_end(path, start);
+            let key = Key::of(path.get(start..end).unwrap_or_default());
+            let shape = match path.get(end) {
+                None => return Ok(key),
+                Some(b'[') => Shape::List,
+                Some(_) => Shape::Object,
             };
-            key = Key::of(part);
-            let Some(first) = next.first() else {
-                break;
-            };
-            let end = path.len().saturating_sub(next.len());
-            let shape = if *first == b'[' { Shape::List } else { Shape::Object };
             self.open(text, key, &path[..end], shape)?;
-            rest = next;
+            start = end;
         }
-        Ok(key)
+        Ok(last_key(path))
     }
 
-    /// Opens the encapsulation whose rest comes: the innermost open one at its path, or one that is missing.
-    pub(crate) fn place_rest(&mut self, text: &mut Text, path: &[u8]) -> Result<(), AllocError> {
+    /// Opens the encapsulation whose rest comes: that in which the rest goes on in a part, else the innermost open one at its
+    /// path, or one that is missing.
+    pub(crate) fn place_rest(
+        &mut self,
+        text: &mut Text,
+        path: &[u8],
+        is_begun: bool,
+    ) -> Result<(), AllocError> {
+        let goes_on = self.is_closed && is_begun;
+        self.resume(text, path)?;
         let (count, at) = self.reached(path);
-        let found = if at >= path.len() { self.encapsulation(count) } else { 0 };
+        let found = match at < path.len() {
+            true => 0,
+            false if goes_on => count,
+            false => self.encapsulation(count),
+        };
         if found > 0 {
             self.close_to(text, found)?;
         } else {
@@ -294,6 +360,7 @@ impl Frames {
 
     /// Opens the body of a message around a value that is no struct.
     pub(crate) fn open_body(&mut self, text: &mut Text) -> Result<(), AllocError> {
+        self.resume(text, b"body")?;
         let is_open = self.path.starts_with(b"body") && !self.open.is_empty();
         if !is_open {
             self.close_to(text, 0)?;
@@ -316,16 +383,25 @@ fn common_front(left: &[u8], right: &[u8]) -> usize {
     left.len().min(right.len())
 }
 
+/// Where the part of a path ends that begins at an octet.
+fn part_end(path: &[u8], start: usize) -> usize {
+    for (place, octet) in path.iter().enumerate().skip(start.saturating_add(1)) {
+        if *octet == b'.' || *octet == b'[' {
+            return place;
+        }
+    }
+    path.len()
+}
+
 /// The last part of a path.
 fn last_key(path: &[u8]) -> Key<'_> {
-    let mut rest = path;
-    let mut key = Key::VALUE;
+    let mut start = 0;
     for _ in 0..PARTS_MAX {
-        let Some((part, next)) = first_part(rest) else {
+        let end = part_end(path, start);
+        if end == path.len() {
             break;
-        };
-        key = Key::of(part);
-        rest = next;
+        }
+        start = end;
     }
-    key
+    Key::of(path.get(start..).unwrap_or_default())
 }

@@ -13,16 +13,16 @@ const CHARACTER_MAX: usize = 4;
 
 /// A text that comes in pieces.
 #[derive(Drop)]
-pub(crate) struct Shown {
+pub(crate) struct Letters {
     text: String,
     size: u64,
     // The first octets of a character of UTF-8.
     begun: ArrayVec<u8, 4>,
 }
 
-impl Shown {
-    pub(crate) fn new(alloc: Global) -> Shown {
-        Shown {
+impl Letters {
+    pub(crate) fn new(alloc: Global) -> Letters {
+        Letters {
             text: String::new(alloc),
             size: 0,
             begun: ArrayVec::new(),
@@ -138,10 +138,10 @@ impl Shown {
     /// No more comes: what has begun of a character is none.
     pub(crate) fn end(&mut self) -> Result<(), AllocError> {
         for _ in 0..CHARACTER_MAX {
-            let Some(octet) = self.begun.as_slice().first() else {
+            let Some(octet) = self.begun.as_slice().first().copied() else {
                 break;
             };
-            self.add_first(*octet)?;
+            self.add_first(octet)?;
         }
         Ok(())
     }

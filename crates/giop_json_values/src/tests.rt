@@ -18,6 +18,9 @@ fn values_stand_at_their_paths(rt: HostRuntime) -> Result<(), AllocError> {
     values.take(PLAIN, b"body.w", Value::Float(0x3dcccccd))?;
     values.close()?;
     let text = values.take_text(rt.alloc());
-    assert_eq!(rt; text.as_slice(), b"\"body\":{\"n\":[{\"x\":-5}],\"w\":0.1}".as_slice());
+    assert_eq!(rt;
+        text.as_slice(),
+        b"\"body\":{\"n\":[{\"x\":-5}],\"w\":0.1}".as_slice()
+    );
     Ok(())
 }

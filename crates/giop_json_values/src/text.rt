@@ -115,7 +115,7 @@ impl Text {
         self.writer.i64(number)
     }
 
-    /// A number with a point or an exponent, which reads back as it; `null` for an infinity.
+    /// A number with a point or an exponent, which reads back as it; `null` where it isn't finite, as its text is none of JSON.
     pub fn float<F: Float>(&mut self, number: F) -> Result<(), AllocError> {
         let mut buffer = ryu::Buffer::new();
         self.digits(buffer.format(number))

@@ -3,11 +3,12 @@
 use crate::frames::{Frames, Key, Shape};
 use crate::options::{Characters, Options};
 use crate::pieces::{Form, Part};
-use crate::shown::Shown;
+use crate::shown::Letters;
 use crate::text::{Text, shown_text};
 use giop_lines::Value;
 use std::alloc::{AllocError, Global};
 use std::mem;
+use std::num::{f32_from_bits_with_nan, f64_from_bits_with_nan};
 
 /// The octets of the room of a text that is kept for the next one.
 const ROOM_MAX: usize = 65_536;
@@ -26,7 +27,7 @@ pub struct Values {
     frames: Frames,
     due: Option<Due>,
     due_path: Vec<u8>,
-    shown: Shown,
+    shown: Letters,
     // The path of the TypeCode that was read last, if there is one, and of its parameters.
     parameters: Vec<u8>,
     name: String,
@@ -40,7 +41,7 @@ impl Values {
             frames: Frames::new(alloc),
             due: None,
             due_path: Vec::new(alloc),
-            shown: Shown::new(alloc),
+            shown: Letters::new(alloc),
             parameters: Vec::new(alloc),
             name: String::new(alloc),
         }
@@ -68,14 +69,13 @@ impl Values {
     /// The text, in which all but the object of the message is closed.
     pub fn close(&mut self) -> Result<&mut Text, AllocError> {
         self.end_content()?;
-        self.frames.close_to(&mut self.text, 0)?;
+        self.frames.close(&mut self.text)?;
         Ok(&mut self.text)
     }
 
     /// Takes the text that was written, and goes on with none.
     pub fn take_text(&mut self, alloc: Global) -> Vec<u8> {
         let text = mem::replace(&mut self.text, Text::new(Vec::new(alloc)));
-        self.frames.clear();
         self.shown.clear();
         self.due = None;
         text.into_octets()
@@ -91,7 +91,7 @@ impl Values {
     /// Forgets what it knows of a message, for the next one.
     pub fn forget(&mut self) {
         self.parameters.clear();
-        self.frames.set_lacks(false);
+        self.frames.clear();
     }
 
     /// Takes a line of a value.
@@ -173,7 +173,8 @@ impl Values {
         match path.strip_prefix(self.parameters.as_slice()) {
             None => false,
             Some([]) => !is_encapsulating,
-            Some(below @ [b'.' | b'[', ..]) => below != b".id".as_slice() && below != b".name".as_slice(),
+            Some(below @ [b'.' | b'[', ..]) => below != b".id".as_slice()
+                && below != b".name".as_slice(),
             Some(_) => false,
         }
     }
@@ -223,7 +224,11 @@ impl Values {
         } else {
             self.shown.add_plain(shown_text(part.octets))?;
         }
-        if part.more { Ok(()) } else { self.end_content() }
+        if part.more {
+            Ok(())
+        } else {
+            self.end_content()
+        }
     }
 
     /// Whether a piece goes on with the content whose next piece is due.
@@ -243,10 +248,14 @@ impl Values {
     fn begin(&mut self, part: Part<'_>) -> Result<(), AllocError> {
         match part.form {
             Form::Rest => {
+                self.frames.resume(&mut self.text, b"")?;
                 self.frames.close_to(&mut self.text, 0)?;
                 self.text.key("rest")
             }
-            Form::Left => self.frames.place_rest(&mut self.text, part.path),
+            Form::Left => {
+                self.frames
+                    .place_rest(&mut self.text, part.path, part.offset > 0)
+            }
             Form::Text | Form::Hex => self.begin_value(part),
         }
     }
@@ -259,7 +268,8 @@ impl Values {
         if part.is_octets
             && let Key::Name("context_data" | "profile_data") = key
         {
-            self.frames.open(&mut self.text, key, part.path, Shape::Object)?;
+            self.frames
+                .open(&mut self.text, key, part.path, Shape::Object)?;
             key = Key::Name("@octets");
         }
         self.frames.key(&mut self.text, key)
@@ -300,10 +310,8 @@ fn put_scalar(text: &mut Text, options: Options, value: Value<'_>) -> Result<(),
             text.string(itoa::Buffer::new().format(number))
         }
         Value::ULongLong(number) => text.unsigned(number),
-        Value::Float(bits) if bits >> 23 & 0xff == 0xff => text.null(),
-        Value::Float(bits) => text.float(f32::from_bits(bits)),
-        Value::Double(bits) if bits >> 52 & 0x7ff == 0x7ff => text.null(),
-        Value::Double(bits) => text.float(f64::from_bits(bits)),
+        Value::Float(bits) => text.float(f32_from_bits_with_nan(bits)),
+        Value::Double(bits) => text.float(f64_from_bits_with_nan(bits)),
         Value::Boolean(is_true) => text.boolean(is_true),
         Value::Enum(name) => text.octets(name),
         _ => text.null(),
