@@ -1,12 +1,18 @@
 //! Lines of a capture.
 
+ghost use Rattle.std.specs.Prelude.{◌≡◌, IfSome};
+ghost use Rattle.giop_lines.specs.Lines.{said_text, IsSaid};
+
 use crate::line::{CaptureTotal, Said};
 use crate::messages::fault;
 use crate::numbers::number;
 use crate::words::{after, first_word, word};
 
 /// A line of a capture that is known.
-pub fn of_capture(text: &[u8]) -> Option<Said<'_>> {
+pub fn of_capture(text: &[u8]) -> Option<Said<'_>>
+    ensures spelled { IfSome result (λ s. text.now ≡ said_text s) }
+    ensures fields { IfSome result IsSaid }
+{
     if let Some(behind) = after(text, b"capture fault ") {
         return Some(Said::CaptureFault(fault(behind)?));
     }

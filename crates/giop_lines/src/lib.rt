@@ -18,7 +18,7 @@ pub use line::{
     Answers, Call, CaptureTotal, Content, Fault, Line, Piece, Said, Start, StreamStart, Time,
     Total, Value,
 };
-pub use numbers::{bits, integer, number, ordinal, ulong};
+pub use numbers::{integer, number, ordinal};
 pub use paths::{Part, first_part};
 pub use reading::{LINE_MAX, read};
 pub use texts::first_octet;

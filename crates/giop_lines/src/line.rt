@@ -3,7 +3,7 @@
 use giop_cdr::Order;
 
 /// A line of a dump, without its LF.
-#[derive(Clone, Copy, Debug, PartialEq, Eq)]
+#[derive(Clone, Copy)]
 pub struct Line<'a> {
     /// The number of its stream, from 1; 0 if it names none.
     pub stream: u64,
@@ -14,7 +14,7 @@ pub struct Line<'a> {
 }
 
 /// What a line says of its message, its stream or its capture.
-#[derive(Clone, Copy, Debug, PartialEq, Eq)]
+#[derive(Clone, Copy)]
 pub enum Said<'a> {
     /// The header of a message.
     Start(Start<'a>),
@@ -57,7 +57,7 @@ pub enum Said<'a> {
 }
 
 /// The header of a message (GIOP Message Header).
-#[derive(Clone, Copy, Debug, PartialEq, Eq)]
+#[derive(Clone, Copy)]
 pub struct Start<'a> {
     /// The minor version of GIOP 1, at most 2.
     pub minor: u8,
@@ -72,7 +72,7 @@ pub struct Start<'a> {
 }
 
 /// A value of a message.
-#[derive(Clone, Copy, Debug, PartialEq, Eq)]
+#[derive(Clone, Copy)]
 pub enum Value<'a> {
     /// An octet.
     Octet(u8),
@@ -111,7 +111,7 @@ pub enum Value<'a> {
 }
 
 /// A piece of a content that comes in pieces of 32 octets.
-#[derive(Clone, Copy, Debug, PartialEq, Eq)]
+#[derive(Clone, Copy)]
 pub struct Piece<'a> {
     /// The content.
     pub content: Content,
@@ -139,7 +139,7 @@ pub enum Content {
 }
 
 /// The call that a Request is.
-#[derive(Clone, Copy, Debug, PartialEq, Eq)]
+#[derive(Clone, Copy)]
 pub struct Call<'a> {
     /// The request id.
     pub id: u32,
@@ -150,7 +150,7 @@ pub struct Call<'a> {
 }
 
 /// When a message began.
-#[derive(Clone, Copy, Debug, PartialEq, Eq)]
+#[derive(Clone, Copy)]
 pub struct Time<'a> {
     /// As `2026-11-23T08:13:25.580228123Z`, or `-` where there is none.
     pub time: &'a [u8],
@@ -159,7 +159,7 @@ pub struct Time<'a> {
 }
 
 /// The call that a Reply answers.
-#[derive(Clone, Copy, Debug, PartialEq, Eq)]
+#[derive(Clone, Copy)]
 pub struct Answers<'a> {
     /// The number of the call's stream.
     pub stream: u64,
@@ -172,7 +172,7 @@ pub struct Answers<'a> {
 }
 
 /// A fault.
-#[derive(Clone, Copy, Debug, PartialEq, Eq)]
+#[derive(Clone, Copy)]
 pub struct Fault<'a> {
     /// Its word.
     pub word: &'a [u8],
@@ -181,7 +181,7 @@ pub struct Fault<'a> {
 }
 
 /// The beginning of a stream.
-#[derive(Clone, Copy, Debug, PartialEq, Eq)]
+#[derive(Clone, Copy)]
 pub struct StreamStart<'a> {
     /// The sender, as `192.0.2.1:2809` or `[2001:db8::1]:2809`.
     pub source: &'a [u8],
@@ -198,7 +198,7 @@ pub struct StreamStart<'a> {
 }
 
 /// The totals of a stream.
-#[derive(Clone, Copy, Debug, PartialEq, Eq)]
+#[derive(Clone, Copy)]
 pub struct Total {
     /// How many messages began.
     pub messages: u64,
@@ -209,7 +209,7 @@ pub struct Total {
 }
 
 /// The totals of a capture.
-#[derive(Clone, Copy, Debug, PartialEq, Eq)]
+#[derive(Clone, Copy)]
 pub struct CaptureTotal {
     /// How many streams began.
     pub streams: u64,

@@ -1,5 +1,9 @@
 //! Lines of a message, behind its number.
 
+ghost use Rattle.std.specs.Prelude.{◌≡◌, ◌++◌, codes, true, IfSome};
+ghost use Rattle.giop_lines.specs.Names.{is_word};
+ghost use Rattle.giop_lines.specs.Lines.{said_text, fault_text, IsSaid};
+
 use crate::line::{Answers, Call, Fault, Said, Start, Time};
 use crate::names::{are_seconds, is_name, is_time, is_type, is_word};
 use crate::numbers::{number, ordinal, ulong};
@@ -9,7 +13,10 @@ use crate::values::{order, value};
 use crate::words::{after, first_word, without_more, word};
 
 /// A line of a message that is known.
-pub fn of_message(text: &[u8], is_captured: bool) -> Option<Said<'_>> {
+pub fn of_message(text: &[u8], is_captured: bool) -> Option<Said<'_>>
+    ensures spelled { IfSome result (λ s. text.now ≡ said_text s) }
+    ensures fields { IfSome result IsSaid }
+{
     if let Some((path, behind)) = word(text)
         && is_path(path)
     {
@@ -28,9 +35,12 @@ pub fn of_message(text: &[u8], is_captured: bool) -> Option<Said<'_>> {
 }
 
 /// A line that names another message, or the call that the message is.
-fn of_two(text: &[u8]) -> Option<Said<'_>> {
-    if let Some(behind) = after(text, b"call ") {
-        return call(behind);
+fn of_two(text: &[u8]) -> Option<Said<'_>>
+    ensures spelled { IfSome result (λ s. text.now ≡ said_text s) }
+    ensures fields { IfSome result IsSaid }
+{
+    if text.starts_with(b"call ") {
+        return call(text);
     }
     if let Some(behind) = after(text, b"continues m") {
         return Some(Said::Continues(ordinal(behind)?));
@@ -39,12 +49,15 @@ fn of_two(text: &[u8]) -> Option<Said<'_>> {
 }
 
 /// A line of a message that stands in a dump of a capture alone.
-fn of_capture(text: &[u8]) -> Option<Said<'_>> {
-    if let Some(behind) = after(text, b"time ") {
-        return time(behind);
+fn of_capture(text: &[u8]) -> Option<Said<'_>>
+    ensures spelled { IfSome result (λ s. text.now ≡ said_text s) }
+    ensures fields { IfSome result IsSaid }
+{
+    if text.starts_with(b"time ") {
+        return time(text);
     }
-    if let Some(behind) = after(text, b"answers s") {
-        return answers(behind);
+    if text.starts_with(b"answers ") {
+        return answers(text);
     }
     let id = after(text, b"raises ")?;
     if is_name(id) {
@@ -54,18 +67,16 @@ fn of_capture(text: &[u8]) -> Option<Said<'_>> {
     }
 }
 
-fn start(text: &[u8]) -> Option<Said<'_>> {
+fn start(text: &[u8]) -> Option<Said<'_>>
+    ensures spelled { IfSome result (λ s. text.now ≡ said_text s) }
+    ensures fields { IfSome result IsSaid }
+{
     let (minor, rest) = word(after(text, b"start 1.")?)?;
-    let minor = match minor {
-        b"0" => 0,
-        b"1" => 1,
-        b"2" => 2,
-        _ => return None,
-    };
     let (order_word, rest) = word(rest)?;
     let (kind, rest) = word(rest)?;
     let (size, more) = without_more(after(rest, b"size ")?);
-    if !is_type(kind) {
+    let minor = u8::try_from(number(minor)?).ok()?;
+    if minor > 2 || !is_type(kind) {
         return None;
     }
     Some(Said::Start(Start {
@@ -77,8 +88,11 @@ fn start(text: &[u8]) -> Option<Said<'_>> {
     }))
 }
 
-fn call(text: &[u8]) -> Option<Said<'_>> {
-    let (id, names) = word(text)?;
+fn call(text: &[u8]) -> Option<Said<'_>>
+    ensures spelled { IfSome result (λ s. text.now ≡ said_text s) }
+    ensures fields { IfSome result IsSaid }
+{
+    let (id, names) = word(after(text, b"call ")?)?;
     let (operation, interface) = first_word(names);
     let is_known = match interface {
         None => true,
@@ -94,8 +108,11 @@ fn call(text: &[u8]) -> Option<Said<'_>> {
     }))
 }
 
-fn time(text: &[u8]) -> Option<Said<'_>> {
-    let (time, behind) = first_word(text);
+fn time(text: &[u8]) -> Option<Said<'_>>
+    ensures spelled { IfSome result (λ s. text.now ≡ said_text s) }
+    ensures fields { IfSome result IsSaid }
+{
+    let (time, behind) = first_word(after(text, b"time ")?);
     if !is_time(time) {
         return None;
     }
@@ -106,8 +123,11 @@ fn time(text: &[u8]) -> Option<Said<'_>> {
     Some(Said::Time(Time { time, packet }))
 }
 
-fn answers(text: &[u8]) -> Option<Said<'_>> {
-    let (stream, rest) = word(text)?;
+fn answers(text: &[u8]) -> Option<Said<'_>>
+    ensures spelled { IfSome result (λ s. text.now ≡ said_text s) }
+    ensures fields { IfSome result IsSaid }
+{
+    let (stream, rest) = word(after(text, b"answers s")?)?;
     let (message, rest) = word(after(rest, b"m")?)?;
     let (operation, rest) = word(rest)?;
     let seconds = after(rest, b"after ")?;
@@ -123,7 +143,10 @@ fn answers(text: &[u8]) -> Option<Said<'_>> {
 }
 
 /// A fault's word and place.
-pub fn fault(text: &[u8]) -> Option<Fault<'_>> {
+pub fn fault(text: &[u8]) -> Option<Fault<'_>>
+    ensures spelled { IfSome result (λ f. text.now ≡ fault_text f) }
+    ensures fields { IfSome result (λ f. is_word f.word.now ≡ true) }
+{
     let (fault_word, rest) = word(text)?;
     let place = number(after(rest, b"at ")?)?;
     if is_word(fault_word) {

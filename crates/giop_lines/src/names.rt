@@ -1,5 +1,10 @@
 //! The alphabets of names and words, and what is spelled by them.
 
+ghost use Rattle.std.specs.Prelude.{◌≡◌, ℕ, ◌<◌, ◌||◌, true, decimal};
+ghost use Rattle.std.specs.List.{list_all};
+ghost use Rattle.giop_lines.specs.Names.{is_name, is_shown, is_printed, is_printed_octet, is_letter, is_part_name, is_word, is_of_word, is_type_word, is_small, is_capital};
+ghost use Rattle.giop_lines.specs.Lines.{IsType};
+
 use crate::numbers::{is_digit, number, ulong};
 use crate::words::{after, before, word};
 
@@ -9,58 +14,119 @@ const NAME_MAX: usize = 128;
 const PART_MAX: usize = 64;
 
 /// Whether this is a name of 1 to 128 octets from 21 to 7e.
-pub fn is_name(name: &[u8]) -> bool {
-    !name.is_empty() && name.len() <= NAME_MAX && name.iter().all(|b| is_shown(*b))
+pub fn is_name(name: &[u8]) -> bool
+    ensures { result ≡ is_name name.now }
+{
+    !name.is_empty() && name.len() <= NAME_MAX && are_shown(name)
+}
+
+/// Whether each octet is from 21 to 7e.
+fn are_shown(name: &[u8]) -> bool
+    ensures { result ≡ list_all is_shown name.now }
+{
+    name.iter().all(|b| is_shown(*b))
 }
 
 /// Whether an octet is from 21 to 7e.
-fn is_shown(octet: u8) -> bool {
+fn is_shown(octet: u8) -> bool
+    ensures { result ≡ is_shown octet }
+{
     octet >= 0x21 && octet <= 0x7e
 }
 
+/// Whether an octet is from 20 to 7e.
+fn is_printed_octet(octet: u8) -> bool
+    ensures { result ≡ is_printed_octet octet }
+{
+    octet == b' ' || is_shown(octet)
+}
+
 /// Whether each octet is from 20 to 7e.
-pub fn is_printed(text: &[u8]) -> bool {
-    text.iter().all(|b| *b == b' ' || is_shown(*b))
+pub fn is_printed(text: &[u8]) -> bool
+    ensures { result ≡ is_printed text.now }
+{
+    text.iter().all(|b| is_printed_octet(*b))
 }
 
 /// Whether an octet is one of a part's name: a letter, a digit or `_`.
-pub fn is_letter(octet: u8) -> bool {
-    octet.is_ascii_alphanumeric() || octet == b'_'
+pub fn is_letter(octet: u8) -> bool
+    ensures { result ≡ is_letter octet }
+{
+    octet.is_ascii_lowercase()
+        || octet.is_ascii_uppercase()
+        || octet.is_ascii_digit()
+        || octet == b'_'
 }
 
 /// Whether this is the name of a type's part: 1 to 64 letters, digits and `_`, the first of them no digit.
-pub fn is_part_name(name: &[u8]) -> bool {
-    match name {
-        [first, ..] => {
-            !first.is_ascii_digit() && name.len() <= PART_MAX && name.iter().all(|b| is_letter(*b))
-        }
-        [] => false,
-    }
+pub fn is_part_name(name: &[u8]) -> bool
+    ensures { result ≡ is_part_name name.now }
+{
+    !name.is_empty() && name.len() <= PART_MAX && !name[0].is_ascii_digit() && are_letters(name)
+}
+
+fn are_letters(name: &[u8]) -> bool
+    ensures { result ≡ list_all is_letter name.now }
+{
+    name.iter().all(|b| is_letter(*b))
 }
 
 /// Whether this is a word of a fault or of a stream's end: it begins with a small letter, and has no others but digits,
 /// points and hyphens.
-pub fn is_word(word: &[u8]) -> bool {
-    match word {
-        [first, ..] => first.is_ascii_lowercase() && word.iter().all(|b| is_of_word(*b)),
-        [] => false,
-    }
+pub fn is_word(word: &[u8]) -> bool
+    ensures { result ≡ is_word word.now }
+{
+    !word.is_empty() && word[0].is_ascii_lowercase() && are_of_word(word)
+}
+
+fn are_of_word(word: &[u8]) -> bool
+    ensures { result ≡ list_all is_of_word word.now }
+{
+    word.iter().all(|b| is_of_word(*b))
 }
 
 /// Whether an octet is one of a word.
-fn is_of_word(octet: u8) -> bool {
+fn is_of_word(octet: u8) -> bool
+    ensures { result ≡ is_of_word octet }
+{
     octet.is_ascii_lowercase() || octet.is_ascii_digit() || octet == b'.' || octet == b'-'
 }
 
 /// Whether this is a message type: a word that begins with a capital letter, or a number of at most 255.
-pub fn is_type(word: &[u8]) -> bool {
-    match word {
-        [first, ..] if first.is_ascii_uppercase() => word.iter().all(|b| b.is_ascii_alphabetic()),
-        _ => match number(word) {
-            Some(n) => n <= 255,
-            None => false,
-        },
+pub fn is_type(kind: &[u8]) -> bool
+    ensures { result ≡ true → IsType kind.now }
+{
+    is_type_word(kind) || is_type_number(kind)
+}
+
+/// Whether this is a number of at most 255.
+fn is_type_number(digits: &[u8]) -> bool
+    ensures { result ≡ true → (n : ℕ) × (n < 256) × (digits.now ≡ decimal n) }
+{
+    match number(digits) {
+        Some(n) => n <= 255,
+        None => false,
     }
+}
+
+/// Whether this is a word of letters that begins with a capital one.
+fn is_type_word(word: &[u8]) -> bool
+    ensures { result ≡ is_type_word word.now }
+{
+    !word.is_empty() && word[0].is_ascii_uppercase() && are_of_either_case(word)
+}
+
+fn are_of_either_case(word: &[u8]) -> bool
+    ensures { result ≡ list_all (λ b. is_small b || is_capital b) word.now }
+{
+    word.iter().all(|b| is_either_case(*b))
+}
+
+/// Whether an octet is a letter.
+fn is_either_case(octet: u8) -> bool
+    ensures { result ≡ (is_small octet || is_capital octet) }
+{
+    octet.is_ascii_lowercase() || octet.is_ascii_uppercase()
 }
 
 /// Whether this is what a number is called: a word of at most 64 octets from 21 to 7e that begins with a letter, and
@@ -117,16 +183,16 @@ pub fn are_seconds(text: &[u8]) -> bool {
 
 /// Whether this is an address and a port.
 pub fn is_endpoint(text: &[u8]) -> bool {
-    let mut colon = text.len();
+    let mut colon = None;
     for i in 0..text.len() {
         if text[i] == b':' {
-            colon = i;
+            colon = Some(i);
         }
     }
-    if colon == text.len() {
-        return false;
+    match colon {
+        Some(i) if i < text.len() => are_digits(&text[i + 1..], 5) && is_address(&text[..i]),
+        _ => false,
     }
-    are_digits(&text[colon + 1..], 5) && is_address(&text[..colon])
 }
 
 /// Whether there are 1 to so many decimal digits.

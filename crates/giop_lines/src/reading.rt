@@ -1,5 +1,8 @@
 //! A line, read back.
 
+ghost use Rattle.std.specs.Prelude.{◌≡◌, ◌<◌, ◌++◌, codes, decimal, true, IfSome};
+ghost use Rattle.giop_lines.specs.Lines.{line_text, said_text, numbered, IsSaid};
+
 use crate::captures::of_capture;
 use crate::line::{Line, Said};
 use crate::messages::of_message;
@@ -13,7 +16,10 @@ use crate::words::{after, first_word, word};
 pub const LINE_MAX: usize = 8192;
 
 /// What a line was made of; nothing where no dump has it.
-pub fn read(line: &[u8]) -> Option<Line<'_>> {
+pub fn read(line: &[u8]) -> Option<Line<'_>>
+    ensures spelled { IfSome result (λ l. line.now ≡ line_text l) }
+    ensures fields { IfSome result (λ l. IsSaid l.said) }
+{
     if line.len() > LINE_MAX {
         return None;
     }
@@ -41,25 +47,36 @@ pub fn read(line: &[u8]) -> Option<Line<'_>> {
 }
 
 /// The number that a line begins with after this letter, and what follows it; 0 and the line where it begins with none.
-fn head<'a>(line: &'a [u8], letter: &[u8]) -> (u64, &'a [u8]) {
+fn head<'a>(line: &'a [u8], letter: &[u8]) -> (u64, &'a [u8])
+    ensures { line.now ≡ numbered letter.now result.0 result.1.now }
+{
     match numbered(line, letter) {
         Some(found) => found,
         None => (0, line),
     }
 }
 
-fn numbered<'a>(line: &'a [u8], letter: &[u8]) -> Option<(u64, &'a [u8])> {
+fn numbered<'a>(line: &'a [u8], letter: &[u8]) -> Option<(u64, &'a [u8])>
+    ensures { IfSome result (λ r. line.now ≡ numbered letter.now r.0 r.1.now) }
+{
     let (digits, rest) = word(after(line, letter)?)?;
     Some((ordinal(digits)?, rest))
 }
 
 /// A line of a stream or a message that isn't known, or a value of a kind that isn't.
-fn later(text: &[u8], stream: u64, message: u64) -> Option<Said<'_>> {
+fn later(text: &[u8], stream: u64, message: u64) -> Option<Said<'_>>
+    ensures spelled { IfSome result (λ s. text.now ≡ said_text s) }
+    ensures fields { IfSome result IsSaid }
+{
     if !is_printed(text) {
         return None;
     }
     let (front, behind) = first_word(text);
-    if (stream > 0 || message > 0) && is_new(front, 2, &WORDS) && behind != Some(b"") {
+    if (stream > 0 || message > 0)
+        && is_new(front, 2, &WORDS)
+        && is_joined(front)
+        && is_filled(behind)
+    {
         return Some(Said::Later(text));
     }
     if message == 0 || !is_path(front) {
@@ -70,6 +87,14 @@ fn later(text: &[u8], stream: u64, message: u64) -> Option<Said<'_>> {
         Some(Said::Later(text))
     } else {
         None
+    }
+}
+
+/// Whether there is more than a space.
+fn is_filled(behind: Option<&[u8]>) -> bool {
+    match behind {
+        Some(rest) => !rest.is_empty(),
+        None => true,
     }
 }
 
@@ -129,5 +154,20 @@ fn is_new(word: &[u8], least: usize, known: &[&[u8]]) -> bool {
             return false;
         }
     }
-    first >= least && !known.iter().any(|known| *known == &word[..first])
+    first >= least && !is_one_of(&word[..first], known)
+}
+
+/// Whether a word is one of these.
+fn is_one_of(word: &[u8], others: &[&[u8]]) -> bool {
+    others.iter().any(|other| word == *other)
+}
+
+/// Whether small letters follow each hyphen of a word.
+fn is_joined(word: &[u8]) -> bool {
+    for i in 0..word.len() {
+        if word[i] == b'-' && (i + 1 == word.len() || word[i + 1] == b'-') {
+            return false;
+        }
+    }
+    true
 }

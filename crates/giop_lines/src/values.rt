@@ -1,5 +1,9 @@
 //! Values behind their paths: a kind, and what it is of.
 
+ghost use Rattle.std.specs.Prelude.{◌≡◌, ◌++◌, codes, IfSome, Some};
+ghost use Rattle.giop_print.specs.Lines.{order_word};
+ghost use Rattle.giop_lines.specs.Values.{value_text, IsValue};
+
 use crate::line::{Content, Value};
 use crate::names::{is_called, is_part_name};
 use crate::numbers::{bits, integer, number, ulong};
@@ -9,7 +13,10 @@ use crate::words::{after, before, first_word};
 use giop_cdr::Order;
 
 /// A value of a kind that is known.
-pub fn value(text: &[u8]) -> Option<Value<'_>> {
+pub fn value(text: &[u8]) -> Option<Value<'_>>
+    ensures spelled { IfSome result (λ v. text.now ≡ value_text v) }
+    ensures fields { IfSome result IsValue }
+{
     match text {
         [b's', ..] | [b'o', ..] => value_s_o(text),
         [b'u', ..] | [b'l', ..] => value_u_l(text),
@@ -18,7 +25,10 @@ pub fn value(text: &[u8]) -> Option<Value<'_>> {
     }
 }
 
-fn value_s_o(text: &[u8]) -> Option<Value<'_>> {
+fn value_s_o(text: &[u8]) -> Option<Value<'_>>
+    ensures spelled { IfSome result (λ v. text.now ≡ value_text v) }
+    ensures fields { IfSome result IsValue }
+{
     if let Some(rest) = after(text, b"string ") {
         return text_piece(rest);
     }
@@ -34,7 +44,10 @@ fn value_s_o(text: &[u8]) -> Option<Value<'_>> {
     Some(Value::Order(order(after(text, b"order ")?)?))
 }
 
-fn value_u_l(text: &[u8]) -> Option<Value<'_>> {
+fn value_u_l(text: &[u8]) -> Option<Value<'_>>
+    ensures spelled { IfSome result (λ v. text.now ≡ value_text v) }
+    ensures fields { IfSome result IsValue }
+{
     if let Some(rest) = after(text, b"ulong ") {
         return unsigned_long(rest);
     }
@@ -50,7 +63,10 @@ fn value_u_l(text: &[u8]) -> Option<Value<'_>> {
     Some(Value::LongLong(integer(after(text, b"longlong ")?)?))
 }
 
-fn value_b_e_c(text: &[u8]) -> Option<Value<'_>> {
+fn value_b_e_c(text: &[u8]) -> Option<Value<'_>>
+    ensures spelled { IfSome result (λ v. text.now ≡ value_text v) }
+    ensures fields { IfSome result IsValue }
+{
     if let Some(rest) = after(text, b"boolean ") {
         return boolean(rest);
     }
@@ -66,7 +82,10 @@ fn value_b_e_c(text: &[u8]) -> Option<Value<'_>> {
     Some(Value::Encapsulation(ulong(after(text, b"encapsulation ")?)?))
 }
 
-fn value_else(text: &[u8]) -> Option<Value<'_>> {
+fn value_else(text: &[u8]) -> Option<Value<'_>>
+    ensures spelled { IfSome result (λ v. text.now ≡ value_text v) }
+    ensures fields { IfSome result IsValue }
+{
     if let Some(rest) = after(text, b"double ") {
         return double(rest);
     }
@@ -82,7 +101,10 @@ fn value_else(text: &[u8]) -> Option<Value<'_>> {
     octets_piece(Content::WideChar, after(text, b"wchar ")?)
 }
 
-fn unsigned_long(text: &[u8]) -> Option<Value<'_>> {
+fn unsigned_long(text: &[u8]) -> Option<Value<'_>>
+    ensures spelled { IfSome result (λ v. codes "ulong " ++ text.now ≡ value_text v) }
+    ensures fields { IfSome result IsValue }
+{
     let (digits, name) = first_word(text);
     let n = ulong(digits)?;
     match name {
@@ -92,7 +114,10 @@ fn unsigned_long(text: &[u8]) -> Option<Value<'_>> {
     }
 }
 
-fn name_of_enum(text: &[u8]) -> Option<Value<'_>> {
+fn name_of_enum(text: &[u8]) -> Option<Value<'_>>
+    ensures spelled { IfSome result (λ v. codes "enum " ++ text.now ≡ value_text v) }
+    ensures fields { IfSome result IsValue }
+{
     if is_part_name(text) {
         Some(Value::Enum(text))
     } else {
@@ -100,7 +125,10 @@ fn name_of_enum(text: &[u8]) -> Option<Value<'_>> {
     }
 }
 
-fn boolean(text: &[u8]) -> Option<Value<'_>> {
+fn boolean(text: &[u8]) -> Option<Value<'_>>
+    ensures spelled { IfSome result (λ v. codes "boolean " ++ text.now ≡ value_text v) }
+    ensures fields { IfSome result IsValue }
+{
     match text {
         b"true" => Some(Value::Boolean(true)),
         b"false" => Some(Value::Boolean(false)),
@@ -108,7 +136,10 @@ fn boolean(text: &[u8]) -> Option<Value<'_>> {
     }
 }
 
-fn char(text: &[u8]) -> Option<Value<'_>> {
+fn char(text: &[u8]) -> Option<Value<'_>>
+    ensures spelled { IfSome result (λ v. codes "char " ++ text.now ≡ value_text v) }
+    ensures fields { IfSome result IsValue }
+{
     let octet = before(after(text, b"\"")?, b"\"")?;
     if !octet.is_empty() && is_text(octet, 1) {
         Some(Value::Char(octet))
@@ -117,7 +148,10 @@ fn char(text: &[u8]) -> Option<Value<'_>> {
     }
 }
 
-fn float(text: &[u8]) -> Option<Value<'_>> {
+fn float(text: &[u8]) -> Option<Value<'_>>
+    ensures spelled { IfSome result (λ v. codes "float " ++ text.now ≡ value_text v) }
+    ensures fields { IfSome result IsValue }
+{
     if text.len() == 8 {
         Some(Value::Float(u32::try_from(bits(text)?).ok()?))
     } else {
@@ -125,7 +159,10 @@ fn float(text: &[u8]) -> Option<Value<'_>> {
     }
 }
 
-fn double(text: &[u8]) -> Option<Value<'_>> {
+fn double(text: &[u8]) -> Option<Value<'_>>
+    ensures spelled { IfSome result (λ v. codes "double " ++ text.now ≡ value_text v) }
+    ensures fields { IfSome result IsValue }
+{
     if text.len() == 16 {
         Some(Value::Double(bits(text)?))
     } else {
@@ -134,7 +171,9 @@ fn double(text: &[u8]) -> Option<Value<'_>> {
 }
 
 /// The byte order that a word says.
-pub fn order(word: &[u8]) -> Option<Order> {
+pub fn order(word: &[u8]) -> Option<Order>
+    ensures { IfSome result (λ o. word.now ≡ order_word o) }
+{
     match word {
         b"big" => Some(Order::Big),
         b"little" => Some(Order::Little),
