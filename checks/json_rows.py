@@ -1,5 +1,5 @@
 """The rows of giop-json in checks/data/json-rows.txt: each is run, and what is written, the status and what is said are
-compared."""
+compared; and the words, files and outputs of the program."""
 
 from __future__ import annotations
 
@@ -8,7 +8,7 @@ import re
 import shlex
 import subprocess
 from dataclasses import dataclass, field
-from typing import Any, Iterator, List, Sequence
+from typing import Any, Iterator, List, Sequence, Tuple
 
 from failing import TOP
 
@@ -102,3 +102,36 @@ def objects(lines: Sequence[str], *words: str) -> List[Any]:
     done = written("".join(f"{line}\n" for line in lines), *words)
     assert done.returncode == 0, done.stderr
     return [json.loads(line) for line in done.stdout.splitlines()]
+
+
+# Words, and the status and the text on standard error.
+CASES: List[Tuple[List[str], int, str]] = [
+    (["no/such\x1b\nfile"], 4, "giop-json: no/such\\x1b\\x0afile: cannot read\n"),
+    (["/"], 4, "giop-json: read failed\n"),
+    (["-"], 4, "giop-json: -: cannot read\n"),
+    ([str(ROWS)], 3, f"giop-json: {ROWS}:1: no dump has this line\n"),
+]
+WRONG_WORDS = [["--jso"], ["a", "b"], ["--text", "ascii"], ["--hold", "0"], ["--hold", "16777217"], ["--\x1b\n"]]
+
+
+def check_program() -> int:
+    """Runs the program with words, files and outputs; gives how often."""
+    for words, status, said in CASES:
+        done = written("", *words)
+        assert (done.returncode, done.stderr, done.stdout) == (status, said, ""), done
+    for words in WRONG_WORDS:
+        done = written("", *words)
+        assert done.returncode == 2 and done.stderr.replace("\n", " ").isprintable() and not done.stdout, done
+    for word, begins in (("--help", "Writes the lines"), ("--version", "giop-json ")):
+        done = written("", word)
+        assert done.returncode == 0 and done.stdout.startswith(begins) and not done.stderr, done
+    done = written('m1 end\nm2 body.a string @0 "' + 200_000 * "a")
+    assert (done.returncode, done.stderr) == (3, "giop-json: standard input:2: no dump has this line\n"), done
+    lines = "m1 start 1.0 big Request size 4\nm1 end\n"
+    with open("/dev/full", "wb") as full:
+        full_done = subprocess.run([GIOP_JSON], input=lines.encode(), stdout=full, stderr=subprocess.PIPE, timeout=60)
+    assert (full_done.returncode, full_done.stderr) == (4, b"giop-json: write failed\n"), full_done
+    command = f"yes '{lines.splitlines()[0]}' | {{ {GIOP_JSON}; echo $? >&2; }} | head -n 1"
+    piped = subprocess.run(["bash", "-c", command], capture_output=True, timeout=60)
+    assert (piped.stdout.count(b"\n"), piped.stderr.split(b"\n")[0]) == (1, b"4"), piped
+    return len(CASES) + len(WRONG_WORDS) + 5

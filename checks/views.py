@@ -18,7 +18,7 @@ from xml.etree import ElementTree
 
 import generated
 from failing import GIOPCAP, PROGRAM, TOP
-from json_rows import check_rows, objects, written
+from json_rows import check_program, check_rows, objects, written
 
 sys.path.insert(0, str(TOP / "scripts/tests"))
 
@@ -357,7 +357,7 @@ def main() -> int:
     """Prints figures."""
     check_picture()
     known = generated.messages()
-    rows = check_rows()
+    rows = check_rows() + check_program()
     values = parts = messages = arrows = lines = 0
     for seed in range(SEEDS):
         draw = random.Random(seed)
@@ -373,7 +373,7 @@ def main() -> int:
     cuts = check_cuts(session)
     read = sum(check_changed(random.Random(seed), session) for seed in range(CHANGED))
     print(
-        f"views: {rows} rows; {lines} lines of {2 * SEEDS} dumps: {values} values in JSON, {parts} parts, {messages} counted, "
+        f"views: {rows} rows and runs of giop-json; {lines} lines of {2 * SEEDS} dumps: {values} values in JSON, {parts} parts, {messages} counted, "
         f"{arrows} arrows; {cuts} cuts; {CHANGED} changed dumps, {CHANGED - read} refused"
     )
     return 0
