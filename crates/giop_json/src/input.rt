@@ -1,5 +1,7 @@
 //! The lines of a source, one after the other.
 
+ghost use Rattle.std.specs.Prelude.{◌≤◌, length};
+
 use giop_lines::LINE_MAX;
 use giop_run::{Source, SourceFault};
 use memchr::memchr;
@@ -15,6 +17,8 @@ pub(crate) struct Input {
     start: usize,
     end: usize,
     number: u64,
+    ghost ordered: { start ≤ end },
+    ghost within: { end ≤ length room.items },
 }
 
 impl Input {
@@ -35,11 +39,14 @@ impl Input {
 
     /// Reads once. Answers whether octets came.
     pub(crate) fn read<S: Source>(&mut self, source: &mut S) -> Result<bool, SourceFault> {
+        let left = self.end - self.start;
         self.room.copy_within(self.start..self.end, 0);
-        self.end -= self.start;
         self.start = 0;
-        let given = source.read(&mut self.room[self.end..self.end + READ])?;
-        self.end += given;
+        self.end = left;
+        let room = &mut self.room[left..];
+        let most = room.len().min(READ);
+        let given = source.read(&mut room[..most])?;
+        self.end = left + given;
         Ok(given > 0)
     }
 

@@ -1,5 +1,7 @@
 //! The connections that streams are of, by their two endpoints.
 
+ghost use Rattle.std.specs.Prelude.{◌<◌};
+
 use lru::LruCache;
 use std::alloc::{AllocError, Global};
 
@@ -119,7 +121,9 @@ impl Connections {
 }
 
 /// Which of the two flows the one from the first endpoint to the second is.
-fn side_of(ends: (&str, &str)) -> usize {
+fn side_of(ends: (&str, &str)) -> usize
+    ensures { result < 2 }
+{
     if ends.0 <= ends.1 { 0 } else { 1 }
 }
 
