@@ -12,6 +12,7 @@ need_program mscgen mscgen
 need_program omniidl omniidl
 need_giopdump
 need_giopcap
+need_giop_json
 export PATH=$(dirname "$giopdump"):$(dirname "$giopcap"):$PWD/scripts:$PATH PYTHONDONTWRITEBYTECODE=1
 folder=$(mktemp -d)
 trap 'rm -rf "$folder"' EXIT
@@ -50,7 +51,7 @@ statuses=$(sed -nE 's/^\| ([0-5]) \|.*/\1/p' docs/FORMATS.md | sort -u)
 [ "$(echo $statuses)" = "0 1 2 3 4 5" ]
 check_page giopdump $statuses
 check_page giopcap $statuses
-check_page giop-json 0 2 3 4
+check_page giop-json 0 2 3 4 5
 check_page giop-stat 0 2 3 4
 check_page giop-chart 0 2 3 4
 ls "$folder"/naming.svg "$folder"/orders.png > /dev/null

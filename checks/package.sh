@@ -14,6 +14,7 @@ need_program omniidl omniidl
 need_file /usr/share/bash-completion/bash_completion bash-completion
 need_giopdump
 need_giopcap
+need_giop_json
 
 work=$(mktemp -d)
 trap 'rm -rf "$work"' EXIT

@@ -45,6 +45,14 @@ need_giopcap() {
     exit 1
 }
 
+# The built giop-json, to which a link of scripts/ leads.
+need_giop_json() {
+    giop_json=$PWD/crates/giop_json/out/giop_json
+    [ -x "$giop_json" ] && return 0
+    echo "$0: $giop_json is missing: build it with: cd crates/giop_json && rt run -- --version" >&2
+    exit 1
+}
+
 # The library of checks/failing.c, as $failing. It is made in a folder of its own, which goes when the script ends.
 need_failing() {
     need_program cc gcc

@@ -12,4 +12,5 @@ done
 need_program objdump binutils
 need_giopdump
 need_giopcap
+need_giop_json
 exec env PYTHONDONTWRITEBYTECODE=1 python3 checks/readme.py

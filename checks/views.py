@@ -1,6 +1,6 @@
-"""Dumps of streams that are made by seeds, as the program writes them and with what a capture adds to them: the JSON
-has every value of their lines and no other, the counts of the table are those of `grep -c`, and the chart has an arrow
-for each message. Cut behind any line, a dump gives what is there. A line that was changed is refused or read, and
+"""The rows of giop-json; and dumps of streams that are made by seeds, as the program writes them and with what a capture
+adds to them: the JSON has every value of their lines and no other, in parts too, the counts of the table are those of `grep -c`, and the chart has an arrow
+for each message. Cut after any line, a dump gives what is there. A line that was changed is refused or read, and
 nothing else happens. The picture of docs/USE.md is that of its command."""
 
 from __future__ import annotations
@@ -13,11 +13,12 @@ import struct
 import subprocess
 import sys
 from collections import Counter
-from typing import Any, Callable, Dict, List, Sequence, Tuple
+from typing import Any, Callable, Dict, Iterator, List, Sequence, Tuple
 from xml.etree import ElementTree
 
 import generated
 from failing import GIOPCAP, PROGRAM, TOP
+from json_rows import check_program, check_rows, objects, written
 
 sys.path.insert(0, str(TOP / "scripts/tests"))
 
@@ -53,8 +54,12 @@ def added_to(draw: random.Random, line: str, after: str, kinds: Dict[str, str], 
     if kinds.get(number) == "Reply" and "header.reply_status" in line and draw.randrange(3):
         seconds = draw.choice(("-", "0.000000250", "-0.100000000", "1.500000000"))
         added.append(f"{number} answers s9 m9 {draw.choice(calls or ['ask'])} after {seconds}")
-    if kinds.get(number) == "Reply" and (word == "end" or " exception " in line and not line.endswith(" more")):
-        added += [f"{number} raises {draw.choice(IDS)}"] if draw.randrange(2) else []
+    if re.search(r"header\.reply_status enum (USER|SYSTEM)_EXCEPTION", line):
+        kinds[number] = "raising Reply"
+    if kinds.get(number) == "raising Reply" and (word == "end" or " exception " in line and not line.endswith(" more")):
+        if draw.randrange(2):
+            kinds[number] = "raised"
+            added.append(f"{number} raises {draw.choice(IDS)}")
     return added
 
 
@@ -76,138 +81,87 @@ def capture_of(draw: random.Random, dumps: Sequence[List[str]]) -> List[str]:
     return woven + ["total streams 3 messages 9 faults 9 packets 9 octets 9"]
 
 
-TAKEN = object()
-
-
-def chain(where: Any, key: Any) -> List[Tuple[Any, Any]]:
-    """A place, and within the encapsulations there the places of the values that these hold."""
-    places = [(where, key)]
-    while isinstance(where[key], dict) and "encapsulation" in where[key]:
-        where, key = where[key], "value"
-        if key not in where:
-            break
-        places.append((where, key))
-    return places
-
-
-def place_of(made: Any, path: str) -> List[Tuple[Any, Any]]:
-    """The places of a path in the object of a message."""
-    steps = [int(index) if index else name for index, name in re.findall(r"\[(\d+)\]|(\w+)", path)]
-    places: List[Tuple[Any, Any]] = [(made, steps[0])]
-    for step in steps[1:]:
-        where, key = chain(*places[-1])[-1]
-        places = [(where[key], step)]
-    return chain(*places[-1])
-
-
-def shown(octets: bytes) -> Any:
-    """Octets as they stand in JSON."""
-    try:
-        text = octets.decode("utf-8")
-    except UnicodeDecodeError:
-        text = "\n"
-    return text if text.isprintable() else {"hex": octets.hex()}
-
-
-def octets_in(text: str) -> bytes:
-    """The octets of the text of a dump."""
-    return bytes(int(escape, 16) if escape else ord(plain) for escape, plain in re.findall(r"\\x(..)|(.)", text))
-
-
 def number_of(text: str) -> Any:
-    """The number of its bits in hexadecimal."""
+    """The number of its bits in hexadecimal; a float as one of single precision."""
     number = struct.unpack(">f" if len(text) == 8 else ">d", bytes.fromhex(text))[0]
-    return number if abs(number) < float("inf") else {"inf": "Infinity", "-inf": "-Infinity"}.get(str(number), "NaN")
+    return number if abs(number) < float("inf") else None
+
+
+def is_number(found: Any, bits: str) -> bool:
+    """Whether a number of JSON reads back as these bits."""
+    wanted = number_of(bits)
+    if wanted is None or found is None:
+        return found is wanted
+    form = ">f" if len(bits) == 8 else ">d"
+    return type(found) is float and struct.pack(form, found) == bytes.fromhex(bits)
 
 
 def value_of(kind: str, text: str) -> Any:
     """A value by its kind."""
-    if kind in ("float", "double"):
-        return number_of(text)
     if kind == "char":
-        return shown(octets_in(text[1:-1]))
+        return text[1:-1]
     return {"boolean": text == "true", "enum": text}[kind] if kind in ("boolean", "enum") else int(text)
 
 
-class Left:
-    """What is left of an object when what its lines have is taken out of it."""
+Leaf = Tuple[str, Any]
 
-    def __init__(self, made: Any) -> None:
-        self.made = made
-        self.pieces: Any = None
 
-    def take(self, line: str) -> None:
-        """Takes what a line of values has."""
+def leaves(made: Any, path: str = "") -> Iterator[Leaf]:
+    """The values in an object with their paths; lists and objects that are empty are none."""
+    if isinstance(made, dict):
+        for name, each in made.items():
+            if name == "@rest":
+                yield path + "@rest", each
+            else:
+                yield from leaves(each, path if name[0] == "@" else f"{path}.{name}" if path else name)
+    elif isinstance(made, list):
+        for place, each in enumerate(made):
+            yield from leaves(each, f"{path}[{place}]")
+    else:
+        yield path, made
+
+
+def values_of(lines: Sequence[str]) -> List[Leaf]:
+    """The values that lines of one message tell, with their paths: of floating-point numbers the bits as octets."""
+    told: List[Leaf] = []
+    for line in lines:
         path, kind, text = [*(line if not line.startswith("rest ") else "rest " + line).split(" ", 2), ""][:3]
+        if kind in ("count", "encapsulation", "order"):
+            continue
         if kind in ("string", "octets", "rest"):
             offset, _, piece = text.partition(" ")
-            more = piece.endswith(" more")
-            piece = piece[:-5] if more else piece
-            octets = octets_in(piece[1:-1]) if kind == "string" else bytes.fromhex(piece)
-            if self.pieces and offset != "@0":
-                octets = self.pieces[2] + octets
+            piece = piece[:-5] if piece.endswith(" more") else "" if piece == "more" else piece
+            piece = piece[1:-1] if kind == "string" else piece
+            if offset != "@0":
+                told[-1] = (told[-1][0], told[-1][1] + piece)
             else:
-                self.end()
-            self.pieces = (path, kind, octets, more)
-            return
-        self.end()
-        places = place_of(self.made, path)
-        if kind == "count":
-            where, key = places[-1]
-            assert len(where[key]) <= int(text), line
-        elif kind in ("encapsulation", "order"):
-            held = next(where[key] for where, key in places if where[key].get(kind) is not TAKEN)
-            assert held[kind] == (int(text) if kind == "encapsulation" else text), line
-            held[kind] = TAKEN
+                told.append((path + "@rest" if kind == "rest" and path != "rest" else path, piece))
         else:
-            self.has(places[-1], value_of(kind, text))
-
-    def has(self, place: Tuple[Any, Any], value: Any) -> None:
-        """Takes a value out of its place."""
-        where, key = place
-        assert where[key] == value and type(where[key]) is type(value), (where, key, value)
-        where[key] = TAKEN
-
-    def end(self) -> None:
-        """Takes the value whose pieces came."""
-        if not self.pieces:
-            return
-        path, kind, octets, more = self.pieces
-        self.pieces = None
-        if kind == "rest":
-            places = (
-                [(self.made, "rest")]
-                if path == "rest"
-                else [
-                    (where[key], "rest")
-                    for where, key in place_of(self.made, path)[::-1]
-                    if isinstance(where[key], dict) and where[key].get("rest", TAKEN) is not TAKEN
-                ]
-            )
-            return self.has(places[0], octets.hex())
-        value = shown(octets)
-        if more:
-            value = {**(value if isinstance(value, dict) else {"text": value}), "more": True}
-        self.has(place_of(self.made, path)[-1], value)
+            told.append((path, text.encode() if kind in ("float", "double") else value_of(kind, text)))
+    return told
 
 
-def leaves(made: Any) -> List[Any]:
-    """What stands in an object but isn't taken."""
-    if isinstance(made, (dict, list)):
-        return [leaf for each in (made.values() if isinstance(made, dict) else made) for leaf in leaves(each)]
-    return [] if made is TAKEN else [made]
+def is_told(found: List[Leaf], wanted: List[Leaf]) -> bool:
+    """Whether an object has the values that lines tell, at their paths and in their order, and no other."""
+    return len(found) == len(wanted) and all(
+        path == at
+        and (is_number(value, told.decode()) if isinstance(told, bytes) else (type(value), value) == (type(told), told))
+        for (path, value), (at, told) in zip(found, wanted)
+    )
 
+
+VALUES = ("header", "exception", "body", "rest")
 
 EVENTS: Dict[str, Callable[[List[str]], Dict[str, Any]]] = {
     "start": lambda words: dict(
         zip(("version", "order", "type", "size", "more"), (*words[:3], int(words[4]), *([True] if words[5:] else [])))
     ),
     "call": lambda words: {"call": int(words[0]), "operation": words[1]},
-    "time": lambda words: {"time": None if words[0] == "-" else words[0]},
+    "time": lambda words: {} if words[0] == "-" else {"time": words[0]},
     "answers": lambda words: {
         "answers": {"stream": int(words[0][1:]), "message": int(words[1][1:])},
         "operation": words[2],
-        "seconds": None if words[4] == "-" else float(words[4]),
+        **({} if words[4] == "-" else {"seconds": float(words[4])}),
     },
     "continues": lambda words: {"continues": int(words[0][1:])},
     "cancelled": lambda words: {"cancelled_by": int(words[1][1:])},
@@ -219,16 +173,18 @@ EVENTS: Dict[str, Callable[[List[str]], Dict[str, Any]]] = {
 
 
 def check_json(lines: Sequence[str]) -> int:
-    """The JSON of a dump has what its lines have, and nothing else; gives how many lines of values there are."""
-    found = [json.loads(line) for line in printed("giop-json", text_of(lines)).splitlines()]
-    left = {(made.get("stream", 0), made["message"]): Left(made) for made in found if "message" in made}
+    """The JSON of a dump has what its lines have, and nothing else; gives how many values there are."""
+    found = objects(lines)
+    left = {(made.get("stream", 0), made["message"]): made for made in found if "message" in made}
     assert len(left) == sum("message" in made for made in found) == sum(" start " in line for line in lines)
     told: Dict[Tuple[int, int], Dict[str, Any]] = {key: {} for key in left}
+    values: Dict[Tuple[int, int], List[str]] = {key: [] for key in left}
     ends = {
         int(match[1]): (match[2], match[3])
         for match in re.finditer(r"(?m)^s(\d+) stream (\S+) > (\S+) at", text_of(lines))
     }
-    over, values = set(), 0
+    over = set()
+    octets: Counter[Tuple[int, int]] = Counter()
     for line in lines:
         match = MESSAGE.fullmatch(line)
         if not match:
@@ -236,26 +192,52 @@ def check_json(lines: Sequence[str]) -> int:
         key = int(match[1] or 0), int(match[2])
         word, *words = match[3].split(" ")
         if word not in EVENTS:
-            values += 1
-            left[key].take(match[3])
+            values[key].append(match[3])
             continue
         told[key].update(EVENTS[word](words))
+        octets[key] += 12 + int(words[4]) if word == "start" else 0
         if word == "continues" and (key[0], int(words[0][1:])) not in over:
-            told[key[0], int(words[0][1:])].setdefault("fragments", []).append(key[1])
+            initial = key[0], int(words[0][1:])
+            told[initial]["fragments"] = told[initial].get("fragments", 0) + 1
+            octets[initial] += octets.pop(key)
         over.update([key] if word in ("end", "fault", "cancelled") else [])
-    for key, each in left.items():
-        each.end()
-        made = each.made
+    for key, made in left.items():
+        has = [leaf for name in VALUES if name in made for leaf in leaves({name: made.pop(name)})]
+        assert is_told(has, values_of(values[key])), (key, has, values[key])
+        if "fragments" in told[key]:
+            told[key]["octets"] = octets[key]
         for name, value in [*told[key].items(), ("message", key[1]), *([("stream", key[0])] if key[0] else [])]:
             assert made.pop(name) == value, (key, name)
         if told[key]["type"] == "Fragment" and not {"continues", "fault"} & set(told[key]):
             assert made.pop("cut")  # the stream ended in front of its request id
         assert (made.pop("from", None), made.pop("to", None)) == ends.get(key[0], (None, None)), key
-        assert not leaves(made), (key, made)
+        assert ("connection" in made) == (key[0] in ends)
+        made.pop("connection", None)
+        assert not made, (key, made)
     totals = [list(map(int, re.findall(r" (\d+)", line))) for line in lines if " total messages " in f" {line}"]
     streams = [made for made in found if "messages" in made and "streams" not in made]
     assert [[made[name] for name in ("messages", "faults", "octets")] for made in streams] == totals
-    return values
+    return sum(map(len, map(values_of, values.values())))
+
+
+def check_parts(lines: Sequence[str]) -> int:
+    """In parts the messages of a dump have the same values in the same order, each once; gives how many parts there are."""
+    parts: Dict[Tuple[int, int], List[Leaf]] = {}
+    wholes: Dict[Tuple[int, int], List[Leaf]] = {}
+    count = 0
+    for hold, told in (("4", parts), ("65536", wholes)):
+        for made in objects(lines, "--hold", hold):
+            if "message" not in made:
+                continue
+            count += "part" in made
+            has = [leaf for name in VALUES if name in made for leaf in leaves({name: made[name]})]
+            kept = told.setdefault((made.get("stream", 0), made["message"]), [])
+            if "offset" in made and has:
+                kept[-1] = (kept[-1][0], kept[-1][1] + has.pop(0)[1])
+            kept += [(re.sub(r"\d+", "", path), value) for path, value in has]
+    joined = {key: [(re.sub(r"\d+", "", path), value) for path, value in told] for key, told in wholes.items()}
+    assert parts == joined
+    return count
 
 
 def text_of(lines: Sequence[str]) -> str:
@@ -268,14 +250,12 @@ def count(text: str, pattern: str) -> int:
     return len(re.findall(rf"(?m)^(?:s\d+ )?(?:m\d+ )?{pattern}$", text))
 
 
-def raised_by(line: str) -> str:
+def raised_by(made: Any) -> str:
     """The repository id that a message raises, by its object, where it's one that a line may have."""
-    made = json.loads(line)
     status = made.get("header", {}).get("reply_status")
     known = made.get("exception") if status == "USER_EXCEPTION" else ""
     if status == "SYSTEM_EXCEPTION":
         known = made.get("body", {}).get("exception_id")
-    known = known.get("text") if isinstance(known, dict) else known
     return str(made.get("raises") or (known if known and re.fullmatch(r"[!#-\[\]-~]{1,128}", known) else ""))
 
 
@@ -305,7 +285,7 @@ def check_counts(lines: Sequence[str]) -> int:
             times = [float(time) for time in re.findall(rf" answers \S+ \S+ {name} after (-?\d\S*)\n", text)]
             assert (row["seconds"] or {}).get("max", 0) == max(times, default=0)
             assert abs((row["seconds"] or {}).get("total", 0) - sum(times)) < 1e-9
-    raised = Counter(filter(None, map(raised_by, printed("giop-json", text).splitlines())))
+    raised = Counter(filter(None, map(raised_by, objects(lines))))
     assert sum((Counter(row["raised"]) for row in told["operations"]), Counter()) == raised
     return text.count(" start ")
 
@@ -327,12 +307,12 @@ def check_chart(lines: Sequence[str], picture: bool) -> int:
 
 
 def check_cuts(lines: Sequence[str]) -> int:
-    """A dump that is cut behind a line gives what is there; gives how many cuts there are."""
-    whole = printed("giop-json", text_of(lines)).splitlines()
+    """A dump that is cut after a line gives what is there; gives how many cuts there are."""
+    whole = written(text_of(lines)).stdout.splitlines()
     for end in range(len(lines)):
         text = text_of(lines[:end])
-        found = printed("giop-json", text + lines[end][: len(lines[end]) // 2]).splitlines()
-        assert found == printed("giop-json", text).splitlines()
+        found = written(text + lines[end][: len(lines[end]) // 2]).stdout.splitlines()
+        assert found == written(text).stdout.splitlines()
         objects = [json.loads(line) for line in found]
         sure = [line for line, made in zip(found, objects) if "message" in made and "cut" not in made][:-1]
         assert sure == [line for line in whole if line in set(sure)], end
@@ -348,10 +328,13 @@ def check_changed(draw: random.Random, lines: List[str]) -> bool:
     other = line[:at] + draw.choice('0aA .[]@\\"\x1b\xe9') + line[at + 1 :]
     changes: List[List[str]] = [[], [line, line], [line[:at]], [line[at:]], [other], [other]]
     made = draw.choice(changes)
-    is_read = True
+    text = text_of([*lines[:place], *made, *lines[place + 1 :]])
+    done = written(text)
+    assert done.returncode in (0, 3), done
+    is_read = done.returncode == 0
     for program in PROGRAMS:
         try:
-            printed(program, text_of([*lines[:place], *made, *lines[place + 1 :]]))
+            printed(program, text)
         except Refused as refused:
             assert place < refused.number <= len(lines) + 1, (refused.number, place, made)
             is_read = False
@@ -374,13 +357,15 @@ def main() -> int:
     """Prints figures."""
     check_picture()
     known = generated.messages()
-    values = messages = arrows = lines = 0
+    rows = check_rows() + check_program()
+    values = parts = messages = arrows = lines = 0
     for seed in range(SEEDS):
         draw = random.Random(seed)
         dumps = [dump_of(seed * WOVEN + number, known) for number in range(WOVEN)]
         for place, dump in enumerate([dumps[0], capture_of(draw, dumps)]):
             lines += len(dump)
             values += check_json(dump)
+            parts += check_parts(dump)
             messages += check_counts(dump)
             arrows += check_chart(dump, picture=seed < 10)
     session = SESSION.read_text().splitlines()
@@ -388,7 +373,7 @@ def main() -> int:
     cuts = check_cuts(session)
     read = sum(check_changed(random.Random(seed), session) for seed in range(CHANGED))
     print(
-        f"views: {lines} lines of {2 * SEEDS} dumps: {values} values in JSON, {messages} messages counted, "
+        f"views: {rows} rows and runs of giop-json; {lines} lines of {2 * SEEDS} dumps: {values} values in JSON, {parts} parts, {messages} counted, "
         f"{arrows} arrows; {cuts} cuts; {CHANGED} changed dumps, {CHANGED - read} refused"
     )
     return 0

@@ -1,6 +1,6 @@
 #!/usr/bin/env bash
-# giop-json, giop-stat and giop-chart: what they print of lines that were written by hand, of the dumps of generated streams,
-# and of these when they are cut or changed; and the picture of docs/USE.md. Installs mscgen where it is missing.
+# giop-json, giop-stat and giop-chart: what they print of rows and lines that were written by hand, of the dumps of generated
+# streams, and of these when they are cut or changed; and the picture of docs/USE.md. Installs mscgen where it is missing.
 set -euo pipefail
 cd "$(dirname "$0")/.."
 . checks/packages.sh
@@ -8,6 +8,7 @@ cd "$(dirname "$0")/.."
 need_program mscgen mscgen
 need_giopdump
 need_giopcap
+need_giop_json
 export PYTHONDONTWRITEBYTECODE=1
 python3 scripts/tests/test_views.py
 python3 checks/views.py

@@ -1,4 +1,4 @@
-"""Runs giop-json, giop-stat and giop-chart within the tests, where a process for each run would take long."""
+"""Runs giop-stat and giop-chart within the tests, where a process for each run would take long."""
 
 from __future__ import annotations
 
@@ -13,7 +13,7 @@ from typing import Any, Dict, List
 HERE = Path(__file__).resolve().parent
 SCRIPTS = HERE.parent
 SESSION = HERE / "session.lines"  # the lines of session.pcap, as giopcap writes them
-PROGRAMS = ("giop-json", "giop-stat", "giop-chart")
+PROGRAMS = ("giop-stat", "giop-chart")
 sys.path.insert(0, str(SCRIPTS))
 
 from giop_lines import Refused  # noqa: E402

@@ -1,4 +1,4 @@
-"""Tests of giop-json, giop-stat and giop-chart: run by checks/views.sh, or as python3 scripts/tests/test_views.py."""
+"""Tests of giop-stat and giop-chart: run by checks/views.sh, or as python3 scripts/tests/test_views.py."""
 
 from __future__ import annotations
 
@@ -198,23 +198,6 @@ def run(program: str, lines: str, *words: str) -> subprocess.CompletedProcess[st
     return subprocess.run(command, input=lines, capture_output=True, text=True, encoding="utf-8", timeout=60)
 
 
-def objects(lines: str) -> List[Any]:
-    """The objects of lines."""
-    return [json.loads(line) for line in printed("giop-json", lines).splitlines()]
-
-
-def only(lines: str) -> Any:
-    """The object of the only message of a dump, without what its start line tells."""
-    found = objects("m1 start 1.2 big Request size 9\n" + lines + "m1 end\n")
-    assert len(found) == 1 and (found[0].pop("version"), found[0].pop("order"), found[0].pop("size")) == (
-        "1.2",
-        "big",
-        9,
-    )
-    assert (found[0].pop("message"), found[0].pop("type")) == (1, "Request")
-    return found[0]
-
-
 class Lines(unittest.TestCase):
     """Which lines are taken, and which are refused."""
 
@@ -226,342 +209,17 @@ class Lines(unittest.TestCase):
     def test_a_line_that_no_dump_writes_is_refused_with_its_number(self) -> None:
         for line in REFUSED:
             with self.assertRaises(Refused, msg=line) as caught:
-                printed("giop-json", f"m1 end\n{line}\n")
+                printed("giop-stat", f"m1 end\n{line}\n")
             self.assertEqual(caught.exception.number, 2, line)
 
     def test_what_stands_behind_the_last_line_feed_is_no_line(self) -> None:
         for left in ("m1 body ulong 1", "zap", "\x1b"):
-            self.assertEqual(objects("m1 end\n" + left), objects("m1 end\n"))
+            self.assertEqual(printed("giop-stat", "m1 end\n" + left), printed("giop-stat", "m1 end\n"))
 
     def test_a_line_that_never_ends_is_refused(self) -> None:
         with self.assertRaises(Refused) as caught:
-            printed("giop-json", 'm1 end\nm2 body string @0 "' + 200_000 * "a")
+            printed("giop-stat", 'm1 end\nm2 body string @0 "' + 200_000 * "a")
         self.assertEqual(caught.exception.number, 2)
-
-
-# Values, each by its line's path, kind and value, and what they are in JSON.
-VALUES: List[Tuple[str, Dict[str, Any]]] = [
-    ("header.a octet 7", {"header": {"a": 7}}),
-    ("body short -5", {"body": -5}),
-    ("body.a.b.c ulonglong 18446744073709551615", {"body": {"a": {"b": {"c": 18446744073709551615}}}}),
-    ("body.a boolean true|body.b boolean false", {"body": {"a": True, "b": False}}),
-    (
-        'body.a char "a"|body.b char "\\x22"|body.c char "\\xe9"|body.d char "\\x0a"',
-        {"body": {"a": "a", "b": '"', "c": {"hex": "e9"}, "d": {"hex": "0a"}}},
-    ),
-    (
-        "body.a float 40200000|body.b double c004000000000000|body.c float 80000000",
-        {"body": {"a": 2.5, "b": -2.5, "c": -0.0}},
-    ),
-    (
-        "body.a float 7f800000|body.b double fff0000000000000|body.c float 7fc00001",
-        {"body": {"a": "Infinity", "b": "-Infinity", "c": "NaN"}},
-    ),
-    ("body.a enum red", {"body": {"a": "red"}}),
-    ("body.a count 0", {"body": {"a": []}}),
-    ("body.a count 2|body.a[0] long 1|body.a[1] long 2", {"body": {"a": [1, 2]}}),
-    ("header.a[0] octet 0|header.a[1] octet 1", {"header": {"a": [0, 1]}}),
-    ("body count 2|body[0] count 1|body[0][0] long 1|body[1] count 0", {"body": [[1], []]}),
-    (
-        'body.n count 2|body.n[0].id string @0 "a"|body.n[0].k octet 1|body.n[1].id string @0 "b"|body.n[1].k octet 2',
-        {"body": {"n": [{"id": "a", "k": 1}, {"id": "b", "k": 2}]}},
-    ),
-    ("body.u.switch short 0|body.u.x octets @0 6b6579", {"body": {"u": {"switch": 0, "x": "key"}}}),
-    ('body.a string @0 ""|body.b octets @0', {"body": {"a": "", "b": ""}}),
-    ('body.a string @0 "\\x22\\x5cn\\x7e"', {"body": {"a": '"\\n~'}}),
-    ('body.a string @0 "caf\\xc3\\xa9"', {"body": {"a": "caf\u00e9"}}),
-    ('body.a string @0 "caf\\xe9"', {"body": {"a": {"hex": "636166e9"}}}),
-    ('body.a string @0 "\\x1b[2J"', {"body": {"a": {"hex": "1b5b324a"}}}),
-    ('body.a string @0 "\\xe2\\x80\\xae"', {"body": {"a": {"hex": "e280ae"}}}),
-    (
-        'exception string @0 "IDL:omg.org/CosNaming/NamingCont" more|exception string @32 "ext/NotFound:1.0"|body.why enum x',
-        {"exception": "IDL:omg.org/CosNaming/NamingContext/NotFound:1.0", "body": {"why": "x"}},
-    ),
-    ('body.a string @0 "' + 31 * "a" + '\\xc3" more|body.a string @32 "\\xa9"', {"body": {"a": 31 * "a" + "\u00e9"}}),
-    ("body.a octets @0 " + 32 * "41" + " more|body.a octets @32", {"body": {"a": 32 * "A"}}),
-    ("body.a octets @0 " + 32 * "00" + " more", {"body": {"a": {"hex": 32 * "00", "more": True}}}),
-    ('body.a string @0 "' + 32 * "a" + '" more', {"body": {"a": {"text": 32 * "a", "more": True}}}),
-    ('body.a string @32 "b"', {"body": {"a": {"text": "b", "offset": 32}}, "cut": True}),
-    ("rest @0 " + 32 * "41" + "|rest @32 42", {"rest": 32 * "41" + "42"}),
-    ("rest @64 42", {"rest": {"hex": "42", "offset": 64}, "cut": True}),
-    (
-        "header.s[0].d encapsulation 12|header.s[0].d order little|header.s[0].d.c ulong 65537|header.s[0].d.w ulong 65801",
-        {"header": {"s": [{"d": {"encapsulation": 12, "order": "little", "value": {"c": 65537, "w": 65801}}}]}},
-    ),
-    (
-        "body encapsulation 12|body order big|body.a octet 7|body rest @0 " + 32 * "00" + "|body rest @32 01",
-        {"body": {"encapsulation": 12, "order": "big", "value": {"a": 7}, "rest": 32 * "00" + "01"}},
-    ),
-    (
-        "body encapsulation 9|body order big|body encapsulation 3|body order little|body octet 7|body rest @0 01|body rest @0 02",
-        {
-            "body": {
-                "encapsulation": 9,
-                "order": "big",
-                "rest": "02",
-                "value": {"encapsulation": 3, "order": "little", "value": 7, "rest": "01"},
-            }
-        },
-    ),
-    (
-        "body.a encapsulation 9|body.a order big|body.a count 1|body.a[0] octet 5|body.b octet 6",
-        {"body": {"a": {"encapsulation": 9, "order": "big", "value": [5]}, "b": 6}},
-    ),
-    ("body.a[3] octet 5|body.a[4] octet 6", {"body": {"a": [5, 6]}, "cut": True}),
-    (
-        "body.a order big|body.a octet 5|body.a rest @0 00",
-        {"body": {"a": {"order": "big", "value": 5, "rest": "00"}}, "cut": True},
-    ),
-    ("body.a.b octet 5|body.a rest @0 00", {"body": {"a": {"value": {"b": 5}, "rest": "00"}}, "cut": True}),
-    ("call 12 resolve", {"call": 12, "operation": "resolve"}),
-    ("seen by m2", {"other": ["m1 seen by m2"]}),
-    ("body.w wstring @0 0041", {"other": ["m1 body.w wstring @0 0041"]}),
-]
-
-# Lines of one message that don't fit each other: the number of the line that is refused.
-MISFITS = [
-    ("body octet 1|body octet 2", 3),
-    ("body octet 1|body.a octet 2", 3),
-    ("body.a octet 1|body[0] octet 2", 3),
-    ("body.a octet 1|body octet 2", 3),
-    ("body.a[1] octet 1|body.a[0] octet 2", 3),
-    ("body.a[0] octet 1|body.a[0] octet 2", 3),
-    ('body.a string @0 "a"|body.a string @0 "b"', 3),
-    ('body.a string @0 "a" more|body.a string @32 "b"', 3),
-    ("|".join(["body encapsulation 9"] * 27), 27),
-]
-
-
-class Json(unittest.TestCase):
-    """What giop-json writes."""
-
-    maxDiff = None
-
-    def test_each_value_stands_at_its_path(self) -> None:
-        for values, wanted in VALUES:
-            lines = "".join(f"m1 {value}\n" for value in values.split("|"))
-            self.assertEqual(only(lines), wanted, values)
-
-    def test_lines_that_do_not_fit_are_refused(self) -> None:
-        for values, number in MISFITS:
-            lines = "m1 start 1.2 big Request size 9\n" + "".join(f"m1 {value}\n" for value in values.split("|"))
-            with self.assertRaises(Refused, msg=values) as caught:
-                printed("giop-json", lines)
-            self.assertEqual(caught.exception.number, number, values)
-
-    def test_messages_in_fragments_by_turns(self) -> None:
-        lines = """\
-            m1 start 1.2 big Request size 40 more
-            m1 header.request_id ulong 5
-            m1 body.a string @0 "aaaaaaaaaaaaaaaaaaaaaaaaaaaaaaaa" more
-            m2 start 1.2 big Request size 40 more
-            m2 header.request_id ulong 6
-            m3 start 1.2 big Fragment size 9 more
-            m3 header.request_id ulong 5
-            m3 continues m1
-            m4 start 1.2 big Fragment size 5
-            m4 header.request_id ulong 6
-            m4 continues m2
-            m2 end
-            m5 start 1.2 big Fragment size 6
-            m5 header.request_id ulong 5
-            m5 continues m1
-            m1 body.a string @32 "b"
-            m1 end
-            m6 start 1.2 big Fragment size 4
-            m6 header.request_id ulong 5
-            m6 fault no-open at 200
-            total messages 6 faults 1 octets 200
-            """
-        start = {"version": "1.2", "order": "big"}
-        request, fragment = {**start, "type": "Request"}, {**start, "type": "Fragment"}
-        self.assertEqual(
-            objects(unindented(lines)),
-            [
-                {"message": 3, **fragment, "size": 9, "more": True, "continues": 1, "header": {"request_id": 5}},
-                {"message": 4, **fragment, "size": 5, "continues": 2, "header": {"request_id": 6}},
-                {"message": 2, **request, "size": 40, "more": True, "fragments": [4], "header": {"request_id": 6}},
-                {"message": 5, **fragment, "size": 6, "continues": 1, "header": {"request_id": 5}},
-                {
-                    "message": 1,
-                    **request,
-                    "size": 40,
-                    "more": True,
-                    "fragments": [3, 5],
-                    "header": {"request_id": 5},
-                    "body": {"a": 32 * "a" + "b"},
-                },
-                {
-                    "message": 6,
-                    **fragment,
-                    "size": 4,
-                    "header": {"request_id": 5},
-                    "fault": {"word": "no-open", "at": 200},
-                },
-                {"messages": 6, "faults": 1, "octets": 200},
-            ],
-        )
-
-    def test_how_messages_end(self) -> None:
-        lines = """\
-            m1 start 1.2 big Request size 40 more
-            m1 header.request_id ulong 5
-            m2 start 1.2 big CancelRequest size 4
-            m2 header.request_id ulong 5
-            m1 cancelled by m2
-            m2 end
-            m3 start 1.2 big 9 size 0
-            m3 fault message-type at 92
-            m4 start 1.2 big Reply size 9
-            stream fault truncated at 110
-            m4 unfinished
-            total messages 4 faults 2 octets 110
-            """
-        start = {"version": "1.2", "order": "big"}
-        self.assertEqual(
-            objects(unindented(lines)),
-            [
-                {
-                    "message": 1,
-                    **start,
-                    "type": "Request",
-                    "size": 40,
-                    "more": True,
-                    "header": {"request_id": 5},
-                    "cancelled_by": 2,
-                },
-                {"message": 2, **start, "type": "CancelRequest", "size": 4, "header": {"request_id": 5}},
-                {"message": 3, **start, "type": "9", "size": 0, "fault": {"word": "message-type", "at": 92}},
-                {"message": 4, **start, "type": "Reply", "size": 9, "unfinished": True},
-                {"fault": {"word": "truncated", "at": 110}, "messages": 4, "faults": 2, "octets": 110},
-            ],
-        )
-
-    def test_what_a_capture_adds(self) -> None:
-        lines = """\
-            s1 stream 10.0.0.1:7 > 10.0.0.2:9 at 2026-11-23T08:13:25.000000001Z
-            s1 m1 start 1.0 big Request size 9
-            s1 m1 time 2026-11-23T08:13:25.000000001Z
-            s1 m1 call 2 stop
-            s1 m1 end
-            s2 stream 10.0.0.2:9 > 10.0.0.1:7 at -
-            s2 m1 start 1.0 big Reply size 9
-            s2 m1 time -
-            s2 m1 header.reply_status enum SYSTEM_EXCEPTION
-            s2 m1 body.minor ulong 1
-            s2 m1 end
-            s2 m1 answers s1 m1 stop after 0.000000250
-            s2 m1 raises IDL:omg.org/CORBA/INTERNAL:1.0
-            s2 m2 start 1.0 big CloseConnection size 0
-            s2 m2 end
-            s2 m2 time 2026-11-23T08:13:26.000000001Z
-            s1 closed gap
-            s1 total messages 1 faults 0 octets 21
-            capture fault truncated at 900
-            s2 closed end
-            s2 stream fault truncated at 35
-            s2 total messages 2 faults 1 octets 35
-            total streams 2 messages 3 faults 2 packets 7 octets 900
-            """
-        first = {"stream": 1, "from": "10.0.0.1:7", "to": "10.0.0.2:9"}
-        second = {"stream": 2, "from": "10.0.0.2:9", "to": "10.0.0.1:7"}
-        start = {"version": "1.0", "order": "big"}
-        now = "2026-11-23T08:13:25.000000001Z"
-        self.assertEqual(
-            objects(unindented(lines)),
-            [
-                {
-                    **first,
-                    "message": 1,
-                    **start,
-                    "type": "Request",
-                    "size": 9,
-                    "time": now,
-                    "call": 2,
-                    "operation": "stop",
-                },
-                {
-                    **second,
-                    "message": 1,
-                    **start,
-                    "type": "Reply",
-                    "size": 9,
-                    "time": None,
-                    "operation": "stop",
-                    "answers": {"stream": 1, "message": 1},
-                    "seconds": 2.5e-07,
-                    "header": {"reply_status": "SYSTEM_EXCEPTION"},
-                    "body": {"minor": 1},
-                    "raises": "IDL:omg.org/CORBA/INTERNAL:1.0",
-                },
-                {
-                    **second,
-                    "message": 2,
-                    **start,
-                    "type": "CloseConnection",
-                    "size": 0,
-                    "time": "2026-11-23T08:13:26.000000001Z",
-                },
-                {**first, "time": now, "closed": "gap", "messages": 1, "faults": 0, "octets": 21},
-                {
-                    **second,
-                    "time": None,
-                    "closed": "end",
-                    "fault": {"word": "truncated", "at": 35},
-                    "messages": 2,
-                    "faults": 1,
-                    "octets": 35,
-                },
-                {
-                    "streams": 2,
-                    "messages": 3,
-                    "faults": 2,
-                    "packets": 7,
-                    "octets": 900,
-                    "fault": {"word": "truncated", "at": 900},
-                },
-            ],
-        )
-
-    def test_a_part_of_a_dump(self) -> None:
-        self.assertEqual(objects("m7 body.a octet 1\nm7 end\n"), [{"message": 7, "body": {"a": 1}, "cut": True}])
-        self.assertEqual(
-            [each.get("cut") for each in objects("m1 start 1.0 big Reply size 9\nm2 start 1.0 big Reply size 9\n")],
-            [True, True],
-        )
-        self.assertEqual(objects("s3 closed fin\n"), [{"stream": 3, "closed": "fin", "cut": True}])
-
-    def test_what_is_held_of_all_messages_is_limited(self) -> None:
-        piece = 32 * "a"
-        lines = f"""\
-            m1 start 1.2 big Request size 90 more
-            m2 start 1.2 big Request size 90 more
-            m1 body.a string @0 "{piece}" more
-            m2 body.a string @0 "{piece}" more
-            m1 body.a string @32 "{piece}" more
-            m2 body.a string @32 "b"
-            m2 end
-            m1 body.a string @64 "b"
-            m1 fault short at 9
-            """
-        module: Any = MODULES["giop-json"]
-        usual = module.MOST_HELD, module.PART
-        module.MOST_HELD, module.PART = 120, 4
-        try:
-            found = objects(unindented(lines))
-        finally:
-            module.MOST_HELD, module.PART = usual
-        self.assertEqual(
-            [(each["message"], each["body"]["a"], each["cut"]) for each in found],
-            [(2, {"text": piece, "more": True}, True), (1, {"text": piece, "more": True}, True)],
-        )
-        self.assertEqual([each["body"]["a"] for each in objects(unindented(lines))], [piece + "b", 2 * piece + "b"])
-
-    def test_a_message_of_too_many_lines_is_cut(self) -> None:
-        lines = "m1 start 1.2 big Reply size 9\n" + "".join(f"m1 body[{place}] octet 7\n" for place in range(100_000))
-        found = objects(lines + "m1 fault short at 9\n")
-        self.assertTrue(30_000 < len(found[0]["body"]) < 70_000)
-        self.assertEqual((found[0]["cut"], found[0]["fault"]["word"]), (True, "short"))
 
 
 def unindented(lines: str) -> str:
@@ -862,7 +520,6 @@ msc {{
         name = '</text><script>"\\n&lt;\\'
         lines = f"m1 start 1.0 big Request size 9\nm1 call 1 {name}\nm1 end\n"
         self.assertEqual(drawn(lines), ['client => server [label="</text><script>\\x22\\x5cn\\x26lt;\\x5c"];'])
-        self.assertEqual(json.loads(printed("giop-json", lines))["operation"], name)
         self.assertIn(f"\n{name} ", printed("giop-stat", lines))
         self.assertIn("a" * 46 + '.."', drawn(lines.replace(name, 128 * "a"))[0])
 
@@ -874,7 +531,7 @@ def drawn(lines: str, *words: str) -> List[str]:
 
 
 class Program(unittest.TestCase):
-    """The three as a user runs them."""
+    """The two as a user runs them."""
 
     def test_the_lines_of_a_file_and_of_standard_input(self) -> None:
         lines = SESSION.read_text()
@@ -905,9 +562,8 @@ class Program(unittest.TestCase):
 
     def test_words_that_are_not_understood(self) -> None:
         for words in (
-            ["giop-json", "--jso"],
-            ["giop-json", "a", "b"],
             ["giop-stat", "--js"],
+            ["giop-stat", "a", "b"],
             ["giop-chart", "--most", "0"],
             ["giop-chart", "--stream", "x"],
             ["giop-chart", "--from", "yesterday"],
@@ -920,7 +576,6 @@ class Program(unittest.TestCase):
 
     def test_wrong_words_are_told_in_octets_that_can_be_printed(self) -> None:
         for program, *words, said in (
-            ("giop-json", "a", "\x1b[2J\n\u00e9", r"unrecognized arguments: \x1b[2J\x0a\xc3\xa9"),
             ("giop-stat", "--\udcff\x7f", r"unrecognized arguments: --\xff\x7f"),
             ("giop-chart", "--most", "\n", r"argument --most: '\x0a' is no number from 1 to 999999999"),
             ("giop-chart", "--to", "\x1b", r"argument --to: '\x1b' is no time as 2026-11-23T08:13:25.58 or 08:13:25"),
@@ -933,30 +588,6 @@ class Program(unittest.TestCase):
             command = f"cat {SESSION} {SESSION} | {SCRIPTS / program} | head -n 1"
             done = subprocess.run(["bash", "-c", command], capture_output=True, text=True, timeout=60)
             self.assertEqual((done.returncode, done.stderr, done.stdout.count("\n")), (0, "", 1))
-
-    def test_a_message_of_a_capture_is_written_before_the_next_one_comes(self) -> None:
-        lines = "s1 m1 start 1.0 big Reply size 0\ns1 m1 end\n"
-        with subprocess.Popen([SCRIPTS / "giop-json"], stdin=subprocess.PIPE, stdout=subprocess.PIPE) as process:
-            assert process.stdin and process.stdout
-            process.stdin.write(lines.encode())
-            process.stdin.flush()
-            self.assertEqual(json.loads(process.stdout.readline())["message"], 1)
-            process.stdin.write(b"s1 m1 answers s2 m1 a after -\ns1 closed end\n")
-            process.stdin.close()
-            self.assertEqual(
-                [json.loads(line) for line in process.stdout],
-                [
-                    {
-                        "stream": 1,
-                        "message": 1,
-                        "operation": "a",
-                        "answers": {"stream": 2, "message": 1},
-                        "seconds": None,
-                        "cut": True,
-                    },
-                    {"stream": 1, "closed": "end", "cut": True},
-                ],
-            )
 
     def test_an_interrupt_ends_the_reading(self) -> None:
         for program in PROGRAMS:

@@ -1,0 +1,15 @@
+//! Writes the lines of a dump as JSON, an object in a line for each message: lines in, objects on standard output.
+#![tactic(auto)]
+
+mod arguments;
+mod console;
+mod input;
+mod run;
+mod watching;
+
+use std::process::ExitCode;
+
+fn main(rt: HostRuntime) -> ExitCode {
+    let status = console::program(&rt);
+    ExitCode::from(status)
+}

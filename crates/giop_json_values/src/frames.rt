@@ -1,0 +1,407 @@
+//! The objects and lists that are open, by the paths that they stand at.
+
+use crate::text::{Text, shown_text};
+use giop_lines::number;
+use std::alloc::{AllocError, Global};
+
+/// How many parts a path has at most, with its root.
+const PARTS_MAX: usize = 25;
+
+/// How many objects and lists may be open before a path whose own are opened too: in all at most 127 then.
+const OPEN_MAX: usize = 96;
+
+/// Where a value stands in the innermost open object or list.
+#[derive(Clone, Copy)]
+pub(crate) enum Key<'a> {
+    Name(&'a str),
+    Index(u64),
+}
+
+impl<'a> Key<'a> {
+    /// A part of a path: a root, or with the dot or the brackets before and around it.
+    fn of(part: &'a [u8]) -> Key<'a> {
+        match part {
+            [b'[', digits @ .., b']'] => Key::Index(number(digits).unwrap_or(0)),
+            [b'.', name @ ..] => Key::Name(shown_text(name)),
+            root => Key::Name(shown_text(root)),
+        }
+    }
+
+    /// The value that an encapsulation holds.
+    pub(crate) const VALUE: Key<'static> = Key::Name("@value");
+}
+
+/// What is open: a list, an object, or an encapsulation, whose value may be no object.
+#[derive(Clone, Copy, PartialEq, Eq)]
+pub(crate) enum Shape {
+    List,
+    Object,
+    Encapsulation,
+}
+
+/// An open object or list.
+#[derive(Clone, Copy, Drop)]
+struct Frame {
+    // Where its path ends in that of the innermost one.
+    end: usize,
+    shape: Shape,
+    // Whether it is the value of the encapsulation around it, so that it has the same path.
+    is_value: bool,
+    // Whether the rest of an encapsulation was written, after which nothing of it comes.
+    has_rest: bool,
+    // The index of the next element of a list.
+    next: u64,
+}
+
+impl Frame {
+    fn is_list(&self) -> bool {
+        self.shape == Shape::List
+    }
+
+    fn is_open_encapsulation(&self) -> bool {
+        self.shape == Shape::Encapsulation && !self.has_rest
+    }
+
+    /// Whether a path that goes along the frame's own may go on within it.
+    fn fits(&self, path: &[u8]) -> bool {
+        match path.get(self.end) {
+            None => true,
+            Some(b'[') => { self.is_list() || self.shape == Shape::Encapsulation && !self.is_value }
+            Some(b'.') => !self.is_list(),
+            Some(_) => false,
+        }
+    }
+}
+
+/// The open objects and lists below that of the message, outermost first.
+#[derive(Drop)]
+pub(crate) struct Frames {
+    // The path of the innermost one.
+    path: Vec<u8>,
+    open: Vec<Frame>,
+    // Whether elements are missing.
+    lacks: bool,
+    // Whether all of them were closed at the end of a part: those on the way to the next value are opened again.
+    is_closed: bool,
+}
+
+impl Frames {
+    pub(crate) fn new(alloc: Global) -> Frames {
+        Frames {
+            path: Vec::new(alloc),
+            open: Vec::new(alloc),
+            lacks: false,
+            is_closed: false,
+        }
+    }
+
+    /// Nothing is open, and nothing is missing.
+    pub(crate) fn clear(&mut self) {
+        self.path.clear();
+        self.open.clear();
+        self.lacks = false;
+        self.is_closed = false;
+    }
+
+    /// Closes all at the end of a part.
+    pub(crate) fn close(&mut self, text: &mut Text) -> Result<(), AllocError> {
+        if !self.is_closed {
+            for frame in self.open.iter().rev() {
+                text.close(frame.is_list())?;
+            }
+        }
+        self.is_closed = true;
+        Ok(())
+    }
+
+    /// Opens again, after the end of a part, what is on the way to a path.
+    #[inline]
+    pub(crate) fn resume(&mut self, text: &mut Text, path: &[u8]) -> Result<(), AllocError> {
+        if self.is_closed {
+            self.open_again(text, path)
+        } else {
+            Ok(())
+        }
+    }
+
+    fn open_again(&mut self, text: &mut Text, path: &[u8]) -> Result<(), AllocError> {
+        self.is_closed = false;
+        let (count, at) = self.reached(path);
+        self.open.truncate(count);
+        self.path.truncate(at);
+        let mut start = 0;
+        let mut is_element = false;
+        for frame in &self.open {
+            if !is_element {
+                let part = self
+                    .path
+                    .as_slice()
+                    .get(start..frame.end)
+                    .unwrap_or_default();
+                match Key::of(part) {
+                    Key::Name(name) if !frame.is_value => text.key(name)?,
+                    _ => text.key("@value")?,
+                }
+            }
+            text.open(frame.is_list())?;
+            start = frame.end;
+            is_element = frame.is_list();
+        }
+        Ok(())
+    }
+
+    pub(crate) fn lacks(&self) -> bool {
+        self.lacks
+    }
+
+    pub(crate) fn set_lacks(&mut self, lacks: bool) {
+        self.lacks = lacks;
+    }
+
+    /// How many of the open ones a path goes along, and how many octets of it.
+    fn reached(&self, path: &[u8]) -> (usize, usize) {
+        let common = common_front(&self.path, path);
+        let mut at = 0;
+        for (count, frame) in self.open.iter().enumerate() {
+            if frame.end > common || !frame.fits(path) {
+                return (count, at);
+            }
+            at = frame.end;
+        }
+        (self.open.len(), at)
+    }
+
+    /// Closes all but the outermost so many.
+    pub(crate) fn close_to(&mut self, text: &mut Text, count: usize) -> Result<(), AllocError> {
+        for _ in count..self.open.len() {
+            if let Some(frame) = self.open.pop() {
+                text.close(frame.is_list())?;
+            }
+        }
+        let end = self.open.last().map_or(0, |frame| frame.end);
+        self.path.truncate(end);
+        Ok(())
+    }
+
+    /// What comes before a value: its name, unless it is an element.
+    #[inline]
+    pub(crate) fn key(&mut self, text: &mut Text, key: Key<'_>) -> Result<(), AllocError> {
+        if let Some(frame) = self.open.last_mut()
+            && frame.shape == Shape::List
+        {
+            if let Key::Index(index) = key {
+                self.lacks |= index != frame.next;
+                frame.next = index.saturating_add(1);
+            }
+            return Ok(());
+        }
+        match key {
+            Key::Name(name) => text.key(name),
+            Key::Index(index) => text.key(itoa::Buffer::new().format(index)),
+        }
+    }
+
+    /// Opens what stands at a path, which goes on from that of the innermost one.
+    pub(crate) fn open(
+        &mut self,
+        text: &mut Text,
+        key: Key<'_>,
+        path: &[u8],
+        shape: Shape,
+    ) -> Result<(), AllocError> {
+        self.key(text, key)?;
+        let start = self.path.len();
+        text.open(shape == Shape::List)?;
+        if start < path.len() {
+            self.path.extend_from_slice(&path[start..])?;
+        }
+        self.open.push(Frame {
+            end: self.path.len(),
+            shape,
+            is_value: path.len() <= start,
+            has_rest: false,
+            next: 0,
+        })?;
+        Ok(())
+    }
+
+    /// Closes what is over and opens what is new before the value of a path.
+    #[inline]
+    pub(crate) fn place<'p>(
+        &mut self,
+        text: &mut Text,
+        path: &'p [u8],
+    ) -> Result<Key<'p>, AllocError> {
+        self.resume(text, path)?;
+        let (count, at) = self.reached(path);
+        if at >= path.len() {
+            return self.place_again(text, path, count);
+        }
+        if count > OPEN_MAX {
+            self.close_to(text, 0)?;
+            return self.open_way(text, path, 0);
+        }
+        self.close_to(text, count)?;
+        let is_list = self.open.last().is_some_and(|frame| frame.is_list());
+        if path[at] == b'[' && !is_list {
+            self.open(text, Key::VALUE, &path[..at], Shape::List)?;
+        }
+        self.open_way(text, path, at)
+    }
+
+    /// The place of a value at the path of an open one: within an encapsulation, or after what was told of it.
+    fn place_again<'p>(
+        &mut self,
+        text: &mut Text,
+        path: &'p [u8],
+        count: usize,
+    ) -> Result<Key<'p>, AllocError> {
+        if count > 0
+            && count <= OPEN_MAX
+            && self
+                .open
+                .get(count - 1)
+                .is_some_and(|frame| frame.is_open_encapsulation())
+        {
+            self.close_to(text, count)?;
+            return Ok(Key::VALUE);
+        }
+        let outer = self.around(count);
+        self.close_to(text, outer)?;
+        Ok(last_key(path))
+    }
+
+    /// How many are open around the value whose innermost part is the frame of this number, from 1.
+    fn around(&self, count: usize) -> usize {
+        let mut outer = count;
+        for _ in 0..count {
+            if outer == 0 {
+                return 0;
+            }
+            outer -= 1;
+            if !self.open.get(outer).is_some_and(|frame| frame.is_value) {
+                break;
+            }
+        }
+        outer
+    }
+
+    /// Opens what stands on the way from an octet of a path to its last part.
+    fn open_way<'p>(
+        &mut self,
+        text: &mut Text,
+        path: &'p [u8],
+        at: usize,
+    ) -> Result<Key<'p>, AllocError> {
+        let mut start = at;
+        for _ in 0..PARTS_MAX {
+            let end = part_end(path, start);
+            let key = Key::of(path.get(start..end).unwrap_or_default());
+            let shape = match path.get(end) {
+                None => return Ok(key),
+                Some(b'[') => Shape::List,
+                Some(_) => Shape::Object,
+            };
+            self.open(text, key, &path[..end], shape)?;
+            start = end;
+        }
+        Ok(last_key(path))
+    }
+
+    /// Opens the encapsulation whose rest comes: that in which the rest goes on in a part, else the innermost open one at its
+    /// path, or one that is missing.
+    pub(crate) fn place_rest(
+        &mut self,
+        text: &mut Text,
+        path: &[u8],
+        is_begun: bool,
+    ) -> Result<(), AllocError> {
+        let goes_on = self.is_closed && is_begun;
+        self.resume(text, path)?;
+        let (count, at) = self.reached(path);
+        let found = match at < path.len() {
+            true => 0,
+            false if goes_on => count,
+            false => self.encapsulation(count),
+        };
+        if found > 0 {
+            self.close_to(text, found)?;
+        } else {
+            self.lacks = true;
+            let key = self.place(text, path)?;
+            self.open(text, key, path, Shape::Encapsulation)?;
+        }
+        if let Some(frame) = self.open.last_mut() {
+            frame.has_rest = true;
+        }
+        self.key(text, Key::Name("@rest"))
+    }
+
+    /// The number, from 1, of the innermost encapsulation without a rest of those that share the path of this frame; else 0.
+    fn encapsulation(&self, count: usize) -> usize {
+        let mut found = count;
+        for _ in 0..count {
+            if found == 0 {
+                return 0;
+            }
+            let Some(frame) = self.open.get(found - 1) else {
+                return 0;
+            };
+            if frame.is_open_encapsulation() {
+                return found;
+            }
+            if !frame.is_value {
+                return 0;
+            }
+            found -= 1;
+        }
+        0
+    }
+
+    /// Opens the body of a message around a value that is no struct.
+    pub(crate) fn open_body(&mut self, text: &mut Text) -> Result<(), AllocError> {
+        self.resume(text, b"body")?;
+        let is_open = self.path.starts_with(b"body") && !self.open.is_empty();
+        if !is_open {
+            self.close_to(text, 0)?;
+            self.open(text, Key::Name("body"), b"body", Shape::Encapsulation)?;
+        }
+        Ok(())
+    }
+}
+
+/// How many of the first octets two paths share.
+fn common_front(left: &[u8], right: &[u8]) -> usize {
+    if right.starts_with(left) {
+        return left.len();
+    }
+    for (place, (one, other)) in left.iter().zip(right).enumerate() {
+        if one != other {
+            return place;
+        }
+    }
+    left.len().min(right.len())
+}
+
+/// Where the part of a path ends that begins at an octet.
+fn part_end(path: &[u8], start: usize) -> usize {
+    for (place, octet) in path.iter().enumerate().skip(start.saturating_add(1)) {
+        if *octet == b'.' || *octet == b'[' {
+            return place;
+        }
+    }
+    path.len()
+}
+
+/// The last part of a path.
+fn last_key(path: &[u8]) -> Key<'_> {
+    let mut start = 0;
+    for _ in 0..PARTS_MAX {
+        let end = part_end(path, start);
+        if end == path.len() {
+            break;
+        }
+        start = end;
+    }
+    Key::of(path.get(start..).unwrap_or_default())
+}

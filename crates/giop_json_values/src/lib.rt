@@ -1,0 +1,16 @@
+//! The values of a message as JSON (RFC 8259), by the paths of their lines.
+#![tactic(auto)]
+
+mod frames;
+mod options;
+mod pieces;
+mod shown;
+mod text;
+mod values;
+
+pub use options::{Characters, Options};
+pub use text::{Text, shown_text};
+pub use values::Values;
+
+#[cfg(test)]
+mod tests;

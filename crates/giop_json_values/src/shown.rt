@@ -1,0 +1,170 @@
+//! The octets of a text as JSON has them: plain ones of ASCII as they are, others as `\xHH` or as the characters that they are
+//! by the user's choice.
+
+use crate::options::Characters;
+use crate::text::shown_size;
+use arrayvec::ArrayVec;
+use giop_lines::first_octet;
+use std::alloc::{AllocError, Global};
+use unicode::properties::GeneralCategory;
+
+/// The most octets of a character of UTF-8.
+const CHARACTER_MAX: usize = 4;
+
+/// A text that comes in pieces.
+#[derive(Drop)]
+pub(crate) struct Letters {
+    text: String,
+    size: u64,
+    // The first octets of a character of UTF-8.
+    begun: ArrayVec<u8, 4>,
+}
+
+impl Letters {
+    pub(crate) fn new(alloc: Global) -> Letters {
+        Letters {
+            text: String::new(alloc),
+            size: 0,
+            begun: ArrayVec::new(),
+        }
+    }
+
+    /// The text so far.
+    pub(crate) fn text(&self) -> &str {
+        &self.text
+    }
+
+    /// How many octets it has between the quotes of JSON in ASCII.
+    pub(crate) fn size(&self) -> u64 {
+        self.size
+    }
+
+    pub(crate) fn clear(&mut self) {
+        self.text.clear();
+        self.size = 0;
+        self.begun.clear();
+    }
+
+    /// Adds what stands for itself.
+    pub(crate) fn add_plain(&mut self, text: &str) -> Result<(), AllocError> {
+        self.size = self.size.saturating_add(shown_size(text.as_bytes()) as u64);
+        self.text.push_str(text)
+    }
+
+    /// Adds a piece of the text of a line.
+    pub(crate) fn add(&mut self, piece: &[u8], characters: Characters) -> Result<(), AllocError> {
+        let mut rest = piece;
+        for _ in 0..piece.len() {
+            let Some((octet, next)) = first_octet(rest) else {
+                break;
+            };
+            self.add_octet(octet, characters)?;
+            rest = next;
+        }
+        Ok(())
+    }
+
+    fn add_octet(&mut self, octet: u8, characters: Characters) -> Result<(), AllocError> {
+        match characters {
+            Characters::Escapes => self.add_escaped(octet),
+            Characters::Latin1 => self.add_character(char::from(octet), &[octet]),
+            Characters::Utf8 => {
+                if self.begun.try_push(octet).is_ok() {
+                    self.add_begun()
+                } else {
+                    Ok(())
+                }
+            }
+        }
+    }
+
+    /// Adds the characters that have begun as far as they are whole.
+    fn add_begun(&mut self) -> Result<(), AllocError> {
+        for _ in 0..CHARACTER_MAX {
+            let mut octets = [0; CHARACTER_MAX];
+            let count = self.begun.len().min(CHARACTER_MAX);
+            octets[..count].copy_from_slice(&self.begun.as_slice()[..count]);
+            match str::from_utf8(&octets[..count]) {
+                Ok(text) => {
+                    self.begun.clear();
+                    return match text.chars().next() {
+                        None => Ok(()),
+                        Some(character) => self.add_character(character, &octets[..count]),
+                    };
+                }
+                Err(error) if error.error_len().is_none() => return Ok(()),
+                Err(_) => self.add_first(octets[0])?,
+            }
+        }
+        Ok(())
+    }
+
+    /// Adds the first octet that has begun, which no character begins with.
+    fn add_first(&mut self, octet: u8) -> Result<(), AllocError> {
+        if !self.begun.is_empty() {
+            self.begun.remove(0);
+        }
+        self.add_escaped(octet)
+    }
+
+    /// Adds a character, or its octets where it isn't one that is shown.
+    fn add_character(&mut self, character: char, octets: &[u8]) -> Result<(), AllocError> {
+        if is_shown(character) {
+            let mut room = [0; CHARACTER_MAX];
+            return self.add_plain(character.encode_utf8(&mut room));
+        }
+        for octet in octets {
+            self.add_escaped(*octet)?;
+        }
+        Ok(())
+    }
+
+    /// Adds an octet as a line has it.
+    fn add_escaped(&mut self, octet: u8) -> Result<(), AllocError> {
+        if is_plain(octet) {
+            let room = [octet];
+            return self.add_plain(crate::text::shown_text(&room));
+        }
+        let digits = b"0123456789abcdef";
+        let escape = [
+            b'\\',
+            b'x',
+            digits[usize::from(octet / 16)],
+            digits[usize::from(octet % 16)],
+        ];
+        self.add_plain(crate::text::shown_text(&escape))
+    }
+
+    /// No more comes: what has begun of a character is none.
+    pub(crate) fn end(&mut self) -> Result<(), AllocError> {
+        for _ in 0..CHARACTER_MAX {
+            let Some(octet) = self.begun.as_slice().first().copied() else {
+                break;
+            };
+            self.add_first(octet)?;
+        }
+        Ok(())
+    }
+}
+
+/// Whether an octet stands for itself in the text of a line.
+fn is_plain(octet: u8) -> bool {
+    octet >= 0x20 && octet <= 0x7e && octet != b'"' && octet != b'\\'
+}
+
+/// Whether a character outside ASCII is shown: it is no control, format, private or unknown one, and separates no lines.
+fn is_shown(character: char) -> bool {
+    if character < '\u{a0}' {
+        return character.is_ascii() && is_plain(character as u8);
+    }
+    !matches!(
+        GeneralCategory::for_char(character),
+        GeneralCategory::Control
+            | GeneralCategory::Format
+            | GeneralCategory::LineSeparator
+            | GeneralCategory::ParagraphSeparator
+            | GeneralCategory::Surrogate
+            | GeneralCategory::PrivateUse
+            | GeneralCategory::Unassigned
+    )
+}

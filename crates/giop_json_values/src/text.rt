@@ -1,0 +1,209 @@
+//! JSON as it grows, a token at a time, and how many octets it has.
+
+ghost use Rattle.std.specs.Prelude.{◌≡◌, ◌++◌, [], decimal, if◌then◌else◌};
+ghost use Rattle.std.specs.Fmt.{signed_decimal};
+ghost use Rattle.std.specs.Str.{IsUtf8};
+ghost use Rattle.json.specs.Token.{begin_object, end_object, begin_array, end_array, key, string, number, boolean, null};
+ghost use Rattle.json.specs.Print.{print, IsNumber};
+ghost use Rattle.json.specs.Written.{Writes};
+
+use json::{Writer, is_number};
+use ryu::Float;
+use std::alloc::{AllocError, Global};
+use std::marker::Model;
+
+/// JSON that is written a token at a time. The caller nests the tokens.
+#[derive(Drop)]
+pub struct Text {
+    writer: Writer,
+    size: u64,
+    // Whether a comma comes before the next member or element.
+    is_after_value: bool,
+}
+
+/// A contract sees the tokens that were written.
+impl Model for Text {
+    ghost use Rattle.json.specs.Written.{Written, written_code};
+
+    ghost Value = { Written };
+
+    ghost coded = { written_code };
+
+    ghost view = { λ text. text.writer };
+}
+
+impl Text {
+    /// Nothing, written into room that was used before.
+    pub fn new(room: Vec<u8>) -> Text
+        ensures before { result.before ≡ [] }
+        ensures tokens { result.tokens ≡ [] }
+    {
+        let mut room = room;
+        room.clear();
+        Text {
+            writer: Writer::new(room),
+            size: 0,
+            is_after_value: false,
+        }
+    }
+
+    /// How many octets it has, each character outside ASCII as its escape.
+    pub fn size(&self) -> u64 {
+        self.size
+    }
+
+    /// What was written.
+    pub fn into_octets(self) -> Vec<u8>
+        ensures { result.items ≡ self.before ++ print self.tokens }
+    {
+        let Text { writer, .. } = self;
+        writer.into_inner()
+    }
+
+    /// Counts what is written next.
+    fn count(&mut self, size: usize)
+        ensures { self.new ≡ self.old }
+    {
+        self.size = self
+            .size
+            .saturating_add(size as u64)
+            .saturating_add(u64::from(self.is_after_value));
+        self.is_after_value = true;
+    }
+
+    /// The name of a member, whose value comes next.
+    #[inline]
+    pub fn key(&mut self, name: &str) -> Result<(), AllocError>
+        ensures { Writes result self.old self.new (key name.now) }
+    {
+        self.count(name.len().saturating_add(3));
+        self.is_after_value = false;
+        self.writer.key(name)
+    }
+
+    /// The beginning of a list or an object.
+    pub fn open(&mut self, is_list: bool) -> Result<(), AllocError>
+        ensures { Writes result self.old self.new
+            (if is_list then begin_array else begin_object) }
+    {
+        self.count(1);
+        self.is_after_value = false;
+        if is_list {
+            self.writer.begin_array()
+        } else {
+            self.writer.begin_object()
+        }
+    }
+
+    /// The end of a list or an object.
+    pub fn close(&mut self, is_list: bool) -> Result<(), AllocError>
+        ensures { Writes result self.old self.new
+            (if is_list then end_array else end_object) }
+    {
+        self.is_after_value = false;
+        self.count(1);
+        if is_list {
+            self.writer.end_array()
+        } else {
+            self.writer.end_object()
+        }
+    }
+
+    /// A text.
+    pub fn string(&mut self, text: &str) -> Result<(), AllocError>
+        ensures { Writes result self.old self.new (string text.now) }
+    {
+        self.count(shown_size(text.as_bytes()).saturating_add(2));
+        self.writer.string(text)
+    }
+
+    /// The text of some octets; those that aren't UTF-8 are none.
+    pub fn octets(&mut self, octets: &[u8]) -> Result<(), AllocError>
+        ensures { IsUtf8 octets.now → Writes result self.old self.new (string octets.now) }
+    {
+        self.string(shown_text(octets))
+    }
+
+    /// A number by its digits.
+    fn digits(&mut self, digits: &str) -> Result<(), AllocError>
+        ensures { IsNumber digits.now → Writes result self.old self.new (number digits.now) }
+    {
+        if !is_number(digits) {
+            return self.null();
+        }
+        self.count(digits.len());
+        self.writer.number(digits)
+    }
+
+    /// A number that is spelled; `null` where the octets are no number of JSON.
+    pub fn number(&mut self, octets: &[u8]) -> Result<(), AllocError>
+        ensures { IsUtf8 octets.now → IsNumber octets.now
+            → Writes result self.old self.new (number octets.now) }
+    {
+        self.digits(shown_text(octets))
+    }
+
+    /// A number from 0.
+    pub fn unsigned(&mut self, value: u64) -> Result<(), AllocError>
+        ensures { Writes result self.old self.new (number (decimal value)) }
+    {
+        let mut buffer = itoa::Buffer::new();
+        let digits = buffer.format(value);
+        self.count(digits.len());
+        self.writer.u64(value)
+    }
+
+    /// A number.
+    pub fn signed(&mut self, value: i64) -> Result<(), AllocError>
+        ensures { Writes result self.old self.new (number (signed_decimal value)) }
+    {
+        let mut buffer = itoa::Buffer::new();
+        let digits = buffer.format(value);
+        self.count(digits.len());
+        self.writer.i64(value)
+    }
+
+    /// A number with a point or an exponent, which reads back as it; `null` where it isn't finite, as its text is none of JSON.
+    pub fn float<F: Float>(&mut self, value: F) -> Result<(), AllocError> {
+        let mut buffer = ryu::Buffer::new();
+        self.digits(buffer.format(value))
+    }
+
+    /// A truth value.
+    pub fn boolean(&mut self, is_true: bool) -> Result<(), AllocError>
+        ensures { Writes result self.old self.new (boolean is_true) }
+    {
+        self.count(if is_true { 4 } else { 5 });
+        self.writer.boolean(is_true)
+    }
+
+    /// Nothing that JSON has a number for.
+    pub fn null(&mut self) -> Result<(), AllocError>
+        ensures { Writes result self.old self.new null }
+    {
+        self.count(4);
+        self.writer.null()
+    }
+}
+
+/// How many octets a text has between the quotes of JSON in ASCII.
+pub(crate) fn shown_size(text: &[u8]) -> usize {
+    let mut size: usize = 0;
+    for octet in text {
+        size = size.saturating_add(match *octet {
+            b'"' | b'\\' => 2,
+            0..=0x7f => 1,
+            0x80..=0xbf => 0,
+            0xc0..=0xef => 6,
+            0xf0..=0xff => 12,
+        });
+    }
+    size
+}
+
+/// Octets as the text that they are in UTF-8; none where they are no such text.
+pub fn shown_text(octets: &[u8]) -> &str
+    ensures { IsUtf8 octets.now → result.now ≡ octets.now }
+{
+    str::from_utf8(octets).unwrap_or_default()
+}

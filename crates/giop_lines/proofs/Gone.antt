@@ -1,0 +1,127 @@
+-- How far a text was gone through: what was read of it, and what is left.
+use Rattle.std.proofs.Common.{◌≡◌, ℕ, zero, suc, ◌+◌, ◌≤◌, ◌<◌, Bool, true, false, not, List, [], ◌∷◌, ◌++◌, length, append_assoc, append-nil, length-append, flat_map, refl, sym, ap, subst, ◌∙◌, arith}
+use Rattle.std.specs.Prelude.{All, ◌==◌}
+use Rattle.std.proofs.lemmas.Bool.{eqb-true}
+use Rattle.std.proofs.lemmas.List.Concat.{flat_map-append}
+use Rattle.std.proofs.lemmas.List.Elements.{All-nil, All-cons, All-append}
+use Rattle.giop_print.specs.Text.{escaped, escaped_octet, hex, hex_octet}
+use Rattle.giop_lines.specs.declared.paths.Part.{Part}
+use Rattle.giop_lines.specs.Texts.{IsText, AreOctets}
+use Rattle.giop_lines.specs.Paths.{part_text, IsRoot, IsInner, IsPath}
+
+pub record Gone {A : Type 0} (is : A → Type 0) (spell : A → List ℕ) (text rest : List ℕ) (n : ℕ)
+    : Type 0 where
+  pub items : List A
+  pub are : All is items
+  pub many : length items ≡ n
+  pub spelled : text ≡ flat_map spell items ++ rest
+
+pub gone_none : {A : Type 0} (is : A → Type 0) (spell : A → List ℕ) (text : List ℕ)
+    → Gone is spell text text 0
+gone_none is spell text = record { items = []; are = All-nil is; many = refl; spelled = refl }
+
+pub gone_more : {A : Type 0} (is : A → Type 0) (spell : A → List ℕ) (text rest next : List ℕ)
+    (n : ℕ) (x : A) → Gone is spell text rest n → is x → rest ≡ spell x ++ next → Gone is spell text next (n + 1)
+gone_more is spell text rest next n x g i e =
+    record {
+      items = g.items ++ (x ∷ []);
+      are = All-append is g.items (x ∷ []) g.are (All-cons is x [] i (All-nil is));
+      many = length-append g.items (x ∷ []) ∙ ap (λ (k : ℕ). k + 1) g.many;
+      spelled = g.spelled ∙ ap (λ (xs : List ℕ). flat_map spell g.items ++ xs) e
+          ∙ sym (append_assoc (flat_map spell g.items) (spell x) next)
+          ∙ ap (λ (xs : List ℕ). xs ++ next) (sym (flat_map-append spell g.items (x ∷ [])
+          ∙ ap (λ (xs : List ℕ). flat_map spell g.items ++ xs) (append-nil (spell x))));
+    }
+
+ends : {A : Type 0} (is : A → Type 0) (spell : A → List ℕ) (text rest : List ℕ) (n : ℕ)
+    → (g : Gone is spell text rest n) → length rest ≡ 0 → text ≡ flat_map spell g.items
+ends is spell text [] n g e = g.spelled ∙ append-nil (flat_map spell g.items)
+ends is spell text (x ∷ xs) n g e = absurd (omega arith)
+
+pub text_gone : (most n : ℕ) (text rest : List ℕ) → Gone (λ x. x < 256) escaped_octet text rest n
+    → n ≤ most → length rest ≡ 0 → IsText most text
+unfolding escaped
+text_gone most n text rest g le e =
+    record {
+      octets = g.items;
+      small = g.are;
+      few = omega (arith, g.many);
+      spelled = ends (λ x. x < 256) escaped_octet text rest n g e;
+    }
+
+pub octets_gone : (n : ℕ) (text rest : List ℕ) → Gone (λ x. x < 256) hex_octet text rest n
+    → n ≤ 32 → length rest ≡ 0 → 0 < length text → AreOctets text
+unfolding hex
+octets_gone n text rest g le e some =
+    let is = ends (λ x. x < 256) hex_octet text rest n g e in
+    record {
+      octets = g.items;
+      small = g.are;
+      some = some_items g.items (omega (arith, ap length is));
+      few = omega (arith, g.many);
+      spelled = is;
+    }
+  where
+    some_items : (xs : List ℕ) → 0 < length (flat_map hex_octet xs) → 0 < length xs
+    some_items [] h = absurd (omega arith)
+    some_items (x ∷ xs) h = omega arith
+
+pub is_none : (n : ℕ) → (n == 0) ≡ true → n ≡ 0
+is_none n e = eqb-true n 0 e
+
+pub is_some : (b : Bool) (n : ℕ) → b ≡ (n == 0) → not b ≡ true → 0 < n
+is_some b zero e f = let no : false ≡ true = sym (ap not e) ∙ f in absurd cc
+is_some b (suc n) e f = omega arith
+
+-- where something was read there is a text
+pub some_gone : (n : ℕ) (text rest : List ℕ) → Gone (λ x. x < 256) hex_octet text rest n → 0 < n
+    → 0 < length text
+some_gone n text rest g some =
+    subst (λ (xs : List ℕ). 0 < length xs) (sym g.spelled)
+    (some_items g.items (omega (arith, g.many)))
+  where
+    some_items : (xs : List ℕ) → 0 < length xs → 0 < length (flat_map hex_octet xs ++ rest)
+    some_items [] h = absurd (omega arith)
+    some_items (x ∷ xs) h = omega arith
+
+-- the same of a path after its root
+pub record PathGone (path rest : List ℕ) (n : ℕ) : Type 0 where
+  pub root : List ℕ
+  pub behind : List ℕ
+  pub is_root : IsRoot root
+  pub spelled : path ≡ root ++ behind
+  pub gone : Gone IsInner part_text behind rest n
+
+pub path_none : (path root rest : List ℕ) → IsRoot root → path ≡ root ++ rest → PathGone path rest 0
+path_none path root rest is e =
+    record {
+      root = root;
+      behind = rest;
+      is_root = is;
+      spelled = e;
+      gone = gone_none IsInner part_text rest;
+    }
+
+pub path_more : (path rest next : List ℕ) (n : ℕ) (part : Part) → PathGone path rest n
+    → IsInner part → rest ≡ part_text part ++ next → PathGone path next (n + 1)
+path_more path rest next n part g is e =
+    record {
+      root = g.root;
+      behind = g.behind;
+      is_root = g.is_root;
+      spelled = g.spelled;
+      gone = gone_more IsInner part_text g.behind rest next n part g.gone is e;
+    }
+
+pub path_gone : (n : ℕ) (path rest : List ℕ) → PathGone path rest n → n ≤ 24 → length rest ≡ 0
+    → IsPath path
+path_gone n path rest g le e =
+    record {
+      root = g.root;
+      parts = g.gone.items;
+      is_root = g.is_root;
+      are_parts = g.gone.are;
+      few = omega (arith, g.gone.many);
+      spelled = g.spelled ∙ ap (λ (xs : List ℕ). g.root ++ xs)
+          (ends IsInner part_text g.behind rest n g.gone e);
+    }

@@ -1,0 +1,5 @@
+mod Decimals
+mod Integers
+mod Digits
+mod Gone
+mod Spelled

@@ -1,0 +1,20 @@
+use Rattle.std.proofs.Common.{◌<◌, arith, sym, ◌∙◌}
+use Rattle.giop_print.specs.Text.{escaped_octet}
+use Rattle.giop_lines.proofs.Gone.{gone_more, text_gone, is_none}
+use Rattle.giop_lines.proofs.texts.is_text.Goals as goal
+
+pub loop-octet-preserved : goal.loop-octet-preserved
+loop-octet-preserved c =
+    let f = c.in-Some.ensures in
+    gone_more (λ x. x < 256) escaped_octet c.args.text.now c.loop-octet.rest.now c.in-Some.next.now
+    c.loop-octet._octet c.in-Some.field-0-0 c.loop-octet.invariant f.0 f.1
+
+pub returns-in-None : goal.returns-in-None
+returns-in-None c = λ e.
+    text_gone c.args.most c.loop-octet._octet c.args.text.now c.loop-octet.rest.now
+    c.loop-octet.invariant (omega arith) (is_none _ (sym c.is_empty.ensures ∙ e))
+
+pub returns : goal.returns
+returns c = λ e.
+    text_gone c.args.most c.loop-octet._octet c.args.text.now c.loop-octet.rest.now
+    c.loop-octet.invariant (omega arith) (is_none _ (sym c.is_empty-2.ensures ∙ e))

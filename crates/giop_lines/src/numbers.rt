@@ -1,0 +1,97 @@
+//! Numbers as the lines have them: each is written in one way.
+
+ghost use Rattle.std.specs.Prelude.{◌≡◌, ◌^◌, IfSome, true};
+ghost use Rattle.giop_lines.specs.Numbers.{IsNumberBelow, IsOrdinal, IsInteger, IsNegative, IsDigit, IsBits, is_hex_digit};
+
+use crate::words::after;
+
+/// The most digits of a number.
+const DIGITS_MAX: usize = 20;
+
+/// The number below 2 ^ 64 whose decimal digits these are.
+pub fn number(digits: &[u8]) -> Option<u64>
+    ensures { IsNumberBelow (2 ^ 64) digits.now result }
+{
+    if digits.is_empty() || digits.len() > DIGITS_MAX {
+        return None;
+    }
+    if digits.len() > 1 && digits[0] == b'0' {
+        return None;
+    }
+    let mut n: u128 = 0;
+    for d in digits {
+        if !d.is_ascii_digit() {
+            return None;
+        }
+        n = n * 10 + u128::from(*d - b'0');
+    }
+    u64::try_from(n).ok()
+}
+
+/// The number below 2 ^ 32 whose decimal digits these are.
+pub fn ulong(digits: &[u8]) -> Option<u32>
+    ensures { IsNumberBelow (2 ^ 32) digits.now result }
+{
+    u32::try_from(number(digits)?).ok()
+}
+
+/// The number from 1 to 2 ^ 64 - 1 whose decimal digits these are.
+pub fn ordinal(digits: &[u8]) -> Option<u64>
+    ensures { IsOrdinal digits.now result }
+{
+    match number(digits)? {
+        0 => None,
+        n => Some(n),
+    }
+}
+
+/// The number from -2 ^ 63 to 2 ^ 63 - 1 that is written so.
+pub fn integer(text: &[u8]) -> Option<i64>
+    ensures { IsInteger text.now result }
+{
+    match after(text, b"-") {
+        Some(digits) => negative(digits),
+        None => i64::try_from(number(text)?).ok(),
+    }
+}
+
+/// The number from -2 ^ 63 to -1 of which these are the decimal digits.
+fn negative(digits: &[u8]) -> Option<i64>
+    ensures { IsNegative digits.now result }
+{
+    0i64.checked_sub_unsigned(ordinal(digits)?)
+}
+
+/// The value of a lower-case hexadecimal digit.
+pub fn digit(octet: u8) -> Option<u8>
+    ensures { IsDigit octet result }
+{
+    if octet.is_ascii_digit() {
+        Some(octet - b'0')
+    } else if octet >= b'a' && octet <= b'f' {
+        Some(octet - b'a' + 10)
+    } else {
+        None
+    }
+}
+
+/// Whether an octet is a lower-case hexadecimal digit.
+pub fn is_digit(octet: u8) -> bool
+    ensures { result ≡ is_hex_digit octet }
+{
+    octet.is_ascii_digit() || octet >= b'a' && octet <= b'f'
+}
+
+/// The number that at most 16 lower-case hexadecimal digits spell.
+pub fn bits(digits: &[u8]) -> Option<u64>
+    ensures { IfSome result (IsBits digits.now) }
+{
+    if digits.len() > 16 {
+        return None;
+    }
+    let mut n: u64 = 0;
+    for octet in digits {
+        n = n * 16 + u64::from(digit(*octet)?);
+    }
+    Some(n)
+}

@@ -1,0 +1,104 @@
+//! Pieces of a content: their offset, their octets, and whether more comes.
+
+ghost use Rattle.std.specs.Prelude.{◌≡◌, ◌++◌, codes, decimal, true, IfSome};
+ghost use Rattle.giop_lines.specs.Texts.{AreOctets};
+ghost use Rattle.giop_lines.specs.Values.{value_text, IsValue, content_word, spaced_digits, IsHexadecimal, MayBeOctets};
+ghost use Rattle.giop_lines.specs.Lines.{said_text, IsSaid};
+
+use crate::line::{Content, Piece, Said, Value};
+use crate::numbers::{number, ulong};
+use crate::texts::{is_text, pair};
+use crate::words::{after, before, without_more, word};
+
+/// The most octets of a piece.
+const PIECE_MAX: u32 = 32;
+
+/// Whether these are the digits of 1 to 32 octets.
+fn are_octets(digits: &[u8]) -> bool
+    ensures { result ≡ true → AreOctets digits.now }
+{
+    let mut rest = digits;
+    for _octet in 0..PIECE_MAX {
+        match pair(rest) {
+            Some((_, next)) => rest = next,
+            None => return rest.is_empty() && !digits.is_empty(),
+        }
+    }
+    rest.is_empty()
+}
+
+/// A piece of a string, behind its kind.
+pub fn text_piece(text: &[u8]) -> Option<Value<'_>>
+    ensures spelled { IfSome result (λ v. codes "string " ++ text.now ≡ value_text v) }
+    ensures fields { IfSome result IsValue }
+{
+    let (offset, rest) = word(after(text, b"@")?)?;
+    let (quoted, more) = without_more(rest);
+    let octets = before(after(quoted, b"\"")?, b"\"")?;
+    if !is_text(octets, PIECE_MAX) {
+        return None;
+    }
+    Some(Value::Piece(Piece {
+        content: Content::Text,
+        offset: ulong(offset)?,
+        octets,
+        more,
+    }))
+}
+
+/// A piece of octets, behind its kind.
+pub fn octets_piece(content: Content, text: &[u8]) -> Option<Value<'_>>
+    requires { IsHexadecimal content }
+    ensures spelled { IfSome result (λ v. content_word content ++ text.now ≡ value_text v) }
+    ensures fields { IfSome result IsValue }
+{
+    let (front, more) = without_more(after(text, b"@")?);
+    let (offset, octets) = offset_and_octets(front)?;
+    Some(Value::Piece(Piece {
+        content,
+        offset,
+        octets,
+        more,
+    }))
+}
+
+/// The offset of a piece, and the digits of at most 32 octets.
+fn offset_and_octets(text: &[u8]) -> Option<(u32, &[u8])>
+    ensures spelled { IfSome result (λ p. text.now ≡ decimal p.0 ++ spaced_digits p.1.now) }
+    ensures fields { IfSome result (λ p. MayBeOctets p.1.now) }
+{
+    match word(text) {
+        None => Some((ulong(text)?, b"".as_slice())),
+        Some((offset, digits)) if are_octets(digits) => Some((ulong(offset)?, digits)),
+        Some(_) => None,
+    }
+}
+
+/// A part of an encapsulation's rest, behind its kind.
+pub fn rest_piece(text: &[u8]) -> Option<Value<'_>>
+    ensures spelled { IfSome result (λ v. codes "rest " ++ text.now ≡ value_text v) }
+    ensures fields { IfSome result IsValue }
+{
+    let (offset, octets) = word(after(text, b"@")?)?;
+    if !are_octets(octets) {
+        return None;
+    }
+    Some(Value::Piece(Piece {
+        content: Content::Rest,
+        offset: ulong(offset)?,
+        octets,
+        more: false,
+    }))
+}
+
+/// A part of a message's rest.
+pub fn rest(text: &[u8]) -> Option<Said<'_>>
+    ensures spelled { IfSome result (λ s. text.now ≡ said_text s) }
+    ensures fields { IfSome result IsSaid }
+{
+    let (offset, octets) = word(after(text, b"rest @")?)?;
+    if !are_octets(octets) {
+        return None;
+    }
+    Some(Said::Rest(number(offset)?, octets))
+}

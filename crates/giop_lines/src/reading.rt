@@ -1,0 +1,173 @@
+//! A line, read back.
+
+ghost use Rattle.std.specs.Prelude.{◌≡◌, ◌<◌, ◌++◌, codes, decimal, true, IfSome};
+ghost use Rattle.giop_lines.specs.Lines.{line_text, said_text, numbered, IsSaid};
+
+use crate::captures::of_capture;
+use crate::line::{Line, Said};
+use crate::messages::of_message;
+use crate::names::is_printed;
+use crate::numbers::ordinal;
+use crate::paths::is_path;
+use crate::streams::{of_dump, of_stream};
+use crate::words::{after, first_word, word};
+
+/// The most octets of a line, without its LF.
+pub const LINE_MAX: usize = 8192;
+
+/// What a line was made of; nothing where no dump has it.
+pub fn read(line: &[u8]) -> Option<Line<'_>>
+    ensures spelled { IfSome result (λ l. line.now ≡ line_text l) }
+    ensures fields { IfSome result (λ l. IsSaid l.said) }
+{
+    if line.len() > LINE_MAX {
+        return None;
+    }
+    let (stream, rest) = head(line, b"s");
+    let (message, text) = head(rest, b"m");
+    let known = if message > 0 {
+        of_message(text, stream > 0)
+    } else if stream > 0 {
+        of_stream(text)
+    } else {
+        match of_dump(text) {
+            Some(said) => Some(said),
+            None => of_capture(text),
+        }
+    };
+    let said = match known {
+        Some(said) => said,
+        None => later(text, stream, message)?,
+    };
+    Some(Line {
+        stream,
+        message,
+        said,
+    })
+}
+
+/// The number that a line begins with after this letter, and what follows it; 0 and the line where it begins with none.
+fn head<'a>(line: &'a [u8], letter: &[u8]) -> (u64, &'a [u8])
+    ensures { line.now ≡ numbered letter.now result.0 result.1.now }
+{
+    match numbered(line, letter) {
+        Some(found) => found,
+        None => (0, line),
+    }
+}
+
+fn numbered<'a>(line: &'a [u8], letter: &[u8]) -> Option<(u64, &'a [u8])>
+    ensures { IfSome result (λ r. line.now ≡ numbered letter.now r.0 r.1.now) }
+{
+    let (digits, rest) = word(after(line, letter)?)?;
+    Some((ordinal(digits)?, rest))
+}
+
+/// A line of a stream or a message that isn't known, or a value of a kind that isn't.
+fn later(text: &[u8], stream: u64, message: u64) -> Option<Said<'_>>
+    ensures spelled { IfSome result (λ s. text.now ≡ said_text s) }
+    ensures fields { IfSome result IsSaid }
+{
+    if !is_printed(text) {
+        return None;
+    }
+    let (front, behind) = first_word(text);
+    if (stream > 0 || message > 0)
+        && is_new(front, 2, &WORDS)
+        && is_joined(front)
+        && is_filled(behind)
+    {
+        return Some(Said::Later(text));
+    }
+    if message == 0 || !is_path(front) {
+        return None;
+    }
+    let (kind, value) = word(behind?)?;
+    if is_new(kind, 1, &KINDS) && !value.is_empty() {
+        Some(Said::Later(text))
+    } else {
+        None
+    }
+}
+
+/// Whether there is more than a space.
+fn is_filled(behind: Option<&[u8]>) -> bool {
+    match behind {
+        Some(rest) => !rest.is_empty(),
+        None => true,
+    }
+}
+
+/// The words that lines of streams and messages begin with.
+const WORDS: [&[u8]; 18] = [
+    b"end",
+    b"start",
+    b"call",
+    b"time",
+    b"answers",
+    b"rest",
+    b"continues",
+    b"cancelled",
+    b"raises",
+    b"fault",
+    b"unfinished",
+    b"header",
+    b"exception",
+    b"body",
+    b"stream",
+    b"closed",
+    b"total",
+    b"capture",
+];
+
+/// The kinds of values.
+const KINDS: [&[u8]; 20] = [
+    b"octet",
+    b"ulong",
+    b"long",
+    b"boolean",
+    b"enum",
+    b"count",
+    b"short",
+    b"ushort",
+    b"longlong",
+    b"ulonglong",
+    b"float",
+    b"double",
+    b"char",
+    b"encapsulation",
+    b"order",
+    b"string",
+    b"octets",
+    b"wstring",
+    b"wchar",
+    b"rest",
+];
+
+/// Whether a word is of small letters, at least so many, that hyphens may join to others, and isn't known.
+fn is_new(word: &[u8], least: usize, known: &[&[u8]]) -> bool {
+    let mut first = word.len();
+    for (i, b) in word.iter().enumerate() {
+        if *b == b'-' {
+            first = first.min(i);
+        } else if !b.is_ascii_lowercase() {
+            return false;
+        }
+    }
+    first >= least && !is_one_of(&word[..first], known)
+}
+
+/// Whether a word is one of these.
+fn is_one_of(word: &[u8], others: &[&[u8]]) -> bool {
+    others.iter().any(|other| word == *other)
+}
+
+/// Whether small letters follow each hyphen of a word.
+fn is_joined(word: &[u8]) -> bool {
+    for i in 0..word.len() {
+        if word[i] == b'-' && (i + 1 == word.len() || word[i + 1] == b'-') {
+            return false;
+        }
+    }
+    true
+}

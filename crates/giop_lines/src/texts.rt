@@ -1,0 +1,63 @@
+//! The octets of a string as a line has them: what stands for itself, and escapes.
+
+ghost use Rattle.std.specs.Prelude.{◌≡◌, true};
+ghost use Rattle.giop_print.specs.Text.{is_plain};
+ghost use Rattle.giop_lines.specs.Texts.{IsFirstOctet, IsEscaped, IsPair, IsText};
+
+use crate::numbers::digit;
+use crate::words::after;
+
+/// Whether an octet stands for itself: 20 to 7e, without the quote and the backslash.
+fn is_plain(octet: u8) -> bool
+    ensures { result ≡ is_plain octet }
+{
+    octet >= 0x20 && octet <= 0x7e && octet != b'"' && octet != b'\\'
+}
+
+/// The first octet of a text, and what follows it: an escape `\xHH` is one octet, which doesn't stand for itself.
+pub fn first_octet(text: &[u8]) -> Option<(u8, &[u8])>
+    ensures { IsFirstOctet text.now result }
+{
+    let (octet, rest) = text.split_first()?;
+    if is_plain(*octet) {
+        return Some((*octet, rest));
+    }
+    escape(after(text, b"\\x")?)
+}
+
+/// The octet whose digits a text begins with, if it doesn't stand for itself, and what follows them.
+fn escape(digits: &[u8]) -> Option<(u8, &[u8])>
+    ensures { IsEscaped digits.now result }
+{
+    let (octet, rest) = pair(digits)?;
+    if is_plain(octet) {
+        None
+    } else {
+        Some((octet, rest))
+    }
+}
+
+/// The octet whose two hexadecimal digits a text begins with, and what follows them.
+pub fn pair(digits: &[u8]) -> Option<(u8, &[u8])>
+    ensures { IsPair digits.now result }
+{
+    if digits.len() < 2 {
+        return None;
+    }
+    let octet = digit(digits[0])? * 16 + digit(digits[1])?;
+    Some((octet, &digits[2..]))
+}
+
+/// Whether this is the text of at most so many octets.
+pub fn is_text(text: &[u8], most: u32) -> bool
+    ensures { result ≡ true → IsText most text.now }
+{
+    let mut rest = text;
+    for _octet in 0..most {
+        match first_octet(rest) {
+            Some((_, next)) => rest = next,
+            None => return rest.is_empty(),
+        }
+    }
+    rest.is_empty()
+}

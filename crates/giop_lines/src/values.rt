@@ -1,0 +1,182 @@
+//! Values behind their paths: a kind, and what it is of.
+
+ghost use Rattle.std.specs.Prelude.{◌≡◌, ◌++◌, codes, IfSome, Some};
+ghost use Rattle.giop_print.specs.Lines.{order_word};
+ghost use Rattle.giop_lines.specs.Values.{value_text, IsValue};
+
+use crate::line::{Content, Value};
+use crate::names::{is_called, is_part_name};
+use crate::numbers::{bits, integer, number, ulong};
+use crate::pieces::{octets_piece, rest_piece, text_piece};
+use crate::texts::is_text;
+use crate::words::{after, before, first_word};
+use giop_cdr::Order;
+
+/// A value of a kind that is known.
+pub fn value(text: &[u8]) -> Option<Value<'_>>
+    ensures spelled { IfSome result (λ v. text.now ≡ value_text v) }
+    ensures fields { IfSome result IsValue }
+{
+    match text {
+        [b's', ..] | [b'o', ..] => value_s_o(text),
+        [b'u', ..] | [b'l', ..] => value_u_l(text),
+        [b'b', ..] | [b'e', ..] | [b'c', ..] => value_b_e_c(text),
+        _ => value_else(text),
+    }
+}
+
+fn value_s_o(text: &[u8]) -> Option<Value<'_>>
+    ensures spelled { IfSome result (λ v. text.now ≡ value_text v) }
+    ensures fields { IfSome result IsValue }
+{
+    if let Some(rest) = after(text, b"string ") {
+        return text_piece(rest);
+    }
+    if let Some(rest) = after(text, b"octets ") {
+        return octets_piece(Content::Octets, rest);
+    }
+    if let Some(rest) = after(text, b"octet ") {
+        return Some(Value::Octet(u8::try_from(number(rest)?).ok()?));
+    }
+    if let Some(rest) = after(text, b"short ") {
+        return Some(Value::Short(i16::try_from(integer(rest)?).ok()?));
+    }
+    Some(Value::Order(order(after(text, b"order ")?)?))
+}
+
+fn value_u_l(text: &[u8]) -> Option<Value<'_>>
+    ensures spelled { IfSome result (λ v. text.now ≡ value_text v) }
+    ensures fields { IfSome result IsValue }
+{
+    if let Some(rest) = after(text, b"ulong ") {
+        return unsigned_long(rest);
+    }
+    if let Some(rest) = after(text, b"long ") {
+        return Some(Value::Long(i32::try_from(integer(rest)?).ok()?));
+    }
+    if let Some(rest) = after(text, b"ushort ") {
+        return Some(Value::UShort(u16::try_from(number(rest)?).ok()?));
+    }
+    if let Some(rest) = after(text, b"ulonglong ") {
+        return Some(Value::ULongLong(number(rest)?));
+    }
+    Some(Value::LongLong(integer(after(text, b"longlong ")?)?))
+}
+
+fn value_b_e_c(text: &[u8]) -> Option<Value<'_>>
+    ensures spelled { IfSome result (λ v. text.now ≡ value_text v) }
+    ensures fields { IfSome result IsValue }
+{
+    if let Some(rest) = after(text, b"boolean ") {
+        return boolean(rest);
+    }
+    if let Some(rest) = after(text, b"enum ") {
+        return name_of_enum(rest);
+    }
+    if let Some(rest) = after(text, b"count ") {
+        return Some(Value::Count(ulong(rest)?));
+    }
+    if let Some(rest) = after(text, b"char ") {
+        return char(rest);
+    }
+    Some(Value::Encapsulation(ulong(after(text, b"encapsulation ")?)?))
+}
+
+fn value_else(text: &[u8]) -> Option<Value<'_>>
+    ensures spelled { IfSome result (λ v. text.now ≡ value_text v) }
+    ensures fields { IfSome result IsValue }
+{
+    if let Some(rest) = after(text, b"double ") {
+        return double(rest);
+    }
+    if let Some(rest) = after(text, b"float ") {
+        return float(rest);
+    }
+    if let Some(rest) = after(text, b"rest ") {
+        return rest_piece(rest);
+    }
+    if let Some(rest) = after(text, b"wstring ") {
+        return octets_piece(Content::WideString, rest);
+    }
+    octets_piece(Content::WideChar, after(text, b"wchar ")?)
+}
+
+fn unsigned_long(text: &[u8]) -> Option<Value<'_>>
+    ensures spelled { IfSome result (λ v. codes "ulong " ++ text.now ≡ value_text v) }
+    ensures fields { IfSome result IsValue }
+{
+    let (digits, name) = first_word(text);
+    let n = ulong(digits)?;
+    match name {
+        None => Some(Value::ULong(n)),
+        Some(name) if is_called(name) => Some(Value::Named(n, name)),
+        Some(_) => None,
+    }
+}
+
+fn name_of_enum(text: &[u8]) -> Option<Value<'_>>
+    ensures spelled { IfSome result (λ v. codes "enum " ++ text.now ≡ value_text v) }
+    ensures fields { IfSome result IsValue }
+{
+    if is_part_name(text) {
+        Some(Value::Enum(text))
+    } else {
+        None
+    }
+}
+
+fn boolean(text: &[u8]) -> Option<Value<'_>>
+    ensures spelled { IfSome result (λ v. codes "boolean " ++ text.now ≡ value_text v) }
+    ensures fields { IfSome result IsValue }
+{
+    match text {
+        b"true" => Some(Value::Boolean(true)),
+        b"false" => Some(Value::Boolean(false)),
+        _ => None,
+    }
+}
+
+fn char(text: &[u8]) -> Option<Value<'_>>
+    ensures spelled { IfSome result (λ v. codes "char " ++ text.now ≡ value_text v) }
+    ensures fields { IfSome result IsValue }
+{
+    let octet = before(after(text, b"\"")?, b"\"")?;
+    if !octet.is_empty() && is_text(octet, 1) {
+        Some(Value::Char(octet))
+    } else {
+        None
+    }
+}
+
+fn float(text: &[u8]) -> Option<Value<'_>>
+    ensures spelled { IfSome result (λ v. codes "float " ++ text.now ≡ value_text v) }
+    ensures fields { IfSome result IsValue }
+{
+    if text.len() == 8 {
+        Some(Value::Float(u32::try_from(bits(text)?).ok()?))
+    } else {
+        None
+    }
+}
+
+fn double(text: &[u8]) -> Option<Value<'_>>
+    ensures spelled { IfSome result (λ v. codes "double " ++ text.now ≡ value_text v) }
+    ensures fields { IfSome result IsValue }
+{
+    if text.len() == 16 {
+        Some(Value::Double(bits(text)?))
+    } else {
+        None
+    }
+}
+
+/// The byte order that a word says.
+pub fn order(word: &[u8]) -> Option<Order>
+    ensures { IfSome result (λ o. word.now ≡ order_word o) }
+{
+    match word {
+        b"big" => Some(Order::Big),
+        b"little" => Some(Order::Little),
+        _ => None,
+    }
+}
