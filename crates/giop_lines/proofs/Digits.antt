@@ -1,5 +1,5 @@
 -- Hexadecimal digits.
-use Rattle.std.proofs.Common.{◌≡◌, ℕ, zero, suc, ◌+◌, ◌*◌, ◌-◌, ◌/◌, ◌%◌, ◌^◌, ◌<◌, ◌≤◌, Bool, true, false, ◌&&◌, T, eqb, eqb→eq, eq-zero-or-pos, ◌⊎◌, inl, inr, List, [], ◌∷◌, ◌++◌, length, get_or, take, drop, take_all, pow-suc, refl, sym, ap, subst, ◌∙◌, arith}
+use Rattle.std.proofs.Common.{◌≡◌, ℕ, zero, suc, ◌+◌, ◌*◌, ◌-◌, ◌/◌, ◌%◌, ◌^◌, ◌<◌, ◌≤◌, Bool, true, false, ◌&&◌, T, eqb, eqb→eq, eq-zero-or-pos, ◌⊎◌, inl, inr, List, [], ◌∷◌, ◌++◌, get_or, drop, pow-suc, refl, sym, ap, subst, ◌∙◌, arith}
 use Rattle.std.proofs.Math.Nat.{pow-le-pow_right, mul_comm, div-div-eq-div-mul}
 use Rattle.std.proofs.lemmas.Nat.{div-mul-add}
 use lib.Ieee.Fits.{and_l, and_r}
@@ -52,18 +52,6 @@ same_digit a b la lb e =
         | inr q ↦ omega (arith, p.1, q.1, e)
       ]
     ]
-
--- two digits, and the octet that they spell
-pub pair_is : (ds : List ℕ) (h l : ℕ) → 2 ≤ length ds → get_or ds 0 0 ≡ hex_digit h
-    → get_or ds 1 0 ≡ hex_digit l → h < 16 → l < 16
-    → ds ≡ hex_octet (h * 16 + l) ++ take (length ds - 2) (drop 2 ds)
-pair_is [] h l le eh el lh ll = absurd (omega arith)
-pair_is (a ∷ []) h l le eh el lh ll = absurd (omega arith)
-pair_is (a ∷ b ∷ ds) h l le eh el lh ll =
-    let upper : (h * 16 + l) / 16 ≡ h = omega arith in
-    let lower : (h * 16 + l) % 16 ≡ l = omega arith in
-    let rest : take (length (a ∷ b ∷ ds) - 2) ds ≡ ds = take_all _ ds (omega arith) in
-    rw (upper, lower, rest, ← eh, ← el) refl
 
 -- the octet of an escape doesn't stand for itself
 pub escape_plain : (ds : List ℕ) (x : ℕ) (rest : List ℕ) → ds ≡ hex_octet x ++ rest → x < 256

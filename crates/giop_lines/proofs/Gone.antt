@@ -7,7 +7,7 @@ use Rattle.std.proofs.lemmas.List.Elements.{All-nil, All-cons, All-append}
 use Rattle.giop_print.specs.Text.{escaped, escaped_octet, hex, hex_octet}
 use Rattle.giop_lines.specs.declared.paths.Part.{Part}
 use Rattle.giop_lines.specs.Texts.{IsText, AreOctets}
-use Rattle.giop_lines.specs.Paths.{part_text, IsRoot, IsInner, IsPath}
+use Rattle.giop_lines.specs.Paths.{part_text, IsRoot, IsInner}
 
 pub record Gone {A : Type 0} (is : A → Type 0) (spell : A → List ℕ) (text rest : List ℕ) (n : ℕ)
     : Type 0 where
@@ -21,7 +21,8 @@ pub gone_none : {A : Type 0} (is : A → Type 0) (spell : A → List ℕ) (text 
 gone_none is spell text = record { items = []; are = All-nil is; many = refl; spelled = refl }
 
 pub gone_more : {A : Type 0} (is : A → Type 0) (spell : A → List ℕ) (text rest next : List ℕ)
-    (n : ℕ) (x : A) → Gone is spell text rest n → is x → rest ≡ spell x ++ next → Gone is spell text next (n + 1)
+    (n : ℕ) (x : A) → Gone is spell text rest n → is x → rest ≡ spell x ++ next
+    → Gone is spell text next (n + 1)
 gone_more is spell text rest next n x g i e =
     record {
       items = g.items ++ (x ∷ []);
@@ -111,17 +112,4 @@ path_more path rest next n part g is e =
       is_root = g.is_root;
       spelled = g.spelled;
       gone = gone_more IsInner part_text g.behind rest next n part g.gone is e;
-    }
-
-pub path_gone : (n : ℕ) (path rest : List ℕ) → PathGone path rest n → n ≤ 24 → length rest ≡ 0
-    → IsPath path
-path_gone n path rest g le e =
-    record {
-      root = g.root;
-      parts = g.gone.items;
-      is_root = g.is_root;
-      are_parts = g.gone.are;
-      few = omega (arith, g.gone.many);
-      spelled = g.spelled ∙ ap (λ (xs : List ℕ). g.root ++ xs)
-          (ends IsInner part_text g.behind rest n g.gone e);
     }
