@@ -61,6 +61,7 @@ pub stopped : {O : Type 0} (fault : RunFault) (begins : Setup → List ℕ → T
     → Ran (Err fault) (HasRead (Observed begins c) Told reader_faulted connections live links
     (none_known asked.ports.items asked.pool asked.connections [])) capture s before after
     → RunFailed begins asked before.left (faults.Run fault) (Some log)
+unfolding in_part
 stopped runs.Read begins c Told asked connections live links capture s before after log same ran =
     in_part begins c Told asked connections live links capture s before after log.written
     same ran.given ran.handed

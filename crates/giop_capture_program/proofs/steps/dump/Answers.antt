@@ -24,10 +24,10 @@ ends_by : (ending : Ending) (found other : Option CaptureFault) (faulty : Bool) 
     ending ≡ ending_of found faulty → found ≡ other → ending ≡ ending_of other faulty
 ends_by ending found other faulty ends is = ends ∙ ap (λ x. ending_of x faulty) is
 
-pub returns-in-Ok-dump_capture-clause-dumped : goal.returns-in-Ok-dump_capture-clause-dumped
-returns-in-Ok-dump_capture-clause-dumped g c =
+pub returns-in-Ok-ended-clause-dumped : goal.returns-in-Ok-ended-clause-dumped
+returns-in-Ok-ended-clause-dumped g c =
     let asked = c.args.asked in
-    let d = c.in-Ok-dump_capture.ensures.dumped
+    let d = c.in-Ok-ended.ensures.dumped
     (none_known asked.ports.items asked.pool asked.connections []) c.in-Ok-reader.ensures in
     let same = c.into_out.ensures ∙ ap (λ t. t.conversations.out.whole) c.into_listener.ensures in
     let w = d.whole in
@@ -42,7 +42,7 @@ returns-in-Ok-dump_capture-clause-dumped g c =
       faulty = _;
       ends = ends_by _ _ _ _ d.ends w.fault;
       text = λ S written begins.
-          text_kept S written _ _ _ _ _ _ _ same c.in_ok-flushed-in-Ok-dump_capture.ensures.put
+          text_kept S written _ _ _ _ _ _ _ same c.in_ok-flushed-in-Ok-ended.ensures.put
           (d.last S written begins);
       streams = λ S written begins.
           let h = d.last S written begins in
