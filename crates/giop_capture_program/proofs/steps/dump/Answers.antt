@@ -1,12 +1,14 @@
 -- What a source gave was dumped for the connections that are asked for.
-use Rattle.std.proofs.Common.{◌≡◌, ◌∙◌, ◌⊎◌, inl, inr, [], ap, subst, Option, List, Bool, ℕ}
+use Rattle.std.proofs.Common.{◌≡◌, ◌∙◌, ◌⊎◌, inl, inr, [], ap, subst, Option, Some, List, Bool, ℕ}
 use Rattle.std.specs.Io.KnownBytes.{Consumes, IsAtEnd}
 use Rattle.capture_file.specs.declared.fault.CaptureFault.{CaptureFault}
 use Rattle.tcp_connections.specs.Connections.{none_known}
 use Rattle.giop_run.specs.SourceLog.{SourceLog}
+use Rattle.giop_run.specs.declared.fault.ProgramFault.TheVariants as faults
 use Rattle.giop_run.specs.Running.{IsEnded}
 use Rattle.giop_capture_run.specs.declared.ending.Ending.{Ending}
 use Rattle.giop_capture_run.specs.CaptureRun.{ending_of}
+use Rattle.giop_capture_program.proofs.Stopping.{stopped, stopped_at}
 use Rattle.giop_capture_program.proofs.TellerLemmas.{text_kept}
 use Rattle.giop_capture_program.proofs.steps.dump.Goals as goal
 
@@ -29,7 +31,7 @@ returns-in-Ok-ended-clause-dumped g c =
     let asked = c.args.asked in
     let d = c.in-Ok-ended.ensures.dumped
     (none_known asked.ports.items asked.pool asked.connections []) c.in-Ok-reader.ensures in
-    let same = c.into_out.ensures ∙ ap (λ t. t.conversations.out.whole) c.into_listener.ensures in
+    let same = c.into_out-out.ensures ∙ ap (λ t. t.conversations.out.whole) c.into_listener.ensures in
     let w = d.whole in
     record {
       left = _;
@@ -50,3 +52,17 @@ returns-in-Ok-ended-clause-dumped g c =
           asked.connections w.read h.dump
           asked.connections_range.0 asked.connections_range.1 h.leads;
     }
+
+pub returns-clause-refused : goal.returns-clause-refused
+returns-clause-refused g c =
+    let asked = c.args.asked in
+    let s = c.in-Err.ensures.stopped
+    (none_known asked.ports.items asked.pool asked.connections []) c.in-Ok-reader.ensures in
+    let same = c.into_out-out.ensures ∙ ap (λ t. t.conversations.out.whole) c.into_listener.ensures
+    in
+    let log = g.O.Out.log c.into_out-out.result in
+    inr (stopped_at g.B.Beginning.begins asked (faults.Run c.in-Err.fault) (Some log) _ _
+    (ap (λ log. log.left) c.new-2.ensures)
+    (stopped c.in-Err.fault g.B.Beginning.begins
+    c.dump_capture-ended.new.reader.streams.listener.conversations _ asked _ _ _ _ s.0 _ _ log
+    same s.1))
