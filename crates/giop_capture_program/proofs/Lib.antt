@@ -1,2 +1,2 @@
 mod TellerLemmas
-mod Reading
+mod Stopping

@@ -1,5 +1,5 @@
 -- What the conversations of a capture have followed and told stays where nothing happens in a flow.
-use Rattle.std.proofs.Common.{◌≡◌, ℕ, List, [], ◌∷◌, ◌++◌, Option, Some, None, refl, ◌∙◌, ap, subst, sym}
+use Rattle.std.proofs.Common.{◌≡◌, ℕ, Bool, List, [], ◌∷◌, ◌++◌, Option, Some, None, refl, ◌∙◌, ap, subst, sym}
 use Rattle.std.specs.Prelude.{Result, Ok, Err, OnOk}
 use Rattle.std.specs.Io.KnownBytes.{Keeps}
 use Rattle.tcp_flow.specs.Flow.{Event, CaptureEvent, OfCapture}
@@ -32,10 +32,10 @@ pub still_known : (before after : Option (List ℕ)) (w : List ℕ) → Keeps be
     → after ≡ Some w
 still_known before after w kept known = some_known after w (subst (λ x. Keeps x after) known kept)
 
-told_on : {O : Type 0} (c : Conversations O) (put : Option (List ℕ)) (S : Setup) (written : List ℕ)
-    (events : List Event) → Keeps c.out.whole put → Told S written events c
-    → Told S written events (record c { out = record c.out { whole = put } })
-told_on c put S written events kept told =
+told_on : {O : Type 0} (c : Conversations O) (put : Option (List ℕ)) (below : ℕ) (S : Setup)
+    (written : List ℕ) (events : List Event) → Keeps c.out.whole put → Told S written events c
+    → Told S written events (record c { out = record c.out { whole = put; below = below } })
+told_on c put below S written events kept told =
     let h = told.holds in
     let r = h.ready in
     record {
@@ -62,7 +62,8 @@ told_on c put S written events kept told =
 
 pub kept_on : {O : Type 0} {A E : Type 0} (begins : Setup → List ℕ → Type 0) (c d : Conversations O)
     (events : List Event) (r : Result A E)
-    → d ≡ record c { out = record c.out { whole = d.out.whole } } → Keeps c.out.whole d.out.whole
+    → d ≡ record c { out = record c.out { whole = d.out.whole; below = d.out.below } }
+    → Keeps c.out.whole d.out.whole
     → Follows c events × ((S : Setup) (written : List ℕ) → begins S written →
     Told S written events c)
     → OnOk r (Follows d events × ((S : Setup) (written : List ℕ) → begins S written →
@@ -71,15 +72,17 @@ kept_on begins c d events (Err e) same kept h = tt
 kept_on begins c d events (Ok v) same kept h = (
   subst (λ x. Follows x events) (sym same) h.0,
   λ S written b. subst (λ x. Told S written events x) (sym same)
-      (told_on c d.out.whole S written events kept (h.1 S written b)),
+      (told_on c d.out.whole d.out.below S written events kept (h.1 S written b)),
 )
 
 -- a text that was put stays
 abbrev pub text_kept : (S : Setup) (written : List ℕ) (events : List Event) (packets octets : ℕ)
-    (before put after : Option (List ℕ)) → put ≡ before → Keeps put after
-    → HasText S written events packets octets before → HasText S written events packets octets after
-text_kept S written events packets octets before put after same kept h = record {
+    (faulty : Bool) (before put after : Option (List ℕ)) → put ≡ before → Keeps put after
+    → HasText S written events packets octets faulty before
+    → HasText S written events packets octets faulty after
+text_kept S written events packets octets faulty before put after same kept h = record {
   dump = h.dump;
   leads = h.leads;
   text = still_known put after (finished_text h.dump packets octets) kept (same ∙ h.text);
+  is_faulty = h.is_faulty;
 }

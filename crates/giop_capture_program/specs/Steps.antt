@@ -1,26 +1,24 @@
 -- What the steps of the program came to, by their result (meaning).
-use Rattle.std.specs.Prelude.{◌≡◌, ◌⊎◌, ℕ, Bool, List, [], length, Option, Some, option_map, Result, Ok, Err}
-use Rattle.capture_file.specs.declared.capture.Capture.{Capture}
-use Rattle.capture_file.specs.declared.fault.CaptureFault.{CaptureFault}
-use Rattle.capture_file.specs.Reading.{packets}
+use Rattle.std.specs.Prelude.{◌≡◌, ◌≤◌, ◌^◌, ◌⊎◌, ℕ, Bool, List, [], ◌++◌, length, Option, Some, None, IsSome, option_map, Result, Ok, Err}
+use Rattle.std.specs.Io.KnownBytes.{Consumes, IsAtEnd}
+use Rattle.capture_file.specs.Reading.{packets, fault, final_fault}
+use Rattle.giop_print.specs.Output.{OutLog}
 use Rattle.giop_sig.specs.Table.{Table}
-use Rattle.tcp_connections.specs.declared.connections.Connections.{Connections}
 use Rattle.tcp_connections.specs.Connections.{none_known}
-use Rattle.giop_conversation.specs.declared.conversation.Conversation.{Conversation}
 use Rattle.giop_conversation.specs.Captured.{Setup, setup}
-use Rattle.giop_conversation.specs.Followed.{HaveFollowed, reader_faulted}
-use Rattle.giop_run.specs.SourceLog.{SourceLog}
+use Rattle.giop_conversation.specs.Followed.{reader_faulted}
 use Rattle.giop_run.specs.declared.fault.RunFault.TheVariants as runs
 use Rattle.giop_run.specs.declared.fault.ProgramFault.{ProgramFault}
 use Rattle.giop_run.specs.declared.fault.ProgramFault.TheVariants as faults
 use Rattle.giop_run.specs.Console.{fault_status}
-use Rattle.giop_run.specs.Files.{Folder, CatalogueOf, NoCatalogue, NoStream}
+use Rattle.giop_run.specs.Files.{Folder, CatalogueOf, NoCatalogue, NoStream, stream_of}
 use Rattle.giop_capture_run.specs.declared.arguments.Arguments.{Arguments}
 use Rattle.giop_capture_run.specs.declared.ending.Ending.{Ending}
 use Rattle.giop_capture_run.specs.declared.ending.Ending.TheVariants as endings
-use Rattle.giop_capture_run.specs.Arrivals.{capture_ended}
-use Rattle.giop_capture_run.specs.CaptureRun.{ReadWhole, ending_of}
-use Rattle.giop_capture_program.specs.Text.{HasText, HasStreams}
+use Rattle.giop_capture_run.specs.Packets.{taken_of}
+use Rattle.giop_capture_run.specs.Arrivals.{after_packets, capture_ended}
+use Rattle.giop_capture_run.specs.CaptureRun.{ending_of}
+use Rattle.giop_capture_program.specs.Text.{HasText, HasTextSoFar, HasStreams}
 
 -- the program's status: whether a fault was counted or a stream was cut, or what failed
 abbrev pub capture_status : Result Ending ProgramFault → ℕ
@@ -43,48 +41,90 @@ BeginsAs begins asked table before =
     (S : Setup) (written : List ℕ) → begins S written
     → (S ≡ setup table asked.messages asked.calls asked.connections) × (before ≡ Some written)
 
--- A source, of which this is known, was read to the end of a capture or to its fault. What the
--- packets, the fault and the end do to the connections that are asked for has happened, and the
--- conversations have followed it; link types that aren't read were told. What was put is the text
--- of just that, with the capture's last line, behind what was written before; the lines of each
--- stream in it are giopdump's.
-pub record CaptureDumped {N : Type 0} (ending : Ending) (told : N → List ℕ → Type 0)
-    (begins : Setup → List ℕ → Type 0) (asked : Arguments) (source put : Option (List ℕ)) : Type 0
-  where
-    pub before : SourceLog
-    pub after : SourceLog
-    pub reader : before.left ≡ source
-    pub capture : Capture
-    pub octets : List ℕ
-    pub found : Option CaptureFault
-    pub notices : N
-    pub connections : Connections
-    pub live : List ℕ
-    pub rooms : List Conversation
-    pub faulty : Bool
-    pub whole : ReadWhole (HaveFollowed rooms) (told notices) reader_faulted connections live
-        capture
-        (none_known asked.ports.items asked.pool asked.connections []) octets before after found
-    pub ends : ending ≡ ending_of found faulty
-    pub text : (S : Setup) (written : List ℕ) → begins S written
-        → HasText S written
-        (capture_ended reader_faulted (none_known asked.ports.items asked.pool asked.connections [])
-        whole.read).events
-        (length (packets whole.read)) (length whole.read) put
-    pub streams : (S : Setup) (written : List ℕ) (known : begins S written) → HasStreams S written
-        (capture_ended reader_faulted (none_known asked.ports.items asked.pool asked.connections [])
-        whole.read).events
-        (length (packets whole.read)) (length whole.read) (text S written known)
+-- A source, of which this is known, was read to the end of a capture or to its fault, behind which
+-- nothing was read. What was put is the text of what its packets, its fault and its end do to no
+-- known connections, with the capture's last line, behind what was written before, and no more; the
+-- lines of each stream in it are giopdump's. The ending says whether it has a fault.
+pub record CaptureDumped (ending : Ending) (begins : Setup → List ℕ → Type 0) (asked : Arguments)
+    (source put : Option (List ℕ)) : Type 0 where
+  pub left : Option (List ℕ)
+  pub octets : List ℕ
+  pub given : Consumes source left octets
+  pub read : List ℕ
+  pub rest : List ℕ
+  pub parts : octets ≡ read ++ rest
+  pub over : (IsAtEnd left × (rest ≡ [])) ⊎ IsSome (fault read)
+  pub faulty : Bool
+  pub ends : ending ≡ ending_of (final_fault read) faulty
+  pub text : (S : Setup) (written : List ℕ) → begins S written
+      → HasText S written
+      (capture_ended reader_faulted (none_known asked.ports.items asked.pool asked.connections [])
+      read).events
+      (length (packets read)) (length read) faulty put
+  pub streams : (S : Setup) (written : List ℕ) (known : begins S written) → HasStreams S written
+      (capture_ended reader_faulted (none_known asked.ports.items asked.pool asked.connections [])
+      read).events
+      (length (packets read)) (length read) (text S written known)
 
--- the reading of a capture, or the writing of its lines, failed
-abbrev pub RunFailed : ProgramFault → Type 0
-RunFailed (faults.Run runs.Failed) = ⊥
-RunFailed (faults.Run fault) = Unit {0}
-RunFailed _ = ⊥
+-- The reading of a capture stopped behind some octets of a source. What was put is the text of what
+-- their packets do to no known connections, behind what was written before, and no more.
+pub record ReadInPart (begins : Setup → List ℕ → Type 0) (asked : Arguments)
+    (source put : Option (List ℕ)) : Type 0 where
+  pub left : Option (List ℕ)
+  pub octets : List ℕ
+  pub given : Consumes source left octets
+  pub text : (S : Setup) (written : List ℕ) → begins S written
+      → HasTextSoFar S written
+      (after_packets reader_faulted (none_known asked.ports.items asked.pool asked.connections [])
+      (taken_of octets)).events
+      put
 
--- why a capture was not dumped: the first step that failed
-abbrev pub NotDumped : Folder → Arguments → ProgramFault → Type 0
-NotDumped held asked fault =
+-- The reading of a capture failed or had too many reads, each of which gave an octet, or the
+-- writing of its lines failed.
+abbrev pub RunFailed : (Setup → List ℕ → Type 0) → Arguments → Option (List ℕ) → ProgramFault
+    → Option OutLog → Type 0
+RunFailed begins asked source (faults.Run runs.Read) (Some log) =
+    ReadInPart begins asked source log.written
+RunFailed begins asked source (faults.Run runs.Turns) (Some log) =
+    (part : ReadInPart begins asked source log.written) × (2 ^ 40 ≤ length part.octets)
+RunFailed begins asked source (faults.Run runs.Out) (Some log) = Unit {0}
+RunFailed begins asked source _ _ = ⊥
+
+-- why a capture was not dumped: the first step that failed, or the run, with the log of its out
+abbrev pub NotDumped : Folder → Option (List ℕ) → (Setup → List ℕ → Type 0) → Arguments →
+    ProgramFault → Option OutLog → Type 0
+NotDumped held source begins asked fault log =
     NoCatalogue held (signatures_of asked) fault
     ⊎ ((C : Table) × CatalogueOf held (signatures_of asked) C
-    × (NoStream (capture_of asked) fault ⊎ RunFailed fault))
+    × (NoStream (capture_of asked) fault ⊎ RunFailed begins asked source fault log))
+
+-- ---- The program's status.
+
+-- nothing is known of a dump before it begins
+abbrev pub unknown : Setup → List ℕ → Type 0
+unknown S written = ⊥
+
+-- What the steps came to, where nothing is known of files, of standard input, and of what was
+-- written before.
+abbrev pub Came : Arguments → Result Ending ProgramFault → Type 0
+Came asked (Ok ending) =
+    (put : Option (List ℕ))
+    × CaptureDumped ending unknown asked (stream_of (λ name. None) None (capture_of asked)) put
+Came asked (Err fault) =
+    (log : Option OutLog)
+    × NotDumped (λ name. None) (stream_of (λ name. None) None (capture_of asked)) unknown asked
+    fault log
+
+-- a status is that of what the steps came to
+abbrev pub HasStatus : Arguments → ℕ → Type 0
+HasStatus asked status =
+    (ended : Result Ending ProgramFault) × Came asked ended × (status ≡ capture_status ended)
+
+-- a status is that of words that ask for no dump: for help or a version, ones that can't be read,
+-- what can't be printed, and no memory
+abbrev pub IsOfWords : ℕ → Type 0
+IsOfWords status = (status ≡ 0) ⊎ (status ≡ 2) ⊎ (status ≡ 4) ⊎ (status ≡ 5)
+
+-- a status of the program
+abbrev pub IsStatus : ℕ → Type 0
+IsStatus status = IsOfWords status ⊎ ((asked : Arguments) × HasStatus asked status)

@@ -1,22 +1,32 @@
 -- The text of a dump, where all of it was put (meaning).
-use Rattle.std.specs.Prelude.{◌≡◌, ℕ, List, Option, Some}
+use Rattle.std.specs.Prelude.{◌≡◌, ◌||◌, ℕ, Bool, nat_lt, List, Option, Some}
 use Rattle.tcp_flow.specs.Flow.{Event}
 use Rattle.giop_conversation.specs.Captured.{Setup, Dump, Leads, start, finished_text}
 use Rattle.giop_conversation.specs.StreamTexts.{no_history, history}
 use Rattle.giop_capture_program.specs.Streams.{ShowsEachStream}
 
 -- These events lead to a dump, of a capture of so many packets and octets: what was put is what was
--- written before it began, then its text and its last line, and no more.
+-- written before it began, then its text and its last line, and no more; and whether it has a
+-- fault, or a stream that was cut.
 pub record HasText (S : Setup) (written : List ℕ) (events : List Event) (packets octets : ℕ)
-    (put : Option (List ℕ)) : Type 0 where
+    (faulty : Bool) (put : Option (List ℕ)) : Type 0 where
   pub dump : Dump
   pub leads : Leads S (start S written) events dump
   pub text : put ≡ Some (finished_text dump packets octets)
+  pub is_faulty : faulty ≡ (dump.is_cut || nat_lt 0 dump.faults)
 
 -- In this text the lines of each stream are giopdump's.
-abbrev pub HasStreams : {put : Option (List ℕ)} →
+abbrev pub HasStreams : {faulty : Bool} {put : Option (List ℕ)} →
     (S : Setup) (written : List ℕ) (events : List Event) (packets octets : ℕ) →
-    HasText S written events packets octets put → Type 0
+    HasText S written events packets octets faulty put → Type 0
 HasStreams S written events packets octets h =
     ShowsEachStream S written (history S no_history (start S written) events h.dump h.leads)
     h.dump.text
+
+-- These events lead to a dump: what was put is what was written before it began, then its text, and
+-- no more.
+pub record HasTextSoFar (S : Setup) (written : List ℕ) (events : List Event)
+    (put : Option (List ℕ)) : Type 0 where
+  pub dump : Dump
+  pub leads : Leads S (start S written) events dump
+  pub text : put ≡ Some dump.text

@@ -1,12 +1,12 @@
 //! The program: its words, its steps, and its status.
 
 ghost use Rattle.std.specs.Prelude.{◌≡◌, ◌≤◌};
-ghost use Rattle.giop_capture_program.specs.Steps.{capture_status as spec_status};
+ghost use Rattle.giop_capture_program.specs.Steps.{HasStatus, IsStatus, capture_status as spec_status};
 
 use crate::steps::perform_capture;
 use crate::teller::Unknown;
 use giop_capture_run::{Arguments, Ending, Notices};
-use giop_run::{ProgramFault, Retrying, ShownName, failed, refused, words};
+use giop_run::{Lines, ProgramFault, Retrying, ShownName, failed, refused, words};
 
 /// The program's name, which stands in front of what it says on standard error.
 const PROGRAM: &str = "giopcap";
@@ -28,7 +28,8 @@ impl Notices for Console<'_> {
 
 /// Runs the program, and returns its status.
 pub fn program(rt: &HostRuntime) -> u8
-    ensures { result ≤ 5 }
+    ensures most { result ≤ 5 }
+    ensures status { IsStatus result }
 {
     let words = match words(rt) {
         Ok(words) => words,
@@ -42,13 +43,16 @@ pub fn program(rt: &HostRuntime) -> u8
 
 /// The steps after the words, with the lines on standard output; returns the program's status.
 fn print_capture(rt: &HostRuntime, asked: Arguments) -> u8
-    ensures { result ≤ 5 }
+    ensures most { result ≤ 5 }
+    ensures status { HasStatus asked.entry result }
 {
     let name = asked.capture;
-    let out = Retrying::new(rt.stdout());
-    let ended = match perform_capture::<_, _, _, Unknown>(rt, asked, out, Console { rt }) {
-        Ok((ending, _)) => Ok(ending),
-        Err(fault) => Err(fault),
+    let Ok(lines) = Lines::new(rt.alloc(), Retrying::new(rt.stdout())) else {
+        return failed(rt, PROGRAM, &ProgramFault::OutOfMemory);
+    };
+    let ended = match perform_capture::<_, _, _, Unknown>(rt, asked, lines, Console { rt }) {
+        Ok(done) => Ok(done.0),
+        Err(failure) => Err(failure.fault()),
     };
     if let Ok(Ending::NoCapture) = ended {
         match name {

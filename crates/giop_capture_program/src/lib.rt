@@ -2,11 +2,13 @@
 #![tactic(auto)]
 
 mod console;
+mod failure;
 mod laws;
 mod steps;
 mod teller;
 
 pub use console::program;
+pub use failure::Failure;
 pub use laws::each_stream_of_a_capture_is_dumped;
 pub use steps::perform_capture;
 pub use teller::{Beginning, Teller, Unknown};

@@ -1,7 +1,7 @@
 //! The program's steps after its words: signatures, the opening of the capture, room, reading. The first that fails determines
 //! the status.
 
-ghost use Rattle.std.specs.Prelude.{◌≡◌, ◌⊎◌, List, ℕ, [], Some, IfOk, IfErr};
+ghost use Rattle.std.specs.Prelude.{◌≡◌, ◌<◌, ◌⊎◌, List, ℕ, [], Some, IfOk, IfErr};
 ghost use Rattle.std.specs.Io.KnownBytes.{Keeps};
 ghost use Rattle.giop_stream.specs.EngineHolds.{AreOf};
 ghost use Rattle.tcp_connections.specs.Connections.{none_known};
@@ -10,72 +10,70 @@ ghost use Rattle.giop_conversation.specs.Captured.{Setup};
 ghost use Rattle.giop_conversation.specs.DumpTold.{Told};
 ghost use Rattle.giop_conversation.specs.Follows.{Follows};
 ghost use Rattle.giop_conversation.specs.Followed.{reader_faulted};
-ghost use Rattle.giop_run.specs.Buffered.{lines_log, lines_kept};
 ghost use Rattle.giop_run.specs.Files.{CatalogueOf, NoStream, stream_of};
 ghost use Rattle.giop_capture_run.specs.PacketState.{HasRead};
+ghost use Rattle.giop_capture_program.specs.Failures.{fault_of, log_of};
 ghost use Rattle.giop_capture_program.specs.Steps.{BeginsAs, CaptureDumped, NotDumped, RunFailed, capture_of, signatures_of};
 
+use crate::failure::Failure;
 use crate::laws::each_stream_of_a_capture_is_dumped;
 use crate::teller::{Beginning, Teller};
 use capture_file::Capture;
 use giop_capture_run::{Arguments, Ending, Notices, PacketReader, dump_capture, packet_reader};
 use giop_conversation::{Conversations, Limits};
-use giop_run::{
-    Flush, Inputs, Lines, ProgramFault, Reading, RunFault, catalogue, requests, unreadable,
-};
+use giop_run::{Flush, Inputs, ProgramFault, Reading, RunFault, catalogue, requests, unreadable};
 use giop_sig::{Catalogue, Requests};
 use std::alloc::{AllocError, Global};
-use std::io::{Read, Write};
+use std::io::Read;
 
 /// The steps after the words. Answers how the dump ended, and the out that it was put to.
 pub fn perform_capture<
     'a,
     R: Inputs + AllocGlobal,
-    W: Write + Drop,
+    O: Flush + Drop,
     N: Notices + Drop,
     B: Beginning,
->(
-    rt: &R,
-    asked: Arguments<'a>,
-    writer: W,
-    notices: N,
-) -> Result<(Ending, Lines<W>), ProgramFault<'a>>
+>(rt: &R, asked: Arguments<'a>, out: O, notices: N) -> Result<(Ending, O), Failure<'a, O>>
     requires told { N.told notices [] }
     requires begins { (C : Table) → CatalogueOf (R.held rt.now) (signatures_of asked) C
-        → BeginsAs B.begins asked C (W.contents writer) }
-    ensures dumped { IfOk result (λ ended. CaptureDumped ended.0 N.told B.begins asked.entry
+        → BeginsAs B.begins asked C (O.log out).written }
+    ensures dumped { IfOk result (λ ended. CaptureDumped ended.0 B.begins asked.entry
         (stream_of (R.held rt.now) (R.given rt.now) (capture_of asked.entry))
-        (lines_log W.contents ended.1).written) }
-    ensures flushed { IfOk result (λ ended. lines_kept ended.1 ≡ []) }
-    ensures refused { IfErr result (NotDumped (R.held rt.now) asked.entry) }
+        (O.log ended.1).written) }
+    ensures flushed { IfOk result (λ ended. O.kept ended.1 ≡ []) }
+    ensures refused { IfErr result (λ failure. NotDumped (R.held rt.now)
+        (stream_of (R.held rt.now) (R.given rt.now) (capture_of asked.entry))
+        B.begins asked.entry (fault_of failure) (log_of O.log failure)) }
 {
     let catalogue = catalogue(rt, asked.signatures)?;
-    open_and_dump::<R, W, N, B>(rt, asked, &catalogue, writer, notices)
+    open_and_dump::<R, O, N, B>(rt, asked, &catalogue, out, notices)
 }
 
 /// The steps after the signatures.
-fn open_and_dump<'a, R: Inputs + AllocGlobal, W: Write + Drop, N: Notices + Drop, B: Beginning>(
+fn open_and_dump<'a, R: Inputs + AllocGlobal, O: Flush + Drop, N: Notices + Drop, B: Beginning>(
     rt: &R,
     asked: Arguments<'a>,
     catalogue: &Catalogue,
-    writer: W,
+    out: O,
     notices: N,
-) -> Result<(Ending, Lines<W>), ProgramFault<'a>>
+) -> Result<(Ending, O), Failure<'a, O>>
     requires told { N.told notices [] }
-    requires begins { BeginsAs B.begins asked catalogue.now (W.contents writer) }
-    ensures dumped { IfOk result (λ ended. CaptureDumped ended.0 N.told B.begins asked.entry
+    requires begins { BeginsAs B.begins asked catalogue.now (O.log out).written }
+    ensures dumped { IfOk result (λ ended. CaptureDumped ended.0 B.begins asked.entry
         (stream_of (R.held rt.now) (R.given rt.now) (capture_of asked.entry))
-        (lines_log W.contents ended.1).written) }
-    ensures flushed { IfOk result (λ ended. lines_kept ended.1 ≡ []) }
-    ensures refused { IfErr result (λ fault.
-        NoStream (capture_of asked.entry) fault ⊎ RunFailed fault) }
+        (O.log ended.1).written) }
+    ensures flushed { IfOk result (λ ended. O.kept ended.1 ≡ []) }
+    ensures refused { IfErr result (λ failure. NoStream (capture_of asked.entry) (fault_of failure)
+        ⊎ RunFailed B.begins asked.entry
+        (stream_of (R.held rt.now) (R.given rt.now) (capture_of asked.entry))
+        (fault_of failure) (log_of O.log failure)) }
 {
     let Some(name) = asked.capture else {
-        return dump::<_, _, _, _, B>(rt, rt.standard_input(), asked, catalogue, writer, notices);
+        return dump::<_, _, _, _, B>(rt, rt.standard_input(), asked, catalogue, out, notices);
     };
     match opened(rt, name) {
-        Ok(file) => dump::<_, _, _, _, B>(rt, file, asked, catalogue, writer, notices),
-        Err(fault) => Err(fault),
+        Ok(file) => dump::<_, _, _, _, B>(rt, file, asked, catalogue, out, notices),
+        Err(fault) => Err(Failure::Step(fault)),
     }
 }
 
@@ -95,7 +93,7 @@ fn dump<
     'a,
     R: Inputs + AllocGlobal,
     F: Read + Drop,
-    W: Write + Drop,
+    O: Flush + Drop,
     N: Notices + Drop,
     B: Beginning,
 >(
@@ -103,57 +101,60 @@ fn dump<
     file: F,
     asked: Arguments<'a>,
     catalogue: &Catalogue,
-    writer: W,
+    out: O,
     notices: N,
-) -> Result<(Ending, Lines<W>), ProgramFault<'a>>
+) -> Result<(Ending, O), Failure<'a, O>>
     requires told { N.told notices [] }
-    requires begins { BeginsAs B.begins asked catalogue.now (W.contents writer) }
-    ensures dumped { IfOk result (λ ended. CaptureDumped ended.0 N.told B.begins asked.entry
-        (F.remaining file) (lines_log W.contents ended.1).written) }
-    ensures flushed { IfOk result (λ ended. lines_kept ended.1 ≡ []) }
-    ensures refused { IfErr result (λ fault.
-        NoStream (capture_of asked.entry) fault ⊎ RunFailed fault) }
+    requires begins { BeginsAs B.begins asked catalogue.now (O.log out).written }
+    ensures dumped { IfOk result (λ ended. CaptureDumped ended.0 B.begins asked.entry
+        (F.remaining file) (O.log ended.1).written) }
+    ensures flushed { IfOk result (λ ended. O.kept ended.1 ≡ []) }
+    ensures refused { IfErr result (λ failure. NoStream (capture_of asked.entry) (fault_of failure)
+        ⊎ RunFailed B.begins asked.entry (F.remaining file)
+        (fault_of failure) (log_of O.log failure)) }
 {
     each_stream_of_a_capture_is_dumped();
     let requests = requests(rt, None, catalogue)?;
     let Ok(mut capture) = Capture::new(rt.alloc()) else {
-        return Err(ProgramFault::OutOfMemory);
+        return Err(Failure::Step(ProgramFault::OutOfMemory));
     };
-    let Ok(mut reader) = reader::<W, N, B>(rt.alloc(), asked, catalogue, &requests, writer, notices)
+    let Ok(mut reader) = reader::<O, N, B>(rt.alloc(), asked, catalogue, &requests, out, notices)
     else {
-        return Err(ProgramFault::OutOfMemory);
+        return Err(Failure::Step(ProgramFault::OutOfMemory));
     };
-    match dump_capture(&mut Reading::new(file), &mut capture, &mut reader) {
-        Ok(ending) => Ok((ending, flushed(reader.into_listener().into_out())?)),
-        Err(fault) => Err(ProgramFault::Run(fault)),
+    let ended = dump_capture(&mut Reading::new(file), &mut capture, &mut reader);
+    let out = reader.into_listener().into_out();
+    match ended {
+        Ok(ending) => Ok((ending, flushed(out)?)),
+        Err(fault) => Err(Failure::Run(fault, out)),
     }
 }
 
-/// Nothing is left in the buffer of the lines.
-fn flushed<'a, W: Write + Drop>(mut lines: Lines<W>) -> Result<Lines<W>, ProgramFault<'a>>
-    ensures put { IfOk result (λ after. Keeps (lines_log W.contents lines).written
-        (lines_log W.contents after).written) }
-    ensures none { IfOk result (λ after. lines_kept after ≡ []) }
-    ensures refused { IfErr result RunFailed }
+/// Nothing is left in the buffer of an out, or it has failed.
+fn flushed<'a, O: Flush + Drop>(mut out: O) -> Result<O, Failure<'a, O>>
+    ensures put { IfOk result (λ after. Keeps (O.log out).written (O.log after).written) }
+    ensures none { IfOk result (λ after. O.kept after ≡ []) }
+    ensures refused { IfErr result (λ failure. (after : O)
+        × (failure ≡ Failure.Run RunFault.Out after) × (0 < (O.log after).failures)) }
 {
-    match lines.flush() {
-        Ok(()) => Ok(lines),
-        Err(_) => Err(ProgramFault::Run(RunFault::Out)),
+    match out.flush() {
+        Ok(()) => Ok(out),
+        Err(_) => Err(Failure::Run(RunFault::Out, out)),
     }
 }
 
 /// Takes all memory for the connections and conversations of a capture.
-fn reader<'c, W: Write + Drop, N: Notices + Drop, B: Beginning>(
+fn reader<'c, O: Flush + Drop, N: Notices + Drop, B: Beginning>(
     alloc: Global,
     asked: Arguments<'_>,
     catalogue: &'c Catalogue,
     requests: &'c Requests,
-    writer: W,
+    out: O,
     notices: N,
-) -> Result<PacketReader<Teller<'c, Lines<W>, B>, N>, AllocError>
+) -> Result<PacketReader<Teller<'c, O, B>, N>, AllocError>
     requires of { AreOf catalogue.now requests.now }
     requires told { N.told notices [] }
-    requires begins { BeginsAs B.begins asked catalogue.now (W.contents writer) }
+    requires begins { BeginsAs B.begins asked catalogue.now (O.log out).written }
     ensures { IfOk result (λ r. HasRead (λ events. Follows r.streams.listener.conversations events
         × ((S : Setup) (written : List ℕ) → B.begins S written
         → Told S written events r.streams.listener.conversations)) (N.told r.notices)
@@ -165,8 +166,7 @@ fn reader<'c, W: Write + Drop, N: Notices + Drop, B: Beginning>(
         messages: asked.messages,
         calls: asked.calls,
     };
-    let lines = Lines::new(alloc, writer)?;
-    let Ok(conversations) = Conversations::new(alloc, catalogue, requests, limits, lines) else {
+    let Ok(conversations) = Conversations::new(alloc, catalogue, requests, limits, out) else {
         return Err(AllocError);
     };
     packet_reader(alloc, asked, Teller::new(conversations), notices)

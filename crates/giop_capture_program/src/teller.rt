@@ -52,7 +52,10 @@ impl<'a, O: Flush + Drop, B: Beginning> Teller<'a, O, B> {
     fn flush_out(&mut self) -> Result<(), ListenerFault>
         ensures put { Keeps self.old.conversations.out.whole self.new.conversations.out.whole }
         ensures same { self.new.conversations ≡ record self.old.conversations {
-          out = record self.old.conversations.out { whole = self.new.conversations.out.whole };
+          out = record self.old.conversations.out {
+            whole = self.new.conversations.out.whole;
+            below = self.new.conversations.out.below;
+          };
         } }
         ensures cause { OnErr result (self.new.flush_failed ≡ true) }
     {
@@ -124,9 +127,9 @@ impl<'a, O: Flush + Drop, B: Beginning> CaptureListener for Teller<'a, O, B> {
     ghost faulty = { λ t. t.conversations.cut || nat_lt 0 t.conversations.totals.faults };
 
     // Below stands the text of the events and the last line, and no more.
-    ghost finished = { λ t events packets octets. (S : Setup) (written : List ℕ) →
+    ghost finished = { λ t events packets octets faulty. (S : Setup) (written : List ℕ) →
         B.begins S written
-        → HasText S written events packets octets t.conversations.out.whole };
+        → HasText S written events packets octets faulty t.conversations.out.whole };
 
     fn arrives(&mut self, time: Option<u128>) {
         self.conversations.set_time(time);

@@ -1,6 +1,6 @@
 -- What is known of a reader at its end, of a writer whose buffer is empty, and of a dump at every
 -- port.
-use Rattle.std.proofs.Common.{◌≡◌, ℕ, List, [], ◌++◌, length, Option, Some, None, ◌⊎◌, inl, inr, append_assoc, append-nil, sym, ap, subst, ◌∙◌}
+use Rattle.std.proofs.Common.{◌≡◌, ℕ, Bool, List, [], ◌++◌, length, Option, Some, None, ◌⊎◌, inl, inr, append_assoc, append-nil, sym, ap, subst, ◌∙◌}
 use Rattle.std.specs.Io.KnownBytes.{Consumes, IsAtEnd, append_known}
 use Rattle.capture_file.specs.Reading.{packets}
 use Rattle.tcp_connections.specs.Connections.{none_known}
@@ -47,13 +47,13 @@ held put items kept text known seen none =
     ∙ known
 
 -- the text of a capture where streams begin at these ports
-abbrev pub TextAt : (ports read : List ℕ) (put : Option (List ℕ)) → Type 0
-TextAt ports read put =
+abbrev pub TextAt : (ports read : List ℕ) (faulty : Bool) (put : Option (List ℕ)) → Type 0
+TextAt ports read faulty put =
     HasText plain_setup [] (capture_ended reader_faulted (none_known ports 16384 256 [])
     read).events
-    (length (packets read)) (length read) put
+    (length (packets read)) (length read) faulty put
 
-pub at_every_port : (ports read : List ℕ) (put : Option (List ℕ)) → ports ≡ [] →
-    TextAt ports read put
-    → TextAt [] read put
-at_every_port ports read put none h = subst (λ it. TextAt it read put) none h
+pub at_every_port : (ports read : List ℕ) (faulty : Bool) (put : Option (List ℕ)) → ports ≡ [] →
+    TextAt ports read faulty put
+    → TextAt [] read faulty put
+at_every_port ports read faulty put none h = subst (λ it. TextAt it read faulty put) none h

@@ -1,12 +1,14 @@
 -- What a dump of a capture in memory is, by the built-in types and the limits without words
 -- (meaning).
-use Rattle.std.specs.Prelude.{◌≡◌, ℕ, List, [], ◌++◌, length, Some, IsSome, ◌⊎◌}
-use Rattle.capture_file.specs.Reading.{packets, fault}
+use Rattle.std.specs.Prelude.{◌≡◌, ℕ, Bool, List, [], ◌++◌, length, Some, IsSome, ◌⊎◌}
+use Rattle.capture_file.specs.Reading.{packets, fault, final_fault}
 use Rattle.giop_sig.specs.Builtin.{builtin_table}
 use Rattle.tcp_connections.specs.Connections.{none_known}
 use Rattle.giop_conversation.specs.Captured.{Setup, setup}
 use Rattle.giop_conversation.specs.Followed.{reader_faulted}
+use Rattle.giop_capture_run.specs.declared.ending.Ending.{Ending}
 use Rattle.giop_capture_run.specs.Arrivals.{capture_ended}
+use Rattle.giop_capture_run.specs.CaptureRun.{ending_of}
 use Rattle.giop_capture_program.specs.Text.{HasText}
 
 -- 16 open messages a stream, 128 outstanding calls a flow, 256 connections
@@ -15,12 +17,15 @@ plain_setup = setup builtin_table 16 128 256
 
 -- A text is that of what a capture's packets, its fault and its end do to no known connections,
 -- with its last line, and no more;
--- behind its fault nothing of it was read, and without one it was read to its end.
-pub record IsDumpOf (capture text : List ℕ) : Type 0 where
+-- behind its fault nothing of it was read, and without one it was read to its end. The ending says
+-- whether it has a fault, or a stream that was cut.
+pub record IsDumpOf (capture : List ℕ) (ending : Ending) (text : List ℕ) : Type 0 where
   pub read : List ℕ
   pub rest : List ℕ
   pub parts : capture ≡ read ++ rest
   pub over : (rest ≡ []) ⊎ IsSome (fault read)
+  pub faulty : Bool
+  pub ends : ending ≡ ending_of (final_fault read) faulty
   pub is : HasText plain_setup []
       (capture_ended reader_faulted (none_known [] 16384 256 []) read).events
-      (length (packets read)) (length read) (Some text)
+      (length (packets read)) (length read) faulty (Some text)

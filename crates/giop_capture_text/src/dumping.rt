@@ -6,7 +6,8 @@ ghost use Rattle.giop_capture_text.specs.Dumps.{IsDumpOf};
 use crate::memory::{Memory, Nobody};
 use arrayvec::ArrayVec;
 use giop_capture_program::{Beginning, perform_capture};
-use giop_capture_run::Arguments;
+use giop_capture_run::{Arguments, Ending};
+use giop_run::Lines;
 use std::alloc::Global;
 
 /// A dump by the built-in types and without words begins where nothing was written.
@@ -19,9 +20,9 @@ impl Beginning for Empty {
     ghost begins = { λ S written. (S ≡ plain_setup) × (written ≡ []) };
 }
 
-/// The text of a capture. None where there is no memory.
-pub fn text_of(alloc: Global, capture: &[u8]) -> Option<Vec<u8>>
-    ensures { IfSome result (λ text. IsDumpOf capture.now text.items) }
+/// How the dump of a capture ended, and its text. None where anything fails.
+pub fn text_of(alloc: Global, capture: &[u8]) -> Option<(Ending, Vec<u8>)>
+    ensures { IfSome result (λ dump. IsDumpOf capture.now dump.0 dump.1.items) }
 {
     let asked = Arguments {
         signatures: None,
@@ -36,12 +37,14 @@ pub fn text_of(alloc: Global, capture: &[u8]) -> Option<Vec<u8>>
         alloc,
         octets: capture,
     };
-    let out = Vec::new(alloc);
-    let Ok((_, lines)) = perform_capture::<_, _, _, Empty>(&memory, asked, out, Nobody) else {
+    let Ok(out) = Lines::new(alloc, Vec::new(alloc)) else {
+        return None;
+    };
+    let Ok((ending, lines)) = perform_capture::<_, _, _, Empty>(&memory, asked, out, Nobody) else {
         return None;
     };
     match Vec::from_slice(alloc, lines.writer().as_slice()) {
-        Ok(text) => Some(text),
+        Ok(text) => Some((ending, text)),
         Err(_) => None,
     }
 }

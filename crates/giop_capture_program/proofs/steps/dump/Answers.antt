@@ -1,36 +1,68 @@
 -- What a source gave was dumped for the connections that are asked for.
-use Rattle.std.proofs.Common.{◌||◌, ◌∙◌, [], nat_lt, ap}
+use Rattle.std.proofs.Common.{◌≡◌, ◌∙◌, ◌⊎◌, inl, inr, [], ap, subst, Option, Some, List, Bool, ℕ}
+use Rattle.std.specs.Io.KnownBytes.{Consumes, IsAtEnd}
+use Rattle.capture_file.specs.declared.fault.CaptureFault.{CaptureFault}
 use Rattle.tcp_connections.specs.Connections.{none_known}
-use Rattle.giop_capture_program.proofs.Reading.{observed_less}
+use Rattle.giop_run.specs.SourceLog.{SourceLog}
+use Rattle.giop_run.specs.declared.fault.ProgramFault.TheVariants as faults
+use Rattle.giop_run.specs.Running.{IsEnded}
+use Rattle.giop_capture_run.specs.declared.ending.Ending.{Ending}
+use Rattle.giop_capture_run.specs.CaptureRun.{ending_of}
+use Rattle.giop_capture_program.proofs.Stopping.{stopped, stopped_at}
 use Rattle.giop_capture_program.proofs.TellerLemmas.{text_kept}
 use Rattle.giop_capture_program.proofs.steps.dump.Goals as goal
 
-pub returns-in-Ok-dump_capture-clause-dumped : goal.returns-in-Ok-dump_capture-clause-dumped
-returns-in-Ok-dump_capture-clause-dumped g c =
+given_by : (known source left : Option (List ℕ)) (octets : List ℕ) → known ≡ source →
+    Consumes known left octets → Consumes source left octets
+given_by known source left octets is given =
+    subst (λ (x : Option (List ℕ)). Consumes x left octets) is given
+
+at_end : (X : Type 0) (rest : List ℕ) (before after : SourceLog)
+    → (IsEnded before after × (rest ≡ [])) ⊎ X → (IsAtEnd after.left × (rest ≡ [])) ⊎ X
+at_end X rest before after (inl over) = inl (over.0.none, over.1)
+at_end X rest before after (inr x) = inr x
+
+ends_by : (ending : Ending) (found other : Option CaptureFault) (faulty : Bool) →
+    ending ≡ ending_of found faulty → found ≡ other → ending ≡ ending_of other faulty
+ends_by ending found other faulty ends is = ends ∙ ap (λ x. ending_of x faulty) is
+
+pub returns-in-Ok-ended-clause-dumped : goal.returns-in-Ok-ended-clause-dumped
+returns-in-Ok-ended-clause-dumped g c =
     let asked = c.args.asked in
-    let d = c.in-Ok-dump_capture.ensures.dumped
+    let d = c.in-Ok-ended.ensures.dumped
     (none_known asked.ports.items asked.pool asked.connections []) c.in-Ok-reader.ensures in
-    let same = c.into_out.ensures ∙ ap (λ t. t.conversations.out.whole) c.into_listener.ensures in
+    let same = c.into_out-out.ensures ∙ ap (λ t. t.conversations.out.whole) c.into_listener.ensures in
+    let w = d.whole in
     record {
-      before = _;
-      after = _;
-      reader = ap (λ log. log.left) c.new-2.ensures;
-      capture = c.dump_capture.new.capture;
+      left = _;
       octets = d.octets;
-      found = d.found;
-      notices = d.notices;
-      connections = d.connections;
-      live = d.live;
-      rooms = d.listener.conversations.rooms.items;
-      faulty = d.listener.conversations.cut || nat_lt 0 d.listener.conversations.totals.faults;
-      whole = observed_less _ _ _ _ _ _ _ _ _ _ _ _ (λ events h. h.0) d.whole;
-      ends = d.ends;
+      given = given_by _ _ _ _ (ap (λ log. log.left) c.new-2.ensures) w.given;
+      read = w.read;
+      rest = w.rest;
+      parts = w.parts;
+      over = at_end _ _ _ _ w.over;
+      faulty = _;
+      ends = ends_by _ _ _ _ d.ends w.fault;
       text = λ S written begins.
-          text_kept S written _ _ _ _ _ _ same c.in_ok-flushed-in-Ok-dump_capture.ensures.put
+          text_kept S written _ _ _ _ _ _ _ same c.in_ok-flushed-in-Ok-ended.ensures.put
           (d.last S written begins);
       streams = λ S written begins.
           let h = d.last S written begins in
           c.each_stream_of_a_capture_is_dumped.ensures S written asked.ports.items asked.pool
-          asked.connections d.whole.read h.dump
+          asked.connections w.read h.dump
           asked.connections_range.0 asked.connections_range.1 h.leads;
     }
+
+pub returns-clause-refused : goal.returns-clause-refused
+returns-clause-refused g c =
+    let asked = c.args.asked in
+    let s = c.in-Err.ensures.stopped
+    (none_known asked.ports.items asked.pool asked.connections []) c.in-Ok-reader.ensures in
+    let same = c.into_out-out.ensures ∙ ap (λ t. t.conversations.out.whole) c.into_listener.ensures
+    in
+    let log = g.O.Out.log c.into_out-out.result in
+    inr (stopped_at g.B.Beginning.begins asked (faults.Run c.in-Err.fault) (Some log) _ _
+    (ap (λ log. log.left) c.new-2.ensures)
+    (stopped c.in-Err.fault g.B.Beginning.begins
+    c.dump_capture-ended.new.reader.streams.listener.conversations _ asked _ _ _ _ s.0 _ _ log
+    same s.1))

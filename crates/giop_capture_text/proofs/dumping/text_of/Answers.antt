@@ -7,20 +7,21 @@ use Rattle.giop_capture_text.proofs.dumping.text_of.Goals as goal
 pub returns-in-Ok-from_slice : goal.returns-in-Ok-from_slice
 returns-in-Ok-from_slice c =
     let d = c.in-Ok.ensures.dumped in
-    let h = at_every_port c.new.result.items d.whole.read _ c.new.ensures
+    let h = at_every_port c.new.result.items d.read _ _ c.new.ensures
     (d.text plain_setup [] (refl, refl)) in
-    let w = d.whole in
-    let f = front d.before.left d.after.left c.args.capture.now d.octets w.read w.rest d.reader
-    w.given w.parts w.over in
+    let f = front _ d.left c.args.capture.now d.octets d.read d.rest refl d.given d.parts d.over in
     let all = held _ _ _ _ h.text c.writer.ensures c.in-Ok.ensures.flushed in
     record {
-      read = d.whole.read;
+      read = d.read;
       rest = f.rest;
       parts = f.parts;
       over = f.over;
+      faulty = d.faulty;
+      ends = d.ends;
       is = record {
         dump = h.dump;
         leads = h.leads;
+        is_faulty = h.is_faulty;
         text = ap Some (c.in-Ok-from_slice.ensures.items ∙ c.as_slice.ensures.value) ∙ all;
       };
     }

@@ -10,4 +10,5 @@ returns-clause-finished g c =
       dump = f.dump;
       leads = f.leads;
       text = still_known _ _ _ c.flush_out.ensures.put f.ready.known;
+      is_faulty = f.faulted;
     }

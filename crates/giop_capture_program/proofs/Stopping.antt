@@ -1,0 +1,82 @@
+-- What was put where the run over a capture failed.
+use Rattle.std.proofs.Common.{◌≡◌, ◌∙◌, ◌≤◌, ℕ, List, [], Option, Some, Err, length, subst}
+use Rattle.std.specs.Io.KnownBytes.{Consumes}
+use Rattle.capture_file.specs.declared.capture.Capture.{Capture}
+use Rattle.tcp_flow.specs.Flow.{Event}
+use Rattle.tcp_connections.specs.declared.connections.Connections.{Connections}
+use Rattle.tcp_connections.specs.Connections.{none_known}
+use Rattle.giop_print.specs.Output.{OutLog}
+use Rattle.giop_conversation.specs.declared.conversations.Conversations.{Conversations}
+use Rattle.giop_conversation.specs.Captured.{Setup}
+use Rattle.giop_conversation.specs.DumpTold.{Told}
+use Rattle.giop_conversation.specs.Follows.{Follows}
+use Rattle.giop_conversation.specs.Followed.{reader_faulted}
+use Rattle.giop_run.specs.SourceLog.{SourceLog}
+use Rattle.giop_run.specs.declared.fault.RunFault.{RunFault}
+use Rattle.giop_run.specs.declared.fault.RunFault.TheVariants as runs
+use Rattle.giop_run.specs.declared.fault.ProgramFault.{ProgramFault}
+use Rattle.giop_run.specs.declared.fault.ProgramFault.TheVariants as faults
+use Rattle.giop_capture_run.specs.declared.arguments.Arguments.{Arguments}
+use Rattle.giop_capture_run.specs.Packets.{Taken, HandedOn, Ran}
+use Rattle.giop_capture_run.specs.PacketState.{HasRead}
+use Rattle.giop_capture_program.specs.Text.{HasTextSoFar}
+use Rattle.giop_capture_program.specs.Steps.{ReadInPart, RunFailed}
+
+-- the conversations have followed events, and told them
+abbrev pub Observed : {O : Type 0} → (Setup → List ℕ → Type 0) → Conversations O → List Event → Type
+    0
+Observed begins c events =
+    Follows c events
+    × ((S : Setup) (written : List ℕ) → begins S written → Told S written events c)
+
+so_far : {O : Type 0} (c : Conversations O) (S : Setup) (written : List ℕ) (events : List Event)
+    (put : Option (List ℕ)) → put ≡ c.out.whole → Told S written events c
+    → HasTextSoFar S written events put
+so_far c S written events put same told = record {
+  dump = told.dump;
+  leads = told.leads;
+  text = same ∙ told.holds.ready.known;
+}
+
+in_part : {O : Type 0} (begins : Setup → List ℕ → Type 0) (c : Conversations O)
+    (Told : List ℕ → Type 0) (asked : Arguments) (connections : Connections) (live links : List ℕ)
+    (capture : Capture) (s : List ℕ) (before after : SourceLog) (put : Option (List ℕ))
+    → put ≡ c.out.whole → Consumes before.left after.left s
+    → HandedOn (HasRead (Observed begins c) Told reader_faulted connections live links
+    (none_known asked.ports.items asked.pool asked.connections [])) capture [] s s []
+    → ReadInPart begins asked before.left put
+in_part begins c Told asked connections live links capture s before after put same given handed =
+    record {
+      left = after.left;
+      octets = s;
+      given = given;
+      text = λ S written known.
+          so_far c S written _ put same (handed.taken.state.observed.1 S written known);
+    }
+
+pub stopped : {O : Type 0} (fault : RunFault) (begins : Setup → List ℕ → Type 0)
+    (c : Conversations O) (Told : List ℕ → Type 0) (asked : Arguments) (connections : Connections)
+    (live links : List ℕ) (capture : Capture) (s : List ℕ) (before after : SourceLog)
+    (log : OutLog) → log.written ≡ c.out.whole
+    → Ran (Err fault) (HasRead (Observed begins c) Told reader_faulted connections live links
+    (none_known asked.ports.items asked.pool asked.connections [])) capture s before after
+    → RunFailed begins asked before.left (faults.Run fault) (Some log)
+unfolding in_part
+stopped runs.Read begins c Told asked connections live links capture s before after log same ran =
+    in_part begins c Told asked connections live links capture s before after log.written
+    same ran.given ran.handed
+stopped runs.Turns begins c Told asked connections live links capture s before after log same ran = (
+  in_part begins c Told asked connections live links capture s before after log.written same
+      ran.0.given ran.0.handed,
+  ran.1,
+)
+stopped runs.Out begins c Told asked connections live links capture s before after log same ran = tt
+stopped runs.Failed begins c Told asked connections live links capture s before after log same ran =
+    absurd ran
+
+-- the same of a source of which this is known
+pub stopped_at : (begins : Setup → List ℕ → Type 0) (asked : Arguments) (fault : ProgramFault)
+    (log : Option OutLog) (left source : Option (List ℕ)) → left ≡ source
+    → RunFailed begins asked left fault log → RunFailed begins asked source fault log
+stopped_at begins asked fault log left source is failed =
+    subst (λ (x : Option (List ℕ)). RunFailed begins asked x fault log) is failed
