@@ -6,11 +6,11 @@ use Rattle.giop_capture_text.proofs.dumping.text_of.Goals as goal
 
 pub returns-in-Ok-from_slice : goal.returns-in-Ok-from_slice
 returns-in-Ok-from_slice c =
-    let d = c.in-Ok.ensures.dumped in
+    let d = c.in-Ok-perform_capture.ensures.dumped in
     let h = at_every_port c.new.result.items d.read _ _ c.new.ensures
     (d.text plain_setup [] (refl, refl)) in
     let f = front _ d.left c.args.capture.now d.octets d.read d.rest refl d.given d.parts d.over in
-    let all = held _ _ _ _ h.text c.writer.ensures c.in-Ok.ensures.flushed in
+    let all = held _ _ _ _ h.text c.writer.ensures c.in-Ok-perform_capture.ensures.flushed in
     record {
       read = d.read;
       rest = f.rest;
