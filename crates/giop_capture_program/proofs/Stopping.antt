@@ -65,11 +65,12 @@ unfolding in_part
 stopped runs.Read begins c Told asked connections live links capture s before after log same ran =
     in_part begins c Told asked connections live links capture s before after log.written
     same ran.given ran.handed
-stopped runs.Turns begins c Told asked connections live links capture s before after log same ran = (
-  in_part begins c Told asked connections live links capture s before after log.written same
-      ran.0.given ran.0.handed,
-  ran.1,
-)
+stopped runs.Turns begins c Told asked connections live links capture s before after log same
+    ran = (
+      in_part begins c Told asked connections live links capture s before after log.written same
+          ran.0.given ran.0.handed,
+      ran.1,
+    )
 stopped runs.Out begins c Told asked connections live links capture s before after log same ran = tt
 stopped runs.Failed begins c Told asked connections live links capture s before after log same ran =
     absurd ran

@@ -31,7 +31,8 @@ returns-in-Ok-ended-clause-dumped g c =
     let asked = c.args.asked in
     let d = c.in-Ok-ended.ensures.dumped
     (none_known asked.ports.items asked.pool asked.connections []) c.in-Ok-reader.ensures in
-    let same = c.into_out-out.ensures ∙ ap (λ t. t.conversations.out.whole) c.into_listener.ensures in
+    let same = c.into_out-out.ensures
+    ∙ ap (λ t. t.conversations.out.whole) c.into_listener.ensures in
     let w = d.whole in
     record {
       left = _;
