@@ -45,11 +45,11 @@ need_giopcap() {
     exit 1
 }
 
-# The built giop-json, to which a link of scripts/ leads.
+# The built giop-json, which scripts/giop-json starts.
 need_giop_json() {
     giop_json=$PWD/crates/giop_json/out/giop_json
     [ -x "$giop_json" ] && return 0
-    echo "$0: $giop_json is missing: build it with: cd crates/giop_json && rt run -- --version" >&2
+    echo "$0: $giop_json is missing: scripts/build makes it" >&2
     exit 1
 }
 
