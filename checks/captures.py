@@ -11,8 +11,6 @@ failing, as checks/calls.py does it for giopdump, and with each of its requests 
 
 from __future__ import annotations
 
-import json
-import lzma
 import os
 import re
 import resource
@@ -32,6 +30,8 @@ from typing import Any, Dict, Iterator, List, Optional, Tuple
 from calls import fail_all
 from failing import EXAMPLES, GIOPCAP, SECONDS, TOP, Case, Differences, Ended
 from memory import refuse_each
+
+from reference.rows import REFUSED, octets_of, told_rows  # on the path by failing
 
 DATA = TOP / "checks/data"
 ROWS = ("captures-worked.json", "captures-generated.json.xz", "captures-real.json.xz")
@@ -59,7 +59,7 @@ class Row:
 
     def is_refused(self) -> bool:
         """Whether no capture is read."""
-        return self.status in (2, 3)
+        return self.status in REFUSED
 
     def is_said(self, said: bytes, signatures: Path, capture: Optional[Path]) -> bool:
         """Whether this is what standard error has."""
@@ -71,12 +71,6 @@ class Row:
         if self.lines.startswith(b"capture fault magic "):
             texts.append(f"giopcap: {capture or 'standard input'}: not a capture\n")
         return said == "".join(texts).encode()
-
-
-def octets_of(capture: str) -> bytes:
-    """The octets of hexadecimal words, each of which may have how often it stands behind it."""
-    parts = (word.partition("*") for word in capture.split())
-    return b"".join(bytes.fromhex(digits) * int(times or 1) for digits, _, times in parts)
 
 
 def row_of(told: Dict[str, Any]) -> Row:
@@ -93,8 +87,7 @@ def row_of(told: Dict[str, Any]) -> Row:
 
 def rows_of(name: str) -> List[Row]:
     """The rows of a file."""
-    octets = (DATA / name).read_bytes()
-    return [row_of(told) for told in json.loads(lzma.decompress(octets) if name.endswith(".xz") else octets)]
+    return [row_of(told) for told in told_rows(DATA / name)]
 
 
 class Rows:
