@@ -177,7 +177,8 @@ class Reading:
         )
         lines = list(dump.lines)
         for number, place in enumerate(dump.begun, 1):
-            lines.append((place, TIME, f"m{number} time {time_text(self._time(when(stream, place)[1]))}"))
+            packet = when(stream, place)[1]
+            lines.append((place, TIME, f"m{number} time {time_text(self._time(packet))} packet {packet + 1}"))
         for number, (header, call, packet) in answers.items():
             seconds = span_text(call.time, self._time(packet))
             text = f"s{call.stream} m{call.message} {call.operation.decode()} after {seconds}"

@@ -80,7 +80,7 @@ OF_MESSAGES = {
     "end": "end()",
     "start": rf"start (1\.\d) (big|little) ([A-Z][A-Za-z]*|{up_to(255)}) size ({ULONG})( more|)",
     "call": f"call ({ULONG}) ({NAME})",
-    "time": f"time ({TIME})",
+    "time": f"time ({TIME})(?: packet {NUMBER})?",
     "answers": rf"answers s({NUMBER}) m({NUMBER}) ({NAME}) after (-?{MANY}\.\d{{9}}|-)",
     "left": f"({PATH}) rest @({ULONG}) ({HEX})",
     "rest": f"(rest) @({MANY}) ({HEX})",
