@@ -1,5 +1,5 @@
 -- The code has a state: what is noted of a segment, and of a connection that is known from now on.
-use Rattle.std.proofs.Common.{◌≡◌, ℕ, ◌+◌, ◌<◌, cond, nat_eq, nat_lt, List, [], ◌∷◌, ◌++◌, length, set, None, refl, sym, ◌∙◌, ap, subst, arith, length-set}
+use Rattle.std.proofs.Common.{◌≡◌, ℕ, ◌+◌, ◌<◌, cond, nat_eq, List, [], ◌∷◌, ◌++◌, length, set, None, refl, sym, ◌∙◌, ap, subst, arith, length-set}
 use Rattle.std.specs.List.{insert}
 use Rattle.tcp_segment.specs.declared.endpoint.Flow.{Flow as Endpoints}
 use Rattle.tcp_flow.specs.Flow.{Event, Opens}
@@ -134,8 +134,8 @@ made O O' live live' c c' w p rest room h observed living free new state most ta
                 set u.lasts room u.segments;
             events = opened room p w.events;
           }) h.same;
-      told = λ id. h.told id ∙ ap (λ (xs : List ℕ). nat_lt 0 (times id xs))
-          (sym (opened_lives room p w.events));
+      told = λ id e. subst (λ (xs : List ℕ). 0 < times id xs) (sym (opened_lives room p w.events))
+          (h.told id e);
       sound = known_sound w p rest room (set w.lasts room w.segments) (opened room p w.events)
           h.sound had unknown long;
       free = most ∙ h.free ∙ sym long;

@@ -267,9 +267,6 @@ pub record SoFar (left rank : ℕ) (w : State) : Type 0 where
   pub enough : length w.held + length (lives w.events) ≤ left + rank
   pub before : (r : ℕ) → r < rank → count_of (get_or (lives w.events) r 0) w.held ≡ 0
 
-abbrev pub AreTold : State → Type 0
-AreTold w = (id : ℕ) → is_some (live_at w id) ≡ nat_lt 0 (times id (lives w.events))
-
 none_held : (id next : ℕ) (ps : List Payload) → is_some (first id next ps) ≡ false →
     count_of id ps ≡ 0
 none_held id next ps e = ap (count_of id) (sym (others_all id next ps e)) ∙ count_gone id ps
@@ -406,7 +403,8 @@ empty_by (p ∷ ps) h = absurd (let own : nat_eq p.flow p.flow ≡ true = eq-eqb
     omega (arith, h p.flow, one))
 
 -- where all flows whose streams live hold nothing, nothing is held
-pub all_so_far : (left rank : ℕ) (w : State) → IsSound w → AreTold w →
+pub all_so_far : (left rank : ℕ) (w : State) → IsSound w →
+    ((id : ℕ) → is_some (live_at w id) ≡ true → 0 < times id (lives w.events)) →
     length (lives w.events) ≤ rank → SoFar left rank w → w.held ≡ []
 unfolding live_of
 all_so_far left rank w h told over so = empty_by w.held (λ id. by id (flow_at w id) refl)
@@ -418,8 +416,7 @@ all_so_far left rank w h told over so = empty_by w.held (λ id. by id (flow_at w
           | inl e ↦
               (let live : is_some (live_at w id) ≡ true =
               ap (λ (o : Option FlowState). is_some (live_of o)) a ∙ holds_live w id s h a e in
-              let i = times_index id (lives w.events)
-              (ltb-true 0 (times id (lives w.events)) (sym (told id) ∙ live)) in
+              let i = times_index id (lives w.events) (told id live) in
               subst (λ (n : ℕ). count_of n w.held ≡ 0) i.1.1
               (so.before i.0 (omega (arith, i.1.0, over))))
           | inr e ↦ subst (λ (n : ℕ). count_of n w.held ≡ 0) (h.ids id s a)
