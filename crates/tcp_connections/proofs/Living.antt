@@ -104,7 +104,8 @@ either : {X : Type 0} (P : X → Type 0) (b : Bool) (x y : X) → P x → P y �
 either P true x y p q = p
 either P false x y p q = q
 
-closing_turn : {exact : Bool} (id : ℕ) (es : List Event) (g : Flow) (cause : CloseCause) → IsTurn exact id es g
+closing_turn : {exact : Bool} (id : ℕ) (es : List Event) (g : Flow) (cause : CloseCause) →
+    IsTurn exact id es g
     → IsTurn exact id es (record {
       id = g.id;
       next = g.next;
@@ -125,8 +126,8 @@ closing_turn {exact} id es g cause t =
           ∙ times_without g.id j (lives g.events) (λ o. n (o ∙ t.same)) ∙ t.beside j n;
     }
 
-pub closed_turn : {exact : Bool} (id : ℕ) (es : List Event) (g : Flow) (cause : CloseCause) → IsTurn exact id es g →
-    IsTurn exact id es (closed g cause)
+pub closed_turn : {exact : Bool} (id : ℕ) (es : List Event) (g : Flow) (cause : CloseCause) →
+    IsTurn exact id es g → IsTurn exact id es (closed g cause)
 unfolding closed with_event
 closed_turn {exact} id es g cause t =
     either (IsTurn exact id es) (is_some g.live)
@@ -141,7 +142,8 @@ closed_turn {exact} id es g cause t =
     }) g
     (closing_turn id es g cause t) t
 
-delivered_turn : {exact : Bool} (F : Reader) (id : ℕ) (es : List Event) (g : Flow) (p : Payload) → IsTurn exact id es g →
+delivered_turn : {exact : Bool} (F : Reader) (id : ℕ) (es : List Event) (g : Flow) (p : Payload) →
+    IsTurn exact id es g →
     IsTurn exact id es (delivered F g p)
 unfolding delivered with_event behind
 delivered_turn {exact} F id es g p t =
@@ -170,8 +172,8 @@ delivered_turn {exact} F id es g p t =
     }) d
     (closing_turn id es d Fault u) u
 
-begun_turn : {exact : Bool} (F : Reader) (id : ℕ) (es : List Event) (g : Flow) (q : Payload) (r : Option ℕ) →
-    id < most_ids → IsTurn exact id es g → IsTurn exact id es (flow_begun F g q r)
+begun_turn : {exact : Bool} (F : Reader) (id : ℕ) (es : List Event) (g : Flow) (q : Payload)
+    (r : Option ℕ) → id < most_ids → IsTurn exact id es g → IsTurn exact id es (flow_begun F g q r)
 unfolding flow_begun with_event behind
 begun_turn {exact} F id es g q None l t = t
 begun_turn {exact} F id es g q (Some i) l t =
@@ -196,7 +198,8 @@ begun_turn {exact} F id es g q (Some i) l t =
           ∙ t.beside j k;
     })
 
-taken_turn : {exact : Bool} (F : Reader) (id : ℕ) (es : List Event) (g : Flow) (p : Payload) → id < most_ids →
+taken_turn : {exact : Bool} (F : Reader) (id : ℕ) (es : List Event) (g : Flow) (p : Payload) →
+    id < most_ids →
     IsTurn exact id es g → IsTurn exact id es (taken F g p)
 unfolding taken
 taken_turn {exact} F id es g p l t =
@@ -207,7 +210,8 @@ taken_turn {exact} F id es g p l t =
     (either (IsTurn exact id es) (is_some g.live) d b (delivered_turn F id es g q t)
     (begun_turn F id es g q (header_at q.octets) l t))
 
-pub turn_keeps : {exact : Bool} (F : Reader) (id : ℕ) (es : List Event) → id < most_ids → Keeps F (IsTurn exact id es)
+pub turn_keeps : {exact : Bool} (F : Reader) (id : ℕ) (es : List Event) → id < most_ids →
+    Keeps F (IsTurn exact id es)
 turn_keeps {exact} F id es l =
     record {
       takes = λ f i e d t. taken_turn F id es (record f { held = remove f.held i }) (at f i) l
@@ -216,7 +220,8 @@ turn_keeps {exact} F id es l =
       fins = λ f n t. record { same = t.same; own = t.own; beside = t.beside };
     }
 
-came_turn : {exact : Bool} (A : Setting) (id : ℕ) (es : List Event) (f : Flow) (p : Payload) → id < most_ids →
+came_turn : {exact : Bool} (A : Setting) (id : ℕ) (es : List Event) (f : Flow) (p : Payload) →
+    id < most_ids →
     IsTurn exact id es f → IsTurn exact id es (payload_came A f p)
 unfolding payload_came holding
 came_turn {exact} A id es f p l t =
@@ -230,7 +235,8 @@ came_turn {exact} A id es f p l t =
     (gone_on_keeps A.faulted (IsTurn exact id es) k h
     (record { same = t.same; own = t.own; beside = t.beside })))
 
-fin_turn : {exact : Bool} (F : Reader) (id : ℕ) (es : List Event) (f : Flow) (n : ℕ) → id < most_ids →
+fin_turn : {exact : Bool} (F : Reader) (id : ℕ) (es : List Event) (f : Flow) (n : ℕ) →
+    id < most_ids →
     IsTurn exact id es f → IsTurn exact id es (fin_came F f n)
 unfolding fin_came
 fin_turn {exact} F id es f n l t =
@@ -240,7 +246,8 @@ fin_turn {exact} F id es f n l t =
     (gone_on_keeps F (IsTurn exact id es) k (record f { fin = Some n })
     (record { same = t.same; own = t.own; beside = t.beside })) t
 
-pub step_turn : {exact : Bool} (A : Setting) (id : ℕ) (es : List Event) (f : Flow) (a : Arrival) → id < most_ids →
+pub step_turn : {exact : Bool} (A : Setting) (id : ℕ) (es : List Event) (f : Flow) (a : Arrival) →
+    id < most_ids →
     IsTurn exact id es f → IsTurn exact id es (step A f a)
 unfolding step
 step_turn {exact} A id es f (Octets n octets) l t = came_turn A id es f (payload f.id n octets) l t
@@ -248,7 +255,8 @@ step_turn {exact} A id es f (End n) l t = fin_turn A.faulted id es f n l t
 step_turn {exact} A id es f (Acknowledged n) l t =
     missed_keeps A.faulted (IsTurn exact id es) (turn_keeps A.faulted id es l) (length f.held) n f t
 
-pub gap_turn : {exact : Bool} (F : Reader) (id : ℕ) (es : List Event) (f : Flow) → id < most_ids → IsTurn exact id es f →
+pub gap_turn : {exact : Bool} (F : Reader) (id : ℕ) (es : List Event) (f : Flow) →
+    id < most_ids → IsTurn exact id es f →
     IsTurn exact id es (gap F f)
 gap_turn {exact} F id es f l t = gap_keeps F (IsTurn exact id es) (turn_keeps F id es l) f t
 

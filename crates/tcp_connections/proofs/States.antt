@@ -53,8 +53,8 @@ segments_of (Err x) O live c w n e h = tt
 -- no event is part of what is so of a state
 pub sound_any : (c : Connections) (es fs : List Event) → IsSound (state_of c es) →
     IsSound (state_of c fs)
-sound_any c es fs h = sound_seen (state_of c es) (state_of c es).lasts (state_of c es).segments fs
-    refl h
+sound_any c es fs h = sound_seen (state_of c es) (state_of c es).lasts (state_of c es).syns
+    (state_of c es).segments fs refl h
 
 -- what is no flow's
 abbrev pub rest_of : Connections → List Event → State
@@ -185,7 +185,8 @@ forgot_done O O' live live' c c' es id s' f h l n turn rest flows pool held free
       live = n.observed.1;
       same = changed c c' f.events rest (set c.flows.items id None) (held_by_others id c.pool.held)
           flows pool held;
-      told = told_flow false (state_of c es) id None f.events h.told l (λ e. absurd (true≢false (sym e)))
+      told = told_flow false (state_of c es) id None f.events h.told l (λ e. absurd (true≢false
+          (sym e)))
           turn.beside;
       sound = forgot_sound (state_of c es) id f.events h.sound l;
       free = free ∙ h.free;

@@ -46,6 +46,7 @@ state_of c events = record {
   rooms = c.table.rooms.items;
   free = c.free.free.items;
   lasts = c.stamps.last.items;
+  syns = c.syns.kept.items;
   flows = c.flows.items;
   held = c.pool.held;
   events = events;

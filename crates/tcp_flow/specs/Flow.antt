@@ -6,7 +6,7 @@ use Rattle.tcp_flow.specs.declared.flow.CloseCause.{CloseCause}
 use Rattle.tcp_flow.specs.declared.flow.CloseCause.TheVariants.{Fin, Gap, Fault}
 use Rattle.tcp_segment.specs.declared.endpoint.Flow as endpoints
 use Rattle.tcp_waiting.specs.Payload.{Payload, payload, window, first, blocks_of, is_far, has_as_much}
-use Rattle.tcp_waiting.specs.Numbers.{onward, age, is_to_come}
+use Rattle.tcp_waiting.specs.Numbers.{ahead, onward, age, is_to_come}
 
 -- what happens in a capture beside its flows: a packet arrives, at a time in nanoseconds since
 -- 1970-01-01 UTC where it has one;
@@ -56,6 +56,11 @@ pub record Flow : Type 0 where
   pub fin : Option ℕ
   pub held : List Payload
   pub events : List Event
+
+-- whether a number is at most W in front of the one that is due, or behind it, as the window of a
+-- receiver reaches (RFC 5961, Sections 3.2 and 4.2)
+abbrev pub is_near : ℕ → ℕ → Bool
+is_near next number = nat_le (ahead next number) window || nat_le (ahead number next) window
 
 -- whether `GIOP` 01 and 00, 01 or 02 stand first
 abbrev pub is_header : List ℕ → Bool
