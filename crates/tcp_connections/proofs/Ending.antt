@@ -9,7 +9,7 @@ use Rattle.tcp_flow.specs.declared.flow.CloseCause.TheVariants.{Fault, Gap}
 use Rattle.tcp_flow.specs.declared.flow.FlowState.{FlowState}
 use Rattle.tcp_waiting.specs.Numbers.{onward}
 use Rattle.tcp_waiting.specs.Payload.{Payload, payload, first, count_of}
-use Rattle.tcp_flow.specs.Flow.{Flow, Begins, Delivers, Closes, Reader, left, with_event, delivered, begun as flow_begun, taken, header_at, at, closed, gap, first_of, held_by_others}
+use Rattle.tcp_flow.specs.Flow.{Flow, Begins, Delivers, Closes, Reader, left, with_event, delivered, begun as flow_begun, taken, stream_at, at, closed, gap, first_of, held_by_others}
 use Rattle.tcp_flow.specs.State.{state}
 use Rattle.tcp_flow.proofs.Preserving.{Keeps, gone_on_keeps}
 use Rattle.tcp_flow.proofs.Room.{gap_fewer}
@@ -220,10 +220,10 @@ unfolding taken
 taken_tail F id others g p o t =
     let q : Payload = left g.next (is_some g.live) p in
     let d : Flow = delivered F g q in
-    let b : Flow = flow_begun F g q (header_at q.octets) in
+    let b : Flow = flow_begun F g q (stream_at q.octets) in
     either (IsTail id others) (nat_eq (length q.octets) 0) g (cond (is_some g.live) d b) t
     (either (IsTail id others) (is_some g.live) d b (delivered_tail F id others g q o t)
-    (begun_tail F id others g q (header_at q.octets) o t))
+    (begun_tail F id others g q (stream_at q.octets) o t))
 
 tail_keeps : (F : Reader) (id : ℕ) (others : List ℕ) → IsOther id others →
     Keeps F (IsTail id others)

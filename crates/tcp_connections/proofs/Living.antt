@@ -6,7 +6,7 @@ use Rattle.tcp_flow.specs.declared.flow.CloseCause.{CloseCause}
 use Rattle.tcp_flow.specs.declared.flow.CloseCause.TheVariants.{Fault}
 use Rattle.tcp_waiting.specs.Numbers.{onward, age}
 use Rattle.tcp_waiting.specs.Payload.{Payload, payload, has_as_much}
-use Rattle.tcp_flow.specs.Flow.{Flow, Event, Opens, Begins, Delivers, Closes, OfCapture, Reader, Setting, Arrival, Octets, End, Acknowledged, left, with_event, delivered, begun as flow_begun, taken, header_at, at, closed, holding, gone_on, within_bounds, payload_came, fin_came, gap, fresh, first_payload, step}
+use Rattle.tcp_flow.specs.Flow.{Flow, Event, Opens, Begins, Delivers, Closes, OfCapture, Reader, Setting, Arrival, Octets, End, Acknowledged, left, with_event, delivered, begun as flow_begun, taken, stream_at, at, closed, holding, gone_on, within_bounds, payload_came, fin_came, gap, fresh, first_payload, step}
 use Rattle.tcp_flow.proofs.Preserving.{Keeps, gone_on_keeps, relieved_keeps, missed_keeps, gap_keeps}
 use Rattle.tcp_streams.specs.Lives.{lives, lives_from, behind, begun, without, most_ids, AreIds}
 use Rattle.tcp_streams.proofs.Ids.{none_ids, begun_ids, without_ids, none_left}
@@ -205,10 +205,10 @@ unfolding taken
 taken_turn {exact} F id es g p l t =
     let q : Payload = left g.next (is_some g.live) p in
     let d : Flow = delivered F g q in
-    let b : Flow = flow_begun F g q (header_at q.octets) in
+    let b : Flow = flow_begun F g q (stream_at q.octets) in
     either (IsTurn exact id es) (nat_eq (length q.octets) 0) g (cond (is_some g.live) d b) t
     (either (IsTurn exact id es) (is_some g.live) d b (delivered_turn F id es g q t)
-    (begun_turn F id es g q (header_at q.octets) l t))
+    (begun_turn F id es g q (stream_at q.octets) l t))
 
 pub turn_keeps : {exact : Bool} (F : Reader) (id : ℕ) (es : List Event) → id < most_ids →
     Keeps F (IsTurn exact id es)

@@ -11,7 +11,7 @@ use Rattle.tcp_waiting.specs.Payload.{Payload, first}
 use Rattle.tcp_flow.specs.declared.flow.CloseCause.{CloseCause}
 use Rattle.tcp_flow.specs.declared.flow.CloseCause.TheVariants.{Reset, Syn, Room, Gap, End as CaptureEnd}
 use Rattle.tcp_flow.specs.declared.flow.FlowState.{FlowState}
-use Rattle.tcp_flow.specs.Flow.{Flow, Event, CaptureEvent, Opens, OfCapture, Reader, Arrival, Octets, End, Acknowledged, setting, is_near, header_at, closed, gap, step as flow_step, first_payload, held_by_others}
+use Rattle.tcp_flow.specs.Flow.{Flow, Event, CaptureEvent, Opens, OfCapture, Reader, Arrival, Octets, End, Acknowledged, setting, is_near, stream_at, closed, gap, step as flow_step, first_payload, held_by_others}
 use Rattle.tcp_flow.specs.State.{state}
 use Rattle.tcp_connections.specs.declared.syns.KeptSyn.{KeptSyn}
 use Rattle.tcp_rooms.specs.Rooms.{rooms_below}
@@ -218,7 +218,7 @@ is_chosen ports flow =
 
 -- whether a segment's payload may begin the first stream of its flow
 abbrev pub is_first : List ℕ → Segment → Bool
-is_first ports s = not s.reset && is_chosen ports s.flow && is_some (header_at s.payload)
+is_first ports s = not s.reset && is_chosen ports s.flow && is_some (stream_at s.payload)
 
 -- ---- A SYN of a known connection.
 

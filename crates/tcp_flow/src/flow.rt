@@ -149,7 +149,7 @@ fn is_header(octets: &[u8]) -> bool
 }
 
 /// Where a GIOP header stands first: `GIOP` 01 and 00, 01 or 02.
-pub fn header_at(octets: &[u8]) -> Option<usize>
+pub(crate) fn header_at(octets: &[u8]) -> Option<usize>
     ensures at { result ≡ spec_header_at octets.now }
     ensures within { IfSome result (λ i. i < length octets.now) }
 {
