@@ -1,6 +1,6 @@
--- What is kept of the ids of a table by their remainders (state). Each id that is removed moves those
--- after it up by one place at most. So a number that was at most the place of an id when it came is
--- at most its place now and the removals since.
+-- What is kept of the ids of a table by their remainders (state). Each id that is removed moves
+-- those after it up by one place. So a number that was at most the place of an id when it came is at
+-- most its place now and the removals since.
 use Rattle.std.specs.Prelude.{◌≡◌, ◌==◌, ◌<◌, ◌≤◌, ◌^◌, ℕ, ◌+◌, ◌%◌, List, length, get_or}
 use Rattle.std.specs.List.{count_by}
 
