@@ -17,7 +17,8 @@ returns-in_default-clause-again c m fits stored =
     let octets = c.octets_at-octets.ensures _ [] long (sym (append-nil _)) in
     let on = goes_on c.args.catalogue.now m _ _ _ _ _ _ fits stored
     c.eight_at-at.ensures c.octet_at.ensures octets c.restore.ensures.again in
-    absurd (there (λ p. GoesOn c.args.catalogue.now m.decoder m.part p.1 p.0) _ on c.in_default.not-Some)
+    absurd (there (λ p. GoesOn c.args.catalogue.now m.decoder m.part p.1 p.0) _ on
+    c.in_default.not-Some)
 
 pub returns-then-not-same-clause-again : goal.returns-then-not-same-clause-again
 returns-then-not-same-clause-again c m fits stored =
@@ -50,7 +51,8 @@ returns-clause-stored c =
         at = c.own_octets.ensures.at;
         id = c.own_octets.ensures.id;
       };
-      part = subst (λ (xs : List ℕ). PartStored c.in-Some.decoder c.in-Some.part xs frames) octets stored;
+      part = subst (λ (xs : List ℕ). PartStored c.in-Some.decoder c.in-Some.part xs frames) octets
+          stored;
     }
 
 pub returns-clause-follows : goal.returns-clause-follows
