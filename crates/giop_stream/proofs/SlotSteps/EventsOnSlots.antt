@@ -1,5 +1,5 @@
 -- Calls of the code that do an event or a run: what the slots represent then.
-use Rattle.std.proofs.Common.{false, arith, ◌≡◌, ℕ, ◌<◌, not, List, [], ◌∷◌, ◌++◌, length, refl, sym, ap, subst, ◌∙◌, Option, Some, None, Result, append-nil}
+use Rattle.std.proofs.Common.{arith, ◌≡◌, ℕ, ◌<◌, not, List, [], ◌∷◌, ◌++◌, length, refl, sym, ap, subst, ◌∙◌, Option, Some, None, Result, append-nil}
 use Rattle.std.specs.Prelude.{◌==◌, slice_get, slice_set, option_map}
 use Rattle.std.specs.List.{filter, remove, AllByRecursion as Each}
 use Rattle.std.proofs.lemmas.Bool.{ne_eqb}
@@ -255,14 +255,6 @@ module _ (C : Table) (l : Answers) where
       absurd (n (no_more_slots C l s.slots.entries (slots_of c.known c.still_open) k
       (record { open_as = p.slot; octets = c.known p.slot.opener.number }) h.slots
       (slots_get c k p.slot p.here)))
-
-  pub begin_keeps : (s : Slots) (m : Message) (c : Tracked) (owner_of_next : Option MessageKey)
-      (w : MessageKey) (number : ℕ) (header : List ℕ)
-      → SlotsRepresent C l s c owner_of_next → Follows C l number header m [] → w.number ≡ number →
-      w.header ≡ header
-      → c.known w.number ≡ Some [] → Each (λ o. o.opener.number ≡ w.number → ⊥) c.still_open
-      → SlotsRepresent C l (record { slots = s.slots; owner = owners.Current (Some m) false }) c (Some w)
-  begin_keeps s m c owner_of_next w number header h e n f known apart = search (arith)
 
   -- an event without a line and without an octet
   opens_then : (at : ℕ) (w : MessageKey) (i : ℕ) (o : Option (List ℕ)) →

@@ -23,7 +23,8 @@ returns-else-is_over-clause-does g c =
     (g.Q.Correspondent.state c.args.correspondent.now))
     _ c.in-Current.message c.take_octets.new.message
     (refl, rw c.if-is_over.false refl)
-    (rw (c.in-Current.is, c.if-is_over.false) (refl, refl)) (λ w o k agrees. c.take_octets.ensures.does a w o k agrees)
+    (rw (c.in-Current.is, c.if-is_over.false) (refl, refl))
+    (λ w o k agrees. c.take_octets.ensures.does a w o k agrees)
 
 pub returns-in-Open-None-clause-does : goal.returns-in-Open-None-clause-does
 returns-in-Open-None-clause-does g c =
