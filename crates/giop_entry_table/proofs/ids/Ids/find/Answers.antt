@@ -1,4 +1,4 @@
-use Rattle.std.proofs.Common.{◌≡◌, ◌==◌, ◌<◌, ℕ, true, false, length, get_or, refl, sym, ap, ◌∙◌, ◌%◌, arith, zero-add}
+use Rattle.std.proofs.Common.{◌≡◌, ◌==◌, ◌<◌, ℕ, false, length, get_or, sym, ap, ◌∙◌, ◌%◌, arith}
 use Rattle.std.proofs.lemmas.Bool.{ne_eqb}
 use Rattle.giop_entry_table.proofs.IdLemmas.{position-behind}
 use Rattle.giop_entry_table.proofs.ids.Ids.find.Goals as goal

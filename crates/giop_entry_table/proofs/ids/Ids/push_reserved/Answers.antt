@@ -1,4 +1,4 @@
-use Rattle.std.proofs.Common.{◌%◌, ◌==◌, length, get_or, sym, ap, ◌∙◌, arith}
+use Rattle.std.proofs.Common.{◌%◌, ◌==◌, length, arith}
 use Rattle.std.proofs.lemmas.List.{length-set}
 use Rattle.std.proofs.lemmas.List.Sums.{count_by-le-length}
 use Rattle.giop_entry_table.proofs.ListLemmas.{read-at}

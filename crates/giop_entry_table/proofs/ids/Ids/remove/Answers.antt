@@ -1,4 +1,4 @@
-use Rattle.std.proofs.Common.{◌%◌, length, get_or, sym, ap, ◌∙◌, arith}
+use Rattle.std.proofs.Common.{◌%◌, length, ap, ◌∙◌, arith}
 use Rattle.std.proofs.lemmas.List.{length-set}
 use Rattle.giop_entry_table.proofs.ListLemmas.{read-at}
 use Rattle.giop_entry_table.proofs.IdLemmas.{some_counted, indexed_remove}
