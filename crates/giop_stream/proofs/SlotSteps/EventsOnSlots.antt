@@ -14,7 +14,6 @@ use Rattle.giop_stream.specs.declared.slots.PayloadOwner.TheVariants as owners
 use Rattle.giop_sig.specs.Table.{Table}
 use Rattle.giop_message.specs.Signatures.{Answers}
 use Rattle.giop_message.specs.ReaderOfTable.{message_reader}
-use Rattle.giop_message.specs.MessageState.{Follows}
 use Rattle.giop_print.specs.Output.{OutLog}
 use Rattle.giop_stream.specs.Events.{MessageKey, Open, EventKind, Takes, Opens, Faults, Cancelled, Closes, octet, changed, Rising}
 use Rattle.giop_stream.specs.Lines.{lines_of_event, up_to_last_line}
