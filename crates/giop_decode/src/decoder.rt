@@ -22,8 +22,8 @@ ghost use Rattle.giop_sig.specs.Fits.{IsFit, IsEmptyStruct};
 ghost use Rattle.giop_sig.specs.Trees.{tree};
 
 use crate::contents::let_go;
-use crate::frame::{Frame, begin, coding, go_on, has_ended, is_empty, is_inside, tick};
-use crate::leaf::{Finished, Leaf, Transition, take_octet};
+use crate::frame::{Frame, begin, go_on, has_ended, is_empty, is_inside, tick};
+use crate::leaf::{Finished, Leaf, Transition};
 use crate::line::write_line;
 use crate::lookahead::Lookahead;
 use crate::notes::Notes;
@@ -279,57 +279,6 @@ impl Decoder {
                 self.inside = is_inside(self.inside, self.outer.as_slice());
             }
         }
-    }
-
-    /// Does one step: the output of the innermost part is written and noted, and then the parts around it go on. It is
-    /// never inlined, so that the loops over octets have few instructions.
-    #[inline(never)]
-    pub(crate) fn advance<O: Out>(
-        &mut self,
-        catalogue: &Catalogue,
-        octet: u8,
-        out: &mut O,
-    ) -> Result<Progress, OutFault>
-        requires fits { Fits catalogue.now self.old }
-        ensures order { OnOk result (self.new.order ≡ self.old.order) }
-        ensures head { OnOk result (self.new.head ≡ self.old.head) }
-        ensures here { OnOk result ((here : ℕ) → CanStandAt self.old here →
-            CanStandAt self.new (here + 1)) }
-        ensures fits { IfOk result (λ p. GoesOn p → Fits catalogue.now self.new) }
-        ensures writes { (here : ℕ) → CanStandAt self.old here →
-            Writes result (O.log out.old) (O.log out.new)
-            (lines_text self.old.head.message self.old.head.root
-            (lines_of (decoder_step catalogue.now self.old here octet))) }
-        ensures steps { IfOk result (λ p. (here : ℕ) → CanStandAt self.old here →
-            Comes catalogue.now self.new p (here + 1)
-            (decoder_step catalogue.now self.old here octet)) }
-        ensures keeps_noted { OnOk result ((here : ℕ) (front : List Line) →
-            CanStandAt self.old here →
-            KeepsNoted self.old.head.root self.old
-            (read_by_fields catalogue.now self.old front here) →
-            KeepsNoted self.old.head.root self.new
-            (with_front front (decoder_step catalogue.now self.old here octet))) }
-    {
-        let Some(leaf) = self.leaf else {
-            unreachable!();
-        };
-        let coded = coding(self.inside, self.order, self.at, self.outer.as_slice());
-        let step = take_octet(
-            catalogue,
-            coded,
-            leaf,
-            octet,
-            &mut self.carry,
-            &mut self.piece,
-        );
-        let ahead = Lookahead {
-            of: leaf.of(),
-            count: 1,
-            step,
-            rest: &[],
-        };
-        let progress = self.emit(catalogue, ahead, false, out)?;
-        Ok(progress)
     }
 
     /// Takes the last of octets that the innermost part takes together, where all others are taken:

@@ -19,8 +19,8 @@ returns-in-Some-clause-ahead c =
     let d = c.args.self.now in
     comes_number c.args.catalogue.now d c.in-Some-Number.of c.args.octets.now c.in-Some.count
     c.requires.fits e
-    (c.if-not-is_empty.ensures.0 refl) c.args.coded.0 c.args.coded.1 c.requires.coded
-    c.in-Some.number c.in-Some.ensures.whole c.requires.ahead
+    c.args.coded.0 c.args.coded.1 c.requires.coded c.in-Some.number
+    (c.if-not-is_empty.ensures.0 refl) c.in-Some.ensures.whole c.requires.ahead
 
 pub returns-in-Some-clause-plain : goal.returns-in-Some-clause-plain
 returns-in-Some-clause-plain c = record {
