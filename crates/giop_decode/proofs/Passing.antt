@@ -27,8 +27,8 @@ use Rattle.giop_sig.specs.declared.types.TypeId.{TypeId}
 -- a decoder before them, and at the last of them
 module _ (C : Table) (d : Decoder) (octets : List ℕ) (of : TypeId) (count : ℕ) (step : Step)
     (rest : List ℕ) (f : Fits C d) (m : Decoder)
-    (h : TakenTogether C d octets of count step rest m.carry m.piece.items) (on : IsAtLast d m count)
-  where
+    (h : TakenTogether C d octets of count step rest m.carry m.piece.items)
+    (on : IsAtLast d m count) where
   abbrev octet : ℕ
   octet = get_or octets (count - 1) 0
 

@@ -1,10 +1,10 @@
 -- Octets that are taken together do what they do one after another: those of a number, or the rest
 -- of a piece.
-use Rattle.std.proofs.Common.{◌≡◌, ◌≢◌, ℕ, ◌+◌, ◌-◌, ◌%◌, ◌^◌, true, false, ◌<◌, ◌≤◌, inl, inr, take_all, List, [], ◌∷◌, ◌++◌, length, take, drop, get_or, Some, None, refl, sym, ◌∙◌, ap, subst, arith, length-append, length-drop, take-add, append_assoc}
+use Rattle.std.proofs.Common.{◌≡◌, ◌≢◌, ℕ, ◌+◌, ◌-◌, ◌%◌, ◌^◌, true, false, ◌<◌, ◌≤◌, inl, inr, take_all, List, [], ◌∷◌, ◌++◌, length, take, get_or, Some, None, refl, sym, ◌∙◌, ap, subst, arith, length-append, append_assoc}
 use Rattle.std.proofs.lemmas.Bool.{cases_lt}
 use Rattle.giop_decode.specs.declared.progress.Kind.TheVariants as kinds
 use Rattle.std.proofs.Math.Bool.{and-true, and-false}
-use Rattle.std.proofs.lemmas.List.{get_or-drop, length-take-le}
+use Rattle.std.proofs.lemmas.List.{length-take-le}
 use Rattle.giop_cdr.proofs.NumberLaws.{num_bound}
 use Rattle.giop_cdr.specs.Numbers.{AreOctets, num, interpreted_as}
 use Rattle.giop_cdr.specs.Primitives.{size_of}
@@ -143,7 +143,8 @@ module _ (C : Table) (d : Decoder) (of : TypeId) (octets : List ℕ) (count : �
 
   -- its last octet is still to come
   pub number_waits : (order : Order) (at : ℕ) → coding_by d.order d.at d.outer.items ≡ (order, at) →
-      (all : List ℕ) → NumberStands (leading_width (tree C of.0)) at d.carry octets count false all →
+      (all : List ℕ) →
+      NumberStands (leading_width (tree C of.0)) at d.carry octets count false all →
       HaveOctetsLeft (ticked_by (length octets - 1) d.outer.items) →
       TakenTogether C d octets of count (record {
         transition = transitions.More (innermost.Number of);
@@ -511,7 +512,8 @@ module _ (C : Table) (d : Decoder) (of : TypeId) (total offset : ℕ) (octets : 
       let size : length piece ≡ length d.piece.items + (count - 1) =
       held_size (count - 1) (omega (arith, within)) in
       let all : piece ++ b ∷ [] ≡ d.piece.items ++ octets =
-      with_last some within ∙ ap (λ xs. d.piece.items ++ xs) (take_all count octets (omega (arith, counted))) in
+      with_last some within
+      ∙ ap (λ xs. d.piece.items ++ xs) (take_all count octets (omega (arith, counted))) in
       let long = length-append d.piece.items octets in
       record {
         leaf = innermost.Content of total offset;
@@ -546,7 +548,7 @@ module _ (C : Table) (d : Decoder) (of : TypeId) (total offset : ℕ) (octets : 
           length (d.piece.items ++ octets) + 0 ≤ 32
       waits_short parted =
           elim (cases_lt 32 (total - offset)) [
-            inl large ↦ omega (arith, parted.0 large, length-append d.piece.items octets)
+            | inl large ↦ omega (arith, parted.0 large, length-append d.piece.items octets)
             | inr small ↦ omega (
               arith,
               parted.1 small,
@@ -645,8 +647,8 @@ is_at_last d count at outer there counted = search (arith)
 -- a decoder before octets that it takes together, and at the last of them
 module _ (C : Table) (d : Decoder) (octets : List ℕ) (of : TypeId) (count : ℕ) (s : Step)
     (rest : List ℕ) (f : Fits C d) (m : Decoder)
-    (h : TakenTogether C d octets of count s rest m.carry m.piece.items) (on : IsAtLast d m count)
-  where
+    (h : TakenTogether C d octets of count s rest m.carry m.piece.items)
+    (on : IsAtLast d m count) where
   -- the decoder after all but the last of them
   abbrev pub before_last : Decoder
   before_last = held_in m h.carry (record { items = h.piece })

@@ -110,7 +110,8 @@ pub text_stands : (C : Table) (d : Decoder) (octets : List ℕ) (of inner by : T
     (bound : Option ℕ) (text : TextAhead) → d.inside ≡ false → d.leaf ≡ Some (innermost.Number of) →
     tree C of.0 ≡ Text bound →
     s.transition ≡ transitions.More (innermost.Content inner total 0) → s.output ≡ outputs.Length →
-    TakenTogether C d octets by head s rest d.carry d.piece.items → total ≤ 32 → total < length (drop head octets) →
+    TakenTogether C d octets by head s rest d.carry d.piece.items → total ≤ 32 →
+    total < length (drop head octets) →
     get_or (drop head octets) total 0 ≡ 0 → text.of ≡ inner → text.head ≡ head →
     text.content.now ≡ take total (drop head octets) → IsTextAhead C d octets text
 text_stands C d octets of inner by head total s rest bound text outside leaf is transition output t
@@ -233,8 +234,8 @@ module _ (C : Table) (d : Decoder) (octets : List ℕ) (text : TextAhead) (f : F
 
   pub begun_fits : Fits C begun
   begun_fits =
-      last_fits C d octets text.of text.head step h.none f at_head h.leads on_head begun progress.More
-      length_passes tt
+      last_fits C d octets text.of text.head step h.none f at_head h.leads on_head begun
+      progress.More length_passes tt
 
   begun_so_far : (a : OutLog) → TakenSoFar C d begun octets text.head a a
   begun_so_far a =

@@ -178,7 +178,13 @@ impl Decoder {
         let width = width(catalogue, of);
         let count = hold_number(&mut self.carry, at, width, octets);
         if self.carry.len() < usize::from(width) {
-            return self.finish(catalogue, octets, held(of, count, Leaf::Number(of)), false, out);
+            return self.finish(
+                catalogue,
+                octets,
+                held(of, count, Leaf::Number(of)),
+                false,
+                out,
+            );
         }
         let step = take_value(catalogue, order, of, self.carry.as_slice());
         self.carry.clear();
@@ -209,7 +215,13 @@ impl Decoder {
             (O.log out.old) (O.log out.new) result }
     {
         match self.piece.try_extend_from_slice(octets) {
-            Ok(()) => self.finish(catalogue, octets, held(leaf.of(), octets.len(), leaf), false, out),
+            Ok(()) => self.finish(
+                catalogue,
+                octets,
+                held(leaf.of(), octets.len(), leaf),
+                false,
+                out,
+            ),
             Err(_) => unreachable!(),
         }
     }

@@ -1,4 +1,4 @@
-use Rattle.std.proofs.Common.{◌≡◌, ◌<◌, ◌≤◌, [], length, take, drop, arith, length-drop, length-append, ap, min, refl, inl, inr}
+use Rattle.std.proofs.Common.{◌≡◌, [], length, take, drop, arith, length-drop, length-append, ap, min, refl, inl, inr}
 use Rattle.std.proofs.lemmas.List.{length-take-le}
 use Rattle.std.proofs.lemmas.Bool.{cases_lt, false≢true}
 use Rattle.giop_print.proofs.Writing.{rest_from}
@@ -46,6 +46,7 @@ returns-clause-stands c =
     rw (held, none) (first_stand c.args.width c.args.at n octets c.requires.width p
     c.requires.small (omega (arith, few)) (λ more. omega (arith, few, within, l, more))
     (elim (cases_lt 0 (length (drop p octets))) [
-      inl h ↦ omega (arith, some h) | inr h ↦ omega (arith, few, l, h, c.requires.some)
+      | inl h ↦ omega (arith, some h)
+      | inr h ↦ omega (arith, few, l, h, c.requires.some)
     ])
     (omega (arith, few, within, l)) (omega (arith, c.hold_some-2.ensures.room, ap length none)))

@@ -1,4 +1,3 @@
-use Rattle.std.proofs.Common.{◌-◌, ◌∙◌}
 use Rattle.giop_decode.proofs.Passing.{last_says, passed_broken, passed_some}
 use Rattle.giop_decode.proofs.Whole.{around_whole, at_last, held_at_last}
 use Rattle.giop_decode.proofs.decoder.Decoder.finish.Goals as goal

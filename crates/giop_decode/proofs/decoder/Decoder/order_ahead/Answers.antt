@@ -1,4 +1,3 @@
-use Rattle.std.proofs.Common.{refl}
 use Rattle.giop_decode.proofs.Advancing.{stands_at}
 use Rattle.giop_decode.proofs.Whole.{comes_order}
 use Rattle.giop_decode.specs.declared.leaf.Leaf.TheVariants as innermost

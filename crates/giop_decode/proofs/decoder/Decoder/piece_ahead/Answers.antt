@@ -1,4 +1,4 @@
-use Rattle.std.proofs.Common.{◌+◌, ◌-◌, refl, arith}
+use Rattle.std.proofs.Common.{◌+◌, refl, arith}
 use Rattle.giop_decode.proofs.Advancing.{stands_at}
 use Rattle.giop_decode.specs.declared.leaf.Leaf.TheVariants as innermost
 use Rattle.giop_decode.proofs.Whole.{comes_full, comes_last, comes_unended, tail_small}
@@ -15,11 +15,29 @@ returns-then-octets-size-clause-parted c =
     let held = c.len.ensures.value in
     let content = (stands_at c.args.catalogue.now c.args.self.now c.requires.fits
     (innermost.Content c.args.of c.args.total c.args.offset) c.requires.leaf).fits in (
-      (λ large. omega (arith, large, left, few, size, least, held, content.room_full large,
-          c.octets_behind-behind.ensures.full (omega (arith, large, left)))),
-      (λ small. omega (arith, small, left, few, size, least, held, content.room_last small,
-          tail_small (tree c.args.catalogue.now c.args.of.0),
-          c.octets_behind-behind.ensures.last (omega (arith, small, left)))),
+      (λ large. omega (
+        arith,
+        large,
+        left,
+        few,
+        size,
+        least,
+        held,
+        content.room_full large,
+        c.octets_behind-behind.ensures.full (omega (arith, large, left)),
+      )),
+      (λ small. omega (
+        arith,
+        small,
+        left,
+        few,
+        size,
+        least,
+        held,
+        content.room_last small,
+        tail_small (tree c.args.catalogue.now c.args.of.0),
+        c.octets_behind-behind.ensures.last (omega (arith, small, left)),
+      )),
     )
 
 pub returns-then-left-gt32-clause-ahead : goal.returns-then-left-gt32-clause-ahead
@@ -60,6 +78,6 @@ returns-clause-ahead c =
     (omega (arith, small, left, c.saturating_sub-size.ensures, c.min.ensures, c.len.ensures.value))
     refl (omega (arith, c.if-octets-size.false))
     (λ some. elim c.else-behind-gt0.branch [
-      else-behind-gt0-via-then-behind-gt0+else-octets-size-ne0 w ↦ w.if-octets-size-ne0.false
+      | else-behind-gt0-via-then-behind-gt0+else-octets-size-ne0 w ↦ w.if-octets-size-ne0.false
       | else-behind-gt0-via-else-behind-gt0 w ↦ absurd (omega (arith, some, w.if-behind-gt0.false))
     ])

@@ -1,4 +1,4 @@
-use Rattle.std.proofs.Common.{◌≡◌, ℕ, ◌-◌, ◌<◌, ◌≤◌, List, [], length, false, Some, None, ◌∙◌, ap, arith, ne_eqb}
+use Rattle.std.proofs.Common.{◌≡◌, ℕ, ◌-◌, ◌<◌, List, [], length, false, Some, None, ◌∙◌, ap, arith, ne_eqb}
 use Rattle.std.specs.Prelude.{eqb}
 use Rattle.std.proofs.lemmas.Bool.{eq-eqb}
 use Rattle.giop_cdr.specs.Numbers.{num}
@@ -79,7 +79,8 @@ finish-requires-clause-held g c =
     let d = c.args.self.now in
     let e = c.held.ensures in
     let s = c.hold_number-count in
-    let head = (stands_at C d c.requires.fits (innermost.Number c.args.of) c.requires.leaf).fits in (
+    let number = innermost.Number c.args.of in
+    let head = (stands_at C d c.requires.fits number c.requires.leaf).fits in (
       d,
       rw (e.of, e.count, e.step, e.rest) (waits C d c.args.of c.args.octets.now c.args.coded.0
           c.width-width.result c.args.coded.1 s.result s.new.carry c.requires.fits c.requires.leaf
@@ -116,8 +117,13 @@ take_value-step-requires-clause-whole g c =
     let head = (stands_at c.args.catalogue.now c.args.self.now c.requires.fits
     (innermost.Number c.args.of) c.requires.leaf).fits in
     let all : length c.hold_number-count.new.carry ≡ c.width-width.result =
-    omega (arith, c.if-len-from.false, c.len.ensures.value, c.from.ensures,
-    c.hold_number-count.ensures.size) in
+    omega (
+      arith,
+      c.if-len-from.false,
+      c.len.ensures.value,
+      c.from.ensures,
+      c.hold_number-count.ensures.size,
+    ) in
     ap length c.as_slice.ensures.value ∙ (all ∙ c.width-width.ensures.width head.kind)
 
 pub finish-requires-2-clause-held : goal.finish-requires-2-clause-held
@@ -126,7 +132,8 @@ finish-requires-2-clause-held g c =
     let d = c.args.self.now in
     let s = c.hold_number-count in
     let v = c.take_value-step.ensures in
-    let head = (stands_at C d c.requires.fits (innermost.Number c.args.of) c.requires.leaf).fits in (
+    let number = innermost.Number c.args.of in
+    let head = (stands_at C d c.requires.fits number c.requires.leaf).fits in (
       d,
       comes C d c.args.of c.args.octets.now c.args.coded.0 c.width-width.result c.args.coded.1
           s.result s.new.carry c.clear.new.self c.take_value-step.result c.requires.fits
