@@ -13,7 +13,7 @@ ghost use Rattle.giop_decode.specs.Fits.{OpenFrom};
 ghost use Rattle.giop_decode.specs.Transitions.{open_parts, AreKnown, Link, TransitionFits, HasOutput, after_transition, still_held, leaf_type, IsClean, StandAt, is_inside};
 ghost use Rattle.giop_decode.specs.Noted.{noted_of, ends_in_string, is_header_root};
 ghost use Rattle.giop_decode.specs.NameBuffer.{string_offset};
-ghost use Rattle.giop_decode.specs.NotingSteps.{IsPlain, transition_in_string, transition_offset};
+ghost use Rattle.giop_decode.specs.NotingSteps.{transition_in_string, transition_offset};
 ghost use Rattle.giop_decode.specs.DecoderState.{Fits, IsDone, CanStandAt, Reads, Takes, KeepsNoted, GoesOn, read_by_fields, added_lines};
 ghost use Rattle.giop_decode.specs.DecoderSteps.{transition_result, decoder_step, Comes, IsAround, IsNotRefused};
 ghost use Rattle.giop_decode.specs.Passes.{Gives, Passes};
@@ -283,13 +283,12 @@ impl Decoder {
 
     /// Takes the last of octets that the innermost part takes together, where all others are taken:
     /// writes and notes the output, and does the transition. A piece that is written has the octets
-    /// that are held, and the rest. A number may be known as a primitive's.
+    /// that are held, and the rest.
     #[inline(always)]
     pub(crate) fn emit<O: Out>(
         &mut self,
         catalogue: &Catalogue,
         ahead: Lookahead<'_>,
-        is_plain: bool,
         out: &mut O,
     ) -> Result<Progress, OutFault>
         requires around { IsAround catalogue.now self.old ahead.of.0 }
@@ -297,8 +296,6 @@ impl Decoder {
             ahead.step.transition self.old.carry
             (still_held ahead.step.output self.old.piece.items) }
         requires has_output { HasOutput (tree catalogue.now ahead.of.0) ahead.step.output }
-        requires plain { IsTrue is_plain →
-            IsPlain (tree catalogue.now ahead.of.0) ahead.step.output }
         requires short { 0 < length ahead.rest.now →
             length self.old.piece.items + length ahead.rest.now ≤ 32 }
         ensures passes { IfOk result (λ p. Passes catalogue.now self.old self.new
@@ -321,24 +318,17 @@ impl Decoder {
             },
             out,
         )?;
-        Ok(self.pass(catalogue, ahead, is_plain))
+        Ok(self.pass(catalogue, ahead))
     }
 
     /// What `emit` does but for the line.
     #[inline(always)]
-    pub(crate) fn pass(
-        &mut self,
-        catalogue: &Catalogue,
-        ahead: Lookahead<'_>,
-        is_plain: bool,
-    ) -> Progress
+    pub(crate) fn pass(&mut self, catalogue: &Catalogue, ahead: Lookahead<'_>) -> Progress
         requires around { IsAround catalogue.now self.old ahead.of.0 }
         requires transition_fits { TransitionFits (tree catalogue.now ahead.of.0) ahead.of.0
             ahead.step.transition self.old.carry
             (still_held ahead.step.output self.old.piece.items) }
         requires has_output { HasOutput (tree catalogue.now ahead.of.0) ahead.step.output }
-        requires plain { IsTrue is_plain →
-            IsPlain (tree catalogue.now ahead.of.0) ahead.step.output }
         ensures { Passes catalogue.now self.old self.new
             ahead.entry.of.0 ahead.entry.step ahead.entry.rest.now result }
     {
@@ -352,7 +342,6 @@ impl Decoder {
                 held: &self.piece,
                 rest: ahead.rest,
             },
-            is_plain,
         );
         let_go(ahead.step.output, &mut self.piece);
         self.at = (self.at + 1) % 8;

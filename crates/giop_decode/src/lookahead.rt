@@ -5,7 +5,6 @@ ghost use Rattle.giop_cdr.specs.Alignment.{IsAlignment};
 ghost use Rattle.giop_cdr.specs.Primitives.{size_of};
 ghost use Rattle.giop_decode.specs.DecoderState.{Fits};
 ghost use Rattle.giop_decode.specs.Pieces.{tail};
-ghost use Rattle.giop_decode.specs.NotingSteps.{IsPlain, IsPrim};
 ghost use Rattle.giop_decode.specs.Runs.{IsParted, TakenTogether};
 ghost use Rattle.giop_decode.specs.Transitions.{HaveOctetsLeft, IsWholeNumber, NumberStands, coding_by, ticked_by};
 ghost use Rattle.giop_sig.specs.Types.{Single, Plain};
@@ -45,11 +44,9 @@ impl Decoder {
         requires fits { Fits catalogue.now self.now }
         requires coded { coding_by self.now.order self.now.at self.now.outer.items ≡ coded }
         requires ahead { HaveOctetsLeft (ticked_by (length octets.now - 1) self.now.outer.items) }
-        ensures ahead { IfSome result (λ ahead.
+        ensures { IfSome result (λ ahead.
             TakenTogether catalogue.now self.now octets.now ahead.of
             ahead.count ahead.step ahead.rest.now self.now.carry self.now.piece.items) }
-        ensures plain { IfSome result (λ ahead.
-            IsPlain (tree catalogue.now ahead.of.0) ahead.step.output) }
     {
         if !self.carry.is_empty() {
             return None;
@@ -241,9 +238,8 @@ pub(crate) fn whole_number(
 ) -> Option<(usize, Number)>
     requires known { of.0 < length catalogue.now.types }
     requires small { at < 8 }
-    ensures whole { IfSome result (λ whole.
+    ensures { IfSome result (λ whole.
         IsWholeNumber (tree catalogue.now of.0) order at octets.now whole.0 whole.1) }
-    ensures plain { IfSome result (λ _. IsPrim (tree catalogue.now of.0)) }
 {
     match catalogue.shape(of) {
         Shape::Prim(prim) => match size(prim) {

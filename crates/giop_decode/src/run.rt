@@ -1,14 +1,12 @@
 //! A run of octets, taken up to the one at which an operation or the value ends, or a rule is broken.
 
-ghost use Rattle.std.specs.Prelude.{◌≡◌, ℕ, ◌+◌, ◌-◌, ◌%◌, ◌^◌, ◌<◌, ◌≤◌, List, length, take, IfOk, IsTrue, Some};
+ghost use Rattle.std.specs.Prelude.{◌≡◌, ℕ, ◌+◌, ◌-◌, ◌%◌, ◌^◌, ◌<◌, ◌≤◌, List, length, take, IfOk, Some};
 ghost use Rattle.giop_cdr.specs.declared.order.Order.{Order as ByteOrder};
 ghost use Rattle.giop_decode.specs.declared.decoder.Decoder.{Decoder as Before};
 ghost use Rattle.giop_decode.specs.DecoderState.{Fits, GoesOn, IsDone, Reads};
-ghost use Rattle.giop_decode.specs.NotingSteps.{IsPlain};
 ghost use Rattle.giop_decode.specs.Runs.{IsHeldOf, IsParted, TakesRun, TakesSome, WritesRun, TakenTogether};
 ghost use Rattle.giop_decode.specs.Transitions.{HaveOctetsLeft, coding_by, ticked_by};
 ghost use Rattle.giop_print.specs.declared.path.Root.{Root as PathRoot};
-ghost use Rattle.giop_sig.specs.Trees.{tree};
 ghost use Rattle.giop_sig.specs.Types.{Ty};
 
 use crate::decoder::Decoder;
@@ -91,7 +89,7 @@ impl Decoder {
         if self.has_parts(octets) {
             return self.take_parts(catalogue, octets, out);
         }
-        self.take_ahead(catalogue, octets, ahead, true, out)
+        self.take_ahead(catalogue, octets, ahead, out)
     }
 
     /// The same, but for numbers and full pieces one at a time, and within encapsulations too: there of the octets up to
@@ -111,7 +109,7 @@ impl Decoder {
         let coded = coding(self.inside, self.order, self.at, self.outer.as_slice());
         let near = up_to_end(self.inside, self.outer.as_slice(), octets);
         match self.number_ahead(catalogue, coded, near) {
-            Some(ahead) => self.take_ahead(catalogue, near, ahead, true, out),
+            Some(ahead) => self.take_ahead(catalogue, near, ahead, out),
             None => self.take_other(catalogue, coded, near, out),
         }
     }
@@ -139,17 +137,17 @@ impl Decoder {
         match leaf {
             Leaf::Number(of) => {
                 match self.leading_number_ahead(catalogue, coded, octets) {
-                    Some(ahead) => self.take_ahead(catalogue, octets, ahead, false, out),
+                    Some(ahead) => self.take_ahead(catalogue, octets, ahead, out),
                     None => self.take_parted_number(catalogue, coded, of, octets, out),
                 }
             }
             Leaf::Opening { of, count } => {
                 let ahead = self.order_ahead(catalogue, of, count, octets);
-                self.take_ahead(catalogue, octets, ahead, false, out)
+                self.take_ahead(catalogue, octets, ahead, out)
             }
             Leaf::Content { of, total, offset } => {
                 match self.piece_ahead(catalogue, of, total, offset, octets) {
-                    Some(ahead) => self.take_ahead(catalogue, octets, ahead, false, out),
+                    Some(ahead) => self.take_ahead(catalogue, octets, ahead, out),
                     None => self.take_parted_piece(catalogue, leaf, octets, out),
                 }
             }
@@ -178,13 +176,7 @@ impl Decoder {
         let width = width(catalogue, of);
         let count = hold_number(&mut self.carry, at, width, octets);
         if self.carry.len() < usize::from(width) {
-            return self.finish(
-                catalogue,
-                octets,
-                held(of, count, Leaf::Number(of)),
-                false,
-                out,
-            );
+            return self.finish(catalogue, octets, held(of, count, Leaf::Number(of)), out);
         }
         let step = take_value(catalogue, order, of, self.carry.as_slice());
         self.carry.clear();
@@ -194,7 +186,7 @@ impl Decoder {
             step,
             rest: &[],
         };
-        self.finish(catalogue, octets, ahead, false, out)
+        self.finish(catalogue, octets, ahead, out)
     }
 
     /// Holds octets of a piece of a content that isn't whole with them.
@@ -215,36 +207,27 @@ impl Decoder {
             (O.log out.old) (O.log out.new) result }
     {
         match self.piece.try_extend_from_slice(octets) {
-            Ok(()) => self.finish(
-                catalogue,
-                octets,
-                held(leaf.of(), octets.len(), leaf),
-                false,
-                out,
-            ),
+            Ok(()) => self.finish(catalogue, octets, held(leaf.of(), octets.len(), leaf), out),
             Err(_) => unreachable!(),
         }
     }
 
-    /// Takes octets ahead that belong together, perhaps known as a primitive, and writes their line.
+    /// Takes octets ahead that belong together, and writes their line.
     #[inline(always)]
     fn take_ahead<O: Out>(
         &mut self,
         catalogue: &Catalogue,
         octets: &[u8],
         ahead: Lookahead<'_>,
-        is_plain: bool,
         out: &mut O,
     ) -> Result<(usize, Progress), OutFault>
         requires fits { Fits catalogue.now self.old }
         requires ahead { TakenTogether catalogue.now self.old octets.now ahead.of ahead.count
             ahead.step ahead.rest.now self.old.carry self.old.piece.items }
-        requires plain { IsTrue is_plain →
-            IsPlain (tree catalogue.now ahead.of.0) ahead.step.output }
         ensures { TakesSome catalogue.now self.old self.new octets.now
             (O.log out.old) (O.log out.new) result }
     {
-        self.finish(catalogue, octets, ahead, is_plain, out)
+        self.finish(catalogue, octets, ahead, out)
     }
 
     /// The same, where those of them that are to be held are held already.
@@ -254,20 +237,17 @@ impl Decoder {
         catalogue: &Catalogue,
         octets: &[u8],
         ahead: Lookahead<'_>,
-        is_plain: bool,
         out: &mut O,
     ) -> Result<(usize, Progress), OutFault>
-        requires held { (d : Before) × IsHeldOf catalogue.now d self.old octets.now ahead.of
+        requires { (d : Before) × IsHeldOf catalogue.now d self.old octets.now ahead.of
             ahead.count ahead.step ahead.rest.now }
-        requires plain { IsTrue is_plain →
-            IsPlain (tree catalogue.now ahead.of.0) ahead.step.output }
         ensures { (d : Before) → IsHeldOf catalogue.now d self.old octets.now ahead.entry.of
             ahead.entry.count ahead.entry.step ahead.entry.rest.now →
             TakesSome catalogue.now d self.new octets.now (O.log out.old) (O.log out.new) result }
     {
         self.at = further(self.at, ahead.count - 1);
         tick_by(self.inside, &mut self.outer, ahead.count - 1);
-        let progress = self.emit(catalogue, ahead, is_plain, out)?;
+        let progress = self.emit(catalogue, ahead, out)?;
         Ok((ahead.count, progress))
     }
 }

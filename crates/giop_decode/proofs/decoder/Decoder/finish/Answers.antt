@@ -5,14 +5,14 @@ use Rattle.giop_print.specs.Output.{Wrote, WroteFront}
 
 pub tick_by-requires-clause-ahead : goal.tick_by-requires-clause-ahead
 tick_by-requires-clause-ahead g c =
-    let h = c.requires.held.1 in
+    let h = c.requires.1 in
     rw h.outer h.together.ahead
 
 pub emit-requires-clause-around : goal.emit-requires-clause-around
 emit-requires-clause-around g c =
     let a = c.args.ahead in
-    let d = c.requires.held.0 in
-    let h = c.requires.held.1 in
+    let d = c.requires.0 in
+    let h = c.requires.1 in
     around_whole c.args.catalogue.now d c.args.octets.now a.of a.count a.step a.rest.now h.fits
     (at_last c.args.self.now c.further-self.result c.tick_by.new.outer) h.together
     (held_at_last c.args.catalogue.now d c.args.self.now c.args.octets.now a.of a.count

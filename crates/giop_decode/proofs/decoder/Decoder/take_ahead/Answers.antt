@@ -1,8 +1,8 @@
 use Rattle.giop_decode.proofs.Whole.{held_now}
 use Rattle.giop_decode.proofs.decoder.Decoder.take_ahead.Goals as goal
 
-pub finish-requires-clause-held : goal.finish-requires-clause-held
-finish-requires-clause-held g c =
+pub finish-requires : goal.finish-requires
+finish-requires g c =
     let a = c.args.ahead in (
       c.args.self.now,
       held_now c.args.catalogue.now c.args.self.now c.args.octets.now a.of a.count a.step a.rest.now

@@ -73,8 +73,8 @@ comes C d of octets order width at count all kept s f e coded ahead is stands wh
     (comes_head C d of octets count f e order at coded kept all s none
     (rw (eq-eqb (length all) width whole, is) at stands) ahead fits has string on gives)
 
-pub finish-requires-clause-held : goal.finish-requires-clause-held
-finish-requires-clause-held g c =
+pub finish-requires : goal.finish-requires
+finish-requires g c =
     let C = c.args.catalogue.now in
     let d = c.args.self.now in
     let e = c.held.ensures in
@@ -126,8 +126,8 @@ take_value-step-requires-clause-whole g c =
     ) in
     ap length c.as_slice.ensures.value ∙ (all ∙ c.width-width.ensures.width head.kind)
 
-pub finish-requires-2-clause-held : goal.finish-requires-2-clause-held
-finish-requires-2-clause-held g c =
+pub finish-requires-2 : goal.finish-requires-2
+finish-requires-2 g c =
     let C = c.args.catalogue.now in
     let d = c.args.self.now in
     let s = c.hold_number-count in

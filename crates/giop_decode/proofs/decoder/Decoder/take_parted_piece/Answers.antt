@@ -2,8 +2,8 @@ use Rattle.std.proofs.Common.{[], length}
 use Rattle.giop_decode.proofs.Whole.{held_now, part_waits}
 use Rattle.giop_decode.proofs.decoder.Decoder.take_parted_piece.Goals as goal
 
-pub finish-requires-clause-held : goal.finish-requires-clause-held
-finish-requires-clause-held g c =
+pub finish-requires : goal.finish-requires
+finish-requires g c =
     let C = c.args.catalogue.now in
     let d = c.args.self.now in
     let octets = c.args.octets.now in
