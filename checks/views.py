@@ -1,4 +1,4 @@
-"""The rows of giop-json; and dumps of streams that are made by seeds, as the program writes them and with what a capture
+"""The rows of giop-json and giop-stat; and dumps of streams that are made by seeds, as the program writes them and with what a capture
 adds to them: the JSON has every value of their lines and no other, in parts too, the counts of the table are those of `grep -c`, and the chart has an arrow
 for each message. Cut after any line, a dump gives what is there. A line that was changed is refused or read, and
 nothing else happens. The picture of docs/USE.md is that of its command."""
@@ -19,6 +19,7 @@ from xml.etree import ElementTree
 import generated
 from failing import GIOPCAP, PROGRAM, TOP
 from json_rows import check_program, check_rows, objects, written
+from stat_rows import check_stat_program, check_stat_rows
 
 sys.path.insert(0, str(TOP / "scripts/tests"))
 
@@ -250,15 +251,6 @@ def count(text: str, pattern: str) -> int:
     return len(re.findall(rf"(?m)^(?:s\d+ )?(?:m\d+ )?{pattern}$", text))
 
 
-def raised_by(made: Any) -> str:
-    """The repository id that a message raises, by its object, where it's one that a line may have."""
-    status = made.get("header", {}).get("reply_status")
-    known = made.get("exception") if status == "USER_EXCEPTION" else ""
-    if status == "SYSTEM_EXCEPTION":
-        known = made.get("body", {}).get("exception_id")
-    return str(made.get("raises") or (known if known and re.fullmatch(r"[!#-\[\]-~]{1,128}", known) else ""))
-
-
 def check_counts(lines: Sequence[str]) -> int:
     """The counts of giop-stat are those of grep -c; gives how many messages there are."""
     text = text_of(lines)
@@ -267,8 +259,8 @@ def check_counts(lines: Sequence[str]) -> int:
         name: sum(row[name] for row in told["operations"])
         for name in ("calls", "replies", "user", "system", "faults", "gaps", "octets")
     }
-    for table in told.values():
-        assert sums == {name: sum(row[name] for row in table) for name in sums}, (sums, table)
+    pairs = told["pairs"]
+    assert sums == {name: sum(row[name] for row in pairs) for name in sums}, (sums, pairs)
     assert sums == {
         "calls": count(text, r"call .*"),
         "replies": count(text, r"start \S+ \S+ Reply .*"),
@@ -280,12 +272,14 @@ def check_counts(lines: Sequence[str]) -> int:
     }, sums
     for row in told["operations"]:
         name = re.escape(row["operation"])
+        called = re.escape(" ".join(filter(None, (row["operation"], row["interface"]))))
         if row["operation"] != "no operation":
-            assert row["calls"] == count(text, rf"call \d+ {name}")
+            assert row["calls"] == count(text, rf"call \d+ {called}")
+        if row["operation"] != "no operation" and not row["interface"]:
             times = [float(time) for time in re.findall(rf" answers \S+ \S+ {name} after (-?\d\S*)\n", text)]
             assert (row["seconds"] or {}).get("max", 0) == max(times, default=0)
             assert abs((row["seconds"] or {}).get("total", 0) - sum(times)) < 1e-9
-    raised = Counter(filter(None, map(raised_by, objects(lines))))
+    raised = Counter(re.findall(r"(?m)^s\d+ m\d+ raises (\S+)$", text))
     assert sum((Counter(row["raised"]) for row in told["operations"]), Counter()) == raised
     return text.count(" start ")
 
@@ -358,6 +352,7 @@ def main() -> int:
     check_picture()
     known = generated.messages()
     rows = check_rows() + check_program()
+    stat_rows = check_stat_rows() + check_stat_program()
     values = parts = messages = arrows = lines = 0
     for seed in range(SEEDS):
         draw = random.Random(seed)
@@ -373,7 +368,7 @@ def main() -> int:
     cuts = check_cuts(session)
     read = sum(check_changed(random.Random(seed), session) for seed in range(CHANGED))
     print(
-        f"views: {rows} rows and runs of giop-json; {lines} lines of {2 * SEEDS} dumps: {values} values in JSON, {parts} parts, {messages} counted, "
+        f"views: {rows} rows and runs of giop-json, {stat_rows} of giop-stat; {lines} lines of {2 * SEEDS} dumps: {values} values in JSON, {parts} parts, {messages} counted, "
         f"{arrows} arrows; {cuts} cuts; {CHANGED} changed dumps, {CHANGED - read} refused"
     )
     return 0

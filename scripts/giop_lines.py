@@ -1,4 +1,4 @@
-"""Reads the lines of a dump, as giopdump and giopcap write them: what giop-stat and giop-chart share.
+"""Reads the lines of a dump, as giopdump and giopcap write them, for giop-chart.
 
 `Line` is one line, by its form and the fields of that. `lines_of` reads them from a file, and refuses one that no dump
 writes. A line of a stream or a message with a word or a kind of value that isn't known here, as a later version may

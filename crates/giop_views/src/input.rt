@@ -12,7 +12,7 @@ const READ: usize = 65_536;
 
 /// Octets that were read, of which the first are lines that were taken.
 #[derive(Drop)]
-pub(crate) struct Input {
+pub struct Input {
     room: Vec<u8>,
     start: usize,
     end: usize,
@@ -23,7 +23,7 @@ pub(crate) struct Input {
 
 impl Input {
     /// Nothing was read.
-    pub(crate) fn new(alloc: Global) -> Result<Input, AllocError> {
+    pub fn new(alloc: Global) -> Result<Input, AllocError> {
         Ok(Input {
             room: vec![in alloc; 0; LINE_MAX + 1 + READ]?,
             start: 0,
@@ -33,12 +33,12 @@ impl Input {
     }
 
     /// The number of the last line that was given, from 1.
-    pub(crate) fn number(&self) -> u64 {
+    pub fn number(&self) -> u64 {
         self.number
     }
 
     /// Reads once. Answers whether octets came.
-    pub(crate) fn read<S: Source>(&mut self, source: &mut S) -> Result<bool, SourceFault> {
+    pub fn read<S: Source>(&mut self, source: &mut S) -> Result<bool, SourceFault> {
         let left = self.end - self.start;
         self.room.copy_within(self.start..self.end, 0);
         self.start = 0;
@@ -52,7 +52,7 @@ impl Input {
 
     /// The next line that was read whole, without its LF; else what is longer than any line; None where more has to be read.
     #[inline]
-    pub(crate) fn next(&mut self) -> Option<&[u8]> {
+    pub fn next(&mut self) -> Option<&[u8]> {
         let left = &self.room[self.start..self.end];
         let count = match memchr(b'\n', left) {
             Some(count) => count,

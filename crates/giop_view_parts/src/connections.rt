@@ -31,22 +31,23 @@ struct Connection {
 
 /// The connection of a stream.
 #[derive(Clone, Copy, Debug, Drop, PartialEq, Eq)]
-pub(crate) struct Of {
+pub struct Of {
     /// Which one it is of all.
-    pub(crate) id: u64,
+    pub id: u64,
     /// The number of its first stream.
-    pub(crate) number: u64,
+    pub number: u64,
 }
 
 /// The connections that are known.
 #[derive(Drop)]
-pub(crate) struct Connections {
+pub struct Connections {
     known: LruCache<String, Connection>,
     begun: u64,
 }
 
 impl Connections {
-    pub(crate) fn new(alloc: Global) -> Result<Connections, AllocError> {
+    /// No connections.
+    pub fn new(alloc: Global) -> Result<Connections, AllocError> {
         Ok(Connections {
             known: LruCache::unbounded(alloc)?,
             begun: 0,
@@ -55,7 +56,7 @@ impl Connections {
 
     /// The connection of a stream that begins: that of the stream that it is with, else the last of its endpoints, unless that
     /// is over; else a new one.
-    pub(crate) fn begin(
+    pub fn begin(
         &mut self,
         alloc: Global,
         stream: u64,
@@ -93,20 +94,20 @@ impl Connections {
         })
     }
 
-    /// Notes the word that a stream of a connection closed with.
-    pub(crate) fn close(
+    /// Notes the word that a stream of a connection closed with. Answers whether the connection is over.
+    pub fn close(
         &mut self,
         alloc: Global,
         of: Of,
         ends: (&str, &str),
         word: &[u8],
-    ) -> Result<(), AllocError> {
+    ) -> Result<bool, AllocError> {
         let key = key_of(alloc, ends)?;
         let Some(known) = self.known.peek_mut(&key) else {
-            return Ok(());
+            return Ok(false);
         };
         if known.id != of.id {
-            return Ok(());
+            return Ok(false);
         }
         let is_finished = word == b"fin".as_slice();
         known.flows[side_of(ends)] = if is_finished {
@@ -116,7 +117,7 @@ impl Connections {
         };
         known.is_over |= matches!(word, b"reset" | b"syn" | b"room")
             || known.flows == [Flow::Finished, Flow::Finished];
-        Ok(())
+        Ok(known.is_over)
     }
 }
 

@@ -1,31 +1,67 @@
 //! The open messages, and the one that the last line was of.
 
-use crate::message::{Key, Message, OF_A_MESSAGE};
 use std::alloc::{AllocError, Global};
 use std::collections::{BTreeMap, HashMap};
 
 /// How many messages may be open; the one that began first ends where there is one more.
-pub(crate) const OPEN_MAX: usize = 65_536;
+pub const OPEN_MAX: usize = 65_536;
+
+/// What is held of a message beside its text counts as so many octets.
+const OF_A_MESSAGE: u64 = 1_024;
 
 /// How many messages that are over are kept for the room of their texts.
 const SPARE_MAX: usize = 16;
 
+/// Which message it is.
+#[derive(Clone, Copy, Debug, Drop, PartialEq, Eq, PartialOrd, Ord, Hash)]
+pub struct Key {
+    /// The number of its stream; 0 in a dump of one stream.
+    pub stream: u64,
+    /// Its number, from 1.
+    pub number: u64,
+}
+
+/// What is kept of a message that isn't over.
+pub trait OpenMessage: Drop {
+    /// Nothing is known of the message.
+    fn new(alloc: Global) -> Self;
+
+    /// Becomes another message, of which nothing is known; `order` is how many messages began before it.
+    fn begin(&mut self, key: Key, order: u64);
+
+    /// Which one it is.
+    fn key(&self) -> Key;
+
+    /// How many messages began before it.
+    fn order(&self) -> u64;
+
+    /// How many octets of text are held of it.
+    fn size(&self) -> u64;
+
+    /// Whether it has ended, and one more line may tell of it.
+    fn is_waiting(&self) -> bool;
+
+    /// Counts a Fragment that continues it.
+    fn join(&mut self, octets: u64);
+}
+
 /// The open messages. The one that the last line was of stands apart, since most lines are of the same one as the line before.
 #[derive(Drop)]
-pub(crate) struct Open {
-    current: Option<Box<Message>>,
-    others: HashMap<Key, Box<Message>>,
+pub struct Open<M: OpenMessage> {
+    current: Option<Box<M>>,
+    others: HashMap<Key, Box<M>>,
     // The others by when they began; and those that hold text by how much, the one that began first last of as much.
     by_order: BTreeMap<u64, Key>,
     by_text: BTreeMap<(u64, u64), Key>,
     // The text of the others.
     text: u64,
     begun: u64,
-    spare: Vec<Box<Message>>,
+    spare: Vec<Box<M>>,
 }
 
-impl Open {
-    pub(crate) fn new(alloc: Global) -> Open {
+impl<M: OpenMessage> Open<M> {
+    /// None is open.
+    pub fn new(alloc: Global) -> Open<M> {
         Open {
             current: None,
             others: HashMap::new(alloc),
@@ -39,7 +75,7 @@ impl Open {
 
     /// The message that the last line was of.
     #[inline]
-    pub(crate) fn current(&mut self) -> Option<&mut Message> {
+    pub fn current(&mut self) -> Option<&mut M> {
         match &mut self.current {
             None => None,
             Some(message) => Some(message),
@@ -48,30 +84,30 @@ impl Open {
 
     /// Which message the last line was of.
     #[inline]
-    pub(crate) fn current_key(&self) -> Option<Key> {
+    pub fn current_key(&self) -> Option<Key> {
         match &self.current {
             None => None,
-            Some(message) => Some(message.key),
+            Some(message) => Some(message.key()),
         }
     }
 
     /// Whether the current one has ended, and may have a line more.
     #[inline]
-    pub(crate) fn is_waiting(&self) -> bool {
+    pub fn is_waiting(&self) -> bool {
         match &self.current {
             None => false,
-            Some(message) => message.is_waiting,
+            Some(message) => message.is_waiting(),
         }
     }
 
     /// Whether a message is open.
-    pub(crate) fn contains(&self, key: Key) -> bool {
+    pub fn contains(&self, key: Key) -> bool {
         self.current_key() == Some(key) || self.others.contains_key(&key)
     }
 
     /// How many octets are held.
     #[inline]
-    pub(crate) fn held(&self) -> u64 {
+    pub fn held(&self) -> u64 {
         let others = (self.others.len() as u64).saturating_mul(OF_A_MESSAGE);
         let current = match &self.current {
             None => 0,
@@ -85,7 +121,7 @@ impl Open {
         let Some(message) = self.current.take() else {
             return Ok(());
         };
-        let (key, order, size) = (message.key, message.order, message.size());
+        let (key, order, size) = (message.key(), message.order(), message.size());
         self.by_order.insert(order, key)?;
         if size > 0 {
             self.by_text.insert((size, u64::MAX - order), key)?;
@@ -96,9 +132,9 @@ impl Open {
     }
 
     /// Takes a message that isn't the current one from among the open ones.
-    fn take_aside(&mut self, key: Key) -> Option<Box<Message>> {
+    fn take_aside(&mut self, key: Key) -> Option<Box<M>> {
         let message = self.others.remove(&key)?;
-        let (order, size) = (message.order, message.size());
+        let (order, size) = (message.order(), message.size());
         let _ = self.by_order.remove(&order);
         let _ = self.by_text.remove(&(size, u64::MAX - order));
         self.text = self.text.saturating_sub(size);
@@ -106,7 +142,7 @@ impl Open {
     }
 
     /// Takes a message from among the open ones.
-    pub(crate) fn remove(&mut self, key: Key) -> Option<Box<Message>> {
+    pub fn remove(&mut self, key: Key) -> Option<Box<M>> {
         if self.current_key() == Some(key) {
             return self.current.take();
         }
@@ -114,7 +150,7 @@ impl Open {
     }
 
     /// Makes a message the current one. Answers whether it is open; if not, none is current.
-    pub(crate) fn select(&mut self, key: Key) -> Result<bool, AllocError> {
+    pub fn select(&mut self, key: Key) -> Result<bool, AllocError> {
         if self.current_key() == Some(key) {
             return Ok(true);
         }
@@ -127,7 +163,7 @@ impl Open {
     }
 
     /// The message that began first, where there is no room for one more.
-    pub(crate) fn first_without_room(&self) -> Option<Key> {
+    pub fn first_without_room(&self) -> Option<Key> {
         if self.others.len() < OPEN_MAX {
             return None;
         }
@@ -136,10 +172,10 @@ impl Open {
     }
 
     /// Begins a message, and makes it the current one.
-    pub(crate) fn begin(&mut self, alloc: Global, key: Key) -> Result<(), AllocError> {
+    pub fn begin(&mut self, alloc: Global, key: Key) -> Result<(), AllocError> {
         let mut message = match self.spare.pop() {
             Some(message) => message,
-            None => Box::new(alloc, Message::new(alloc))?,
+            None => Box::new(alloc, M::new(alloc))?,
         };
         message.begin(key, self.begun);
         self.begun = self.begun.saturating_add(1);
@@ -148,7 +184,7 @@ impl Open {
     }
 
     /// Keeps the room of a message that is over.
-    pub(crate) fn give_room(&mut self, message: Box<Message>) -> Result<(), AllocError> {
+    pub fn give_room(&mut self, message: Box<M>) -> Result<(), AllocError> {
         if self.spare.len() < SPARE_MAX {
             self.spare.push(message)?;
         }
@@ -156,7 +192,7 @@ impl Open {
     }
 
     /// Counts a Fragment where the message that it continues is open. Answers whether that is.
-    pub(crate) fn join(&mut self, key: Key, octets: u64) -> bool {
+    pub fn join(&mut self, key: Key, octets: u64) -> bool {
         match self.others.get_mut(&key) {
             None => false,
             Some(message) => {
@@ -167,7 +203,7 @@ impl Open {
     }
 
     /// The message that holds the most text, of several the one that began first; none where none holds text.
-    pub(crate) fn most(&self) -> Option<Key> {
+    pub fn most(&self) -> Option<Key> {
         let other = self.by_text.last_key_value();
         let current = match &self.current {
             Some(message) if message.size() > 0 => Some(message),
@@ -175,11 +211,11 @@ impl Open {
         };
         match (current, other) {
             (None, None) => None,
-            (Some(message), None) => Some(message.key),
+            (Some(message), None) => Some(message.key()),
             (None, Some((_, key))) => Some(*key),
             (Some(message), Some((most, key))) => {
-                if (message.size(), u64::MAX - message.order) > *most {
-                    Some(message.key)
+                if (message.size(), u64::MAX - message.order()) > *most {
+                    Some(message.key())
                 } else {
                     Some(*key)
                 }
@@ -188,17 +224,17 @@ impl Open {
     }
 
     /// Puts back a message that goes on with nothing held.
-    pub(crate) fn put_back(
+    pub fn put_back(
         &mut self,
-        message: Box<Message>,
+        message: Box<M>,
         is_current: bool,
     ) -> Result<(), AllocError> {
         if is_current {
             self.current = Some(message);
             return Ok(());
         }
-        let key = message.key;
-        self.by_order.insert(message.order, key)?;
+        let key = message.key();
+        self.by_order.insert(message.order(), key)?;
         self.others.insert(key, message)?;
         Ok(())
     }
