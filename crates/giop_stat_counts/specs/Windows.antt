@@ -23,7 +23,10 @@ is_known time = nat_lt 0 (length time)
 abbrev pub is_from : List ℕ → List ℕ → Bool
 is_from time first = is_known time && not (comes_before (compared time first) first)
 
+-- the octets that a time begins with, as many as another has
+abbrev pub front_of : List ℕ → List ℕ → List ℕ
+front_of time other = take (min (length time) (length other)) time
+
 -- not after the last time, or it begins with that
 abbrev pub is_up_to : List ℕ → List ℕ → Bool
-is_up_to time last = is_known time
-    && not (comes_before last (take (min (length (compared time last)) (length last)) (compared time last)))
+is_up_to time last = is_known time && not (comes_before last (front_of (compared time last) last))
