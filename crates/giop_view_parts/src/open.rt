@@ -224,11 +224,7 @@ impl<M: OpenMessage> Open<M> {
     }
 
     /// Puts back a message that goes on with nothing held.
-    pub fn put_back(
-        &mut self,
-        message: Box<M>,
-        is_current: bool,
-    ) -> Result<(), AllocError> {
+    pub fn put_back(&mut self, message: Box<M>, is_current: bool) -> Result<(), AllocError> {
         if is_current {
             self.current = Some(message);
             return Ok(());

@@ -64,7 +64,10 @@ impl Report {
             return;
         };
         let name = file.unwrap_or("standard input");
-        let _ = eprintln!(rt; "{program}: {}:{number}: no dump has this line", ShownName(name));
+        let _ = eprintln!(rt;
+            "{program}: {}:{number}: no dump has this line",
+            ShownName(name)
+        );
     }
 
     /// The status of a program whose view has nothing to say, after what is said of a source that failed.
