@@ -3,7 +3,7 @@
     python3 bench/lines.py [OCTETS]
 
 The lines are those of scripts/tests/session.lines again and again, 100 MB where OCTETS is missing, each time of further
-streams; the scripts read a tenth. giop-chart looks through all of them for a time that none has.
+streams; giop-chart reads a tenth. It looks through all of them for a time that none has.
 """
 
 from __future__ import annotations
@@ -16,7 +16,7 @@ from pathlib import Path
 from typing import BinaryIO, List
 
 TOP = Path(__file__).resolve().parent.parent
-GIOP_JSON = TOP / "crates/giop_json/out/giop_json"
+PROGRAMS = [TOP / f"crates/{name}/out/{name}" for name in ("giop_json", "giop_stat")]
 STREAMS = 8  # of session.lines
 MOST = 100_000_000
 
@@ -48,12 +48,12 @@ def main() -> int:
         write_lines(file, octets)  # type: ignore[arg-type]
         file.flush()
         measure(["wc", "-l", file.name], file.tell())
-        measure([str(GIOP_JSON), file.name], file.tell())
+        for program in PROGRAMS:
+            measure([str(program), file.name], file.tell())
     with tempfile.NamedTemporaryFile() as file:
         write_lines(file, octets // 10)  # type: ignore[arg-type]
         file.flush()
-        for program, *words in (["giop-stat"], ["giop-chart", "--from", "23:59:59"]):
-            measure([str(TOP / "scripts" / program), *words, file.name], file.tell())
+        measure([str(TOP / "scripts/giop-chart"), "--from", "23:59:59", file.name], file.tell())
     return 0
 
 

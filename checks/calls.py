@@ -30,10 +30,13 @@ def is_told(case: Case, call: str, ended: Ended, usual: Ended) -> bool:
     """Whether what was written is a front of the usual lines, and the failure is told, unless it was of telling."""
     if not usual.lines.startswith(ended.lines):
         return False
-    if ended.status == usual.status and ended.lines == usual.lines and ended.files == usual.files:
-        return ended.said == usual.said or call == "write" and usual.said.startswith(ended.said)
     failures = [said.replace(b"PROGRAM", case.program.name.encode()) for said in FAILED[call]]
-    return ended.is_as_before(case) and ended.status == 4 and any(map(ended.said.endswith, failures))
+    is_failed = ended.is_as_before(case) and ended.status == 4 and any(map(ended.said.endswith, failures))
+    if ended.status == usual.status and ended.lines == usual.lines and ended.files == usual.files:
+        # Where a file can't be read anyway, the reason may be another.
+        is_front = call == "write" and usual.said.startswith(ended.said)
+        return ended.said == usual.said or is_front or call == "open" and is_failed
+    return is_failed
 
 
 def fail_each(library: str, case: Case, call: str, usual: Ended, seen: Differences) -> None:

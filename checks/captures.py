@@ -11,12 +11,11 @@ failing, as checks/calls.py does it for giopdump, and with each of its requests 
 
 from __future__ import annotations
 
-import json
-import lzma
 import os
 import re
 import resource
 import select
+import shutil
 import subprocess
 import sys
 import tempfile
@@ -32,6 +31,8 @@ from typing import Any, Dict, Iterator, List, Optional, Tuple
 from calls import fail_all
 from failing import EXAMPLES, GIOPCAP, SECONDS, TOP, Case, Differences, Ended
 from memory import refuse_each
+
+from reference.rows import REFUSED, octets_of, told_rows  # on the path by failing
 
 DATA = TOP / "checks/data"
 ROWS = ("captures-worked.json", "captures-generated.json.xz", "captures-real.json.xz")
@@ -59,7 +60,7 @@ class Row:
 
     def is_refused(self) -> bool:
         """Whether no capture is read."""
-        return self.status in (2, 3)
+        return self.status in REFUSED
 
     def is_said(self, said: bytes, signatures: Path, capture: Optional[Path]) -> bool:
         """Whether this is what standard error has."""
@@ -71,12 +72,6 @@ class Row:
         if self.lines.startswith(b"capture fault magic "):
             texts.append(f"giopcap: {capture or 'standard input'}: not a capture\n")
         return said == "".join(texts).encode()
-
-
-def octets_of(capture: str) -> bytes:
-    """The octets of hexadecimal words, each of which may have how often it stands behind it."""
-    parts = (word.partition("*") for word in capture.split())
-    return b"".join(bytes.fromhex(digits) * int(times or 1) for digits, _, times in parts)
 
 
 def row_of(told: Dict[str, Any]) -> Row:
@@ -93,8 +88,7 @@ def row_of(told: Dict[str, Any]) -> Row:
 
 def rows_of(name: str) -> List[Row]:
     """The rows of a file."""
-    octets = (DATA / name).read_bytes()
-    return [row_of(told) for told in json.loads(lzma.decompress(octets) if name.endswith(".xz") else octets)]
+    return [row_of(told) for told in told_rows(DATA / name)]
 
 
 class Rows:
@@ -241,6 +235,8 @@ def cases(folder: Path, known: Dict[str, Row]) -> List[Case]:
     return [Case(name, words, stream, status, b"", GIOPCAP) for name, words, stream, status in given]
 
 
+IDL = ": IDL: omniidl -bgiopdump_signatures\n"
+
 # Words, the status, and what is written and said; what is wrong with the words is told in the words of clap, and begins so.
 # Of steps that fail, the first in the order of the steps decides. The files are those of `files_of_words`.
 WORDS: List[Tuple[Tuple[str, ...], int, str, str]] = [
@@ -250,12 +246,19 @@ WORDS: List[Tuple[Tuple[str, ...], int, str, str]] = [
     (("--port",), 2, "", "error: "),
     (("--open", "016x"), 2, "", "error: "),
     (("\udcff",), 2, "", "giopcap: a word of the command line is not UTF-8\n"),
-    (("--signatures", "none.sig", "none.pcap"), 4, "", "giopcap: none.sig: cannot read\n"),
-    (("--signatures", ".", "empty.pcap"), 4, "", "giopcap: .: cannot read\n"),
+    (("--signatures", "none.sig", "none.pcap"), 4, "", "giopcap: none.sig: cannot read: no such file\n"),
+    (("--signatures", ".", "empty.pcap"), 4, "", "giopcap: .: cannot read: a folder\n"),
+    (("--signatures", "wrong.sig/none", "empty.pcap"), 4, "", "giopcap: wrong.sig/none: cannot read\n"),
+    (("--signatures", "-", "empty.pcap"), 3, "", "giopcap: -:1: syntax\n"),
+    (("--signatures", "macro.idl", "none.pcap"), 3, "", "giopcap: macro.idl:2: token" + IDL),
+    (("--signatures", "comment.idl", "none.pcap"), 3, "", "giopcap: comment.idl:1: token" + IDL),
+    (("--signatures", "module.idl", "none.pcap"), 3, "", "giopcap: module.idl:3: syntax" + IDL),
+    (("--signatures", "empty.pcap"), 3, "", "giopcap: empty.pcap:1: token: a capture\n"),
+    (("--signatures", "empty.pcapng"), 3, "", "giopcap: empty.pcapng:3: token: a capture\n"),
     (("--signatures", "wrong.sig", "none.pcap"), 3, "", "giopcap: wrong.sig:2: unknown-type\n"),
-    (("none.pcap",), 4, "", "giopcap: none.pcap: cannot read\n"),
-    (("no\nne\xe9",), 4, "", "giopcap: no\\x0ane\\xc3\\xa9: cannot read\n"),
-    ((".",), 4, "", "giopcap: read failed\n"),
+    (("none.pcap",), 4, "", "giopcap: none.pcap: cannot read: no such file\n"),
+    (("no\nne\xe9",), 4, "", "giopcap: no\\x0ane\\xc3\\xa9: cannot read: no such file\n"),
+    ((".",), 4, "", "giopcap: .: cannot read: a folder\n"),
     (
         ("--port", "0", "--port", "65535", "empty.pcap"),
         0,
@@ -266,7 +269,13 @@ WORDS: List[Tuple[Tuple[str, ...], int, str, str]] = [
         ("-",),
         1,
         "capture fault magic at 4\n" + "total streams 0 messages 0 faults 0 packets 0 octets 4\n",
-        "giopcap: -: not a capture\n",
+        "giopcap: standard input: not a capture\n",
+    ),
+    (
+        ("./-",),
+        1,
+        "capture fault magic at 4\n" + "total streams 0 messages 0 faults 0 packets 0 octets 4\n",
+        "giopcap: ./-: not a capture\n",
     ),
     (
         ("no\nname",),
@@ -281,6 +290,10 @@ def files_of_words(folder: Path) -> None:
     """Makes the files that the words name."""
     (folder / "wrong.sig").write_text("signatures 1;\nstruct A { B b; };\n")
     (folder / "empty.pcap").write_bytes(octets_of("a1b2c3d4 00020004 00*8 00040000 00000065"))
+    (folder / "empty.pcapng").write_bytes(octets_of("0a0d0d0a 1c000000 4d3c2b1a 01000000 ff*8 1c000000"))
+    (folder / "macro.idl").write_text('// Orders.\n#pragma prefix "shop"\n')
+    (folder / "comment.idl").write_text("/* Orders. */\nmodule Shop { };\n")
+    (folder / "module.idl").write_text("// Orders.\n\n  module Shop { };\n")
     for name in ("-", "no\nname"):
         (folder / name).write_bytes(b"GIOP\x01\x00")
 
@@ -296,6 +309,38 @@ def run_words(folder: Path, seen: Differences) -> None:
     run = run_in(folder, ("empty.pcap",), limit=40_000_000)
     as_wanted = (run.status, run.lines, run.said) == (5, b"", b"giopcap: out of memory\n")
     seen.note(as_wanted, "without enough memory", run)
+    run_unread(folder, seen)
+    run_as_nobody(folder, seen)
+
+
+def run_unread(folder: Path, seen: Differences) -> None:
+    """Runs the program where nobody reads its lines any more, of which nothing is said, and where they can't be written."""
+    unread, lines = os.pipe()
+    os.close(unread)
+    for out, said in ((os.fdopen(lines, "wb"), b""), (open("/dev/full", "wb"), b"giopcap: write failed\n")):
+        with out:
+            words = [str(GIOPCAP), "empty.pcap"]
+            done = subprocess.run(words, cwd=folder, stdout=out, stderr=subprocess.PIPE, timeout=SECONDS)
+        as_wanted = (done.returncode, done.stderr) == (4, said)
+        seen.note(as_wanted, f"lines to {out.name}", ended(b"", done.stderr, done.returncode))
+
+
+def run_as_nobody(folder: Path, seen: Differences) -> None:
+    """Runs the program where it may not read a file; only root can, as another user."""
+    if os.geteuid() != 0:
+        return
+    program = folder / "program"
+    shutil.copy2(GIOPCAP, program)
+    secret = folder / "secret"
+    secret.write_bytes(b"")
+    secret.chmod(0o600)
+    folder.chmod(0o711)
+    for words in (("secret",), ("--signatures", "secret", "empty.pcap")):
+        command = ["setpriv", "--reuid=65534", "--regid=65534", "--clear-groups", str(program), *words]
+        done = subprocess.run(command, cwd=folder, capture_output=True, timeout=SECONDS)
+        run = ended(done.stdout, done.stderr, done.returncode)
+        as_wanted = (run.status, run.lines, run.said) == (4, b"", b"giopcap: secret: cannot read: no permission\n")
+        seen.note(as_wanted, f"words {words} as nobody", run)
 
 
 def run_in(folder: Path, words: Tuple[str, ...], limit: int = resource.RLIM_INFINITY) -> Ended:

@@ -1,7 +1,7 @@
 #!/usr/bin/env bash
-# Dumps streams that are made by seeds from the examples, for so many seconds: whole, where the lines are those of reference/,
-# with the reads cut, in parts that are saved and gone on from, and ended early. First it tries the reference over the rows of
-# crates/giop_rows.
+# Dumps streams that are made by seeds from the examples, for so many seconds: whole, if the lines are those of reference/,
+# with the reads cut, in parts that are saved and gone on from, and ended early; and captures that are made by seeds, for a
+# sixth of that time. First it tries the reference over the rows of crates/giop_rows and checks/data.
 #
 #     checks/generated.sh [SECONDS [FIRST_SEED]]
 set -euo pipefail
@@ -9,7 +9,10 @@ cd "$(dirname "$0")/.."
 . checks/packages.sh
 
 need_giopdump
+need_giopcap
 need_failing
 export PYTHONDONTWRITEBYTECODE=1
+seconds=${1:-180}
 python3 -m reference.tests
-python3 checks/generated.py "$failing" "${1:-180}" "${2:-1}"
+python3 checks/generated.py "$failing" "$((seconds * 5 / 6))" "${2:-1}"
+python3 checks/wires.py "$giopcap" "$((seconds / 6))" "${2:-1}"

@@ -13,6 +13,7 @@ need_program omniidl omniidl
 need_giopdump
 need_giopcap
 need_giop_json
+need_giop_stat
 export PATH=$(dirname "$giopdump"):$(dirname "$giopcap"):$PWD/scripts:$PATH PYTHONDONTWRITEBYTECODE=1
 folder=$(mktemp -d)
 trap 'rm -rf "$folder"' EXIT
@@ -52,7 +53,7 @@ statuses=$(sed -nE 's/^\| ([0-5]) \|.*/\1/p' docs/FORMATS.md | sort -u)
 check_page giopdump $statuses
 check_page giopcap $statuses
 check_page giop-json 0 2 3 4 5
-check_page giop-stat 0 2 3 4
+check_page giop-stat 0 2 3 4 5
 check_page giop-chart 0 2 3 4
 ls "$folder"/naming.svg "$folder"/orders.png > /dev/null
 

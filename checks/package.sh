@@ -15,6 +15,7 @@ need_file /usr/share/bash-completion/bash_completion bash-completion
 need_giopdump
 need_giopcap
 need_giop_json
+need_giop_stat
 
 work=$(mktemp -d)
 trap 'rm -rf "$work"' EXIT

@@ -53,6 +53,14 @@ need_giop_json() {
     exit 1
 }
 
+# The built giop-stat, which scripts/giop-stat starts.
+need_giop_stat() {
+    giop_stat=$PWD/crates/giop_stat/out/giop_stat
+    [ -x "$giop_stat" ] && return 0
+    echo "$0: $giop_stat is missing: scripts/build makes it" >&2
+    exit 1
+}
+
 # The library of checks/failing.c, as $failing. It is made in a folder of its own, which goes when the script ends.
 need_failing() {
     need_program cc gcc

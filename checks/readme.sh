@@ -13,4 +13,5 @@ need_program objdump binutils
 need_giopdump
 need_giopcap
 need_giop_json
+need_giop_stat
 exec env PYTHONDONTWRITEBYTECODE=1 python3 checks/readme.py

@@ -110,7 +110,7 @@ def dumped(capture: Path, types: str) -> Dict[Flow, Tuple[List[str], str]]:
             flows[stream], lines[stream], operations[stream] = (begun[1], begun[2]), [], []
         elif answered := re.fullmatch(r"(m\d+) answers s\d+ m\d+ (\S+) after \S+", line):
             operations[stream].append(f"{ids[stream, answered[1]]} {answered[2]}\n")
-        elif not re.fullmatch(r"m\d+ (time|raises) \S+|closed \w+", line):
+        elif not re.fullmatch(r"m\d+ (time \S+ packet \d+|raises \S+)|closed \w+", line):
             lines[stream].append(line)
             if number := re.fullmatch(r"(m\d+) header\.request_id ulong (\d+)", line):
                 ids[stream, number[1]] = number[2]

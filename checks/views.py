@@ -1,4 +1,4 @@
-"""The rows of giop-json; and dumps of streams that are made by seeds, as the program writes them and with what a capture
+"""The rows of giop-json and giop-stat; and dumps of streams that are made by seeds, as the program writes them and with what a capture
 adds to them: the JSON has every value of their lines and no other, in parts too, the counts of the table are those of `grep -c`, and the chart has an arrow
 for each message. Cut after any line, a dump gives what is there. A line that was changed is refused or read, and
 nothing else happens. The picture of docs/USE.md is that of its command."""
@@ -19,6 +19,7 @@ from xml.etree import ElementTree
 import generated
 from failing import GIOPCAP, PROGRAM, TOP
 from json_rows import check_program, check_rows, objects, written
+from stat_rows import check_stat_program, check_stat_rows
 
 sys.path.insert(0, str(TOP / "scripts/tests"))
 
@@ -48,7 +49,8 @@ def added_to(draw: random.Random, line: str, after: str, kinds: Dict[str, str], 
     is_at_once = after.startswith((f"{number} end", f"{number} fault"))
     added = []
     if word == "start" and not is_at_once:
-        added.append(f"{number} time 2026-11-23T08:13:25.{draw.randrange(10**9):09}Z")
+        packet = draw.choice(("", f" packet {draw.randrange(1, 2**40)}"))
+        added.append(f"{number} time 2026-11-23T08:13:25.{draw.randrange(10**9):09}Z{packet}")
     if word == "call":
         calls.append(line.split(" ", 3)[3])
     if kinds.get(number) == "Reply" and "header.reply_status" in line and draw.randrange(3):
@@ -157,7 +159,10 @@ EVENTS: Dict[str, Callable[[List[str]], Dict[str, Any]]] = {
         zip(("version", "order", "type", "size", "more"), (*words[:3], int(words[4]), *([True] if words[5:] else [])))
     ),
     "call": lambda words: {"call": int(words[0]), "operation": words[1]},
-    "time": lambda words: {} if words[0] == "-" else {"time": words[0]},
+    "time": lambda words: {
+        **({} if words[0] == "-" else {"time": words[0]}),
+        **({"packet": int(words[2])} if len(words) > 1 else {}),
+    },
     "answers": lambda words: {
         "answers": {"stream": int(words[0][1:]), "message": int(words[1][1:])},
         "operation": words[2],
@@ -250,15 +255,6 @@ def count(text: str, pattern: str) -> int:
     return len(re.findall(rf"(?m)^(?:s\d+ )?(?:m\d+ )?{pattern}$", text))
 
 
-def raised_by(made: Any) -> str:
-    """The repository id that a message raises, by its object, where it's one that a line may have."""
-    status = made.get("header", {}).get("reply_status")
-    known = made.get("exception") if status == "USER_EXCEPTION" else ""
-    if status == "SYSTEM_EXCEPTION":
-        known = made.get("body", {}).get("exception_id")
-    return str(made.get("raises") or (known if known and re.fullmatch(r"[!#-\[\]-~]{1,128}", known) else ""))
-
-
 def check_counts(lines: Sequence[str]) -> int:
     """The counts of giop-stat are those of grep -c; gives how many messages there are."""
     text = text_of(lines)
@@ -267,8 +263,8 @@ def check_counts(lines: Sequence[str]) -> int:
         name: sum(row[name] for row in told["operations"])
         for name in ("calls", "replies", "user", "system", "faults", "gaps", "octets")
     }
-    for table in told.values():
-        assert sums == {name: sum(row[name] for row in table) for name in sums}, (sums, table)
+    pairs = told["pairs"]
+    assert sums == {name: sum(row[name] for row in pairs) for name in sums}, (sums, pairs)
     assert sums == {
         "calls": count(text, r"call .*"),
         "replies": count(text, r"start \S+ \S+ Reply .*"),
@@ -280,12 +276,14 @@ def check_counts(lines: Sequence[str]) -> int:
     }, sums
     for row in told["operations"]:
         name = re.escape(row["operation"])
+        called = re.escape(" ".join(filter(None, (row["operation"], row["interface"]))))
         if row["operation"] != "no operation":
-            assert row["calls"] == count(text, rf"call \d+ {name}")
+            assert row["calls"] == count(text, rf"call \d+ {called}")
+        if row["operation"] != "no operation" and not row["interface"]:
             times = [float(time) for time in re.findall(rf" answers \S+ \S+ {name} after (-?\d\S*)\n", text)]
             assert (row["seconds"] or {}).get("max", 0) == max(times, default=0)
             assert abs((row["seconds"] or {}).get("total", 0) - sum(times)) < 1e-9
-    raised = Counter(filter(None, map(raised_by, objects(lines))))
+    raised = Counter(re.findall(r"(?m)^s\d+ m\d+ raises (\S+)$", text))
     assert sum((Counter(row["raised"]) for row in told["operations"]), Counter()) == raised
     return text.count(" start ")
 
@@ -358,6 +356,7 @@ def main() -> int:
     check_picture()
     known = generated.messages()
     rows = check_rows() + check_program()
+    stat_rows = check_stat_rows() + check_stat_program()
     values = parts = messages = arrows = lines = 0
     for seed in range(SEEDS):
         draw = random.Random(seed)
@@ -373,7 +372,7 @@ def main() -> int:
     cuts = check_cuts(session)
     read = sum(check_changed(random.Random(seed), session) for seed in range(CHANGED))
     print(
-        f"views: {rows} rows and runs of giop-json; {lines} lines of {2 * SEEDS} dumps: {values} values in JSON, {parts} parts, {messages} counted, "
+        f"views: {rows} rows and runs of giop-json, {stat_rows} of giop-stat; {lines} lines of {2 * SEEDS} dumps: {values} values in JSON, {parts} parts, {messages} counted, "
         f"{arrows} arrows; {cuts} cuts; {CHANGED} changed dumps, {CHANGED - read} refused"
     )
     return 0

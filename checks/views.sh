@@ -9,6 +9,7 @@ need_program mscgen mscgen
 need_giopdump
 need_giopcap
 need_giop_json
+need_giop_stat
 export PYTHONDONTWRITEBYTECODE=1
 python3 scripts/tests/test_views.py
 python3 checks/views.py

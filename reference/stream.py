@@ -3,7 +3,7 @@
 from __future__ import annotations
 
 from dataclasses import dataclass, field
-from typing import Dict, List, Optional, Tuple
+from typing import Dict, List, NamedTuple, Optional, Tuple
 
 from .encoding import CANCEL_REQUEST, FRAGMENT, HEADER, LOCATE_REPLY, LOCATE_REQUEST, ORDERS, REPLY, REQUEST, Order
 from .signatures import Table
@@ -11,6 +11,7 @@ from .types import (
     BODY_OF_STATUS,
     HEADERS,
     NO_EXCEPTION,
+    SYSTEM_EXCEPTION,
     USER_EXCEPTION,
     Fault,
     Over,
@@ -32,12 +33,19 @@ START, VALUE, CALL, CONTINUES, CANCELLED, REST, FAULT, END, STREAM = range(9)
 
 @dataclass
 class Known:
-    """What is told of a stream: the types of bodies, the operations that replies answer, and how many messages may be
-    open."""
+    """What is told of a stream: the types of bodies, the operations that replies answer, by their request ids or else by
+    the numbers of their messages, and how many messages may be open."""
 
     table: Table = field(default_factory=Table)
     requests: Dict[int, bytes] = field(default_factory=dict)
     most: int = MOST_OPEN
+    answers: Optional[Dict[int, bytes]] = None
+
+    def answered(self, number: int, request_id: int) -> bytes:
+        """The operation that a message answers, an empty name for none."""
+        if self.answers is not None:
+            return self.answers.get(number, b"")
+        return self.requests.get(request_id, b"")
 
 
 @dataclass(frozen=True)
@@ -50,6 +58,26 @@ class Header:
     more: bool
     kind: int
     size: int
+
+
+class HeaderEnd(NamedTuple):
+    """A Request's or Reply's header that is complete: with which octet of the stream, the message's number and type, its
+    request id, and of a Request the operation of its call line, empty for none, and whether it expects a reply."""
+
+    place: int
+    number: int
+    kind: int
+    request_id: int
+    operation: bytes
+    is_expecting: bool
+
+
+class Raised(NamedTuple):
+    """An exception that a Reply raises: with which octet of the stream, the message's number, the exception's id."""
+
+    place: int
+    number: int
+    name: bytes
 
 
 class Message:
@@ -72,67 +100,87 @@ class Message:
         return at + next(shift for first, shift in reversed(self._parts) if first < at or first == HEADER)
 
 
+def header_fault(header: bytes) -> Optional[Tuple[str, int]]:
+    """The fault of a message's header, of as many octets as there are, with the number of the octet."""
+    for at, octet in enumerate(header):
+        if at < 4 and octet != b"GIOP"[at]:
+            return "magic", at + 1
+        if at == 4 and octet != 1 or at == 5 and octet > 2:
+            return "version", at + 1
+        if at == 6 and header[5] == 0 and octet > 1:
+            return "byte-order", at + 1
+    return None
+
+
+def size_of(header: bytes) -> int:
+    """How many octets come after a header."""
+    return int.from_bytes(header[8:HEADER], ORDERS[header[6] & 1])
+
+
+def is_shown(name: bytes) -> bool:
+    """Whether a name stands whole in a line."""
+    return 1 <= len(name) <= MOST_NAME and all(0x21 <= octet <= 0x7E for octet in name)
+
+
 class Dump:
-    """The lines of a stream."""
+    """The lines of a stream, each with the place of its octet and its sort, and those of its end."""
 
     def __init__(self, stream: bytes, known: Known) -> None:
         self._stream = stream
         self._known = known
-        self._lines: List[Tuple[int, int, str]] = []
-        self._messages = 0
-        self._faults = 0
-        self._open: Dict[int, Message] = {}
         self._unfinished: List[int] = []
+        self._open: Dict[int, Message] = {}
+        self.lines: List[Tuple[int, int, str]] = []
+        self.closing: List[str] = []
+        self.begun: List[int] = []  # with which octet each message's first header is complete
+        self.header_ends: List[HeaderEnd] = []
+        self.raised: List[Raised] = []
+        self.messages = 0
+        self.faults = 0
+        self.octets = len(stream)
+        self._dump()
+        self.lines.sort(key=lambda line: line[:2])
 
-    def lines(self) -> List[str]:
-        """All of them."""
+    def _dump(self) -> None:
         place = 0
         stop = None
         while stop is None and place < len(self._stream):
-            stop = self._stream_fault(place) or self._message(place)
-            place = len(self._stream) if stop else place + HEADER + self._size(place)
+            header = self._stream[place : place + HEADER]
+            if fault := header_fault(header):
+                stop = fault[0], place + fault[1]
+            elif len(header) < HEADER:
+                stop = "truncated", len(self._stream)
+            else:
+                stop = self._message(place)
+                place += HEADER + size_of(header)
         for message in self._open.values():
             self._read(message, None)
-        read = len(self._stream)
         if stop:
-            word, read = stop
-            self._faults += 1
-            self._say(read, STREAM, f"stream fault {word} at {read}")
-        lines = [line for _, _, line in sorted(self._lines, key=lambda line: line[:2])]
-        lines += [f"m{number} unfinished" for number in sorted(self._unfinished)]
-        return lines + [f"total messages {self._messages} faults {self._faults} octets {read}"]
+            word, self.octets = stop
+            self.faults += 1
+            line = f"stream fault {word} at {self.octets}"
+            if word == "truncated":
+                self.closing.append(line)
+            else:
+                self._say(self.octets, STREAM, line)
+        self.closing += [f"m{number} unfinished" for number in sorted(self._unfinished)]
+        self.closing.append(f"total messages {self.messages} faults {self.faults} octets {self.octets}")
 
     def _say(self, place: int, sort: int, line: str) -> None:
-        self._lines.append((place, sort, line))
+        self.lines.append((place, sort, line))
 
     def _fault(self, number: int, word: str, place: int) -> None:
-        self._faults += 1
+        self.faults += 1
         self._say(place, FAULT, f"m{number} fault {word} at {place}")
-
-    def _size(self, place: int) -> int:
-        order = ORDERS[self._stream[place + 6] & 1]
-        return int.from_bytes(self._stream[place + 8 : place + HEADER], order)
-
-    def _stream_fault(self, place: int) -> Optional[Tuple[str, int]]:
-        """The fault of a header's octets, as many as there are."""
-        header = self._stream[place : place + HEADER]
-        for at, octet in enumerate(header):
-            if at < 4 and octet != b"GIOP"[at]:
-                return "magic", place + at + 1
-            if at == 4 and octet != 1 or at == 5 and octet > 2:
-                return "version", place + at + 1
-            if at == 6 and header[5] == 0 and octet > 1:
-                return "byte-order", place + at + 1
-        return None if len(header) == HEADER else ("truncated", len(self._stream))
 
     def _message(self, place: int) -> Optional[Tuple[str, int]]:
         """One message, whose header begins behind so many octets; whether the stream ends in it."""
         minor, flags, kind = self._stream[place + 5 : place + 8]
-        self._messages += 1
-        header = Header(
-            self._messages, minor, ORDERS[flags & 1], minor > 0 and bool(flags & 2), kind, self._size(place)
-        )
         begin = place + HEADER
+        size = size_of(self._stream[place:begin])
+        self.messages += 1
+        self.begun.append(begin)
+        header = Header(self.messages, minor, ORDERS[flags & 1], minor > 0 and bool(flags & 2), kind, size)
         word = KINDS[kind] if kind < len(KINDS) else kind
         more = " more" if header.more else ""
         self._say(begin, START, f"m{header.number} start 1.{minor} {header.order} {word} size {header.size}{more}")
@@ -203,9 +251,9 @@ class Dump:
         """Whether a message that has no further lines had no fault."""
         if message.is_over:
             return False
-        faults = self._faults
+        faults = self.faults
         self._read(message, None)
-        if self._faults > faults:
+        if self.faults > faults:
             return False
         self._unfinished.remove(message.header.number)
         return True
@@ -226,7 +274,9 @@ class Dump:
             ended = closed is not None
             if closed is not None:
                 self._fault(number, "short", closed)
-        self._lines += reading.lines
+        self.lines += reading.lines
+        self.header_ends += reading.header_ends
+        self.raised += reading.raised
         if not ended:
             self._unfinished.append(number)
 
@@ -240,6 +290,12 @@ class Reading:
         self._closed = closed
         self._reader = Reader(bytes(message.octets), message.header.order, self._tell)
         self.lines: List[Tuple[int, int, str]] = []
+        self.header_ends: List[HeaderEnd] = []
+        self.raised: List[Raised] = []
+
+    def _place(self) -> int:
+        """The place of the last octet that was read."""
+        return self._message.place(self._reader.at)
 
     def _tell(self, at: int, line: str) -> None:
         self.lines.append((self._message.place(at), VALUE, f"m{self._message.header.number} {line}"))
@@ -253,15 +309,29 @@ class Reading:
             if name == "operation":
                 self._call(heard)
         if header.kind in (REQUEST, REPLY):
+            self.header_ends.append(self._header_end(heard))
             self._body(*self._body_of(heard))
         return self._rest()
+
+    def _header_end(self, heard: Dict[str, Read]) -> HeaderEnd:
+        """The header that has just ended."""
+        header, request_id, name = self._message.header, heard["request_id"], heard.get("operation", b"")
+        expected = heard.get("response_expected", heard.get("response_flags", 0))
+        assert isinstance(request_id, int) and isinstance(name, bytes) and isinstance(expected, int)
+        operation = name if is_shown(name) else b""
+        return HeaderEnd(self._place(), header.number, header.kind, request_id, operation, bool(expected & 1))
+
+    def _raise(self, name: Read) -> None:
+        """An exception of this id is raised."""
+        if isinstance(name, bytes) and is_shown(name):
+            self.raised.append(Raised(self._place(), self._message.header.number, name))
 
     def _call(self, heard: Dict[str, Read]) -> None:
         request_id, name = heard["request_id"], heard["operation"]
         assert isinstance(request_id, int) and isinstance(name, bytes)
-        if 1 <= len(name) <= MOST_NAME and all(0x21 <= octet <= 0x7E for octet in name):
+        if is_shown(name):
             call = f"m{self._message.header.number} call {request_id} {name.decode()}"
-            self.lines.append((self._message.place(self._reader.at), CALL, call))
+            self.lines.append((self._place(), CALL, call))
 
     def _body_of(self, heard: Dict[str, Read]) -> Tuple[str, Optional[Type]]:
         """The path and the type of a body, where one is known; of a user exception those of its repository id."""
@@ -272,7 +342,8 @@ class Reading:
         status, request_id = heard["reply_status"], heard["request_id"]
         assert isinstance(status, int) and isinstance(request_id, int)
         if status == NO_EXCEPTION:
-            return "body", table.replies.get(self._known.requests.get(request_id, b""))
+            answered = self._known.answered(self._message.header.number, request_id)
+            return "body", table.replies.get(answered)
         return ("exception", String()) if status == USER_EXCEPTION else ("body", BODY_OF_STATUS[status])
 
     def _body(self, path: str, body: Optional[Type]) -> None:
@@ -286,8 +357,12 @@ class Reading:
                     raise Over
                 begin = len(reader.octets)
             reader.at = begin
+        if body is SYSTEM_EXCEPTION:
+            self._raise([member.read(reader, f"{path}.{name}") for name, member in SYSTEM_EXCEPTION.members][0])
+            return
         value = body.read(reader, path) if body else None
         if path == "exception" and isinstance(value, bytes):
+            self._raise(value)
             exception = self._known.table.exceptions.get(value)
             if exception:
                 exception.read(reader, "body")
@@ -310,4 +385,5 @@ class Reading:
 
 def dump(stream: bytes, known: Known) -> List[str]:
     """The lines of a stream."""
-    return Dump(stream, known).lines()
+    dumped = Dump(stream, known)
+    return [line for _, _, line in dumped.lines] + dumped.closing

@@ -1,5 +1,6 @@
 """Tests of the reference: python3 -m reference.tests. Its lines are those of the rows of crates/giop_rows, whose signature
-files have each form of a type; also where their streams end early."""
+files have each form of a type; also where their streams end early. And those of the captures in checks/data, each with the
+octet of the capture with which it is due."""
 
 from __future__ import annotations
 
@@ -8,11 +9,13 @@ import unittest
 from pathlib import Path
 from typing import Iterator, List, NamedTuple
 
+from .rows import REFUSED, said_of, told_rows
 from .signatures import requests_of, table_of
 from .stream import Known, dump
 
 TOP = Path(__file__).resolve().parent.parent
 ROWS = TOP / "crates/giop_rows/stdin"
+CAPTURES = [TOP / "checks/data" / f"captures-{name}" for name in ("worked.json", "generated.json.xz", "real.json.xz")]
 
 
 class Row(NamedTuple):
@@ -83,6 +86,18 @@ class Rows(unittest.TestCase):
                 with self.subTest(f"{row.name}, {at} octets"):
                     self.assertEqual(dump(row.stream[:at], row.known), lines)
         print(f"{count} fronts of them")
+
+
+class Captures(unittest.TestCase):
+    """The rows of checks/data."""
+
+    def test_lines(self) -> None:
+        told = [row for file in CAPTURES for row in told_rows(file) if row["status"] not in REFUSED]
+        for row in told:
+            with self.subTest(row["name"]):
+                self.assertEqual(said_of(row), (row["lines"], row["unread"], row["status"]))
+        self.assertGreater(len(told), 500)
+        print(f"{len(told)} captures")
 
 
 if __name__ == "__main__":

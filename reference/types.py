@@ -153,7 +153,8 @@ class Real(Type):
     size: int
 
     def read(self, reader: Reader, path: str) -> None:
-        reader.tell(reader.at, f"{path} {self.word} {reader.number(self.size):0{2 * self.size}x}")
+        bits = reader.number(self.size)
+        reader.tell(reader.at, f"{path} {self.word} {bits:0{2 * self.size}x}")
 
 
 @dataclass(frozen=True)

@@ -1,4 +1,4 @@
-"""Reads the lines of a dump, as giopdump and giopcap write them: what giop-stat and giop-chart share.
+"""Reads the lines of a dump, as giopdump and giopcap write them, for giop-chart.
 
 `Line` is one line, by its form and the fields of that. `lines_of` reads them from a file, and refuses one that no dump
 writes. A line of a stream or a message with a word or a kind of value that isn't known here, as a later version may
@@ -80,7 +80,7 @@ OF_MESSAGES = {
     "end": "end()",
     "start": rf"start (1\.\d) (big|little) ([A-Z][A-Za-z]*|{up_to(255)}) size ({ULONG})( more|)",
     "call": f"call ({ULONG}) ({NAME})",
-    "time": f"time ({TIME})",
+    "time": f"time ({TIME})(?: packet {NUMBER})?",
     "answers": rf"answers s({NUMBER}) m({NUMBER}) ({NAME}) after (-?{MANY}\.\d{{9}}|-)",
     "left": f"({PATH}) rest @({ULONG}) ({HEX})",
     "rest": f"(rest) @({MANY}) ({HEX})",

@@ -1,10 +1,12 @@
-"""Runs giop-stat and giop-chart within the tests, where a process for each run would take long."""
+"""Runs giop-stat, and giop-chart within the tests, where a process for each run would take long."""
 
 from __future__ import annotations
 
 import importlib.machinery
 import importlib.util
 import os
+import re
+import subprocess
 import sys
 from pathlib import Path
 from types import ModuleType
@@ -14,6 +16,7 @@ HERE = Path(__file__).resolve().parent
 SCRIPTS = HERE.parent
 SESSION = HERE / "session.lines"  # the lines of session.pcap, as giopcap writes them
 PROGRAMS = ("giop-stat", "giop-chart")
+GIOP_STAT = SCRIPTS.parent / "crates/giop_stat/out/giop_stat"
 sys.path.insert(0, str(SCRIPTS))
 
 from giop_lines import Refused  # noqa: E402
@@ -31,11 +34,26 @@ def loaded(program: str) -> ModuleType:
     return module
 
 
-MODULES: Dict[str, ModuleType] = {program: loaded(program) for program in PROGRAMS}
+MODULES: Dict[str, ModuleType] = {"giop-chart": loaded("giop-chart")}
+
+
+def counted(lines: str, *words: str) -> str:
+    """What giop-stat prints of lines; raises Refused."""
+    done = subprocess.run([GIOP_STAT, *words], input=lines.encode(), capture_output=True, timeout=60)
+    said, text = done.stderr.decode(), done.stdout.decode("ascii")
+    assert text.replace("\n", " ").isprintable(), text
+    if done.returncode == 3:
+        found = re.fullmatch(r"giop-stat: standard input:(\d+): no dump has this line\n", said)
+        assert found, said
+        raise Refused(int(found[1]))
+    assert (done.returncode, said) == (0, ""), done
+    return text
 
 
 def printed(program: str, lines: str, *words: str) -> str:
     """What a program prints of lines: ASCII that can be printed; raises Refused."""
+    if program == "giop-stat":
+        return counted(lines, *words)
     module: Any = MODULES[program]
     texts: List[str] = []
     descriptor = os.memfd_create("lines")

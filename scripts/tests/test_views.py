@@ -141,7 +141,7 @@ REFUSED = [
     "m1 footer.a octet 1",
     "m1 header.a",
     "m1 header.a octet",
-    "m1 call 1 a b",
+    "m1 call 1 a b c",
     "m1 call 1 ",
     "m1 call x a",
     "m1 call 1 " + 129 * "a",
@@ -237,7 +237,7 @@ class Stat(unittest.TestCase):
             printed("giop-stat", SESSION.read_text()),
             """\
 operation     calls  replies  user       min    median       p95       p99       max     total  octets
-_is_a             3        3     0  0.000095  0.000256  0.000430  0.000430  0.000430  0.000778     375
+_is_a             3        3     0  0.000095  0.000252  0.000430  0.000430  0.000430  0.000778     375
 resolve           2        2     1  0.000024  0.000024  0.000260  0.000260  0.000260  0.000284     491
     1 IDL:omg.org/CosNaming/NamingContext/NotFound:1.0
 bind              1        1     1  0.000110  0.000110  0.000110  0.000110  0.000110  0.000110     349
@@ -248,7 +248,7 @@ destroy           1        1     0  0.000010  0.000010  0.000010  0.000010  0.00
 no operation      0        0     0         -         -         -         -         -         -     128
 
 client     server           calls  replies  user       min    median       p95       p99       max     total  octets
-127.0.0.1  127.0.0.1:12809      6        6     2  0.000024  0.000108  0.000430  0.000430  0.000430  0.001172    1215
+127.0.0.1  127.0.0.1:12809      6        6     2  0.000024  0.000110  0.000430  0.000430  0.000430  0.001172    1215
     1 IDL:omg.org/CosNaming/NamingContext/AlreadyBound:1.0
     1 IDL:omg.org/CosNaming/NamingContext/NotFound:1.0
 192.0.2.2  192.0.2.2:12809      4        4     0  0.000010  0.000011  0.000048  0.000048  0.000048  0.000089     716
@@ -319,6 +319,7 @@ total streams 8 messages 25 faults 0 packets 57 octets 6693
                 "operations": [
                     {
                         **nothing,
+                        "interface": "",
                         "operation": "ask",
                         "calls": 3,
                         "replies": 2,
@@ -330,8 +331,16 @@ total streams 8 messages 25 faults 0 packets 57 octets 6693
                         "octets": 52 + 22 + 20 + 20 + 12 + 12,
                         "raised": raised,
                     },
-                    {**nothing, "operation": "tell", "calls": 1, "oneways": 1, "octets": 20},
-                    {**nothing, "operation": "no operation", "replies": 1, "faults": 1, "gaps": 1, "octets": 24},
+                    {**nothing, "interface": "", "operation": "tell", "calls": 1, "oneways": 1, "octets": 20},
+                    {
+                        **nothing,
+                        "interface": "",
+                        "operation": "no operation",
+                        "replies": 1,
+                        "faults": 1,
+                        "gaps": 1,
+                        "octets": 24,
+                    },
                 ],
                 "pairs": [
                     {
@@ -351,13 +360,41 @@ total streams 8 messages 25 faults 0 packets 57 octets 6693
                         "raised": raised,
                     },
                 ],
+                "connections": [
+                    {
+                        **nothing,
+                        "connection": 1,
+                        "client": "10.0.0.1",
+                        "client_port": 7,
+                        "server": "2001:db8::1",
+                        "server_port": 9,
+                        "opened": None,
+                        "last": None,
+                        "client_closed": None,
+                        "server_closed": "gap",
+                        "streams": 2,
+                        "calls": 4,
+                        "oneways": 1,
+                        "replies": 3,
+                        "user": 1,
+                        "system": 1,
+                        "faults": 2,
+                        "unanswered": 1,
+                        "gaps": 1,
+                        "seconds": {name: seconds[name] for name in ("min", "max", "total")},
+                        "octets": 52 + 22 + 20 + 20 + 20 + 4 * 12,
+                        "raised": raised,
+                    },
+                ],
+                "others": {"operations": None, "pairs": None, "connections": None},
+                "capture": None,
             },
         )
 
-    def test_times_are_at_most_2_of_100_off(self) -> None:
+    def test_times_are_at_most_16_of_1000_off(self) -> None:
         for times in (
             [1, 2, 3, 1000],
-            [7 * 3**power for power in range(30)],
+            [7 * 3**power for power in range(26)],
             list(range(1, 1001)),
             [10**9, 1],
             [0, 0, 5],
@@ -371,7 +408,7 @@ total streams 8 messages 25 faults 0 packets 57 octets 6693
             times.sort()
             for name, percent in (("min", 0), ("median", 50), ("p95", 95), ("p99", 99), ("max", 100)):
                 exact = times[max(0, -(-len(times) * percent // 100) - 1)] / 10**9
-                self.assertTrue(abs(found[name] - exact) <= 0.02 * exact + 0.6e-9, (times, name, found, exact))
+                self.assertTrue(abs(found[name] - exact) <= 0.016 * exact, (times, name, found, exact))
             self.assertAlmostEqual(found["total"], sum(times) / 10**9, places=9)
 
     def test_its_rows_are_limited(self) -> None:
@@ -379,8 +416,9 @@ total streams 8 messages 25 faults 0 packets 57 octets 6693
             f"m{number} start 1.0 big Request size 0\nm{number} call 1 a{number}\nm{number} end\n"
             for number in range(1, 6001)
         )
-        found = json.loads(printed("giop-stat", lines, "--json"))["operations"]
-        self.assertEqual((len(found), found[0]["operation"], found[0]["calls"]), (4097, "others", 6000 - 4096))
+        found = json.loads(printed("giop-stat", lines, "--json"))
+        self.assertEqual((len(found["operations"]), found["others"]["operations"]["calls"]), (4096, 6000 - 4096))
+        self.assertIn("\nall others ", printed("giop-stat", lines))
 
 
 class Chart(unittest.TestCase):
@@ -572,11 +610,11 @@ class Program(unittest.TestCase):
             self.assertEqual(run(words[0], "", *words[1:]).returncode, 2, words)
         for program in PROGRAMS:
             done = run(program, "", "--help")
-            self.assertEqual((done.returncode, done.stdout[:6], done.stderr), (0, "usage:", ""))
+            begins = "Counts" if program == "giop-stat" else "usage:"
+            self.assertEqual((done.returncode, done.stdout[:6], done.stderr), (0, begins, ""))
 
     def test_wrong_words_are_told_in_octets_that_can_be_printed(self) -> None:
         for program, *words, said in (
-            ("giop-stat", "--\udcff\x7f", r"unrecognized arguments: --\xff\x7f"),
             ("giop-chart", "--most", "\n", r"argument --most: '\x0a' is no number from 1 to 999999999"),
             ("giop-chart", "--to", "\x1b", r"argument --to: '\x1b' is no time as 2026-11-23T08:13:25.58 or 08:13:25"),
         ):
@@ -598,6 +636,8 @@ class Program(unittest.TestCase):
                 while any(ioctl(process.stdin, FIONREAD, b"\0\0\0\0")):
                     time.sleep(0.01)
                 process.send_signal(signal.SIGINT)
+                if program == "giop-stat":  # which ignores it, and goes on to the end of its input
+                    process.stdin.close()
                 self.assertEqual(process.stdout.read().decode(), printed(program, SESSION.read_text()))
                 process.wait()
             self.assertEqual(process.returncode, 0)

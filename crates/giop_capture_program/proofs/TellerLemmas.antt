@@ -52,7 +52,7 @@ told_on c put below S written events kept told =
           due = r.due;
           sound = r.sound;
         };
-        time_is = h.time_is;
+        arrival_is = h.arrival_is;
         streams_are = h.streams_are;
         messages_are = h.messages_are;
         faults_are = h.faults_are;

@@ -1,12 +1,20 @@
 //! The program: its words, its steps, and its status.
 
 ghost use Rattle.std.specs.Prelude.{◌≡◌, ◌≤◌};
+ghost use Rattle.giop_run.specs.Console.{fault_status};
+ghost use Rattle.giop_capture_program.specs.Failures.{fault_of};
 ghost use Rattle.giop_capture_program.specs.Steps.{HasStatus, IsStatus, capture_status as spec_status};
 
+use crate::failure::Failure;
 use crate::steps::perform_capture;
 use crate::teller::Unknown;
 use giop_capture_run::{Arguments, Ending, Notices};
-use giop_run::{Lines, ProgramFault, Retrying, ShownName, failed, refused, words};
+use giop_run::{
+    Lines, ProgramFault, Reason, Retrying, RunFault, ShownName, Watched, explained, failed,
+    refused, words,
+};
+use std::fs;
+use std::io::Write;
 
 /// The program's name, which stands in front of what it says on standard error.
 const PROGRAM: &str = "giopcap";
@@ -47,14 +55,21 @@ fn print_capture(rt: &HostRuntime, asked: Arguments) -> u8
     ensures status { HasStatus asked.entry result }
 {
     let name = asked.capture;
-    let Ok(lines) = Lines::new(rt.alloc(), Retrying::new(rt.stdout())) else {
+    let stdout = Watched::new(Retrying::new(rt.stdout()));
+    let Ok(lines) = Lines::new(rt.alloc(), stdout) else {
         return failed(rt, PROGRAM, &ProgramFault::OutOfMemory);
     };
-    let ended = match perform_capture::<_, _, _, Unknown>(rt, asked, lines, Console { rt }) {
-        Ok(done) => Ok(done.0),
-        Err(failure) => Err(failure.fault()),
-    };
-    if let Ok(Ending::NoCapture) = ended {
+    match perform_capture::<_, _, _, Unknown>(rt, asked, lines, Console { rt }) {
+        Ok((ending, _)) => report_ending(rt, name, ending),
+        Err(failure) => report_failure(rt, name, &failure),
+    }
+}
+
+/// Says of a capture that was read to its end whether it is none, and returns the program's status.
+fn report_ending(rt: &HostRuntime, name: Option<&str>, ending: Ending) -> u8
+    ensures { result ≡ spec_status (Ok ending) }
+{
+    if ending == Ending::NoCapture {
         match name {
             None => {
                 let _ = eprintln!(rt; "{PROGRAM}: standard input: not a capture");
@@ -64,17 +79,40 @@ fn print_capture(rt: &HostRuntime, asked: Arguments) -> u8
             }
         }
     }
-    report_outcome(rt, &ended)
+    capture_status(&Ok(ending))
 }
 
-/// Prints why the program failed, if it did, and returns its status.
-fn report_outcome(rt: &HostRuntime, ended: &Result<Ending, ProgramFault>) -> u8
-    ensures { result ≡ spec_status ended.now }
+/// Prints why a capture was not dumped, and returns the program's status. Nothing is said where nobody reads the lines any more:
+/// a reader that has what it wants is no error to look at.
+fn report_failure<W: Write + Drop>(
+    rt: &HostRuntime,
+    name: Option<&str>,
+    failure: &Failure<'_, Lines<Watched<W>>>,
+) -> u8
+    ensures { result ≡ spec_status (Err (fault_of failure.now)) }
 {
-    if let Err(fault) = ended {
-        return failed(rt, PROGRAM, fault);
+    let fault = failure.fault();
+    match failure {
+        Failure::Run(RunFault::Out, lines) if lines.writer().reader_is_gone => fault.status(),
+        Failure::Run(RunFault::Read, _) => explained(rt, PROGRAM, &read_fault(rt, name)),
+        _ => explained(rt, PROGRAM, &fault),
     }
-    capture_status(ended)
+}
+
+/// Why the reading of a capture failed. A folder is opened as a file is, and its first read fails.
+fn read_fault<'a>(rt: &HostRuntime, name: Option<&'a str>) -> ProgramFault<'a>
+    ensures { fault_status result ≡ 4 }
+{
+    let Some(name) = name else {
+        return ProgramFault::Run(RunFault::Read);
+    };
+    match fs::metadata(rt, name) {
+        Ok(metadata) if metadata.is_dir() => ProgramFault::Unreadable {
+            name,
+            why: Reason::Folder,
+        },
+        _ => ProgramFault::Run(RunFault::Read),
+    }
 }
 
 /// The status that the program ends with: 0, or 1 where a fault was counted, a stream was cut, or the capture has a fault, or

@@ -132,7 +132,7 @@ impl<'a, O: Flush + Drop, B: Beginning> CaptureListener for Teller<'a, O, B> {
         → HasText S written events packets octets faulty t.conversations.out.whole };
 
     fn arrives(&mut self, time: Option<u128>) {
-        self.conversations.set_time(time);
+        self.conversations.packet_arrives(time);
     }
 
     fn has_fault(&mut self, fault: CaptureFault) -> Result<(), ListenerFault> {

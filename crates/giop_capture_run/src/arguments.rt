@@ -1,6 +1,6 @@
 //! The program's arguments: the capture that it reads and how much it may remember (docs/FORMATS.md, The program giopcap).
 
-ghost use Rattle.std.specs.Prelude.{◌≡◌, ◌≤◌, ℕ, Some, None};
+ghost use Rattle.std.specs.Prelude.{◌≡◌, ◌≢◌, ◌≤◌, ℕ, Some, None, codes, option_map};
 ghost use Rattle.giop_stream.specs.Rules.{most_open};
 
 use arrayvec::ArrayVec;
@@ -49,7 +49,7 @@ const CALLS_HELP: &str =
 const POOL_HELP: &str = "How many KiB wait for octets before them, 1024 to 1048576";
 
 const CAPTURE_HELP: &str =
-    "A pcap or pcapng file; standard input where it is missing, as of tcpdump -w -";
+    "A pcap or pcapng file; standard input where it is missing or -, as of tcpdump -w -";
 
 const EXAMPLES: &str = "\
 A capture is dumped as it is written, or from a file:
@@ -64,7 +64,7 @@ The slowest calls are the last of
 FORMATS.md has every line, fault and status, and SIGNATURES.md says how IDL becomes a signature file (docs/ of the
 sources, /usr/share/doc/giopdump/docs of the package).";
 
-/// What the arguments ask for: each file by its name; no name has a special meaning.
+/// What the arguments ask for: each file by its name.
 #[derive(Debug, Drop)]
 pub struct Arguments<'a> {
     /// The signature file; None for the built-in types alone.
@@ -170,6 +170,17 @@ fn number_of(word: Option<u32>, range: (u32, u32), default: u32) -> u32
     }
 }
 
+/// The file of the capture by its argument: none, for standard input, where it is missing or `-`.
+fn capture_of<'a>(word: Option<&'a str>) -> Option<&'a str>
+    ensures standard { option_map (λ w. w.now) word.entry ≡ Some (codes "-") → result ≡ None }
+    ensures file { option_map (λ w. w.now) word.entry ≢ Some (codes "-") → result ≡ word.entry }
+{
+    match word {
+        Some("-") => None,
+        word => word,
+    }
+}
+
 impl<'a> Arguments<'a> {
     /// Parses the arguments, the first of which is the program's name. An `Err` has the text to print and the status,
     /// also for `--help` and `--version`, which have status 0.
@@ -196,7 +207,7 @@ impl<'a> Arguments<'a> {
                 (LEAST_POOL, MOST_POOL),
                 DEFAULT_POOL,
             ),
-            capture: matches.get_str("CAPTURE"),
+            capture: capture_of(matches.get_str("CAPTURE")),
         })
     }
 }

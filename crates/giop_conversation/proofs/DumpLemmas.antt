@@ -10,6 +10,7 @@ use Rattle.giop_stream.specs.AnswersAgree.{AnswersAgree}
 use Rattle.giop_stream.specs.HeaderEndsOfStream.{header_ends_from}
 use Rattle.giop_message.specs.HeaderEnds.{AgreesAtEnds}
 use Rattle.tcp_flow.specs.declared.flow.CloseCause.{CloseCause}
+use Rattle.giop_conversation.specs.declared.arrival.Arrival.{Arrival}
 use Rattle.giop_conversation.specs.declared.conversation.Parity.{Parity}
 use Rattle.giop_conversation.specs.declared.conversation.Parity.TheVariants.{Even, Odd}
 use Rattle.giop_conversation.specs.declared.conversation.Conversation.{Conversation}
@@ -108,16 +109,16 @@ holds_by S Odd r c here own opposite calls =
     }
 
 -- the calls as a stream of a flow is read
-pub reading_is : (S : Setup) (parity : Parity) (time : Option ℕ) (c : Connection)
+pub reading_is : (S : Setup) (parity : Parity) (arrival : Arrival) (c : Connection)
     (d : DirectionView) (s : Exchanged) →
     HoldsSide S d (side parity c) → HasCalls parity s c →
-    reading_in d.engine d.stream time s ≡ calls_in S parity time c
-reading_is S parity time c d s h k = λ j. record {
+    reading_in d.engine d.stream arrival s ≡ calls_in S parity arrival c
+reading_is S parity arrival c d s h k = λ j. record {
   table = h.table j;
   own = k.own j;
   opposite = k.opposite j;
   stream = h.stream j;
-  time = time;
+  arrival = arrival;
   replied = 0;
   answered = None;
   raised = None;
@@ -154,7 +155,7 @@ close_in r S d s cause out w h writes =
     (closed_line cause ++ closing R s.octets)) (rules_are S d s s.answers h) writes)
 
 delivered_holds : (S : Setup) (parity : Parity) (k : Connection) (a : Answers) (octets : List ℕ)
-    (time : Option ℕ) (new : Conversation) →
+    (arrival : Arrival) (new : Conversation) →
     new.parity ≡ parity → HoldsBy (direction parity new).engine a
     ((side parity k).octets ++ octets) →
     (direction parity new).engine.table ≡ S.table →
@@ -162,84 +163,86 @@ delivered_holds : (S : Setup) (parity : Parity) (k : Connection) (a : Answers) (
     (direction parity new).stream ≡ (side parity k).stream →
     (direction parity new).flow ≡ (side parity k).flow →
     HoldsSide S (direction (other parity) new) (side (other parity) k) →
-    new.exchange ≡ calls_behind S a parity octets time k →
-    HoldsConnection S new (delivered S a parity octets time k)
-delivered_holds S Even k a octets time new is holds table most stream flow opposite calls = record {
-  even = record { holds = holds; table = table; most = most; stream = stream; flow = flow };
-  odd = record {
-    holds = opposite.holds;
-    table = opposite.table;
-    most = opposite.most;
-    stream = opposite.stream;
-    flow = opposite.flow;
-  };
-  calls = subst (λ (p : Parity). HasCalls p new.exchange (delivered S a Even octets time k))
-      (sym is)
-      (record {
-        own = ap (λ (x : Exchanged). x.own) calls;
-        opposite =
-            ap (λ (x : Exchanged). x.opposite) calls;
-      });
-}
-delivered_holds S Odd k a octets time new is holds table most stream flow opposite calls = record {
-  even = record {
-    holds = opposite.holds;
-    table = opposite.table;
-    most = opposite.most;
-    stream = opposite.stream;
-    flow = opposite.flow;
-  };
-  odd = record { holds = holds; table = table; most = most; stream = stream; flow = flow };
-  calls = subst (λ (p : Parity). HasCalls p new.exchange (delivered S a Odd octets time k)) (sym is)
-      (record {
-        own = ap (λ (x : Exchanged). x.own) calls;
-        opposite =
-            ap (λ (x : Exchanged). x.opposite) calls;
-      });
-}
+    new.exchange ≡ calls_behind S a parity octets arrival k →
+    HoldsConnection S new (delivered S a parity octets arrival k)
+delivered_holds S Even k a octets arrival new is holds table most stream flow opposite calls =
+    record {
+      even = record { holds = holds; table = table; most = most; stream = stream; flow = flow };
+      odd = record {
+        holds = opposite.holds;
+        table = opposite.table;
+        most = opposite.most;
+        stream = opposite.stream;
+        flow = opposite.flow;
+      };
+      calls = subst (λ (p : Parity). HasCalls p new.exchange (delivered S a Even octets arrival k))
+          (sym is)
+          (record {
+            own = ap (λ (x : Exchanged). x.own) calls;
+            opposite =
+                ap (λ (x : Exchanged). x.opposite) calls;
+          });
+    }
+delivered_holds S Odd k a octets arrival new is holds table most stream flow opposite calls =
+    record {
+      even = record {
+        holds = opposite.holds;
+        table = opposite.table;
+        most = opposite.most;
+        stream = opposite.stream;
+        flow = opposite.flow;
+      };
+      odd = record { holds = holds; table = table; most = most; stream = stream; flow = flow };
+      calls = subst (λ (p : Parity). HasCalls p new.exchange (delivered S a Odd octets arrival k))
+          (sym is) (record {
+            own = ap (λ (x : Exchanged). x.own) calls;
+            opposite =
+                ap (λ (x : Exchanged). x.opposite) calls;
+          });
+    }
 
 -- the answers of a stream, and what the reading of it asks of them
-pub record GoesOn (S : Setup) (k : Connection) (parity : Parity) (octets : List ℕ) (time : Option ℕ)
-    (d : DirectionView)
+pub record GoesOn (S : Setup) (k : Connection) (parity : Parity) (octets : List ℕ)
+    (arrival : Arrival) (d : DirectionView)
     (t : Exchanged) (a : Answers) : Type 0 where
-  pub answered : IsAnswered S a parity octets time k
+  pub answered : IsAnswered S a parity octets arrival k
   pub holds : HoldsBy d.engine a (side parity k).octets
-  pub agrees : AgreeWith d.engine a (reading_in d.engine d.stream time t) (side parity k).octets
+  pub agrees : AgreeWith d.engine a (reading_in d.engine d.stream arrival t) (side parity k).octets
       octets
 
-pub goes_on_by : (S : Setup) (k : Connection) (parity : Parity) (octets : List ℕ) (time : Option ℕ)
-    (d : DirectionView) (t : Exchanged)
+pub goes_on_by : (S : Setup) (k : Connection) (parity : Parity) (octets : List ℕ)
+    (arrival : Arrival) (d : DirectionView) (t : Exchanged)
     (a : Answers) → HoldsSide S d (side parity k) → HasCalls parity t k →
     (AnswersAgree d.engine.most (side parity k).octets (side parity k).answers a →
     HoldsBy d.engine (side parity k).answers (side parity k).octets →
     HoldsBy d.engine a (side parity k).octets) →
     AnswersAgree S.messages (side parity k).octets (side parity k).answers a →
-    AgreesAtEnds answer_of notified S.table (calls_in S parity time k) a
+    AgreesAtEnds answer_of notified S.table (calls_in S parity arrival k) a
     (header_ends_from (rules_in S a) (side parity k).octets octets) →
-    GoesOn S k parity octets time d t a
-goes_on_by S k parity octets time d t a h calls held before now =
+    GoesOn S k parity octets arrival d t a
+goes_on_by S k parity octets arrival d t a h calls held before now =
     let p = (side parity k).octets in
-    let starts = reading_is S parity time k d t h calls in
+    let starts = reading_is S parity arrival k d t h calls in
     record {
       answered = record { before = before; now = now };
       holds = held (subst (λ n. AnswersAgree n p (side parity k).answers a) (sym h.most) before)
           h.holds;
       agrees =
           subst (λ (C : Table). AgreesAtEnds answer_of notified C
-          (reading_in d.engine d.stream time t) a
+          (reading_in d.engine d.stream arrival t) a
           (header_ends_from (rules_with d.engine a) p octets)) (sym h.table)
           (subst (λ (R : Rules). AgreesAtEnds answer_of notified S.table
-          (reading_in d.engine d.stream time t) a (header_ends_from R p octets))
+          (reading_in d.engine d.stream arrival t) a (header_ends_from R p octets))
           (sym (rules_are S d (side parity k) a h))
           (subst (λ (x : Exchanged). AgreesAtEnds answer_of notified S.table x a
           (header_ends_from (rules_in S a) p octets)) (sym starts) now));
     }
 
 pub reads_by : {A E : Type 0} (r : Result A E) (S : Setup) (k : Connection) (parity : Parity)
-    (octets : List ℕ) (time : Option ℕ)
+    (octets : List ℕ) (arrival : Arrival)
     (w : List ℕ) (new : Conversation) (out : Tagging) (d : DirectionView) (t : Exchanged)
     (a : Answers) →
-    HoldsSide S d (side parity k) → HasCalls parity t k → GoesOn S k parity octets time d t a →
+    HoldsSide S d (side parity k) → HasCalls parity t k → GoesOn S k parity octets arrival d t a →
     new.parity ≡ parity →
     IsSetAlike (direction parity new).engine d.engine → (direction parity new).stream ≡ d.stream →
     (direction parity new).flow ≡ d.flow →
@@ -247,31 +250,32 @@ pub reads_by : {A E : Type 0} (r : Result A E) (S : Setup) (k : Connection) (par
     MatchResult r
     (λ _. HasStood (direction parity new).engine a ((side parity k).octets ++ octets) out
     (w ++ with_tags (stream_tag d.stream) (stamped (rules_with d.engine a)
-    (reading_in d.engine d.stream time t) (side parity k).octets octets))
-    new.exchange (exchanged (rules_with d.engine a) (reading_in d.engine d.stream time t)
+    (reading_in d.engine d.stream arrival t) (side parity k).octets octets))
+    new.exchange (exchanged (rules_with d.engine a) (reading_in d.engine d.stream arrival t)
     (side parity k).octets octets))
     (λ _. WroteTaggedFront out w (stream_tag d.stream)
-    (stamped (rules_with d.engine a) (reading_in d.engine d.stream time t)
+    (stamped (rules_with d.engine a) (reading_in d.engine d.stream arrival t)
     (side parity k).octets octets)) →
-    ReadsBy S k parity octets time w r new out
-reads_by r S k parity octets time w new out d t a h calls on is alike stream flow opposite reads =
+    ReadsBy S k parity octets arrival w r new out
+reads_by r S k parity octets arrival w new out d t a h calls on is alike stream flow opposite
+    reads =
     record { answers = a; answered = on.answered; reads = by r reads }
   where
     R : Rules
     R = rules_in S a
 
-    starts : reading_in d.engine d.stream time t ≡ calls_in S parity time k
-    starts = reading_is S parity time k d t h calls
+    starts : reading_in d.engine d.stream arrival t ≡ calls_in S parity arrival k
+    starts = reading_is S parity arrival k d t h calls
 
-    lines : stamped (rules_with d.engine a) (reading_in d.engine d.stream time t)
-        (side parity k).octets octets ≡ delivered_lines S a parity octets time k
-    lines = ap (λ (Q : Rules). stamped Q (reading_in d.engine d.stream time t)
+    lines : stamped (rules_with d.engine a) (reading_in d.engine d.stream arrival t)
+        (side parity k).octets octets ≡ delivered_lines S a parity octets arrival k
+    lines = ap (λ (Q : Rules). stamped Q (reading_in d.engine d.stream arrival t)
         (side parity k).octets octets) (rules_are S d (side parity k) a h)
         ∙ ap (λ (x : Exchanged). stamped R x (side parity k).octets octets) starts
 
-    behind : exchanged (rules_with d.engine a) (reading_in d.engine d.stream time t)
-        (side parity k).octets octets ≡ calls_behind S a parity octets time k
-    behind = ap (λ (Q : Rules). exchanged Q (reading_in d.engine d.stream time t)
+    behind : exchanged (rules_with d.engine a) (reading_in d.engine d.stream arrival t)
+        (side parity k).octets octets ≡ calls_behind S a parity octets arrival k
+    behind = ap (λ (Q : Rules). exchanged Q (reading_in d.engine d.stream arrival t)
         (side parity k).octets octets) (rules_are S d (side parity k) a h)
         ∙ ap (λ (x : Exchanged). exchanged R x (side parity k).octets octets) starts
 
@@ -282,29 +286,29 @@ reads_by r S k parity octets time w new out d t a h calls on is alike stream flo
         MatchResult r
         (λ _. HasStood (direction parity new).engine a ((side parity k).octets ++ octets) out
         (w ++ with_tags (stream_tag d.stream)
-        (stamped (rules_with d.engine a) (reading_in d.engine d.stream time t)
+        (stamped (rules_with d.engine a) (reading_in d.engine d.stream arrival t)
         (side parity k).octets octets))
-        new.exchange (exchanged (rules_with d.engine a) (reading_in d.engine d.stream time t)
+        new.exchange (exchanged (rules_with d.engine a) (reading_in d.engine d.stream arrival t)
         (side parity k).octets octets))
         (λ _. WroteTaggedFront out w (stream_tag d.stream)
-        (stamped (rules_with d.engine a) (reading_in d.engine d.stream time t)
+        (stamped (rules_with d.engine a) (reading_in d.engine d.stream arrival t)
         (side parity k).octets octets)) →
         MatchResult r
-        (λ _. HoldsConnection S new (delivered S a parity octets time k)
+        (λ _. HoldsConnection S new (delivered S a parity octets arrival k)
         × IsReady out (w ++ with_tags (stream_tag (side parity k).stream)
-        (delivered_lines S a parity octets time k)))
+        (delivered_lines S a parity octets arrival k)))
         (λ _. WroteTaggedFront out w (stream_tag (side parity k).stream)
-        (delivered_lines S a parity octets time k))
+        (delivered_lines S a parity octets arrival k))
     by (Ok v) stood = (
-      delivered_holds S parity k a octets time new is stood.holds (alike.table ∙ h.table)
+      delivered_holds S parity k a octets arrival new is stood.holds (alike.table ∙ h.table)
           (alike.most ∙ h.most) (stream ∙ h.stream) (flow ∙ h.flow)
           opposite (stood.told ∙ behind),
       subst (λ (g : List ℕ). IsReady out (w
-          ++ with_tags g (delivered_lines S a parity octets time k))) tag
+          ++ with_tags g (delivered_lines S a parity octets arrival k))) tag
           (subst (λ (l : List ℕ). IsReady out (w ++ with_tags (stream_tag d.stream) l)) lines
           stood.ready),
     )
     by (Err v) front =
-        subst (λ (g : List ℕ). WroteTaggedFront out w g (delivered_lines S a parity octets time k))
-        tag
+        subst (λ (g : List ℕ). WroteTaggedFront out w g (delivered_lines S a parity octets arrival
+        k)) tag
         (subst (λ (l : List ℕ). WroteTaggedFront out w (stream_tag d.stream) l) lines front)

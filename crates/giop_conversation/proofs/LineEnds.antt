@@ -19,6 +19,7 @@ use Rattle.giop_calls.specs.declared.calls.Call.{Call as OutstandingCall}
 use Rattle.tcp_flow.specs.declared.flow.CloseCause.{CloseCause}
 use Rattle.tcp_segment.specs.declared.endpoint.Flow.{Flow}
 use Rattle.tcp_segment.specs.EndpointText.{endpoint_text}
+use Rattle.giop_conversation.specs.declared.arrival.Arrival.{Arrival}
 use Rattle.giop_conversation.specs.Times.{time_text, span_text}
 use Rattle.giop_conversation.specs.Lines.{stream_line, time_line, answers_line, raises_line, cause_word, closed_line, capture_fault_line, capture_total_line}
 use Rattle.giop_conversation.specs.TaggedText.{ends_line, is_due}
@@ -153,10 +154,11 @@ stream_line_ends flow time =
     ends_joined true (codes "stream " ∷ endpoint_text flow.from ∷ codes " > " ∷ endpoint_text
     flow.to ∷ codes " at " ∷ time_text time ∷ [])
 
-pub time_line_ends : (message : ℕ) (time : Option ℕ) → is_due (time_line message time) ≡ true
+pub time_line_ends : (message : ℕ) (arrival : Arrival) → is_due (time_line message arrival) ≡ true
 unfolding time_line
-time_line_ends message time = ends_joined true
-    (codes "m" ∷ decimal message ∷ codes " time " ∷ time_text time ∷ [])
+time_line_ends message arrival = ends_joined true
+    (codes "m" ∷ decimal message ∷ codes " time " ∷ time_text arrival.time ∷ codes " packet "
+    ∷ decimal arrival.packet ∷ [])
 
 pub answers_line_ends : (message : ℕ) (call : OutstandingCall) (time : Option ℕ) →
     is_due (answers_line message call time) ≡ true
@@ -196,9 +198,9 @@ closing_lines_end R p cause = ends_both (closed_line cause) (closing R p) (close
 
 -- ---- the lines that are due behind octets
 
-time_due_ends : (begun time : Option ℕ) → is_due (time_due begun time) ≡ true
-time_due_ends None time = none_ends
-time_due_ends (Some message) time = time_line_ends message time
+time_due_ends : (begun : Option ℕ) (arrival : Arrival) → is_due (time_due begun arrival) ≡ true
+time_due_ends None arrival = none_ends
+time_due_ends (Some message) arrival = time_line_ends message arrival
 
 answers_due_ends : (answered : Option Answering) (time : Option ℕ) →
     is_due (answers_due answered time) ≡ true
@@ -214,11 +216,11 @@ pub lines_due_end : (R : Rules) (s : Exchanged) (p octets : List ℕ) →
 unfolding lines_due
 lines_due_end R s p octets =
     let behind = told R s p octets in
-    ends_both (time_due (begun_in p octets) s.time) (answers_due behind.answered s.time
+    ends_both (time_due (begun_in p octets) s.arrival) (answers_due behind.answered s.arrival.time
     ++ raises_due behind.raised)
-    (time_due_ends (begun_in p octets) s.time) (ends_both (answers_due behind.answered s.time)
-    (raises_due behind.raised)
-    (answers_due_ends behind.answered s.time) (raises_due_ends behind.raised))
+    (time_due_ends (begun_in p octets) s.arrival) (ends_both (answers_due behind.answered
+    s.arrival.time) (raises_due behind.raised)
+    (answers_due_ends behind.answered s.arrival.time) (raises_due_ends behind.raised))
 
 -- all that is written of octets
 pub stamped_ends : (C : Table) (a : Answers) (most : ℕ) (octets p : List ℕ) (s : Exchanged) →

@@ -12,6 +12,7 @@ use Rattle.giop_stream.specs.EngineHolds.{added}
 use Rattle.giop_stream.proofs.StreamLaws.{added_both_by}
 use Rattle.tcp_flow.specs.declared.flow.CloseCause.{CloseCause}
 use Rattle.tcp_segment.specs.declared.endpoint.Flow.{Flow}
+use Rattle.giop_conversation.specs.declared.arrival.Arrival.{Arrival}
 use Rattle.giop_conversation.specs.Tags.{tagged, with_tags, stream_tag}
 use Rattle.giop_conversation.specs.TaggedText.{is_due}
 use Rattle.giop_conversation.specs.Lines.{closed_line}
@@ -115,9 +116,9 @@ closed_parts R p cause =
     (one (ClosedLine cause) (closed_line_ends cause))
     (one (Closing (closing R p)) (closing_ends R p))
 
-time_parts : (begun time : Option ℕ) → AreParts (time_due begun time) [] []
-time_parts None time = none
-time_parts (Some message) time = one (TimeLine message time) (time_line_ends message time)
+time_parts : (begun : Option ℕ) (arrival : Arrival) → AreParts (time_due begun arrival) [] []
+time_parts None arrival = none
+time_parts (Some message) arrival = one (TimeLine message arrival) (time_line_ends message arrival)
 
 answers_parts : (answered : Option Answering) (time : Option ℕ) →
     AreParts (answers_due answered time) [] []
@@ -134,11 +135,11 @@ due_parts : (R : Rules) (s : Exchanged) (p octets : List ℕ) →
 unfolding lines_due
 due_parts R s p octets =
     let behind = told R s p octets in
-    both (time_due (begun_in p octets) s.time) [] [] (answers_due behind.answered s.time
+    both (time_due (begun_in p octets) s.arrival) [] [] (answers_due behind.answered s.arrival.time
     ++ raises_due behind.raised) [] []
-    (time_parts (begun_in p octets) s.time)
-    (both (answers_due behind.answered s.time) [] [] (raises_due behind.raised) [] []
-    (answers_parts behind.answered s.time) (raises_parts behind.raised))
+    (time_parts (begun_in p octets) s.arrival)
+    (both (answers_due behind.answered s.arrival.time) [] [] (raises_due behind.raised) [] []
+    (answers_parts behind.answered s.arrival.time) (raises_parts behind.raised))
 
 module _ (C : Table) (a : Answers) (most : ℕ) where
   abbrev R : Rules

@@ -14,6 +14,7 @@ use Rattle.giop_stream.specs.EngineHolds.{added}
 use Rattle.giop_stream.specs.DueOctets.{begins_in, begun_in, is_due_after}
 use Rattle.giop_stream.specs.Framing.{cut, messages}
 use Rattle.giop_stream.proofs.StreamLaws.{added_both_by, header_ends_both, messages_grow}
+use Rattle.giop_conversation.specs.declared.arrival.Arrival.{Arrival}
 use Rattle.giop_conversation.specs.Exchanges.{Exchanged, Answering, Raising, answer_of, notified, is_waiting}
 use Rattle.giop_stream.specs.Stream.{text}
 use Rattle.giop_conversation.specs.Stamped.{answers_due, raises_due, told, taken, lines_due, exchanged, stamped}
@@ -50,10 +51,10 @@ table_stays s (Requested number id name operation expects) = refl
 table_stays s (Replied number id) = refl
 table_stays s (Raised number name) = refl
 
-time_stays : (s : Exchanged) (event : CallEvent) → (notified s event).time ≡ s.time
-time_stays s (Requested number id name operation expects) = refl
-time_stays s (Replied number id) = refl
-time_stays s (Raised number name) = refl
+arrival_stays : (s : Exchanged) (event : CallEvent) → (notified s event).arrival ≡ s.arrival
+arrival_stays s (Requested number id name operation expects) = refl
+arrival_stays s (Replied number id) = refl
+arrival_stays s (Raised number name) = refl
 
 after_stays : {X : Type 0} (f : Exchanged → X) →
     ((s : Exchanged) (event : CallEvent) → f (notified s event) ≡ f s) →
@@ -71,8 +72,10 @@ pub told_table : (R : Rules) (s : Exchanged) (p octets : List ℕ) →
 told_table R s p octets = after_stays (λ s. s.table) table_stays s.table
     (header_ends_from R p octets) s
 
-pub told_time : (R : Rules) (s : Exchanged) (p octets : List ℕ) → (told R s p octets).time ≡ s.time
-told_time R s p octets = after_stays (λ s. s.time) time_stays s.table (header_ends_from R p octets)
+pub told_arrival : (R : Rules) (s : Exchanged) (p octets : List ℕ) →
+    (told R s p octets).arrival ≡ s.arrival
+told_arrival R s p octets =
+    after_stays (λ s. s.arrival) arrival_stays s.table (header_ends_from R p octets)
     s
 
 pub exchanged_table : (R : Rules) (octets : List ℕ) (s : Exchanged) (p : List ℕ) →
@@ -82,12 +85,13 @@ exchanged_table R [] s p = refl
 exchanged_table R (x ∷ xs) s p = exchanged_table R xs (taken (told R s p (x ∷ []))) (p ++ x ∷ [])
     ∙ told_table R s p (x ∷ [])
 
-pub exchanged_time : (R : Rules) (octets : List ℕ) (s : Exchanged) (p : List ℕ) →
-    (exchanged R s p octets).time ≡ s.time
+pub exchanged_arrival : (R : Rules) (octets : List ℕ) (s : Exchanged) (p : List ℕ) →
+    (exchanged R s p octets).arrival ≡ s.arrival
 unfolding exchanged
-exchanged_time R [] s p = refl
-exchanged_time R (x ∷ xs) s p = exchanged_time R xs (taken (told R s p (x ∷ []))) (p ++ x ∷ [])
-    ∙ told_time R s p (x ∷ [])
+exchanged_arrival R [] s p = refl
+exchanged_arrival R (x ∷ xs) s p =
+    exchanged_arrival R xs (taken (told R s p (x ∷ []))) (p ++ x ∷ [])
+    ∙ told_arrival R s p (x ∷ [])
 
 -- nothing waits to be written
 pub record IsTaken (s : Exchanged) : Type 0 where
@@ -220,7 +224,7 @@ module _ (C : Table) (a : Answers) (most : ℕ) where
       IsTaken (told R s p octets) → lines_due R s p octets ≡ []
   unfolding lines_due
   nothing_due s p octets none_begin behind =
-      rw none_begin (none_due (told R s p octets) s.time behind)
+      rw none_begin (none_due (told R s p octets) s.arrival.time behind)
 
   -- after the octets of a front
   undue_front : (s : Exchanged) (p octets : List ℕ) → s.table ≡ C →
@@ -285,7 +289,7 @@ module _ (C : Table) (a : Answers) (most : ℕ) where
       lines_due R (told R s p (x ∷ [])) (p ++ x ∷ []) rest ≡ lines_due R s p (x ∷ rest)
   unfolding lines_due
   due_then s p x rest none =
-      rw (told_time R s p (x ∷ []), time_then p x rest none, told_then s p x rest) refl
+      rw (told_arrival R s p (x ∷ []), time_then p x rest none, told_then s p x rest) refl
 
   -- by its first octet and the others
   stamped_first : (s : Exchanged) (p : List ℕ) (x : ℕ) (rest : List ℕ) →

@@ -19,6 +19,7 @@ use Rattle.giop_stream.specs.declared.fault.Stop.TheVariants as stop
 use Rattle.giop_stream.specs.EngineView.{EngineView}
 use Rattle.giop_stream.specs.EngineHolds.{HoldsBy, StopWrites, Leaves, added, rules_with}
 use Rattle.tcp_segment.specs.declared.endpoint.Flow.{Flow}
+use Rattle.giop_conversation.specs.declared.arrival.Arrival.{Arrival}
 use Rattle.giop_conversation.specs.Tags.{with_tags, tagged}
 use Rattle.giop_conversation.specs.TaggedText.{ends_line, is_due, stopped_at}
 use Rattle.giop_conversation.specs.TaggedState.{Tagging, tagging_log, IsReady}
@@ -26,7 +27,7 @@ use Rattle.giop_conversation.specs.Exchanges.{Exchanged, answer_of, notified, is
 use Rattle.giop_conversation.specs.StreamReads.{AgreeWith, IsSetAlike, HasCome, HasStood, WritesTagged, reading_in}
 use Rattle.giop_conversation.specs.Stamped.{begin_lines, time_due, answers_due, raises_due, told, taken, lines_due, exchanged, stamped}
 use Rattle.giop_conversation.proofs.Tagging.{ready_wrote, ready_front, ready_with}
-use Rattle.giop_conversation.proofs.StampedLemmas.{IsTaken, AreUndue, exchanged_both, stamped_both, exchanged_table, exchanged_time, exchanged_taken, agrees_behind, piece_text, piece_told}
+use Rattle.giop_conversation.proofs.StampedLemmas.{IsTaken, AreUndue, exchanged_both, stamped_both, exchanged_table, exchanged_arrival, exchanged_taken, agrees_behind, piece_text, piece_told}
 use Rattle.giop_conversation.proofs.LineEnds.{none_ends, stream_line_ends, stamped_ends}
 
 -- an engine that had not failed writes a front where a put fails
@@ -123,16 +124,17 @@ module _ (C : Table) (a : Answers) (most : ℕ) (s : Exchanged) (p octets : List
   tells s' is = is ∙ ap (λ (D : Table). after_ends notified D s (header_ends_from R p piece))
       (sym table)
 
-  pub piece_written : {A E : Type 0} (r : Result A E) (s' : Exchanged) (begun time : Option ℕ)
-      (old fed new : OutLog) → s.time ≡ time → Wrote old fed (added R p piece) →
+  pub piece_written : {A E : Type 0} (r : Result A E) (s' : Exchanged) (begun : Option ℕ)
+      (arrival : Arrival)
+      (old fed new : OutLog) → s.arrival ≡ arrival → Wrote old fed (added R p piece) →
       s' ≡ after_ends notified C s (header_ends_from R p piece) → begun ≡ begun_in p piece →
-      Writes r fed new (time_due begun time
-      ++ (answers_due s'.answered time ++ raises_due s'.raised)) →
+      Writes r fed new (time_due begun arrival
+      ++ (answers_due s'.answered arrival.time ++ raises_due s'.raised)) →
       Writes r old new (stamped R s p piece)
   unfolding lines_due
-  piece_written r s' begun time old fed new now wrote is begins writes =
-      let due : time_due begun time ++ (answers_due s'.answered time ++ raises_due s'.raised)
-      ≡ lines_due R s p piece = rw (begins, tells s' is, now) refl in
+  piece_written r s' begun arrival old fed new now wrote is begins writes =
+      let due : time_due begun arrival ++ (answers_due s'.answered arrival.time ++ raises_due
+      s'.raised) ≡ lines_due R s p piece = rw (begins, tells s' is, now) refl in
       subst (Writes r old new) (sym piece_is)
       (writes_both r old fed new (added R p piece) (lines_due R s p piece) wrote
       (subst (Writes r fed new) due writes))
@@ -204,10 +206,11 @@ table_on e e' a p octets at s s' same table told =
     ap (λ (x : Exchanged). x.table) told
     ∙ (exchanged_table (rules_with e a) (take at octets) s p ∙ (table ∙ sym same.table))
 
-pub time_on : (R : Rules) (p octets : List ℕ) (s s' : Exchanged) (time : Option ℕ) → s.time ≡ time →
-    s' ≡ exchanged R s p octets → s'.time ≡ time
-time_on R p octets s s' time now told = ap (λ (x : Exchanged). x.time) told
-    ∙ (exchanged_time R octets s p ∙ now)
+pub arrival_on : (R : Rules) (p octets : List ℕ) (s s' : Exchanged) (arrival : Arrival) →
+    s.arrival ≡ arrival →
+    s' ≡ exchanged R s p octets → s'.arrival ≡ arrival
+arrival_on R p octets s s' arrival now told = ap (λ (x : Exchanged). x.arrival) told
+    ∙ (exchanged_arrival R octets s p ∙ now)
 
 pub taken_on : (R : Rules) (p octets : List ℕ) (s s' : Exchanged) → IsTaken s →
     s' ≡ exchanged R s p octets → IsTaken s'
@@ -267,22 +270,22 @@ come_on e e' e'' a p octets at n s s' s'' t t' t'' same so_far more =
 
 -- once the next n octets are read by calls that agree
 pub read_on : (e e' e'' : EngineView) (a : Answers) (p octets : List ℕ) (at n : ℕ)
-    (s s' s'' : Exchanged) (t t' t'' : Tagging) (time : Option ℕ) →
+    (s s' s'' : Exchanged) (t t' t'' : Tagging) (arrival : Arrival) →
     IsSetAlike e' e → HasReadTo e e' a p octets at s s' t t' → AgreeWith e a s p octets →
-    s.table ≡ e.table → s.time ≡ time → IsTaken s →
+    s.table ≡ e.table → s.arrival ≡ arrival → IsTaken s →
     (HoldsBy e' a (p ++ take at octets) → AgreeWith e' a s' (p ++ take at octets) (drop at octets) →
-    s'.table ≡ e'.table → s'.time ≡ time →
+    s'.table ≡ e'.table → s'.arrival ≡ arrival →
     s'.answered ≡ None → s'.raised ≡ None →
     HasCome e'' a ((p ++ take at octets) ++ take n (drop at octets)) t' t''
     (stamped (rules_with e' a) s' (p ++ take at octets) (take n (drop at octets))) s''
     (exchanged (rules_with e' a) s' (p ++ take at octets) (take n (drop at octets)))) →
     HasReadTo e e'' a p octets (at + n) s s'' t t''
-read_on e e' e'' a p octets at n s s' s'' t t' t'' time same so_far agrees table now none comes =
+read_on e e' e'' a p octets at n s s' s'' t t' t'' arrival same so_far agrees table now none comes =
     let none_now = taken_on (rules_with e a) p (take at octets) s s' none so_far.told in
     come_on e e' e'' a p octets at n s s' s'' t t' t'' same so_far
     (comes so_far.holds (agree_on e e' a p octets at s s' same table so_far.told agrees)
     (table_on e e' a p octets at s s' same table so_far.told)
-    (time_on (rules_with e a) p (take at octets) s s' time now so_far.told) none_now.answered
+    (arrival_on (rules_with e a) p (take at octets) s s' arrival now so_far.told) none_now.answered
     none_now.raised)
 
 pub front_on : (e e' : EngineView) (a : Answers) (p octets : List ℕ) (at : ℕ) (s s' : Exchanged)
@@ -338,21 +341,21 @@ unfolding events events_from messages cut limited limit cut_from first_wrong_oct
     first_wrong wrong
 agree_start most a b = tt
 
-pub reading_starts : (e : EngineView) (stream : ℕ) (time : Option ℕ) (s0 s1 s2 : Exchanged)
+pub reading_starts : (e : EngineView) (stream : ℕ) (arrival : Arrival) (s0 s1 s2 : Exchanged)
     (C : Table) (number : ℕ) →
     s1 ≡ record s0 { table = C } → s2 ≡ record s1 {
       stream = number;
-      time = time;
+      arrival = arrival;
       replied = 0;
       answered = None;
       raised = None;
     } →
-    e.table ≡ C → number ≡ stream → s2 ≡ reading_in e stream time s0
-reading_starts e stream time s0 s1 s2 C number first second same numbered =
+    e.table ≡ C → number ≡ stream → s2 ≡ reading_in e stream arrival s0
+reading_starts e stream arrival s0 s1 s2 C number first second same numbered =
     second
     ∙ (ap (λ (x : Exchanged). record x {
       stream = number;
-      time = time;
+      arrival = arrival;
       replied = 0;
       answered = None;
       raised = None;
@@ -360,7 +363,7 @@ reading_starts e stream time s0 s1 s2 C number first second same numbered =
     ∙ λ j. record s0 {
       table = sym same j;
       stream = numbered j;
-      time = time;
+      arrival = arrival;
       replied = 0;
       answered =
           None;

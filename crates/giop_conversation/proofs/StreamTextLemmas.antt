@@ -198,7 +198,7 @@ module _ (S : Setup) (written : List ℕ)
       let some : nat_lt (id / 2) S.connections ≡ true = lt-ltb _ _ room in
       let n = counted d.streams in
       let s = side (parity_of id) c in
-      let lines = begin_parts s.flow d.time in
+      let lines = begin_parts s.flow d.arrival.time in
       let new : IsUnique n → h.stream n ≡ new_stream =
       λ number. b.numbers.fresh n (rw b.count (counted_new h.begun (rw b.count at number.1))) in
       rw some (record {
@@ -220,8 +220,8 @@ module _ (S : Setup) (written : List ℕ)
                   (rules_in S (h.stream n).answers);
             });
         numbers = numbers_begun S h id true (λ is. room) b.numbers;
-        shows = more_lines S written h (with_begun h id true) d.text n (begin_lines s.flow d.time)
-            [] [] b.shows lines
+        shows = more_lines S written h (with_begun h id true) d.text n (begin_lines s.flow
+            d.arrival.time) [] [] b.shows lines
             (λ m number apart. refl) (λ number r o t. rw (append-nil r, append-nil o) t);
       })
 
@@ -290,7 +290,7 @@ module _ (S : Setup) (written : List ℕ)
   on_delivered : (a : Answers) (h : History) (d : Dump) (id : ℕ) (octets : List ℕ)
       (o : Option Connection) →
       slice_get d.connections (id / 2) ≡ o →
-      IfSome o (λ c. IsAnswered S a (parity_of id) octets d.time c) → AreShown S written h d →
+      IfSome o (λ c. IsAnswered S a (parity_of id) octets d.arrival c) → AreShown S written h d →
       AreShown S written (with_stream h (h.stream_of id)
       (read_on a octets (h.stream (h.stream_of id)))) (delivered_in S a d id octets o)
   on_delivered a h d id octets None is answered b =
@@ -306,7 +306,7 @@ module _ (S : Setup) (written : List ℕ)
         (sym k.stream_is)
         (more_lines S written h behind d.text n lines (added R s.octets octets)
         (added R s.octets octets) b.shows
-        (stamped_parts S.table a S.messages octets s.octets (calls_in S (parity_of id) d.time c))
+        (stamped_parts S.table a S.messages octets s.octets (calls_in S (parity_of id) d.arrival c))
         (λ m number apart. stream_else h n next m apart) here);
   }
     where
@@ -326,10 +326,10 @@ module _ (S : Setup) (written : List ℕ)
       behind = with_stream h n next
 
       calls : Exchanged
-      calls = calls_behind S a (parity_of id) octets d.time c
+      calls = calls_behind S a (parity_of id) octets d.arrival c
 
       lines : List ℕ
-      lines = delivered_lines S a (parity_of id) octets d.time c
+      lines = delivered_lines S a (parity_of id) octets d.arrival c
 
       k : HasSide S h id s
       k = own_side S h h d.connections id c is b.sides

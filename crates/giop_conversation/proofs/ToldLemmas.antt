@@ -7,6 +7,7 @@ use Rattle.tcp_segment.specs.declared.endpoint.Flow.{Flow}
 use Rattle.giop_message.specs.Signatures.{Answers}
 use Rattle.giop_stream.specs.declared.status.Totals.{Totals}
 use Rattle.giop_stream.specs.Stream.{final}
+use Rattle.giop_conversation.specs.declared.arrival.Arrival.{Arrival}
 use Rattle.giop_conversation.specs.declared.conversation.Conversation.{Conversation}
 use Rattle.giop_conversation.specs.Tags.{stream_tag, with_tags}
 use Rattle.giop_conversation.specs.TaggedState.{Tagging, tagging_log, IsReady, WroteTaggedFront}
@@ -24,7 +25,7 @@ use Rattle.giop_conversation.proofs.StreamReadLemmas.{below_tag, nothing, nothin
 no_answers : Answers
 no_answers number id = None
 
-counted_is : (n : ℕ) → sum_within n 1 ≡ counted n
+pub counted_is : (n : ℕ) → sum_within n 1 ≡ counted n
 unfolding counted
 counted_is n = refl
 
@@ -59,23 +60,23 @@ module _ (S : Setup) (written : List ℕ) (events : List Event) where
   -- an event that leads on, whose lines were written or a front of them
   told_or_front : {A E : Type 0} (r : Result A E) (d behind : Dump) (e : Event)
       (rooms : List Conversation) (out : Tagging)
-      (time : Option ℕ) (streams messages faults : ℕ) (cut : Bool) (tag lines : List ℕ) →
+      (arrival : Arrival) (streams messages faults : ℕ) (cut : Bool) (tag lines : List ℕ) →
       Leads S (start S written) events d → Step S d e behind → behind.text ≡ d.text
       ++ with_tags tag lines →
-      (IsReady out behind.text → HoldsDump S rooms out time streams messages faults cut behind) →
+      (IsReady out behind.text → HoldsDump S rooms out arrival streams messages faults cut behind) →
       WritesTagged r out d.text tag lines →
-      MatchResult r (λ _. HasTold S written (events ++ e ∷ []) rooms out time streams messages
+      MatchResult r (λ _. HasTold S written (events ++ e ∷ []) rooms out arrival streams messages
       faults cut)
       (λ _. HasToldFront S written (events ++ e ∷ []) out)
-  told_or_front (Ok v) d behind e rooms out time streams messages faults cut tag lines leads step
+  told_or_front (Ok v) d behind e rooms out arrival streams messages faults cut tag lines leads step
       text holds writes =
       record {
         dump = behind;
         leads = leads_more S events (start S written) e d behind leads step;
         holds = holds (subst (IsReady out) (sym text) writes);
       }
-  told_or_front (Err v) d behind e rooms out time streams messages faults cut tag lines leads step
-      text holds writes =
+  told_or_front (Err v) d behind e rooms out arrival streams messages faults cut tag lines leads
+      step text holds writes =
       record {
         dump = behind;
         leads = leads_more S events (start S written) e d behind leads step;
@@ -86,10 +87,10 @@ module _ (S : Setup) (written : List ℕ) (events : List Event) where
         front = writes;
       }
 
-  module _ (rooms : List Conversation) (out : Tagging) (time : Option ℕ)
+  module _ (rooms : List Conversation) (out : Tagging) (arrival : Arrival)
       (streams messages faults : ℕ) (cut : Bool) where
     abbrev Before : Type 0
-    Before = HasTold S written events rooms out time streams messages faults cut
+    Before = HasTold S written events rooms out arrival streams messages faults cut
 
     -- ---- an id stands for a flow
 
@@ -97,8 +98,8 @@ module _ (S : Setup) (written : List ℕ) (events : List Event) where
         slice_get rooms (flow / 2) ≡ Some old →
         ((c : Connection) → HoldsConnection S old c →
         HoldsConnection S new (opened (parity_of flow) endpoints c)) →
-        HasTold S written (events ++ Opens flow endpoints ∷ []) (set rooms (flow / 2) new) out time
-        streams messages faults cut
+        HasTold S written (events ++ Opens flow endpoints ∷ []) (set rooms (flow / 2) new) out
+        arrival streams messages faults cut
     opened_told flow endpoints old new b here opens =
         let d = b.dump in
         let h = b.holds in
@@ -118,7 +119,7 @@ module _ (S : Setup) (written : List ℕ) (events : List Event) where
                 (opened (parity_of flow) endpoints at.connection) h.connections
                 (opens at.connection at.holds);
             ready = h.ready;
-            time_is = h.time_is;
+            arrival_is = h.arrival_is;
             streams_are = h.streams_are;
             messages_are = h.messages_are;
             faults_are = h.faults_are;
@@ -127,7 +128,7 @@ module _ (S : Setup) (written : List ℕ) (events : List Event) where
         }
 
     pub opened_beyond : (flow : ℕ) (endpoints : Flow) → Before → slice_get rooms (flow / 2) ≡ None →
-        HasTold S written (events ++ Opens flow endpoints ∷ []) rooms out time streams messages
+        HasTold S written (events ++ Opens flow endpoints ∷ []) rooms out arrival streams messages
         faults cut
     opened_beyond flow endpoints b beyond =
         let d = b.dump in
@@ -152,10 +153,11 @@ module _ (S : Setup) (written : List ℕ) (events : List Event) where
         ((c : Connection) → HoldsConnection S old c →
         HoldsConnection S new (begun (parity_of flow) next c)) →
         ((c : Connection) (w : List ℕ) → HoldsConnection S old c → IsReady out w →
-        WritesTagged r out' w (stream_tag next) (begin_lines (side (parity_of flow) c).flow time)) →
+        WritesTagged r out' w (stream_tag next) (begin_lines (side (parity_of flow) c).flow
+        arrival.time)) →
         MatchResult r
         (λ _. HasTold S written (events ++ Begins flow number ∷ []) (set rooms (flow / 2) new) out'
-        time next messages faults cut)
+        arrival next messages faults cut)
         (λ _. HasToldFront S written (events ++ Begins flow number ∷ []) out')
     begun_told r flow number next old new out' is b here begins writes =
         let d = b.dump in
@@ -169,18 +171,18 @@ module _ (S : Setup) (written : List ℕ) (events : List Event) where
         let holds = subst (λ n. HoldsConnection S new (begun (parity_of flow) n at.connection))
         first (begins at.connection at.holds) in
         let lines = subst (λ n. WritesTagged r out' d.text (stream_tag n)
-        (begin_lines endpoints d.time)) first
+        (begin_lines endpoints d.arrival.time)) first
         (subst (λ (t : Option ℕ). WritesTagged r out' d.text (stream_tag next)
-        (begin_lines endpoints t)) h.time_is
+        (begin_lines endpoints t)) (ap (λ (x : Arrival). x.time) h.arrival_is)
         (writes at.connection d.text at.holds h.ready)) in
         told_or_front r d (begun_in d flow (Some at.connection)) (Begins flow number)
-        (set rooms (flow / 2) new) out' time next messages faults cut
-        (stream_tag (counted d.streams)) (begin_lines endpoints d.time) b.leads step refl
+        (set rooms (flow / 2) new) out' arrival next messages faults cut
+        (stream_tag (counted d.streams)) (begin_lines endpoints d.arrival.time) b.leads step refl
         (λ ready. record {
           connections = held_set S rooms d.connections (flow / 2) new
               (begun (parity_of flow) (counted d.streams) at.connection) h.connections holds;
           ready = ready;
-          time_is = h.time_is;
+          arrival_is = h.arrival_is;
           streams_are = first;
           messages_are = h.messages_are;
           faults_are = h.faults_are;
@@ -189,7 +191,7 @@ module _ (S : Setup) (written : List ℕ) (events : List Event) where
 
     pub begun_beyond : (flow number next : ℕ) → next ≡ sum_within streams 1 → Before →
         slice_get rooms (flow / 2) ≡ None →
-        HasTold S written (events ++ Begins flow number ∷ []) rooms out time next messages faults
+        HasTold S written (events ++ Begins flow number ∷ []) rooms out arrival next messages faults
         cut
     begun_beyond flow number next is b beyond =
         let d = b.dump in
@@ -210,7 +212,7 @@ module _ (S : Setup) (written : List ℕ) (events : List Event) where
           holds = record {
             connections = h.connections;
             ready = h.ready;
-            time_is = h.time_is;
+            arrival_is = h.arrival_is;
             streams_are = first;
             messages_are = h.messages_are;
             faults_are = h.faults_are;
@@ -224,36 +226,36 @@ module _ (S : Setup) (written : List ℕ) (events : List Event) where
         (old new : Conversation) (out' : Tagging) → Before →
         slice_get rooms (flow / 2) ≡ Some old →
         ((c : Connection) (w : List ℕ) → HoldsConnection S old c → IsReady out w →
-        ReadsBy S c (parity_of flow) octets time w r new out') →
+        ReadsBy S c (parity_of flow) octets arrival w r new out') →
         MatchResult r
         (λ _. HasTold S written (events ++ Delivers flow octets ∷ []) (set rooms (flow / 2) new)
-        out' time streams messages faults cut)
+        out' arrival streams messages faults cut)
         (λ _. HasToldFront S written (events ++ Delivers flow octets ∷ []) out')
     delivered_told r flow octets old new out' b here reads =
         let d = b.dump in
         let h = b.holds in
         let at = held_at S rooms d.connections (flow / 2) old h.connections here in
         let parity = parity_of flow in
-        let read = subst (λ (t : Option ℕ). ReadsBy S at.connection parity octets t d.text r new
-        out') h.time_is
+        let read = subst (λ (t : Arrival). ReadsBy S at.connection parity octets t d.text r new
+        out') h.arrival_is
         (reads at.connection d.text at.holds h.ready) in
         let a = read.answers in
         let behind = delivered_in S a d flow octets (Some at.connection) in
         let step : Step S d (Delivers flow octets) behind = record {
           answers = a;
           answered = subst (λ (o : Option Connection).
-              IfSome o (λ c. IsAnswered S a parity octets d.time c)) (sym at.is) read.answered;
+              IfSome o (λ c. IsAnswered S a parity octets d.arrival c)) (sym at.is) read.answered;
           is = ap (delivered_in S a d flow octets) (sym at.is);
         } in
         by r d behind (side parity at.connection).stream
-        (delivered_lines S a parity octets d.time at.connection)
-        (HoldsConnection S new (delivered S a parity octets d.time at.connection)) b.leads step refl
-        read.reads
+        (delivered_lines S a parity octets d.arrival at.connection)
+        (HoldsConnection S new (delivered S a parity octets d.arrival at.connection)) b.leads step
+        refl read.reads
         (λ holds ready. record {
           connections = held_set S rooms d.connections (flow / 2) new
-              (delivered S a parity octets d.time at.connection) h.connections holds;
+              (delivered S a parity octets d.arrival at.connection) h.connections holds;
           ready = ready;
-          time_is = h.time_is;
+          arrival_is = h.arrival_is;
           streams_are = h.streams_are;
           messages_are = h.messages_are;
           faults_are = h.faults_are;
@@ -266,11 +268,11 @@ module _ (S : Setup) (written : List ℕ) (events : List Event) where
             behind.text ≡ d.text ++ with_tags (stream_tag stream) lines →
             MatchResult r (λ _. Held × IsReady out' (d.text ++ with_tags (stream_tag stream) lines))
             (λ _. WroteTaggedFront out' d.text (stream_tag stream) lines) →
-            (Held → IsReady out' behind.text → HoldsDump S (set rooms (flow / 2) new) out' time
+            (Held → IsReady out' behind.text → HoldsDump S (set rooms (flow / 2) new) out' arrival
             streams messages faults cut behind) →
             MatchResult r
             (λ _. HasTold S written (events ++ Delivers flow octets ∷ []) (set rooms (flow / 2) new)
-            out' time streams messages faults cut)
+            out' arrival streams messages faults cut)
             (λ _. HasToldFront S written (events ++ Delivers flow octets ∷ []) out')
         by (Ok v) d behind stream lines Held leads step text read holds =
             record {
@@ -304,7 +306,7 @@ module _ (S : Setup) (written : List ℕ) (events : List Event) where
               (record {
                 answers = no_answers;
                 answered = subst (λ (o : Option Connection).
-                    IfSome o (λ c. IsAnswered S no_answers (parity_of flow) octets d.time c))
+                    IfSome o (λ c. IsAnswered S no_answers (parity_of flow) octets d.arrival c))
                     (sym none) tt;
                 is = ap (delivered_in S no_answers d flow octets) (sym none);
               });
@@ -335,8 +337,8 @@ module _ (S : Setup) (written : List ℕ) (events : List Event) where
         messages' ≡ sum_within messages totals.messages →
         faults' ≡ sum_within faults totals.faults → cut' ≡ (cut || cuts cause) →
         MatchResult r
-        (λ _. HasTold S written (events ++ Closes flow cause ∷ []) rooms out' time streams messages'
-        faults' cut')
+        (λ _. HasTold S written (events ++ Closes flow cause ∷ []) rooms out' arrival streams
+        messages' faults' cut')
         (λ _. HasToldFront S written (events ++ Closes flow cause ∷ []) out')
     closed_told r flow cause old out' messages' faults' cut' totals b here writes ends first second
         third =
@@ -353,13 +355,14 @@ module _ (S : Setup) (written : List ℕ) (events : List Event) where
           is =
               ap (closed_in S d flow cause) (sym at.is);
         } in
-        told_or_front r d behind (Closes flow cause) rooms out' time streams messages' faults' cut'
+        told_or_front r d behind (Closes flow cause) rooms out' arrival streams messages' faults'
+        cut'
         (stream_tag (side parity at.connection).stream) (closed_lines S parity cause at.connection)
         b.leads step refl
         (λ ready. record {
           connections = h.connections;
           ready = ready;
-          time_is = h.time_is;
+          arrival_is = h.arrival_is;
           streams_are = h.streams_are;
           messages_are = first ∙ (ap (λ n. sum_within n totals.messages) h.messages_are
               ∙ ap (λ (t : Totals). sum_within d.messages t.messages) total);
@@ -398,8 +401,8 @@ module _ (S : Setup) (written : List ℕ) (events : List Event) where
 
     pub closed_beyond : (flow : ℕ) (cause : CloseCause) → Before →
         slice_get rooms (flow / 2) ≡ None →
-        HasTold S written (events ++ Closes flow cause ∷ []) rooms out time streams messages faults
-        cut
+        HasTold S written (events ++ Closes flow cause ∷ []) rooms out arrival streams messages
+        faults cut
     closed_beyond flow cause b beyond =
         let d = b.dump in
         let none = none_at S rooms d.connections (flow / 2) b.holds.connections beyond in
@@ -418,20 +421,24 @@ module _ (S : Setup) (written : List ℕ) (events : List Event) where
     -- ---- what happens in the capture
 
     pub packet_told : (now : Option ℕ) → Before →
-        HasTold S written (events ++ OfCapture (PacketArrives now) ∷ []) rooms out now streams
-        messages faults cut
+        HasTold S written (events ++ OfCapture (PacketArrives now) ∷ []) rooms out
+        (record { time = now; packet = sum_within arrival.packet 1 }) streams messages faults cut
     packet_told now b =
         let d = b.dump in
         let h = b.holds in
+        let of : ℕ → Arrival =
+        λ (n : ℕ). record { time = now; packet = n } in
+        let behind = record d { arrival = of (counted d.arrival.packet) } in
         record {
-          dump = record d { time = now };
+          dump = behind;
           leads = leads_more S events (start S written) (OfCapture (PacketArrives now)) d
-              (record d { time = now }) b.leads
+              behind b.leads
               (record { answers = no_answers; answered = tt; is = refl });
           holds = record {
             connections = h.connections;
             ready = h.ready;
-            time_is = refl;
+            arrival_is = ap of (ap (λ (x : Arrival). sum_within x.packet 1) h.arrival_is
+                ∙ counted_is d.arrival.packet);
             streams_are = h.streams_are;
             messages_are = h.messages_are;
             faults_are = h.faults_are;
@@ -444,7 +451,7 @@ module _ (S : Setup) (written : List ℕ) (events : List Event) where
         set_out ≡ record out { tag = tag; due = length tag; since = 0 } → tag ≡ [] →
         Writes r (tagging_log set_out) (tagging_log out') (capture_fault_line word place) →
         MatchResult r
-        (λ _. HasTold S written (events ++ OfCapture (HasFault word place) ∷ []) rooms out' time
+        (λ _. HasTold S written (events ++ OfCapture (HasFault word place) ∷ []) rooms out' arrival
         streams messages faults true)
         (λ _. HasToldFront S written (events ++ OfCapture (HasFault word place) ∷ []) out')
     fault_told r word place tag set_out out' b sets none writes =
@@ -452,14 +459,14 @@ module _ (S : Setup) (written : List ℕ) (events : List Event) where
         let h = b.holds in
         let line = capture_fault_line word place in
         let behind = record d { is_cut = true; text = d.text ++ line } in
-        told_or_front r d behind (OfCapture (HasFault word place)) rooms out' time streams messages
-        faults true [] line b.leads
+        told_or_front r d behind (OfCapture (HasFault word place)) rooms out' arrival streams
+        messages faults true [] line b.leads
         (record { answers = no_answers; answered = tt; is = refl })
         (ap (λ (t : List ℕ). d.text ++ t) (sym (no_tag_is line)))
         (λ ready. record {
           connections = h.connections;
           ready = ready;
-          time_is = h.time_is;
+          arrival_is = h.arrival_is;
           streams_are = h.streams_are;
           messages_are = h.messages_are;
           faults_are = h.faults_are;

@@ -5,6 +5,7 @@ use Rattle.std.specs.Prelude.{◌≡◌, ℕ, ◌==◌, true, List, [], flat_map
 use Rattle.giop_calls.specs.declared.calls.Call.{Call}
 use Rattle.tcp_flow.specs.declared.flow.CloseCause.{CloseCause}
 use Rattle.tcp_segment.specs.declared.endpoint.Flow.{Flow}
+use Rattle.giop_conversation.specs.declared.arrival.Arrival.{Arrival}
 use Rattle.giop_conversation.specs.Tags.{stream_tag, with_tags}
 use Rattle.giop_conversation.specs.TaggedText.{is_due}
 use Rattle.giop_conversation.specs.Lines.{stream_line, time_line, answers_line, raises_line, closed_line, capture_fault_line}
@@ -14,7 +15,7 @@ pub data StreamPart : Type 0 where
   Reads : List ℕ → StreamPart  -- by itself, where octets of it are read
   Closing : List ℕ → StreamPart  -- by itself, where it closes
   StreamLine : Flow → Option ℕ → StreamPart  -- where it begins
-  TimeLine : ℕ → Option ℕ → StreamPart  -- when a message began
+  TimeLine : ℕ → Arrival → StreamPart  -- when a message began
   AnswersLine : ℕ → Call → Option ℕ → StreamPart  -- which call a Reply answers
   RaisesLine : ℕ → List ℕ → StreamPart  -- which exception a Reply raises
   ClosedLine : CloseCause → StreamPart  -- why it closes
@@ -24,7 +25,7 @@ abbrev pub lines_of : StreamPart → List ℕ
 lines_of (Reads lines) = lines
 lines_of (Closing lines) = lines
 lines_of (StreamLine flow time) = stream_line flow time
-lines_of (TimeLine message time) = time_line message time
+lines_of (TimeLine message arrival) = time_line message arrival
 lines_of (AnswersLine message call time) = answers_line message call time
 lines_of (RaisesLine message name) = raises_line message name
 lines_of (ClosedLine cause) = closed_line cause
@@ -34,7 +35,7 @@ abbrev pub read_lines : StreamPart → List ℕ
 read_lines (Reads lines) = lines
 read_lines (Closing lines) = []
 read_lines (StreamLine flow time) = []
-read_lines (TimeLine message time) = []
+read_lines (TimeLine message arrival) = []
 read_lines (AnswersLine message call time) = []
 read_lines (RaisesLine message name) = []
 read_lines (ClosedLine cause) = []
@@ -44,7 +45,7 @@ abbrev pub own_lines : StreamPart → List ℕ
 own_lines (Reads lines) = lines
 own_lines (Closing lines) = lines
 own_lines (StreamLine flow time) = []
-own_lines (TimeLine message time) = []
+own_lines (TimeLine message arrival) = []
 own_lines (AnswersLine message call time) = []
 own_lines (RaisesLine message name) = []
 own_lines (ClosedLine cause) = []

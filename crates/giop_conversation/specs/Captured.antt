@@ -18,6 +18,7 @@ use Rattle.tcp_flow.specs.declared.flow.CloseCause.{CloseCause}
 use Rattle.tcp_flow.specs.declared.flow.CloseCause.TheVariants.{Fin, Reset, Syn, Fault, Gap, Room, End}
 use Rattle.giop_conversation.specs.declared.conversation.Parity.{Parity}
 use Rattle.giop_conversation.specs.declared.conversation.Parity.TheVariants.{Even, Odd}
+use Rattle.giop_conversation.specs.declared.arrival.Arrival.{Arrival}
 use Rattle.giop_conversation.specs.Tags.{stream_tag, with_tags}
 use Rattle.giop_conversation.specs.Lines.{closed_line, capture_fault_line, capture_total_line}
 use Rattle.giop_conversation.specs.Exchanges.{Exchanged, answer_of, notified}
@@ -62,14 +63,14 @@ with_side Odd c s = record c { odd = s }
 abbrev pub rules_in : Setup → Answers → Rules
 rules_in S a = rules_by S.table a S.messages
 
--- the calls of the connection, as the stream of a flow is read in a packet of this time
-abbrev pub calls_in : Setup → Parity → Option ℕ → Connection → Exchanged
-calls_in S parity time c = record {
+-- the calls of the connection, as the stream of a flow is read in this packet
+abbrev pub calls_in : Setup → Parity → Arrival → Connection → Exchanged
+calls_in S parity arrival c = record {
   table = S.table;
   own = (side parity c).calls;
   opposite = (side (other parity) c).calls;
   stream = (side parity c).stream;
-  time = time;
+  arrival = arrival;
   replied = 0;
   answered = None;
   raised = None;
@@ -87,16 +88,16 @@ opened parity flow c =
 abbrev pub begun : Parity → ℕ → Connection → Connection
 begun parity stream c = with_side parity c (record (side parity c) { stream = stream; octets = [] })
 
--- the calls of the connection behind octets that are delivered in a packet of this time, where the
--- ids of the stream's messages answer these operations
-abbrev pub calls_behind : Setup → Answers → Parity → List ℕ → Option ℕ → Connection → Exchanged
-calls_behind S a parity octets time c =
-    exchanged (rules_in S a) (calls_in S parity time c) (side parity c).octets octets
+-- the calls of the connection after octets that are delivered in this packet, if the ids of the
+-- stream's messages answer these operations
+abbrev pub calls_behind : Setup → Answers → Parity → List ℕ → Arrival → Connection → Exchanged
+calls_behind S a parity octets arrival c =
+    exchanged (rules_in S a) (calls_in S parity arrival c) (side parity c).octets octets
 
 -- the connection behind them
-abbrev pub delivered : Setup → Answers → Parity → List ℕ → Option ℕ → Connection → Connection
-delivered S a parity octets time c =
-    let behind = calls_behind S a parity octets time c in
+abbrev pub delivered : Setup → Answers → Parity → List ℕ → Arrival → Connection → Connection
+delivered S a parity octets arrival c =
+    let behind = calls_behind S a parity octets arrival c in
     with_side (other parity)
     (with_side parity c (record (side parity c) {
       octets = (side parity c).octets ++ octets;
@@ -106,16 +107,16 @@ delivered S a parity octets time c =
     (record (side (other parity) c) { calls = behind.opposite })
 
 -- their lines, without the tag
-abbrev pub delivered_lines : Setup → Answers → Parity → List ℕ → Option ℕ → Connection → List ℕ
-delivered_lines S a parity octets time c =
-    stamped (rules_in S a) (calls_in S parity time c) (side parity c).octets octets
+abbrev pub delivered_lines : Setup → Answers → Parity → List ℕ → Arrival → Connection → List ℕ
+delivered_lines S a parity octets arrival c =
+    stamped (rules_in S a) (calls_in S parity arrival c) (side parity c).octets octets
 
 -- These answers are those of the calls: they are the stream's for what was delivered before, and a
 -- Reply whose header ends in the octets has results of the operation of the call that it answers.
 pub record IsAnswered (S : Setup) (a : Answers) (parity : Parity) (octets : List ℕ)
-    (time : Option ℕ) (c : Connection) : Type 0 where
+    (arrival : Arrival) (c : Connection) : Type 0 where
   pub before : AnswersAgree S.messages (side parity c).octets (side parity c).answers a
-  pub now : AgreesAtEnds answer_of notified S.table (calls_in S parity time c) a
+  pub now : AgreesAtEnds answer_of notified S.table (calls_in S parity arrival c) a
       (header_ends_from (rules_in S a) (side parity c).octets octets)
 
 -- the lines with which the stream of a flow closes: why, and its closing
@@ -131,7 +132,7 @@ pub record Dump : Type 0 where
   pub messages : ℕ  -- how many messages and faults the streams had that have closed
   pub faults : ℕ
   pub is_cut : Bool  -- whether a stream was cut by a gap or for room, or the capture has a fault
-  pub time : Option ℕ  -- that of the packet that is read
+  pub arrival : Arrival  -- the packet that is read
   pub text : List ℕ  -- all that was written
 
 abbrev pub new_side : Setup → Side
@@ -154,7 +155,7 @@ start S written = record {
   messages = 0;
   faults = 0;
   is_cut = false;
-  time = None;
+  arrival = record { time = None; packet = 0 };
   text = written;
 }
 
@@ -177,7 +178,8 @@ opened_in d id flow (Some c) = with_connection d id (opened (parity_of id) flow 
 abbrev pub text_of_begin : Dump → ℕ → Option Connection → List ℕ
 text_of_begin d id None = []
 text_of_begin d id (Some c) =
-    with_tags (stream_tag (counted d.streams)) (begin_lines (side (parity_of id) c).flow d.time)
+    with_tags (stream_tag (counted d.streams)) (begin_lines (side (parity_of id) c).flow
+    d.arrival.time)
 
 abbrev pub begun_in : Dump → ℕ → Option Connection → Dump
 begun_in d id None = record d { streams = counted d.streams }
@@ -190,9 +192,9 @@ begun_in d id (Some c) =
 abbrev pub delivered_in : Setup → Answers → Dump → ℕ → List ℕ → Option Connection → Dump
 delivered_in S a d id octets None = d
 delivered_in S a d id octets (Some c) =
-    record (with_connection d id (delivered S a (parity_of id) octets d.time c)) {
+    record (with_connection d id (delivered S a (parity_of id) octets d.arrival c)) {
       text = d.text ++ with_tags (stream_tag (side (parity_of id) c).stream)
-          (delivered_lines S a (parity_of id) octets d.time c);
+          (delivered_lines S a (parity_of id) octets d.arrival c);
     }
 
 -- whether a stream that closes is cut
@@ -223,14 +225,15 @@ stepped S a d (Opens id flow) = opened_in d id flow (connection_of d id)
 stepped S a d (Begins id number) = begun_in d id (connection_of d id)
 stepped S a d (Delivers id octets) = delivered_in S a d id octets (connection_of d id)
 stepped S a d (Closes id cause) = closed_in S d id cause (connection_of d id)
-stepped S a d (OfCapture (PacketArrives time)) = record d { time = time }
+stepped S a d (OfCapture (PacketArrives time)) =
+    record d { arrival = record { time = time; packet = counted d.arrival.packet } }
 stepped S a d (OfCapture (HasFault word at)) =
     record d { is_cut = true; text = d.text ++ capture_fault_line word at }
 
 -- These answers are those of the calls, where octets are delivered.
 abbrev pub Answered : Setup → Answers → Dump → Event → Type 0
 Answered S a d (Delivers id octets) =
-    IfSome (connection_of d id) (λ c. IsAnswered S a (parity_of id) octets d.time c)
+    IfSome (connection_of d id) (λ c. IsAnswered S a (parity_of id) octets d.arrival c)
 Answered S a d (Opens id flow) = Unit {0}
 Answered S a d (Begins id number) = Unit {0}
 Answered S a d (Closes id cause) = Unit {0}

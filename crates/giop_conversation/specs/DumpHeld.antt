@@ -4,6 +4,7 @@ use Rattle.std.specs.Prelude.{◌≡◌, ℕ, List, [], ◌∷◌, ◌++◌, Boo
 use Rattle.tcp_flow.specs.Flow.{Event}
 use Rattle.giop_message.specs.Signatures.{Answers}
 use Rattle.giop_stream.specs.EngineHolds.{HoldsBy}
+use Rattle.giop_conversation.specs.declared.arrival.Arrival.{Arrival}
 use Rattle.giop_conversation.specs.declared.conversation.Parity.{Parity}
 use Rattle.giop_conversation.specs.declared.conversation.Conversation.{Conversation}
 use Rattle.giop_conversation.specs.Tags.{stream_tag, with_tags}
@@ -36,16 +37,17 @@ pub record HoldsConnection (S : Setup) (r : Conversation) (c : Connection) : Typ
 -- behind them, and below stand their lines, each with the tag of the stream; or a front of them,
 -- where a put failed.
 pub record ReadsBy {A E : Type 0} (S : Setup) (c : Connection) (parity : Parity) (octets : List ℕ)
-    (time : Option ℕ) (w : List ℕ) (result : Result A E) (r : Conversation) (out : Tagging) : Type 0
+    (arrival : Arrival) (w : List ℕ) (result : Result A E) (r : Conversation) (out : Tagging) :
+    Type 0
   where
     pub answers : Answers
-    pub answered : IsAnswered S answers parity octets time c
+    pub answered : IsAnswered S answers parity octets arrival c
     pub reads : MatchResult result
-        (λ _. HoldsConnection S r (delivered S answers parity octets time c)
+        (λ _. HoldsConnection S r (delivered S answers parity octets arrival c)
         × IsReady out (w ++ with_tags (stream_tag (side parity c).stream)
-        (delivered_lines S answers parity octets time c)))
+        (delivered_lines S answers parity octets arrival c)))
         (λ _. WroteTaggedFront out w (stream_tag (side parity c).stream)
-        (delivered_lines S answers parity octets time c))
+        (delivered_lines S answers parity octets arrival c))
 
 -- each does
 abbrev pub AreHeld : Setup → List Conversation → List Connection → Type 0
@@ -54,13 +56,13 @@ AreHeld S [] (c ∷ cs) = ⊥
 AreHeld S (r ∷ rs) [] = ⊥
 AreHeld S (r ∷ rs) (c ∷ cs) = HoldsConnection S r c × AreHeld S rs cs
 
--- Connections, what they wrote through an out with tags, the time of the packet that is read, and
--- the sums over the streams are those of a dump.
-pub record HoldsDump (S : Setup) (rooms : List Conversation) (out : Tagging) (time : Option ℕ)
+-- Connections, what they wrote through an out with tags, the packet that is read, and the sums over
+-- the streams are those of a dump.
+pub record HoldsDump (S : Setup) (rooms : List Conversation) (out : Tagging) (arrival : Arrival)
     (streams messages faults : ℕ) (cut : Bool) (d : Dump) : Type 0 where
   pub connections : AreHeld S rooms d.connections
   pub ready : IsReady out d.text
-  pub time_is : time ≡ d.time
+  pub arrival_is : arrival ≡ d.arrival
   pub streams_are : streams ≡ d.streams
   pub messages_are : messages ≡ d.messages
   pub faults_are : faults ≡ d.faults
@@ -70,10 +72,10 @@ pub record HoldsDump (S : Setup) (rooms : List Conversation) (out : Tagging) (ti
 -- written, and no more.
 pub record HasTold (S : Setup) (written : List ℕ) (events : List Event) (rooms : List Conversation)
     (out : Tagging)
-    (time : Option ℕ) (streams messages faults : ℕ) (cut : Bool) : Type 0 where
+    (arrival : Arrival) (streams messages faults : ℕ) (cut : Bool) : Type 0 where
   pub dump : Dump
   pub leads : Leads S (start S written) events dump
-  pub holds : HoldsDump S rooms out time streams messages faults cut dump
+  pub holds : HoldsDump S rooms out arrival streams messages faults cut dump
 
 -- A put failed: of the text that the events lead to a front was written, and maybe the beginning of
 -- a tag.

@@ -11,6 +11,7 @@ use Rattle.giop_calls.specs.Outstanding.{without, newest}
 use Rattle.giop_sig.specs.Table.{Table, operation_in}
 use Rattle.giop_message.specs.Signatures.{Answer}
 use Rattle.giop_message.specs.HeaderEnds.{CallEvent, Requested, Replied, Raised}
+use Rattle.giop_conversation.specs.declared.arrival.Arrival.{Arrival}
 
 -- a Reply that answers a call: its number in its stream, and the call
 pub record Answering : Type 0 where
@@ -27,7 +28,7 @@ pub record Exchanged : Type 0 where
   pub own : Entries Call  -- the calls of the stream that is read
   pub opposite : Entries Call  -- those that its Replies answer
   pub stream : ℕ  -- the number of the stream that is read
-  pub time : Option ℕ  -- that of the packet that is read
+  pub arrival : Arrival  -- the packet that is read
   pub replied : ℕ  -- the number of the last Reply whose header has ended; 0 where there is none
   pub answered : Option Answering  -- what that Reply answers
   pub raised : Option Raising  -- the last exception that a Reply raises
@@ -55,7 +56,7 @@ call_named s number name = record {
   stream = s.stream;
   message =
       number;
-  time = s.time;
+  time = s.arrival.time;
 }
 
 -- the calls of the stream behind a Request of this number and id: an older one of its id goes

@@ -7,6 +7,7 @@ use Rattle.tcp_flow.specs.declared.flow.CloseCause.{CloseCause}
 use Rattle.tcp_flow.specs.declared.flow.CloseCause.TheVariants.{Fin, Reset, Syn, Fault, Gap, Room, End}
 use Rattle.tcp_segment.specs.declared.endpoint.Flow.{Flow}
 use Rattle.tcp_segment.specs.EndpointText.{endpoint_text}
+use Rattle.giop_conversation.specs.declared.arrival.Arrival.{Arrival}
 use Rattle.giop_conversation.specs.Times.{time_text, span_text}
 
 -- the beginning of a stream
@@ -16,10 +17,11 @@ stream_line flow time =
     ∷ codes " at " ∷ time_text time
     ∷ codes "\n" ∷ [])
 
--- when the header of a message was complete
-unfoldable pub time_line : ℕ → Option ℕ → List ℕ
-time_line message time =
-    joined (codes "m" ∷ decimal message ∷ codes " time " ∷ time_text time ∷ codes "\n" ∷ [])
+-- when the header of a message was complete, and in which packet of the capture
+unfoldable pub time_line : ℕ → Arrival → List ℕ
+time_line message arrival =
+    joined (codes "m" ∷ decimal message ∷ codes " time " ∷ time_text arrival.time
+    ∷ codes " packet " ∷ decimal arrival.packet ∷ codes "\n" ∷ [])
 
 -- the call that a Reply answers, and how long after it
 unfoldable pub answers_line : ℕ → Call → Option ℕ → List ℕ

@@ -10,6 +10,7 @@ use Rattle.giop_stream.specs.DueOctets.{begun_in}
 use Rattle.giop_stream.specs.HeaderEndsOfStream.{header_ends_from}
 use Rattle.giop_stream.specs.EngineHolds.{added}
 use Rattle.tcp_segment.specs.declared.endpoint.Flow.{Flow}
+use Rattle.giop_conversation.specs.declared.arrival.Arrival.{Arrival}
 use Rattle.giop_conversation.specs.Lines.{stream_line, time_line, answers_line, raises_line}
 use Rattle.giop_conversation.specs.Exchanges.{Exchanged, Answering, Raising, notified}
 
@@ -19,9 +20,9 @@ begin_lines None time = []
 begin_lines (Some flow) time = stream_line flow time
 
 -- when a message of this number began, where one did
-abbrev pub time_due : Option ℕ → Option ℕ → List ℕ
-time_due None time = []
-time_due (Some message) time = time_line message time
+abbrev pub time_due : Option ℕ → Arrival → List ℕ
+time_due None arrival = []
+time_due (Some message) arrival = time_line message arrival
 
 -- which call a Reply answers, where it answers one
 abbrev pub answers_due : Option Answering → Option ℕ → List ℕ
@@ -41,12 +42,13 @@ told R s p octets = after_ends notified s.table s (header_ends_from R p octets)
 abbrev pub taken : Exchanged → Exchanged
 taken s = record s { answered = None; raised = None }
 
--- the lines that are due behind these octets after the stream p, which came in a packet of the time
--- that the exchange has
+-- the lines that are due after these octets of the stream p, which came in the packet that the
+-- exchange has
 unfoldable pub lines_due : Rules → Exchanged → List ℕ → List ℕ → List ℕ
 lines_due R s p octets =
-    time_due (begun_in p octets) s.time
-    ++ (answers_due (told R s p octets).answered s.time ++ raises_due (told R s p octets).raised)
+    time_due (begun_in p octets) s.arrival
+    ++ (answers_due (told R s p octets).answered s.arrival.time
+    ++ raises_due (told R s p octets).raised)
 
 -- the calls of the connection behind these octets after the stream p
 unfoldable pub exchanged : Rules → Exchanged → List ℕ → List ℕ → Exchanged

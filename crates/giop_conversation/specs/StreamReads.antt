@@ -6,6 +6,7 @@ use Rattle.giop_stream.specs.EngineView.{EngineView}
 use Rattle.giop_stream.specs.EngineHolds.{HoldsBy, rules_with}
 use Rattle.giop_stream.specs.AnswersAgree.{AgreesOver}
 use Rattle.giop_stream.specs.DueOctets.{is_due_after}
+use Rattle.giop_conversation.specs.declared.arrival.Arrival.{Arrival}
 use Rattle.giop_conversation.specs.Tags.{with_tags}
 use Rattle.giop_conversation.specs.TaggedState.{Tagging, tagging_log, IsReady, WroteTaggedFront}
 use Rattle.giop_conversation.specs.Exchanges.{Exchanged, answer_of, notified, is_waiting}
@@ -25,13 +26,13 @@ pub record IsSetAlike (e before : EngineView) : Type 0 where
   pub table : e.table ≡ before.table
   pub most : e.most ≡ before.most
 
--- the calls of the connection, as a stream of this number is read in a packet of this time
-abbrev pub reading_in : EngineView → ℕ → Option ℕ → Exchanged → Exchanged
-reading_in e stream time s =
+-- the calls of the connection, as a stream of this number is read in this packet
+abbrev pub reading_in : EngineView → ℕ → Arrival → Exchanged → Exchanged
+reading_in e stream arrival s =
     record s {
       table = e.table;
       stream = stream;
-      time = time;
+      arrival = arrival;
       replied = 0;
       answered = None;
       raised =

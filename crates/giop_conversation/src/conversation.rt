@@ -15,6 +15,7 @@ ghost use Rattle.giop_conversation.specs.StreamReads.{WritesTagged};
 ghost use Rattle.giop_conversation.specs.Captured.{Setup, Connection, setup, side, new_connection, opened, begun, closed_lines, rules_in};
 ghost use Rattle.giop_conversation.specs.DumpHeld.{HasCalls, HoldsConnection, ReadsBy};
 
+use crate::arrival::Arrival;
 use crate::direction::Direction;
 use crate::exchange::Exchange;
 use crate::limits::{Limits, NoMemory};
@@ -137,7 +138,7 @@ impl<'a> Conversation<'a> {
         &mut self,
         parity: Parity,
         octets: &[u8],
-        time: Option<u128>,
+        arrival: Arrival,
         out: &mut Tagged<O>,
     ) -> Result<Status, OutFault>
         ensures read { (p : List ℕ) → HasRead (direction parity self.old).engine p →
@@ -149,14 +150,14 @@ impl<'a> Conversation<'a> {
         // By answers that are those of the calls, below stand the lines of the octets, each with the tag of the stream, or a
         // front of them; and it holds the connection behind them.
         ensures text { (S : Setup) (c : Connection) (w : List ℕ) → HoldsConnection S self.old c →
-            IsReady out.old w → ReadsBy S c parity octets.now time w result self.new out.new }
+            IsReady out.old w → ReadsBy S c parity octets.now arrival w result self.new out.new }
     {
         answers_agree();
         answers_go_on::<Exchange<'a>>();
         self.face(parity);
         match parity {
-            Parity::Even => self.even.read(&mut self.exchange, octets, time, out),
-            Parity::Odd => self.odd.read(&mut self.exchange, octets, time, out),
+            Parity::Even => self.even.read(&mut self.exchange, octets, arrival, out),
+            Parity::Odd => self.odd.read(&mut self.exchange, octets, arrival, out),
         }
     }
 

@@ -3,6 +3,7 @@
 ghost use Rattle.std.specs.Prelude.{◌≡◌, ◌≤◌, ◌<◌, ◌+◌, ◌*◌, ◌/◌, ◌++◌, ◌∷◌, ◌||◌, ℕ, List, [], length, nat_lt, IfOk, OnOk, Err, Some, MatchResult};
 ghost use Rattle.std.specs.Vec.{vec_len};
 ghost use Rattle.tcp_flow.specs.Flow.{Event, Opens, Begins, Delivers, Closes, OfCapture, PacketArrives, HasFault};
+ghost use Rattle.giop_print.specs.Output.{counted};
 ghost use Rattle.giop_stream.specs.Rules.{most_open};
 ghost use Rattle.giop_stream.specs.EngineHolds.{AreOf};
 ghost use Rattle.giop_conversation.specs.Failing.{FailsOnce};
@@ -12,6 +13,7 @@ ghost use Rattle.giop_conversation.specs.DumpHeld.{HasToldFront, HasFinished, Ha
 ghost use Rattle.giop_conversation.specs.DumpTold.{Told};
 ghost use Rattle.giop_conversation.specs.Followed.{reader_faulted, is_stopped as spec_is_stopped};
 
+use crate::arrival::Arrival;
 use crate::conversation::{Conversation, parity_of};
 use crate::limits::{Limits, NoMemory};
 use crate::lines::{CaptureTotals, capture_fault_line, capture_total_line};
@@ -69,7 +71,7 @@ fn is_faulted(cut: bool, faults: u64) -> bool
 pub struct Conversations<'a, O: Out + Drop> {
     rooms: Vec<Conversation<'a>>,
     out: Tagged<O>,
-    time: Option<u128>,
+    arrival: Arrival,
     totals: CaptureTotals,
     cut: bool,
 }
@@ -113,20 +115,28 @@ impl<'a, O: Out + Drop> Conversations<'a, O> {
         Ok(Conversations {
             rooms,
             out: Tagged::new(out),
-            time: None,
+            arrival: Arrival {
+                time: None,
+                packet: 0,
+            },
             totals,
             cut: false,
         })
     }
 
-    /// The time of the packet that is read, in nanoseconds since 1970-01-01 UTC.
-    pub fn set_time(&mut self, time: Option<u128>)
-        ensures value { self.new ≡ record self.old { time = time } }
+    /// A packet is read from now on, which came at a time in nanoseconds since 1970-01-01 UTC, if it has one.
+    pub fn packet_arrives(&mut self, time: Option<u128>)
+        ensures value { self.new ≡ record self.old {
+          arrival = record { time = time; packet = counted self.old.arrival.packet };
+        } }
         ensures told { (S : Setup) (written : List ℕ) (events : List Event) →
             Told S written events self.old →
             Told S written (events ++ OfCapture (PacketArrives time) ∷ []) self.new }
     {
-        self.time = time;
+        self.arrival = Arrival {
+            time,
+            packet: sum_within(self.arrival.packet, 1),
+        };
     }
 
     /// An id stands for a flow from now on, of which nothing came. Calls of it that were kept are forgotten.
@@ -165,7 +175,7 @@ impl<'a, O: Out + Drop> Conversations<'a, O> {
             Some(room) => room.begin(
                 parity_of(flow),
                 self.totals.streams,
-                self.time,
+                self.arrival.time,
                 &mut self.out,
             ),
             None => Ok(()),
@@ -191,7 +201,7 @@ impl<'a, O: Out + Drop> Conversations<'a, O> {
             return Err(OutFault);
         }
         match self.rooms.get_mut(flow as usize / 2) {
-            Some(room) => match room.read(parity_of(flow), octets, self.time, &mut self.out) {
+            Some(room) => match room.read(parity_of(flow), octets, self.arrival, &mut self.out) {
                 Ok(status) => Ok(is_stopped(status)),
                 Err(fault) => Err(fault),
             },

@@ -23,6 +23,7 @@ ghost use Rattle.giop_conversation.specs.StreamReads.{AgreeWith, IsUndueAfter, I
 ghost use Rattle.giop_conversation.specs.Failing.{FailsByPut};
 ghost use Rattle.giop_conversation.specs.Directions.{HasRead};
 
+use crate::arrival::Arrival;
 use crate::exchange::{Answering, Exchange, Raising, answers_are_known};
 use crate::lines::{answers_line, closed_line, raises_line, stream_line};
 use crate::tag::{Tag, stream_tag};
@@ -179,7 +180,7 @@ impl<'a> Direction<'a> {
         &mut self,
         exchange: &mut Exchange<'a>,
         octets: &[u8],
-        time: Option<u128>,
+        arrival: Arrival,
         out: &mut Tagged<O>,
     ) -> Result<(usize, Status), OutFault>
         requires known { AreKnown self.old.engine.table (answer_of exchange.old) }
@@ -193,7 +194,7 @@ impl<'a> Direction<'a> {
         // By answers that agree with the calls, the lines of the octets that it reads are written, or a front of all.
         ensures text { (a : Answers) (p : List ℕ) → HoldsBy self.old.engine a p →
             AgreeWith self.old.engine a exchange.old p octets.now →
-            exchange.old.table ≡ self.old.engine.table → exchange.old.time ≡ time →
+            exchange.old.table ≡ self.old.engine.table → exchange.old.arrival ≡ arrival →
             exchange.old.answered ≡ None → exchange.old.raised ≡ None →
             MatchResult result
             (λ r. HasCome self.new.engine a (p ++ take r.0 octets.now) out.old out.new
@@ -208,17 +209,17 @@ impl<'a> Direction<'a> {
         ensures flow { self.new.flow ≡ self.old.flow }
     {
         let fed = self.feed(exchange, octets, out)?;
-        write_due(exchange, fed.begun, time, out)?;
+        write_due(exchange, fed.begun, arrival, out)?;
         Ok((fed.count, fed.status))
     }
 
-    /// Reads octets of its stream, and writes the lines that they complete, at a time in nanoseconds since 1970-01-01 UTC.
+    /// Reads octets of its stream, which came in this packet, and writes the lines that they complete.
     /// Behind a stream fault nothing is read.
     pub fn read<O: Out>(
         &mut self,
         exchange: &mut Exchange<'a>,
         octets: &[u8],
-        time: Option<u128>,
+        arrival: Arrival,
         out: &mut Tagged<O>,
     ) -> Result<Status, OutFault>
         // Its stream has grown by the octets.
@@ -230,7 +231,7 @@ impl<'a> Direction<'a> {
         // stream, or a front of them; and the calls are those behind the octets.
         ensures text { (a : Answers) (p w : List ℕ) → HoldsBy self.old.engine a p →
             IsReady out.old w →
-            (let calls = reading_in self.old.engine self.old.stream time exchange.old in
+            (let calls = reading_in self.old.engine self.old.stream arrival exchange.old in
             let lines = stamped (rules_with self.old.engine a) calls p octets.now in
             let tag = spec_stream_tag self.old.stream in
             AgreeWith self.old.engine a calls p octets.now →
@@ -246,11 +247,11 @@ impl<'a> Direction<'a> {
         answers_are_known();
         // The engine's own catalogue, so that each operation that is answered is one of its.
         exchange.set_catalogue(self.catalogue);
-        exchange.read_in(self.stream, time);
+        exchange.read_in(self.stream, arrival);
         out.set_tag(self.tag.copied());
         let mut at = 0;
         loop {
-            let (size, status) = self.read_piece(exchange, &octets[at..], time, out)?;
+            let (size, status) = self.read_piece(exchange, &octets[at..], arrival, out)?;
             at += size;
             if at >= octets.len() {
                 return Ok(status);
@@ -293,14 +294,14 @@ fn write_begin<O: Out>(flow: Option<Flow>, time: Option<u128>, out: &mut O) -> R
 fn write_time<O: Out>(
     exchange: &mut Exchange<'_>,
     begun: Option<u64>,
-    time: Option<u128>,
+    arrival: Arrival,
     out: &mut O,
 ) -> Result<(), OutFault>
     ensures kept { exchange.new ≡ exchange.old }
-    ensures text { Writes result (O.log out.old) (O.log out.new) (time_due begun time) }
+    ensures text { Writes result (O.log out.old) (O.log out.new) (time_due begun arrival) }
 {
     match begun {
-        Some(message) => exchange.write_time(message, time, out),
+        Some(message) => exchange.write_time(message, arrival, out),
         None => Ok(()),
     }
 }
@@ -352,17 +353,18 @@ fn write_reply<O: Out>(
 fn write_told<O: Out>(
     exchange: &mut Exchange<'_>,
     begun: Option<u64>,
-    time: Option<u128>,
+    arrival: Arrival,
     out: &mut Tagged<O>,
 ) -> Result<(), OutFault>
     ensures kept { exchange.new ≡ exchange.old }
     ensures fails { FailsByPut result out.old out.new }
     ensures text { Writes result (tagging_log out.old) (tagging_log out.new)
-        (time_due begun time
-        ++ (answers_due exchange.old.answered time ++ raises_due exchange.old.raised)) }
+        (time_due begun arrival
+        ++ (answers_due exchange.old.answered arrival.time
+        ++ raises_due exchange.old.raised)) }
 {
-    match write_time(exchange, begun, time, out) {
-        Ok(()) => write_reply(exchange, time, out),
+    match write_time(exchange, begun, arrival, out) {
+        Ok(()) => write_reply(exchange, arrival.time, out),
         Err(fault) => Err(fault),
     }
 }
@@ -371,16 +373,17 @@ fn write_told<O: Out>(
 fn write_due<O: Out>(
     exchange: &mut Exchange,
     begun: Option<u64>,
-    time: Option<u128>,
+    arrival: Arrival,
     out: &mut Tagged<O>,
 ) -> Result<(), OutFault>
     ensures taken { exchange.new ≡ taken exchange.old }
     ensures fails { FailsByPut result out.old out.new }
     ensures text { Writes result (tagging_log out.old) (tagging_log out.new)
-        (time_due begun time
-        ++ (answers_due exchange.old.answered time ++ raises_due exchange.old.raised)) }
+        (time_due begun arrival
+        ++ (answers_due exchange.old.answered arrival.time
+        ++ raises_due exchange.old.raised)) }
 {
-    let written = write_told(exchange, begun, time, out);
+    let written = write_told(exchange, begun, arrival, out);
     exchange.forget_reply();
     written
 }

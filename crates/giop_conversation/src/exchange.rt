@@ -8,6 +8,7 @@ ghost use Rattle.giop_message.specs.MessageState.{AreKnown};
 ghost use Rattle.giop_conversation.specs.Lines.{time_line};
 ghost use Rattle.giop_conversation.specs.Exchanges.{Exchanged, kept_name, answer_of, kept_exception};
 
+use crate::arrival::Arrival;
 use crate::kept_second::KeptSecond;
 use crate::lines::time_line_by;
 use arrayvec::ArrayVec;
@@ -45,7 +46,7 @@ pub struct Exchange<'a> {
     own: Calls,
     opposite: Calls,
     stream: u64,
-    time: Option<u128>,
+    arrival: Arrival,
     replied: u64,
     answered: Option<Answering>,
     raised: Option<Raising>,
@@ -65,7 +66,7 @@ impl<'a> Model for Exchange<'a> {
       own = e.own;
       opposite = e.opposite;
       stream = e.stream;
-      time = e.time;
+      arrival = e.arrival;
       replied = e.replied;
       answered = option_map (λ a. record { message = a.message; call = a.call }) e.answered;
       raised = option_map (λ r. record { message = r.message; name = r.name.items }) e.raised;
@@ -84,7 +85,7 @@ impl<'a> Exchange<'a> {
           own = record { most = most; entries = [] };
           opposite = record { most = most; entries = [] };
           stream = 0;
-          time = None;
+          arrival = record { time = None; packet = 0 };
           replied = 0;
           answered = None;
           raised = None;
@@ -95,7 +96,10 @@ impl<'a> Exchange<'a> {
             own: Calls::new(alloc, most)?,
             opposite: Calls::new(alloc, most)?,
             stream: 0,
-            time: None,
+            arrival: Arrival {
+                time: None,
+                packet: 0,
+            },
             replied: 0,
             answered: None,
             raised: None,
@@ -117,18 +121,18 @@ impl<'a> Exchange<'a> {
         mem::swap(&mut self.own, &mut self.opposite);
     }
 
-    /// The stream that is read, by its number, and the time of the packet, in nanoseconds since 1970-01-01 UTC.
-    pub fn read_in(&mut self, stream: u64, time: Option<u128>)
+    /// The stream that is read, by its number, and the packet.
+    pub fn read_in(&mut self, stream: u64, arrival: Arrival)
         ensures { self.new ≡ record self.old {
           stream = stream;
-          time = time;
+          arrival = arrival;
           replied = 0;
           answered = None;
           raised = None;
         } }
     {
         self.stream = stream;
-        self.time = time;
+        self.arrival = arrival;
         self.replied = 0;
         self.forget_reply();
     }
@@ -174,13 +178,13 @@ impl<'a> Exchange<'a> {
     pub(crate) fn write_time<O: Out>(
         &mut self,
         message: u64,
-        time: Option<u128>,
+        arrival: Arrival,
         out: &mut O,
     ) -> Result<(), OutFault>
         ensures kept { self.new ≡ self.old }
-        ensures text { Writes result (O.log out.old) (O.log out.new) (time_line message time) }
+        ensures text { Writes result (O.log out.old) (O.log out.new) (time_line message arrival) }
     {
-        time_line_by(&mut self.second, out, message, time)
+        time_line_by(&mut self.second, out, message, arrival)
     }
 
     /// Forgets the calls of the stream that is read. Their memory is kept.
@@ -262,7 +266,7 @@ impl<'a> Correspondent for Exchange<'a> {
                     name: kept,
                     stream: self.stream,
                     message: number,
-                    time: self.time,
+                    time: self.arrival.time,
                 };
                 self.own.add(id, call);
             }

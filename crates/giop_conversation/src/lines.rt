@@ -5,6 +5,7 @@ ghost use Rattle.std.specs.Prelude.{◌≡◌};
 ghost use Rattle.giop_print.specs.Output.{Writes};
 ghost use Rattle.giop_conversation.specs.Lines.{stream_line, time_line, answers_line, raises_line, cause_word, closed_line, capture_fault_line, capture_total_line};
 
+use crate::arrival::Arrival;
 use crate::kept_second::{KeptSecond, put_time};
 use crate::times::put_span;
 use giop_calls::Call;
@@ -39,11 +40,11 @@ pub fn stream_line<O: Out>(out: &mut O, flow: Flow, time: Option<u128>) -> Resul
     out.put_line(&mut line)
 }
 
-/// The line of when the header of a message was complete.
-pub fn time_line<O: Out>(out: &mut O, message: u64, time: Option<u128>) -> Result<(), OutFault>
-    ensures { Writes result (O.log out.old) (O.log out.new) (time_line message time) }
+/// The line of when the header of a message was complete, and in which packet of the capture.
+pub fn time_line<O: Out>(out: &mut O, message: u64, arrival: Arrival) -> Result<(), OutFault>
+    ensures { Writes result (O.log out.old) (O.log out.new) (time_line message arrival) }
 {
-    time_line_by(&mut KeptSecond::new(), out, message, time)
+    time_line_by(&mut KeptSecond::new(), out, message, arrival)
 }
 
 /// The same, its text taken from the kept second where the time is in that. Else the second of the time is kept from now on,
@@ -54,13 +55,15 @@ pub(crate) fn time_line_by<O: Out>(
     second: &mut KeptSecond,
     out: &mut O,
     message: u64,
-    time: Option<u128>,
+    arrival: Arrival,
 ) -> Result<(), OutFault>
-    ensures { Writes result (O.log out.old) (O.log out.new) (time_line message time) }
+    ensures { Writes result (O.log out.old) (O.log out.new) (time_line message arrival) }
 {
     let mut line = Line::new();
     line.put(b'\n');
-    second.put_time(&mut line, time);
+    line.put_number(arrival.packet);
+    line.put_octets(b" packet ");
+    second.put_time(&mut line, arrival.time);
     line.put_octets(b" time ");
     numbered_line(out, message, &mut line)
 }

@@ -43,7 +43,7 @@ const LIMITS: Limits = Limits {
 
 const LINES: &[u8] = b"s1 stream 10.0.0.1:1000 > 10.0.0.2:2809 at 1970-01-01T00:00:01.000000000Z
 s1 m1 start 1.0 big Request size 32
-s1 m1 time 1970-01-01T00:00:01.000000000Z
+s1 m1 time 1970-01-01T00:00:01.000000000Z packet 1
 s1 m1 header.service_contexts count 0
 s1 m1 header.request_id ulong 7
 s1 m1 header.response_expected boolean true
@@ -54,7 +54,7 @@ s1 m1 header.requesting_principal octets @0
 s1 m1 end
 s2 stream 10.0.0.2:2809 > 10.0.0.1:1000 at 1970-01-01T00:00:02.000000000Z
 s2 m1 start 1.0 big Reply size 12
-s2 m1 time 1970-01-01T00:00:02.000000000Z
+s2 m1 time 1970-01-01T00:00:02.000000000Z packet 2
 s2 m1 header.service_contexts count 0
 s2 m1 header.request_id ulong 7
 s2 m1 header.reply_status enum NO_EXCEPTION
@@ -71,10 +71,10 @@ total streams 2 messages 2 faults 0 packets 2 octets 204
 fn tell(conversations: &mut Conversations<Sheet>, size: usize) -> Result<bool, OutFault> {
     conversations.opens(0, ASKING);
     conversations.opens(1, ASKING.opposite());
-    conversations.set_time(Some(SECOND));
+    conversations.packet_arrives(Some(SECOND));
     conversations.begins(0)?;
     conversations.delivers(0, &REQUEST)?;
-    conversations.set_time(Some(2 * SECOND));
+    conversations.packet_arrives(Some(2 * SECOND));
     conversations.begins(1)?;
     for piece in REPLY.chunks(size.max(1)) {
         conversations.delivers(1, piece)?;

@@ -1,22 +1,30 @@
 //! A call in one direction of a connection, and its reply in the other.
 
-use giop_conversation::{Exchange, answers_are_known};
+use giop_conversation::{Arrival, Exchange, answers_are_known};
 use giop_message::Correspondent;
 use giop_sig::Catalogue;
 use std::test::Fail;
 
 const PING: &[u8] = b"ping";
 
+/// The first packet, at a time in nanoseconds since 1970-01-01 UTC.
+fn at(time: u128) -> Arrival {
+    Arrival {
+        time: Some(time),
+        packet: 1,
+    }
+}
+
 #[test]
 fn a_reply_answers_the_call_of_the_other_direction(rt: HostRuntime) -> Result<(), Fail> {
     let catalogue = Catalogue::parse(rt.alloc(), b"signatures 1; operation void ping();")?;
     let mut exchange = Exchange::new(rt.alloc(), &catalogue, 2)?;
-    exchange.read_in(7, Some(5));
+    exchange.read_in(7, at(5));
     exchange.called(3, 9, Some(PING), None, true);
     exchange.called(4, 10, Some(PING), None, false);
     assert!(rt; exchange.operation(9).is_none());
     exchange.turn();
-    exchange.read_in(8, Some(6));
+    exchange.read_in(8, at(6));
     assert!(rt; exchange.operation(9) == catalogue.operation(PING));
     assert!(rt; exchange.operation(10).is_none());
     exchange.answered(2, 9);

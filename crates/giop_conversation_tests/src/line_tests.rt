@@ -3,8 +3,8 @@
 use arrayvec::ArrayVec;
 use giop_calls::Call;
 use giop_conversation::{
-    CaptureTotals, answers_line, capture_fault_line, capture_total_line, closed_line, raises_line,
-    stream_line, time_line,
+    Arrival, CaptureTotals, answers_line, capture_fault_line, capture_total_line, closed_line,
+    raises_line, stream_line, time_line,
 };
 use giop_print::{OutFault, Sheet};
 use std::test::Fail;
@@ -42,7 +42,11 @@ fn call() -> Call {
 fn lines(sheet: &mut Sheet) -> Result<(), OutFault> {
     stream_line(sheet, FLOW, Some(TIME))?;
     stream_line(sheet, FLOW.opposite(), None)?;
-    time_line(sheet, 6, Some(TIME))?;
+    let arrival = Arrival {
+        time: Some(TIME),
+        packet: 4711,
+    };
+    time_line(sheet, 6, arrival)?;
     answers_line(sheet, 6, &call(), Some(TIME))?;
     answers_line(sheet, 7, &call(), None)?;
     raises_line(
@@ -63,7 +67,7 @@ fn lines(sheet: &mut Sheet) -> Result<(), OutFault> {
 
 const LINES: &[u8] = b"stream 192.0.2.1:33490 > [2001:db8::1]:2809 at 2026-11-23T08:13:25.580228123Z
 stream [2001:db8::1]:2809 > 192.0.2.1:33490 at -
-m6 time 2026-11-23T08:13:25.580228123Z
+m6 time 2026-11-23T08:13:25.580228123Z packet 4711
 m6 answers s3 m12 resolve after 0.000228123
 m7 answers s3 m12 resolve after -
 m6 raises IDL:omg.org/CosNaming/NamingContext/NotFound:1.0

@@ -54,7 +54,7 @@ module _ (C : Table) (d new : Decoder) where
   none_gathered on carry piece f = search (arith, still_here, append-nil, dues_none)
 
   -- none counted
-  none_counted : IsCountedBy d new 0 → new.carry ≡ d.carry → new.piece.items ≡ d.piece.items →
+  pub none_counted : IsCountedBy d new 0 → new.carry ≡ d.carry → new.piece.items ≡ d.piece.items →
       Fits C d → Fits C new × AllGathered C d new []
   none_counted on carry piece f = none_gathered
       (subst (IsFurther d new 0) (ticked_none d.outer.items) on.0) carry piece f
@@ -147,22 +147,6 @@ module _ (C : Table) (of : TypeId) (total offset most : ℕ) (full : 32 < total 
       let others = waits_gathered mid new bs (others_on d new d.carry held (length bs) on) carry
       (piece ∙ sym (append_assoc d.piece.items (b ∷ []) bs)) one.0 e (omega (arith, l, room)) in
       (others.0, then_gathered C d new leaf b mid bs one.1 others.1)
-
-pub content_gathered : (C : Table) (of : TypeId) (total offset : ℕ) (d new : Decoder)
-    (octets : List ℕ) →
-    IsCountedBy d new (length octets) →
-    new.carry ≡ d.carry → new.piece.items ≡ d.piece.items ++ octets → Fits C d →
-    d.leaf ≡ Some (innermost.Content of total offset) →
-    (0 < length octets → length d.piece.items + length octets < 32) →
-    (0 < length octets → length d.piece.items + length octets < total - offset) →
-    Fits C new × AllGathered C d new octets
-content_gathered C of total offset d new [] on carry piece f e room some =
-    none_counted C d new on carry (piece ∙ append-nil d.piece.items) f
-content_gathered C of total offset d new (b ∷ bs) on carry piece f e room some =
-    let full = room (omega arith) in
-    let last = some (omega arith) in
-    waits_gathered C of total offset (length d.piece.items + length (b ∷ bs)) (λ _. full)
-    (λ _. omega (arith, last)) d new (b ∷ bs) on carry piece f e (omega arith)
 
 -- ---- of a number, or of the padding in front of it
 

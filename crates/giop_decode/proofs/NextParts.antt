@@ -172,7 +172,7 @@ module _ (C : Table) (d : Decoder) (part : PartAhead) (f : Fits C d)
   free : is_inside d.outer.items ≡ false
   free = search (arith)
 
-  pub taken_together : TakenTogether C d octets part.of part.count ended []
+  pub taken_together : TakenTogether C d octets part.of part.count ended [] d.carry d.piece.items
   taken_together = search (arith, comes_number, free_coding_by, free, ahead_free)
 
   -- the decoder at the last of the number's octets: none was counted
@@ -201,7 +201,7 @@ module _ (C : Table) (d : Decoder) (part : PartAhead) (f : Fits C d)
 
   pub part_says : (Says : List ℕ → Type 0) → Says text → AllSay C d octets last Says
   part_says Says w =
-      last_says C d octets part.of part.count ended [] f taken_together there on Says
+      last_says C d octets part.of part.count ended [] f there taken_together on Says
       (λ here at lines says.
       let is = same_plain (tree C part.of.0) part.prim says.0.scalar h.prim says.0.is in
       let path = path_in [] (open_parts C here d.outer.items) in
@@ -295,7 +295,7 @@ module _ (C : Table) (d : Decoder) (part : PartAhead) (f : Fits C d)
         ∙ (front_gone C lines (here + 1) new.outer.items (Some leaf)
         ∙ (behind_stopped C new.outer.items new.carry new.piece.items (Some leaf) lines (here + 1)
         (n.carry ∙ h.empty)
-        (ap (λ p. p.items) n.piece ∙ no_piece C d part.of octets part.count f h.leaf h.empty)
+        (ap (λ p. p.items) n.piece ∙ no_piece C d part.of octets part.count f h.leaf)
         ∙ rw n.leaf refl))))
 
     plain_says : (here at : ℕ) (lines : List Line) → Gives C d part.of.0 ended [] here at lines →
@@ -323,8 +323,7 @@ module _ (C : Table) (d : Decoder) (part : PartAhead) (f : Fits C d)
             known = λ leaf is. subst (λ l. leaf_type l < length C.types) (at_next leaf is)
                 follower.known;
             clean = λ leaf is. subst (λ l. IsClean l new.carry new.piece.items) (at_next leaf is)
-                (ap (λ p. p.items) n.piece ∙ no_piece C d part.of octets part.count f h.leaf
-                h.empty);
+                (ap (λ p. p.items) n.piece ∙ no_piece C d part.of octets part.count f h.leaf);
             link = λ root leaf link is. subst (λ l. Link C root new.outer.items (leaf_type l))
                 (at_next leaf is)
                 (link_push C root above new.outer.items part.frame.of.0 next.0 (next_of part.frame)
@@ -359,9 +358,13 @@ module _ (C : Table) (d : Decoder) (part : PartAhead) (f : Fits C d)
 
     pub part_some : {E : Type 0} (a c : OutLog) → Wrote a c text →
         TakesSome {E = E} C d new octets a c (Ok (part.count, progress.More))
-    part_some a c said = search (arith, passed_some, taken_together, on, part_passes, part_says)
+    part_some a c said =
+        passed_some C d octets part.of part.count ended [] f there taken_together on new
+        progress.More part_passes a c (part_says (Wrote a c) said)
 
   pub part_broken : {E : Type 0} (r : Result (ℕ × Progress) E) (new : Decoder) (a c : OutLog) →
       IsErr r → WroteFront a c text →
       TakesSome C d new octets a c r
-  part_broken r new a c is said = search (arith, passed_broken, taken_together, on, part_says)
+  part_broken r new a c is said =
+      passed_broken C d octets part.of part.count ended [] f there taken_together on r new a c is
+      (part_says (WroteFront a c) said)

@@ -78,7 +78,7 @@ module _ (C : Table) (d : Decoder) (ahead : PieceAhead) (f : Fits C d)
   free : is_inside d.outer.items ≡ false
   free = sym f.inside ∙ outside
 
-  taken_together : TakenTogether C d octets ahead.of 32 step rest
+  taken_together : TakenTogether C d octets ahead.of 32 step rest d.carry d.piece.items
   taken_together =
       comes_full C d ahead.of ahead.total ahead.offset octets 32 f h.leaf
       (ahead_free (length octets - 1) d.outer.items free f.ahead) h.more
@@ -106,7 +106,7 @@ module _ (C : Table) (d : Decoder) (ahead : PieceAhead) (f : Fits C d)
 
   piece_says : (Says : List ℕ → Type 0) → Says text → AllSay C d octets 31 Says
   piece_says Says w =
-      last_says C d octets ahead.of 32 step rest f taken_together there on Says
+      last_says C d octets ahead.of 32 step rest f there taken_together on Says
       (λ here at lines says.
       subst Says (piece_text_is d.head.message ahead.offset place rest h.bound
       ∙ said_one d.head.message d.head.root at (path_in [] (open_parts C here d.outer.items)) place
@@ -180,8 +180,12 @@ module _ (C : Table) (d : Decoder) (ahead : PieceAhead) (f : Fits C d)
 
   pub piece_some : {E : Type 0} (a c : OutLog) → Wrote a c text →
       TakesSome {E = E} C d new octets a c (Ok (32, progress.More))
-  piece_some a c said = search (arith, passed_some, taken_together, on, piece_passes, piece_says)
+  piece_some a c said =
+      passed_some C d octets ahead.of 32 step rest f there taken_together on new progress.More
+      piece_passes a c (piece_says (Wrote a c) said)
 
   pub piece_broken : {E : Type 0} (r : Result (ℕ × Progress) E) (after : Decoder)
       (a c : OutLog) → IsErr r → WroteFront a c text → TakesSome C d after octets a c r
-  piece_broken r after a c is said = search (arith, passed_broken, taken_together, on, piece_says)
+  piece_broken r after a c is said =
+      passed_broken C d octets ahead.of 32 step rest f there taken_together on r after a c is
+      (piece_says (WroteFront a c) said)

@@ -26,28 +26,29 @@ use Rattle.giop_sig.specs.declared.types.TypeId.{TypeId}
 
 -- a decoder before them, and at the last of them
 module _ (C : Table) (d : Decoder) (octets : List ℕ) (of : TypeId) (count : ℕ) (step : Step)
-    (rest : List ℕ) (f : Fits C d) (h : TakenTogether C d octets of count step rest) (m : Decoder)
+    (rest : List ℕ) (f : Fits C d) (m : Decoder)
+    (h : TakenTogether C d octets of count step rest m.carry m.piece.items)
     (on : IsAtLast d m count) where
   abbrev octet : ℕ
   octet = get_or octets (count - 1) 0
 
   abbrev before : Decoder
-  before = before_last C d octets of count step rest f h m on
+  before = before_last C d octets of count step rest f m h on
 
   abbrev lines : ℕ → List Line
-  lines here = lines_at C d octets of count step rest f h m on here
+  lines here = lines_at C d octets of count step rest f m h on here
 
   abbrev says : (here : ℕ) → Gives C m of.0 step rest here (here + 1) (lines here)
-  says here = says_at C d octets of count step rest f h m on here
+  says here = says_at C d octets of count step rest f m h on here
 
   abbrev fits_before : Fits C before
-  fits_before = fits_then C d octets of count step rest f h m on
+  fits_before = fits_then C d octets of count step rest f m h on
 
   reads_before : (T : Ty) (order : Order) (at message : ℕ) (root : Root) (s : List ℕ) →
       Reads C T order at message root d s →
       Reads C T order at message root before (s ++ take (count - 1) octets)
   reads_before T order at message root s r =
-      let all = (gathered_whole C d octets of count step rest f h m on).1 in
+      let all = (gathered_whole C d octets of count step rest f m h on).1 in
       let held = all T order at message root s r in
       held.takes.reads (λ fault. fault)
 
@@ -59,14 +60,14 @@ module _ (C : Table) (d : Decoder) (octets : List ℕ) (of : TypeId) (count : �
   before_so_far a =
       gathered_so_far C d before octets (count - 1) a (let b = below in omega (arith, b))
       fits_before
-      (gathered_whole C d octets of count step rest f h m on).1
+      (gathered_whole C d octets of count step rest f m h on).1
 
   pub last_says : (Says : List ℕ → Type 0) →
       ((here at : ℕ) (lines : List Line) → Gives C m of.0 step rest here at lines →
       Says (lines_text m.head.message m.head.root lines)) → AllSay C d octets (count - 1) Says
   last_says Says w =
       step_says C d before octets (count - 1) fits_before reads_before Says (λ here stands.
-      rw (lines_whole C d octets of count step rest f h m on here stands)
+      rw (lines_whole C d octets of count step rest f m h on here stands)
       (w here (here + 1) (lines here) (says here)))
 
   module _ (new : Decoder) (p : Progress) (e : Passes C m new of.0 step rest p) where
@@ -75,10 +76,10 @@ module _ (C : Table) (d : Decoder) (octets : List ℕ) (of : TypeId) (count : �
         takes_to C T order at message root before new (s ++ take (count - 1) octets) octet p
         fits_before e.order e.head e.here
         (λ here stands.
-        rw (told_whole C d octets of count step rest f h m on here stands)
+        rw (told_whole C d octets of count step rest f m h on here stands)
         (e.steps here (lines here) (says here)))
         (λ here front stands old.
-        keeps_noted_whole C d octets of count step rest f h m on new here front stands
+        keeps_noted_whole C d octets of count step rest f m h on new here front stands
         (e.inside here (lines here))
         (λ o held. e.notes o here (here + 1) (lines here) held (says here)) old)
         (reads_before T order at message root s r)
@@ -91,12 +92,12 @@ module _ (C : Table) (d : Decoder) (octets : List ℕ) (of : TypeId) (count : �
     pub last_fits : GoesOn p → Fits C new
     last_fits goes_on =
         let g = fits_before in
-        let told = told_whole C d octets of count step rest f h m on g.here g.stands in
+        let told = told_whole C d octets of count step rest f m h on g.here g.stands in
         let k = goes C new p (g.here + 1) (decoder_step C before g.here octet)
         (rw told (e.steps g.here (lines g.here) (says g.here))) goes_on in
         let next = e.next goes_on in
         let link : Link C g.root m.outer.items of.0 =
-        let same = same_type C d octets of count step rest f h m on in
+        let same = same_type C d octets of count step rest f m h on in
         subst (Link C g.root m.outer.items) same g.link in
         step_fits C before new g octet k (e.here g.here g.stands) next.ahead next.inside
         (next.link g.root k.leaf link k.goes_on) next.known_outer (next.known k.leaf k.goes_on)
@@ -104,7 +105,7 @@ module _ (C : Table) (d : Decoder) (octets : List ℕ) (of : TypeId) (count : �
         (λ other. let was = rw e.head at other in e.id was ∙ g.id_in_header_only was)
         (subst (λ r. FitsName r (string_offset (tree C (leaf_type k.leaf)) k.leaf)
         new.notes.buffer new.notes.name.items) (sym (ap (λ h. h.root) e.head))
-        (name_whole C d octets of count step rest f h m on g.here k.leaf new.notes next.going
+        (name_whole C d octets of count step rest f m h on g.here k.leaf new.notes next.going
         (next.offset k.leaf k.goes_on)
         (λ o held. e.notes o g.here (g.here + 1) (lines g.here) held (says g.here))))
 

@@ -1,11 +1,11 @@
 -- Octets that are taken together do what they do one after another: those of a number, or the rest
 -- of a piece.
-use Rattle.std.proofs.Common.{◌≡◌, ℕ, ◌+◌, ◌-◌, ◌%◌, ◌^◌, true, false, ◌<◌, ◌≤◌, List, [], ◌∷◌, ◌++◌, length, take, drop, get_or, Some, None, refl, sym, ◌∙◌, ap, subst, arith, length-append, length-drop, take-add, append_assoc}
+use Rattle.std.proofs.Common.{◌≡◌, ◌≢◌, ℕ, ◌+◌, ◌-◌, ◌%◌, ◌^◌, true, false, ◌<◌, ◌≤◌, inl, inr, take_all, List, [], ◌∷◌, ◌++◌, length, take, get_or, Some, None, refl, sym, ◌∙◌, ap, subst, arith, length-append, append_assoc}
+use Rattle.std.proofs.lemmas.Bool.{cases_lt}
+use Rattle.giop_decode.specs.declared.progress.Kind.TheVariants as kinds
 use Rattle.std.proofs.Math.Bool.{and-true, and-false}
-use Rattle.std.proofs.lemmas.List.{get_or-drop, length-take-le}
+use Rattle.std.proofs.lemmas.List.{length-take-le}
 use Rattle.giop_cdr.proofs.NumberLaws.{num_bound}
-use Rattle.giop_cdr.proofs.PaddingLaws.{by_alignment, padding-aligned}
-use Rattle.giop_cdr.specs.Alignment.{IsAlignment, padding}
 use Rattle.giop_cdr.specs.Numbers.{AreOctets, num, interpreted_as}
 use Rattle.giop_cdr.specs.Primitives.{size_of}
 use Rattle.giop_cdr.specs.declared.number.Number.{Number as Taken}
@@ -18,7 +18,7 @@ use Rattle.giop_decode.specs.declared.leaf.Step.{Step}
 use Rattle.giop_decode.specs.declared.leaf.Transition.TheVariants as transitions
 use Rattle.giop_decode.specs.declared.leaf.Output.{Output}
 use Rattle.giop_decode.specs.declared.leaf.Output.TheVariants as outputs
-use Rattle.giop_decode.specs.Fits.{ContentFits, IsBare}
+use Rattle.giop_decode.specs.Fits.{ContentFits, HasContent, IsBare}
 use Rattle.giop_decode.specs.Noted.{Noted, noted, without_name_if, ends_in_string, is_header_root, is_text}
 use Rattle.giop_decode.specs.DecoderState.{Fits, CanStandAt, KeepsNoted, HoldsNoted, read_by_fields}
 use Rattle.giop_decode.specs.DecoderSteps.{IsAround, IsNotRefused, decoder_step, emitted}
@@ -28,73 +28,31 @@ use Rattle.giop_decode.proofs.NameBuffer.{name_kept, none_either}
 use Rattle.giop_decode.specs.NameBuffer.{FitsName, string_offset}
 use Rattle.giop_decode.specs.declared.notes.Notes.{Notes}
 use Rattle.giop_decode.specs.NotingSteps.{transition_offset, StringGoesOn, OutputFitsString, clears_name, transition_in_string}
-use Rattle.giop_decode.specs.Runs.{Adds, AllGathered, TakenTogether}
-use Rattle.giop_decode.specs.ReadResult.{plain, line, Coding, Line, PathSegment, Piece, lines_of, with_front}
-use Rattle.giop_decode.specs.ReadingSteps.{AreHeld, after, coding_in, leading_width, path_in}
-use Rattle.giop_decode.specs.Transitions.{HasOutput, HaveOctetsLeft, IsOutput, IsWholeNumber, StandsWhole, TransitionGives, TransitionFits, coding_by, leaf_type, open_parts, still_held, ticked_by}
+use Rattle.giop_decode.specs.Runs.{Adds, AllGathered, IsHeldOf, IsParted, TakenTogether}
+use Rattle.giop_decode.specs.ReadResult.{plain, line, Coding, Line, Opening, PathSegment, Piece, lines_of, with_front}
+use Rattle.giop_decode.specs.ReadingSteps.{after, coding_in, leading_width, leaf_step, path_in}
+use Rattle.giop_decode.specs.Transitions.{HasOutput, HaveOctetsLeft, IsOutput, IsWholeNumber, NumberStands, TransitionGives, TransitionFits, coding_by, leaf_type, open_parts, still_held, ticked_by, IsClean}
 use Rattle.giop_decode.proofs.Advancing.{lines_after_transition, same_some, stands_at}
 use Rattle.arrayvec.specs.ArrayVec.{ArrayVec}
 use Rattle.giop_decode.specs.declared.frame.Frame.{Frame}
-use Rattle.giop_decode.proofs.Counting.{ahead_fewer, coding_ticked_by}
-use Rattle.giop_decode.proofs.Gathering.{IsCountedBy, IsFurther, number_counted, waits_gathered}
+use Rattle.giop_decode.proofs.Counting.{ahead_fewer, coding_ticked_by, ticked_none}
+use Rattle.giop_decode.proofs.Gathering.{IsCountedBy, IsFurther, none_counted, number_counted, waits_gathered}
 use Rattle.giop_decode.proofs.Noting.{noted_on, leaf_inside}
-use Rattle.giop_decode.proofs.PieceLaws.{full_whole, octets_last, text_last}
+use Rattle.giop_decode.proofs.PieceLaws.{content_held, full_whole, octets_last, text_bad, text_last}
 use Rattle.giop_decode.proofs.Surrounding.{coded_in}
 use Rattle.giop_decode.proofs.PartialBlocks.{held_in}
 use Rattle.giop_sig.specs.declared.types.TypeId.{TypeId}
-use Rattle.giop_sig.specs.Table.{Table}
+use Rattle.giop_sig.specs.Table.{Table, type_id}
 use Rattle.giop_sig.specs.Trees.{tree}
-use Rattle.giop_decode.proofs.Padding.{padded_held, takes_last}
 use Rattle.giop_decode.proofs.Runs.{take_more}
 use Rattle.giop_decode.proofs.TransitionLaws.{number_prim, turns_number}
 use Rattle.giop_sig.specs.Types.{Encapsulation, Octets, Plain, Single, Text, Ty}
 
--- ---- where a number's octets are
-
--- padding is smaller than the size
-padding_below : (at size : ℕ) → IsAlignment size → padding at size < size
-unfolding padding
-padding_below at size h = search (arith, by_alignment)
-
-pub stands_whole : (w at pad count : ℕ) (octets : List ℕ) → IsAlignment w → at < 8 →
-    pad ≡ padding at w →
-    count ≡ pad + w → count ≤ length octets →
-    StandsWhole w at octets count (take (count - pad) (drop pad octets))
-stands_whole w at pad count octets k small padded counted within =
-    let ys = drop pad octets in
-    let held = take (w - 1) ys in
-    let b = get_or octets (count - 1) 0 in
-    let all = held ++ b ∷ [] in
-    let some : 0 < w = omega (arith, padding_below at w k) in
-    let l = length-drop pad octets in
-    let size : length held ≡ w - 1 = length-take-le (w - 1) ys
-    (omega (arith, l, within, counted, some)) in
-    let before : count - 1 ≡ pad + (w - 1) = omega (arith, counted, some) in
-    let after : count - pad ≡ (w - 1) + 1 = omega (arith, counted, some) in
-    let same : take (count - pad) ys ≡ all =
-    ap (λ n. take n ys) after
-    ∙ (take_more ys (w - 1) (omega (arith, l, within, counted, some))
-    ∙ ap (λ x. take (w - 1) ys ++ x ∷ []) (get_or-drop pad octets (w - 1) 0
-    ∙ ap (λ i. get_or octets i 0) (sym before))) in
-    let front : take (count - 1) octets ≡ take pad octets ++ held =
-    ap (λ n. take n octets) before ∙ take-add pad (w - 1) octets in
-    subst (StandsWhole w at octets count) (sym same) (record {
-      some = omega (arith, counted, some);
-      within = within;
-      held = held;
-      are_held = subst (λ xs. AreHeld w at [] xs held) (sym front)
-          (padded_held w at pad octets held k small (omega (arith, within, counted))
-          (omega (arith, padded)) (λ _. padded) (omega (arith, size, some)));
-      last = λ o here e. takes_last w o here ((at + (count - 1)) % 8) b held k e
-          (λ none.
-          let one : w ≡ 1 = omega (arith, size, ap length none, some) in
-          padding-aligned ((at + (count - 1)) % 8) w k (rw one (omega arith)))
-          (omega (arith, size, some));
-    })
+-- ---- a number of a primitive
 
 pub whole_number : (p : Primitive) (order : Order) (at count : ℕ) (octets all : List ℕ)
     (number : Taken) →
-    StandsWhole (size_of p) at octets count all → length all ≡ size_of p → AreOctets all →
+    NumberStands (size_of p) at [] octets count true all → length all ≡ size_of p → AreOctets all →
     interpreted_as p (num order all) ≡ Some number →
     IsWholeNumber (Single (Plain p)) order at octets count number
 whole_number p order at count octets all number stands width are taken = record {
@@ -112,12 +70,14 @@ still_nothing outputs.Nothing = refl
 still_nothing _ = refl
 
 module _ (C : Table) (d : Decoder) (of : TypeId) (octets : List ℕ) (count : ℕ) (f : Fits C d)
-    (e : d.leaf ≡ Some (innermost.Number of)) (empty : d.carry ≡ []) where
+    (e : d.leaf ≡ Some (innermost.Number of)) where
   pub no_piece : d.piece.items ≡ []
   no_piece = search (arith, same_some)
 
+  -- its last octet has come, and nothing is kept of it
   pub comes_head : (order : Order) (at : ℕ) → coding_by d.order d.at d.outer.items ≡ (order, at) →
-      (all : List ℕ) (s : Step) → StandsWhole (leading_width (tree C of.0)) at octets count all →
+      (kept all : List ℕ) (s : Step) → kept ≡ [] →
+      NumberStands (leading_width (tree C of.0)) at d.carry octets count true all →
       HaveOctetsLeft (ticked_by (length octets - 1) d.outer.items) →
       TransitionFits (tree C of.0) of.0 s.transition [] [] → HasOutput (tree C of.0) s.output →
       OutputFitsString (tree C of.0) false s.transition s.output →
@@ -125,9 +85,9 @@ module _ (C : Table) (d : Decoder) (of : TypeId) (octets : List ℕ) (count : �
       ((coding : Coding) (path : List PathSegment) (here : ℕ) →
       TransitionGives C (tree C of.0) s.transition s.output [] [] path here
       (after coding path (tree C of.0) (num order all) here [])) →
-      TakenTogether C d octets of count s []
-  comes_head order at coded all s stands ahead transition_fits has_output output_fits_string
-      string_goes_on transitions =
+      TakenTogether C d octets of count s [] kept d.piece.items
+  comes_head order at coded kept all s empty stands ahead transition_fits has_output
+      output_fits_string string_goes_on transitions =
       let T = tree C of.0 in
       let nothing_held : still_held s.output d.piece.items ≡ [] =
       ap (still_held s.output) no_piece ∙ still_nothing s.output in
@@ -142,7 +102,7 @@ module _ (C : Table) (d : Decoder) (of : TypeId) (octets : List ℕ) (count : �
         short = rw no_piece (omega arith);
         carry = stands.held;
         piece = d.piece.items;
-        adds = (rw (empty, coded) stands.are_held, refl);
+        adds = (rw coded stands.are_held, refl);
         transition_fits = rw (empty, nothing_held) transition_fits;
         has_output = has_output;
         output_fits_string = output_fits_string;
@@ -162,25 +122,107 @@ module _ (C : Table) (d : Decoder) (of : TypeId) (octets : List ℕ) (count : �
         says = λ coding path here. rw no_piece (transitions coding path (here + 1)).says;
       }
 
+  -- a number of which nothing was held
   pub comes_number : (order : Order) (at : ℕ) → coding_by d.order d.at d.outer.items ≡ (order, at) →
-      (number : Taken) → IsWholeNumber (tree C of.0) order at octets count number →
+      (number : Taken) → d.carry ≡ [] → IsWholeNumber (tree C of.0) order at octets count number →
       HaveOctetsLeft (ticked_by (length octets - 1) d.outer.items) →
       TakenTogether C d octets of count (record {
         transition = transitions.Ended;
         output =
             outputs.Number number;
-      }) []
-  comes_number order at coded number h ahead =
-      comes_head order at coded h.all (record {
+      }) [] d.carry d.piece.items
+  comes_number order at coded number empty h ahead =
+      comes_head order at coded d.carry h.all (record {
         transition = transitions.Ended;
         output =
             outputs.Number number;
-      }) h.stands ahead tt h.is (refl, refl) (λ n. (refl, refl))
+      }) empty (rw empty h.stands) ahead tt h.is (refl, refl) (λ n. (refl, refl))
       (λ coding path at. subst (λ n. TransitionGives C (tree C of.0) transitions.Ended
       (outputs.Number number) [] [] path at (after coding path (tree C of.0) n at []))
       h.spelled (turns_number C coding path (tree C of.0) at number h.is))
 
+  -- its last octet is still to come
+  pub number_waits : (order : Order) (at : ℕ) → coding_by d.order d.at d.outer.items ≡ (order, at) →
+      (all : List ℕ) →
+      NumberStands (leading_width (tree C of.0)) at d.carry octets count false all →
+      HaveOctetsLeft (ticked_by (length octets - 1) d.outer.items) →
+      TakenTogether C d octets of count (record {
+        transition = transitions.More (innermost.Number of);
+        output = outputs.Nothing;
+      }) [] all d.piece.items
+  number_waits order at coded all stands ahead =
+      let T = tree C of.0 in
+      record {
+        leaf = innermost.Number of;
+        goes_on = e;
+        same = refl;
+        some = stands.some;
+        within = stands.within;
+        ahead = ahead_fewer (count - 1) (length octets - 1) d.outer.items
+            (let within = stands.within in omega (arith, within)) ahead;
+        short = rw no_piece (omega arith);
+        carry = stands.held;
+        piece = d.piece.items;
+        adds = (rw coded stands.are_held, refl);
+        transition_fits = (refl, no_piece);
+        has_output = tt;
+        output_fits_string = refl;
+        string_goes_on = refl;
+        lines = λ coding path here. [];
+        comes = λ coding path here ordered there.
+            let aligned : (here - coding.origin) % 8 ≡ (at + (count - 1)) % 8 =
+            there ∙ ap (λ (k : Order × ℕ). (k.1 + (count - 1)) % 8) coded in
+            ap (after_leading_number T (λ xs at rest.
+            after coding path T (num coding.order xs) at rest))
+            (stands.last coding.origin here aligned);
+        says = λ coding path here. refl;
+      }
+
+-- ---- the octet of an encapsulation's byte order
+
+pub comes_order : (C : Table) (d : Decoder) (of : TypeId) (n : ℕ) (octets : List ℕ) (s : Step)
+    (f : Fits C d) → d.leaf ≡ Some (innermost.Opening of n) → 0 < length octets →
+    TransitionFits (tree C of.0) of.0 s.transition [] [] → HasOutput (tree C of.0) s.output →
+    OutputFitsString (tree C of.0) false s.transition s.output →
+    ((n : ℕ) → StringGoesOn (tree C of.0) None s.transition s.output n) →
+    ((coding : Coding) (path : List PathSegment) (here : ℕ) →
+    TransitionGives C (tree C of.0) s.transition s.output [] [] path (here + 1)
+    (leaf_step coding path (Opening (tree C of.0) (n - 1)) here (get_or octets 0 0))) →
+    TakenTogether C d octets of 1 s [] d.carry d.piece.items
+comes_order C d of n octets s f e some transition_fits has_output output_fits_string
+    string_goes_on transitions =
+    let leaf = innermost.Opening of n in
+    let it : f.leaf ≡ leaf = same_some f.leaf leaf (sym f.goes_on ∙ e) in
+    let clean : IsClean leaf d.carry d.piece.items =
+    subst (λ l. IsClean l d.carry d.piece.items) it f.clean in
+    let kept : still_held s.output d.piece.items ≡ [] =
+    ap (still_held s.output) clean.1 ∙ still_nothing s.output in
+    record {
+      leaf = leaf;
+      goes_on = e;
+      same = refl;
+      some = omega arith;
+      within = some;
+      ahead = rw (ticked_none d.outer.items) f.ahead;
+      short = rw clean.1 (omega arith);
+      carry = d.carry;
+      piece = d.piece.items;
+      adds = (refl, refl, refl);
+      transition_fits = rw (clean.0, kept) transition_fits;
+      has_output = has_output;
+      output_fits_string = output_fits_string;
+      string_goes_on = string_goes_on (length (d.piece.items ++ []));
+      lines = λ coding path here. (transitions coding path here).lines;
+      comes = λ coding path here ordered there.
+          rw (clean.0, kept) (rw (still_nothing s.output) at (transitions coding path here).comes);
+      says = λ coding path here. rw clean.1 (transitions coding path here).says;
+    }
+
 -- ---- the rest of a piece ahead
+
+pub tail_small : (T : Ty) → tail T ≤ 1
+tail_small (Text bound) = omega arith
+tail_small T = omega arith
 
 module _ (C : Table) (d : Decoder) (of : TypeId) (total offset : ℕ) (octets : List ℕ) (count : ℕ)
     (f : Fits C d)
@@ -209,7 +251,7 @@ module _ (C : Table) (d : Decoder) (of : TypeId) (total offset : ℕ) (octets : 
         output =
             outputs.Piece offset true;
       })
-      (take count octets)
+      (take count octets) d.carry d.piece.items
   comes_full large counted within =
       let T = tree C of.0 in
       let room : length d.piece.items < 32 = content.room_full large in
@@ -254,7 +296,7 @@ module _ (C : Table) (d : Decoder) (of : TypeId) (total offset : ℕ) (octets : 
         transition = transitions.Ended;
         output =
             outputs.Piece offset false;
-      }) (take count octets)
+      }) (take count octets) d.carry d.piece.items
   comes_bare bare small counted within =
       let T = tree C of.0 in
       let none = bare_tail T bare in
@@ -305,7 +347,7 @@ module _ (C : Table) (d : Decoder) (of : TypeId) (total offset : ℕ) (octets : 
         transition = transitions.Ended;
         output =
             outputs.Piece offset false;
-      }) (take size octets)
+      }) (take size octets) d.carry d.piece.items
   comes_text bound size is small sized counted within zero_end =
       let T = tree C of.0 in
       let one : tail T ≡ 1 = ap tail is in
@@ -349,6 +391,189 @@ module _ (C : Table) (d : Decoder) (of : TypeId) (total offset : ℕ) (octets : 
         says = λ coding path here. refl;
       }
 
+  abbrev IsLast : ℕ → Type 0
+  IsLast size = TakenTogether C d octets of count (record {
+    transition = transitions.Ended;
+    output = outputs.Piece offset false;
+  }) (take size octets) d.carry d.piece.items
+
+  -- the last piece, with the zero that ends it where it is a string's
+  pub comes_last : (size behind : ℕ) → behind ≡ tail (tree C of.0) → total - offset ≤ 32 →
+      size ≡ total - offset - length d.piece.items → count ≡ size + behind →
+      count ≤ length octets → (0 < behind → get_or octets size 0 ≡ 0) → IsLast size
+  comes_last size behind is small sized counted within zero_end =
+      go (tree C of.0) refl content.kind
+    where
+      bare : (T : Ty) → tree C of.0 ≡ T → IsBare T → tail T ≡ 0 → IsLast size
+      bare T e k none =
+          let all : count ≡ size = omega (arith, counted, is, ap tail e, none) in
+          subst IsLast all
+          (comes_bare (rw e k) small (omega (arith, all, sized)) within)
+
+      go : (T : Ty) → tree C of.0 ≡ T → HasContent T → IsLast size
+      go (Text bound) e k =
+          let one : behind ≡ 1 = is ∙ ap tail e in
+          comes_text bound size e small sized (omega (arith, counted, one)) within
+          (zero_end (omega (arith, one)))
+      go (Octets bound) e k = bare (Octets bound) e tt refl
+      go (Encapsulation E) e k = bare (Encapsulation E) e tt refl
+      go T e k = absurd k
+
+  -- a string's last octet isn't zero
+  pub comes_bad : (bound : _) (size : ℕ) → tree C of.0 ≡ Text bound → total - offset ≤ 32 →
+      size ≡ total - offset - length d.piece.items → count ≡ size + 1 → count ≤ length octets →
+      get_or octets size 0 ≢ 0 →
+      TakenTogether C d octets of count (record {
+        transition = transitions.Refused kinds.StringEnd;
+        output = outputs.Nothing;
+      }) (take size octets) d.carry d.piece.items
+  comes_bad bound size is small sized counted within bad =
+      let T = tree C of.0 in
+      let one : tail T ≡ 1 = ap tail is in
+      let room : length d.piece.items < total - offset + tail T = content.room_last small in
+      let n : count - 1 ≡ size = omega (arith, counted) in
+      let piece = d.piece.items ++ take size octets in
+      let all : length piece ≡ total - offset =
+      omega (arith, held_size size (omega (arith, within, counted)), sized, room, one) in
+      record {
+        leaf = innermost.Content of total offset;
+        goes_on = e;
+        same = refl;
+        some = omega (arith, counted);
+        within = within;
+        ahead = ahead_fewer (count - 1) (length octets - 1) d.outer.items (omega (arith, within))
+            ahead;
+        short = omega (
+          arith,
+          length-take-le size octets (omega (arith, within, counted)),
+          sized,
+          small,
+          room,
+          one,
+        );
+        carry = d.carry;
+        piece = piece;
+        adds = (
+          refl,
+          rw n refl,
+          (λ large. absurd (omega (arith, large, small))),
+          (λ _. omega (arith, all, one)),
+        );
+        transition_fits = tt;
+        has_output = tt;
+        output_fits_string = refl;
+        string_goes_on = tt;
+        lines = λ coding path here. [];
+        comes = λ coding path here order at.
+            rw n (text_bad T path total offset here piece (get_or octets size 0) bound is small all
+            bad);
+        says = λ coding path here. refl;
+      }
+
+  -- the same, by how many octets stand behind the piece
+  pub comes_unended : (size behind : ℕ) (s : Step) →
+      s.transition ≡ transitions.Refused kinds.StringEnd → s.output ≡ outputs.Nothing →
+      behind ≡ tail (tree C of.0) → total - offset ≤ 32 →
+      size ≡ total - offset - length d.piece.items → count ≡ size + behind →
+      count ≤ length octets → 0 < behind → get_or octets size 0 ≢ 0 →
+      TakenTogether C d octets of count s (take size octets) d.carry d.piece.items
+  comes_unended size behind s transition output is small sized counted within some bad =
+      let step : s ≡ record {
+        transition = transitions.Refused kinds.StringEnd;
+        output = outputs.Nothing;
+      } = rw (transition, output) refl in
+      subst (λ x. TakenTogether C d octets of count x (take size octets) d.carry d.piece.items)
+      (sym step) (go (tree C of.0) refl content.kind)
+    where
+      go : (T : Ty) → tree C of.0 ≡ T → HasContent T →
+          TakenTogether C d octets of count (record {
+            transition = transitions.Refused kinds.StringEnd;
+            output = outputs.Nothing;
+          }) (take size octets) d.carry d.piece.items
+      go (Text bound) e k =
+          let one : behind ≡ 1 = is ∙ ap tail e in
+          comes_bad bound size e small sized (omega (arith, counted, one)) within bad
+      go (Octets bound) e k = absurd (omega (arith, some, is, ap tail e))
+      go (Encapsulation E) e k = absurd (omega (arith, some, is, ap tail e))
+      go T e k = absurd k
+
+  -- octets that leave the piece incomplete
+  pub piece_waits : IsParted C (innermost.Content of total offset) d.piece.items (length octets) →
+      count ≡ length octets → 0 < count →
+      TakenTogether C d octets of count (record {
+        transition = transitions.More (innermost.Content of total offset);
+        output = outputs.Nothing;
+      }) [] d.carry (d.piece.items ++ octets)
+  piece_waits parted counted some =
+      let T = tree C of.0 in
+      let within : count ≤ length octets = omega (arith, counted) in
+      let piece = d.piece.items ++ take (count - 1) octets in
+      let b = get_or octets (count - 1) 0 in
+      let size : length piece ≡ length d.piece.items + (count - 1) =
+      held_size (count - 1) (omega (arith, within)) in
+      let all : piece ++ b ∷ [] ≡ d.piece.items ++ octets =
+      with_last some within
+      ∙ ap (λ xs. d.piece.items ++ xs) (take_all count octets (omega (arith, counted))) in
+      let long = length-append d.piece.items octets in
+      record {
+        leaf = innermost.Content of total offset;
+        goes_on = e;
+        same = refl;
+        some = some;
+        within = within;
+        ahead = ahead_fewer (count - 1) (length octets - 1) d.outer.items (omega (arith, within))
+            ahead;
+        short = waits_short parted;
+        carry = d.carry;
+        piece = piece;
+        adds = (
+          refl,
+          refl,
+          (λ large. omega (arith, size, parted.0 large, counted)),
+          (λ small. omega (arith, size, parted.1 small, counted)),
+        );
+        transition_fits = (refl, no_carry);
+        has_output = tt;
+        output_fits_string = refl;
+        string_goes_on = refl;
+        lines = λ coding path here. [];
+        comes = λ coding path here order at.
+            rw (← all) (content_held T path total offset here piece b
+            (λ large. omega (arith, size, parted.0 large, counted, some))
+            (λ small. omega (arith, size, parted.1 small, counted, some)));
+        says = λ coding path here. refl;
+      }
+    where
+      waits_short : IsParted C (innermost.Content of total offset) d.piece.items (length octets) →
+          length (d.piece.items ++ octets) + 0 ≤ 32
+      waits_short parted =
+          elim (cases_lt 32 (total - offset)) [
+            | inl large ↦ omega (arith, parted.0 large, length-append d.piece.items octets)
+            | inr small ↦ omega (
+              arith,
+              parted.1 small,
+              tail_small (tree C of.0),
+              length-append d.piece.items octets,
+            )
+          ]
+
+-- octets that leave a piece incomplete, of an innermost part of this type
+pub part_waits : (C : Table) (d : Decoder) (octets : List ℕ) (leaf : Innermost) (of : TypeId) →
+    of.0 ≡ leaf_type leaf → Fits C d → d.leaf ≡ Some leaf → 0 < length octets →
+    HaveOctetsLeft (ticked_by (length octets - 1) d.outer.items) →
+    IsParted C leaf d.piece.items (length octets) →
+    TakenTogether C d octets of (length octets) (record {
+      transition = transitions.More leaf;
+      output = outputs.Nothing;
+    }) [] d.carry (d.piece.items ++ octets)
+part_waits C d octets (innermost.Content kind total offset) of same f e some ahead parted =
+    subst (λ x. TakenTogether C d octets x (length octets) (record {
+      transition = transitions.More (innermost.Content kind total offset);
+      output = outputs.Nothing;
+    }) [] d.carry (d.piece.items ++ octets)) (sym (ap type_id same))
+    (piece_waits C d kind total offset octets (length octets) f e ahead parted refl some)
+part_waits C d octets leaf of same f e some ahead parted = absurd parted
+
 -- ---- what they do to a decoder
 
 -- octets that only add to what is held
@@ -357,7 +582,9 @@ adds_gathered : (C : Table) (d new : Decoder) (leaf : Innermost) (octets : List 
     Adds C d leaf octets new.carry new.piece.items → Fits C new × AllGathered C d new octets
 adds_gathered C d new (innermost.Number of) octets on f e h =
     number_counted C of d new octets on h.1 f e h.0
-adds_gathered C d new (innermost.Opening of count) octets on f e h = absurd h
+adds_gathered C d new (innermost.Opening of count) octets on f e h = subst
+    (λ xs. Fits C new × AllGathered C d new xs) (sym h.0)
+    (none_counted C d new (subst (λ xs. IsCountedBy d new (length xs)) h.0 on) h.1 h.2 f)
 adds_gathered C d new (innermost.Content of total offset) octets on f e h =
     waits_gathered C of total offset (length new.piece.items) h.2 h.3 d new octets on h.0 h.1 f e
     (omega (arith, ap length h.1, length-append d.piece.items octets))
@@ -365,8 +592,6 @@ adds_gathered C d new (innermost.Content of total offset) octets on f e h =
 -- a decoder that has counted octets which it has not taken: those before the last of so many
 pub record IsAtLast (d m : Decoder) (count : ℕ) : Type 0 where
   pub further : IsFurther d m (count - 1) (ticked_by (count - 1) d.outer.items)
-  pub carry : m.carry ≡ d.carry
-  pub piece : m.piece.items ≡ d.piece.items
 
 abbrev pub at_last : Decoder → ℕ → ArrayVec Frame → Decoder
 at_last d at outer = record {
@@ -381,6 +606,39 @@ at_last d at outer = record {
   notes = d.notes;
 }
 
+-- the decoder that keeps something else than it held before them
+pub held_at_last : (C : Table) (d now : Decoder) (octets : List ℕ) (of : TypeId) (count at : ℕ)
+    (s : Step) (rest : List ℕ) (outer : ArrayVec Frame) → IsHeldOf C d now octets of count s rest →
+    at ≡ (now.at + (count - 1)) % 8 → outer.items ≡ ticked_by (count - 1) now.outer.items →
+    IsAtLast d (at_last now at outer) count
+held_at_last C d now octets of count at s rest outer h there counted = record {
+  further = record {
+    order = h.order;
+    head = h.head;
+    at = rw h.at at there;
+    outer = rw h.outer at counted;
+    inside = h.inside;
+    leaf = h.leaf;
+    notes = h.notes;
+  };
+}
+
+pub held_now : (C : Table) (d : Decoder) (octets : List ℕ) (of : TypeId) (count : ℕ) (s : Step)
+    (rest carry : List ℕ) (piece : ArrayVec ℕ) → Fits C d →
+    TakenTogether C d octets of count s rest carry piece.items →
+    IsHeldOf C d (held_in d carry piece) octets of count s rest
+held_now C d octets of count s rest carry piece f h = record {
+  fits = f;
+  order = refl;
+  head = refl;
+  at = refl;
+  outer = refl;
+  inside = refl;
+  leaf = refl;
+  notes = refl;
+  together = h;
+}
+
 pub is_at_last : (d : Decoder) (count at : ℕ) (outer : ArrayVec Frame) →
     at ≡ (d.at + (count - 1)) % 8 →
     outer.items ≡ ticked_by (count - 1) d.outer.items → IsAtLast d (at_last d at outer) count
@@ -388,8 +646,9 @@ is_at_last d count at outer there counted = search (arith)
 
 -- a decoder before octets that it takes together, and at the last of them
 module _ (C : Table) (d : Decoder) (octets : List ℕ) (of : TypeId) (count : ℕ) (s : Step)
-    (rest : List ℕ) (f : Fits C d)
-    (h : TakenTogether C d octets of count s rest) (m : Decoder) (on : IsAtLast d m count) where
+    (rest : List ℕ) (f : Fits C d) (m : Decoder)
+    (h : TakenTogether C d octets of count s rest m.carry m.piece.items)
+    (on : IsAtLast d m count) where
   -- the decoder after all but the last of them
   abbrev pub before_last : Decoder
   before_last = held_in m h.carry (record { items = h.piece })
@@ -496,7 +755,7 @@ module _ (C : Table) (d : Decoder) (octets : List ℕ) (of : TypeId) (count : �
       (string_offset (tree C (leaf_type next)) next) s.transition s.output
       (path_in [] (open_parts C here m.outer.items)) (here + 1) (m.piece.items ++ rest)
       (lines_at here) m.notes new going
-      (rw on.piece h.string_goes_on) to (says_at here)
+      h.string_goes_on to (says_at here)
       (subst (λ n. FitsName m.head.root (string_offset (tree C n) h.leaf) m.notes.buffer
       m.notes.name.items) h.same
       (subst (λ l. FitsName m.head.root (string_offset (tree C (leaf_type l)) l) m.notes.buffer

@@ -110,7 +110,8 @@ pub text_stands : (C : Table) (d : Decoder) (octets : List ℕ) (of inner by : T
     (bound : Option ℕ) (text : TextAhead) → d.inside ≡ false → d.leaf ≡ Some (innermost.Number of) →
     tree C of.0 ≡ Text bound →
     s.transition ≡ transitions.More (innermost.Content inner total 0) → s.output ≡ outputs.Length →
-    TakenTogether C d octets by head s rest → total ≤ 32 → total < length (drop head octets) →
+    TakenTogether C d octets by head s rest d.carry d.piece.items → total ≤ 32 →
+    total < length (drop head octets) →
     get_or (drop head octets) total 0 ≡ 0 → text.of ≡ inner → text.head ≡ head →
     text.content.now ≡ take total (drop head octets) → IsTextAhead C d octets text
 text_stands C d octets of inner by head total s rest bound text outside leaf is transition output t
@@ -131,14 +132,14 @@ text_stands C d octets of inner by head total s rest bound text outside leaf is 
       transition = transitions.More (innermost.Content inner total 0);
       output =
           outputs.Length;
-    }) rest =
+    }) rest d.carry d.piece.items =
     subst (λ x. TakenTogether C d octets x head
     (record {
       transition = transitions.More (innermost.Content inner total 0);
       output =
           outputs.Length;
-    }) rest) (sym same)
-    (subst (λ x. TakenTogether C d octets by head x rest) step t) in
+    }) rest d.carry d.piece.items) (sym same)
+    (subst (λ x. TakenTogether C d octets by head x rest d.carry d.piece.items) step t) in
     record {
       bound = bound;
       is = rw (e1, same, whole) is;
@@ -232,14 +233,16 @@ module _ (C : Table) (d : Decoder) (octets : List ℕ) (text : TextAhead) (f : F
   )
 
   pub begun_fits : Fits C begun
-  begun_fits = search (arith, last_fits, on_head, length_passes)
+  begun_fits =
+      last_fits C d octets text.of text.head step h.none f at_head h.leads on_head begun
+      progress.More length_passes tt
 
   begun_so_far : (a : OutLog) → TakenSoFar C d begun octets text.head a a
   begun_so_far a =
       so_far {E = Unit {0}} C d begun octets text.head progress.More a a refl
-      (passed_some C d octets text.of text.head step h.none f h.leads at_head on_head begun
+      (passed_some C d octets text.of text.head step h.none f at_head h.leads on_head begun
       progress.More length_passes a a
-      (last_says C d octets text.of text.head step h.none f h.leads at_head on_head (Wrote a a)
+      (last_says C d octets text.of text.head step h.none f at_head h.leads on_head (Wrote a a)
       (λ here at lines says. rw (said_none d.head.message d.head.root lines says) (wrote-nil a))))
 
   abbrev ended_step : Step
@@ -248,11 +251,12 @@ module _ (C : Table) (d : Decoder) (octets : List ℕ) (text : TextAhead) (f : F
   -- the content and the zero behind it
   pub content_ahead : TakenTogether C begun (drop text.head octets) text.of
       (length text.content.now + 1)
-      ended_step text.content.now
+      ended_step text.content.now d.carry d.piece.items
   content_ahead =
       let n = length text.content.now in
       let left = length-drop text.head octets in
-      subst (λ xs. TakenTogether C begun (drop text.head octets) text.of (n + 1) ended_step xs)
+      subst (λ xs. TakenTogether C begun (drop text.head octets) text.of (n + 1) ended_step xs
+      d.carry d.piece.items)
       (sym h.content)
       (comes_text C begun text.of n 0 (drop text.head octets) (n + 1) begun_fits refl
       (ahead_free (length (drop text.head octets) - 1) d.outer.items free f.ahead) h.bound n h.is
@@ -322,9 +326,9 @@ module _ (C : Table) (d : Decoder) (octets : List ℕ) (text : TextAhead) (f : F
         subst (λ k. TakesSome {E = E} C d new octets a c (Ok (k, p))) all
         (then_some C d begun octets text.head a a (begun_so_far a) new c (n + 1) p
         (passed_some C begun (drop text.head octets) text.of (n + 1) ended_step text.content.now
-        begun_fits content_ahead at_zero on_zero new p (content_passes new p e) a c
+        begun_fits at_zero content_ahead on_zero new p (content_passes new p e) a c
         (last_says C begun (drop text.head octets) text.of (n + 1) ended_step text.content.now
-        begun_fits content_ahead at_zero on_zero (Wrote a c) writes)))
+        begun_fits at_zero content_ahead on_zero (Wrote a c) writes)))
 
     pub text_broken : {E : Type 0} (r : Result (ℕ × Progress) E) (new : Decoder) (a c : OutLog) →
         IsErr r →
@@ -336,6 +340,6 @@ module _ (C : Table) (d : Decoder) (octets : List ℕ) (text : TextAhead) (f : F
         let n = length text.content.now in
         then_fails C d begun octets text.head a a (begun_so_far a) new c r is
         (passed_broken C begun (drop text.head octets) text.of (n + 1) ended_step text.content.now
-        begun_fits content_ahead at_zero on_zero r new a c is
+        begun_fits at_zero content_ahead on_zero r new a c is
         (last_says C begun (drop text.head octets) text.of (n + 1) ended_step text.content.now
-        begun_fits content_ahead at_zero on_zero (WroteFront a c) writes))
+        begun_fits at_zero content_ahead on_zero (WroteFront a c) writes))

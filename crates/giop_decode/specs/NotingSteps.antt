@@ -10,8 +10,7 @@ use Rattle.giop_decode.specs.Noted.{is_text}
 use Rattle.giop_decode.specs.NameBuffer.{string_offset}
 use Rattle.giop_cdr.specs.declared.number.Number.{Number as Taken}
 use Rattle.giop_cdr.specs.declared.number.Number.TheVariants as numbers
-use Rattle.giop_cdr.specs.declared.prim.Primitive.{Primitive}
-use Rattle.giop_sig.specs.Types.{Plain, Single, Ty}
+use Rattle.giop_sig.specs.Types.{Ty}
 
 -- a boolean that is true, or a number whose bit 0 is set
 abbrev pub is_set : Taken → Bool
@@ -69,14 +68,3 @@ OffsetMoves T was next output n = (was ≡ None) × (next ≡ None)
 abbrev pub StringGoesOn : Ty → Option ℕ → Transition → Output → ℕ → Type 0
 StringGoesOn T was (transitions.Refused kind) output n = Unit {0}
 StringGoesOn T was transition output n = OffsetMoves T was (transition_offset T transition) output n
-
--- a type of one primitive
-abbrev pub IsPrim : Ty → Type 0
-IsPrim T = (p : Primitive) × (T ≡ Single (Plain p))
-
--- the number of a primitive, of which nothing is noted unless it is the request id of a header
-pub record IsPlain (T : Ty) (output : Output) : Type 0 where
-  pub prim : Primitive
-  pub number : Taken
-  pub is : T ≡ Single (Plain prim)
-  pub says : output ≡ outputs.Number number

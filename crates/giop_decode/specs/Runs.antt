@@ -116,45 +116,67 @@ Adds C d (innermost.Number of) octets carry piece =
     AreHeld (leading_width (tree C of.0)) (coding_by d.order d.at d.outer.items).1 d.carry octets
     carry
     × (piece ≡ d.piece.items)
-Adds C d (innermost.Opening of count) octets carry piece = ⊥
+Adds C d (innermost.Opening of count) octets carry piece =
+    (octets ≡ []) × (carry ≡ d.carry) × (piece ≡ d.piece.items)
 Adds C d (innermost.Content of total offset) octets carry piece =
     (carry ≡ d.carry) × (piece ≡ d.piece.items ++ octets)
     × (32 < total - offset → length piece < 32)
     × (total - offset ≤ 32 → length piece < total - offset + tail (tree C of.0))
 
 -- So many octets stand at the head of these, and no encapsulation ends before the last of them. All
--- but the last only add to what is held, and the last does this step: a piece that it gives are the
--- octets that are held, and the rest.
+-- but the last only add to what is held, and the last does this step, where this much is kept: a
+-- piece that it gives are the octets that are kept, and the rest.
 pub record TakenTogether (C : Table) (d : Decoder) (octets : List ℕ) (of : TypeId) (count : ℕ)
-    (step : Step) (rest : List ℕ) : Type 0 where
+    (step : Step) (rest kept_carry kept_piece : List ℕ) : Type 0 where
   pub leaf : Innermost
   pub goes_on : d.leaf ≡ Some leaf
   pub same : leaf_type leaf ≡ of.0
   pub some : 0 < count
   pub within : count ≤ length octets
   pub ahead : HaveOctetsLeft (ticked_by (count - 1) d.outer.items)
-  pub short : length d.piece.items + length rest ≤ 32
+  pub short : length kept_piece + length rest ≤ 32
   -- what is held before the last of them
   pub carry : List ℕ
   pub piece : List ℕ
   pub adds : Adds C d leaf (take (count - 1) octets) carry piece
   -- the step and the lines of the last
-  pub transition_fits : TransitionFits (tree C of.0) of.0 step.transition d.carry
-      (still_held step.output d.piece.items)
+  pub transition_fits : TransitionFits (tree C of.0) of.0 step.transition kept_carry
+      (still_held step.output kept_piece)
   pub has_output : HasOutput (tree C of.0) step.output
   pub output_fits_string : OutputFitsString (tree C of.0) (leaf_in_string (tree C of.0) leaf)
       step.transition step.output
   pub string_goes_on : StringGoesOn (tree C of.0) (string_offset (tree C of.0) leaf) step.transition
       step.output
-      (length (d.piece.items ++ rest))
+      (length (kept_piece ++ rest))
   pub lines : Coding → List PathSegment → ℕ → List Line
   pub comes : (coding : Coding) (path : List PathSegment) (here : ℕ) →
       coding.order ≡ (coding_by d.order d.at d.outer.items).0 →
       (here - coding.origin) % 8 ≡ ((coding_by d.order d.at d.outer.items).1 + (count - 1)) % 8 →
       leaf_step coding path (leaf_of C leaf carry piece) here (get_or octets (count - 1) 0)
-      ≡ after_transition C (tree C of.0) step.transition d.carry
-      (still_held step.output d.piece.items)
+      ≡ after_transition C (tree C of.0) step.transition kept_carry
+      (still_held step.output kept_piece)
       (lines coding path here) (here + 1)
   pub says : (coding : Coding) (path : List PathSegment) (here : ℕ) →
-      IsOutput (tree C of.0) path (here + 1) step.output (d.piece.items ++ rest)
+      IsOutput (tree C of.0) path (here + 1) step.output (kept_piece ++ rest)
       (lines coding path here)
+
+-- so many octets more leave a piece of a content incomplete, of which some are held
+abbrev pub IsParted : Table → Innermost → List ℕ → ℕ → Type 0
+IsParted C (innermost.Content of total offset) piece n =
+    (32 < total - offset → length piece + n < 32)
+    × (total - offset ≤ 32 → length piece + n < total - offset + tail (tree C of.0))
+IsParted C leaf piece n = ⊥
+
+-- A decoder at octets that are taken together, and what it has become: it keeps what the last of
+-- them leaves in the place of what was held.
+pub record IsHeldOf (C : Table) (d now : Decoder) (octets : List ℕ) (of : TypeId) (count : ℕ)
+    (step : Step) (rest : List ℕ) : Type 0 where
+  pub fits : Fits C d
+  pub order : now.order ≡ d.order
+  pub head : now.head ≡ d.head
+  pub at : now.at ≡ d.at
+  pub outer : now.outer.items ≡ d.outer.items
+  pub inside : now.inside ≡ d.inside
+  pub leaf : now.leaf ≡ d.leaf
+  pub notes : now.notes ≡ d.notes
+  pub together : TakenTogether C d octets of count step rest now.carry now.piece.items

@@ -21,7 +21,7 @@ pub record IsTextAhead (C : Table) (d : Decoder) (octets : List ℕ) (text : Tex
   pub leads : TakenTogether C d octets text.of text.head (record {
     transition = transitions.More (innermost.Content text.of (length text.content.now) 0);
     output = outputs.Length;
-  }) none
+  }) none d.carry d.piece.items
   pub short : length text.content.now ≤ 32
   pub within : text.head + length text.content.now < length octets
   pub content : text.content.now ≡ take (length text.content.now) (drop text.head octets)

@@ -272,21 +272,23 @@ abbrev pub block_of : Bool → List ℕ → ℕ → Block
 block_of true held at = Complete held at []
 block_of false held at = Partial held at
 
--- The octets of a number of this width stand whole at the head of others, after its padding, where
--- the first is at this offset modulo 8: all up to the last of them are held until that comes.
-pub record StandsWhole (width at : ℕ) (octets : List ℕ) (count : ℕ) (all : List ℕ) : Type 0 where
+-- So many octets at the head of others, the first of which is at this offset modulo 8, are of a number
+-- of this width, of which some are held, or of the padding before it: all up to the last of them are
+-- held until that comes, with which the number is whole or isn't.
+pub record NumberStands (width at : ℕ) (carry octets : List ℕ) (count : ℕ) (whole : Bool)
+    (all : List ℕ) : Type 0 where
   pub some : 0 < count
   pub within : count ≤ length octets
   pub held : List ℕ
-  pub are_held : AreHeld width at [] (take (count - 1) octets) held
+  pub are_held : AreHeld width at carry (take (count - 1) octets) held
   pub last : (origin here : ℕ) → (here - origin) % 8 ≡ (at + (count - 1)) % 8 →
       number_step origin width here held (get_or octets (count - 1) 0)
-      ≡ block_of true all (here + 1)
+      ≡ block_of whole all (here + 1)
 
--- a number of a type, whose octets stand so
+-- a number of a type, whose octets stand whole so
 pub record IsWholeNumber (T : Ty) (order : Order) (at : ℕ) (octets : List ℕ) (count : ℕ)
     (number : Taken) : Type 0 where
   pub all : List ℕ
-  pub stands : StandsWhole (leading_width T) at octets count all
+  pub stands : NumberStands (leading_width T) at [] octets count true all
   pub is : IsNumberOf T number
   pub spelled : is.n ≡ num order all

@@ -13,7 +13,7 @@ ghost use Rattle.giop_decode.specs.Fits.{OpenFrom};
 ghost use Rattle.giop_decode.specs.Transitions.{open_parts, AreKnown, Link, TransitionFits, HasOutput, after_transition, still_held, leaf_type, IsClean, StandAt, is_inside};
 ghost use Rattle.giop_decode.specs.Noted.{noted_of, ends_in_string, is_header_root};
 ghost use Rattle.giop_decode.specs.NameBuffer.{string_offset};
-ghost use Rattle.giop_decode.specs.NotingSteps.{IsPlain, transition_in_string, transition_offset};
+ghost use Rattle.giop_decode.specs.NotingSteps.{transition_in_string, transition_offset};
 ghost use Rattle.giop_decode.specs.DecoderState.{Fits, IsDone, CanStandAt, Reads, Takes, KeepsNoted, GoesOn, read_by_fields, added_lines};
 ghost use Rattle.giop_decode.specs.DecoderSteps.{transition_result, decoder_step, Comes, IsAround, IsNotRefused};
 ghost use Rattle.giop_decode.specs.Passes.{Gives, Passes};
@@ -22,8 +22,8 @@ ghost use Rattle.giop_sig.specs.Fits.{IsFit, IsEmptyStruct};
 ghost use Rattle.giop_sig.specs.Trees.{tree};
 
 use crate::contents::let_go;
-use crate::frame::{Frame, begin, coding, go_on, has_ended, is_empty, is_inside, tick};
-use crate::leaf::{Finished, Leaf, Transition, take_octet};
+use crate::frame::{Frame, begin, go_on, has_ended, is_empty, is_inside, tick};
+use crate::leaf::{Finished, Leaf, Transition};
 use crate::line::write_line;
 use crate::lookahead::Lookahead;
 use crate::notes::Notes;
@@ -281,66 +281,14 @@ impl Decoder {
         }
     }
 
-    /// Does one step: the output of the innermost part is written and noted, and then the parts around it go on. It is
-    /// never inlined, so that the loops over octets have few instructions.
-    #[inline(never)]
-    pub(crate) fn advance<O: Out>(
-        &mut self,
-        catalogue: &Catalogue,
-        octet: u8,
-        out: &mut O,
-    ) -> Result<Progress, OutFault>
-        requires fits { Fits catalogue.now self.old }
-        ensures order { OnOk result (self.new.order ≡ self.old.order) }
-        ensures head { OnOk result (self.new.head ≡ self.old.head) }
-        ensures here { OnOk result ((here : ℕ) → CanStandAt self.old here →
-            CanStandAt self.new (here + 1)) }
-        ensures fits { IfOk result (λ p. GoesOn p → Fits catalogue.now self.new) }
-        ensures writes { (here : ℕ) → CanStandAt self.old here →
-            Writes result (O.log out.old) (O.log out.new)
-            (lines_text self.old.head.message self.old.head.root
-            (lines_of (decoder_step catalogue.now self.old here octet))) }
-        ensures steps { IfOk result (λ p. (here : ℕ) → CanStandAt self.old here →
-            Comes catalogue.now self.new p (here + 1)
-            (decoder_step catalogue.now self.old here octet)) }
-        ensures keeps_noted { OnOk result ((here : ℕ) (front : List Line) →
-            CanStandAt self.old here →
-            KeepsNoted self.old.head.root self.old
-            (read_by_fields catalogue.now self.old front here) →
-            KeepsNoted self.old.head.root self.new
-            (with_front front (decoder_step catalogue.now self.old here octet))) }
-    {
-        let Some(leaf) = self.leaf else {
-            unreachable!();
-        };
-        let coded = coding(self.inside, self.order, self.at, self.outer.as_slice());
-        let step = take_octet(
-            catalogue,
-            coded,
-            leaf,
-            octet,
-            &mut self.carry,
-            &mut self.piece,
-        );
-        let ahead = Lookahead {
-            of: leaf.of(),
-            count: 1,
-            step,
-            rest: &[],
-        };
-        let progress = self.emit(catalogue, ahead, false, out)?;
-        Ok(progress)
-    }
-
     /// Takes the last of octets that the innermost part takes together, where all others are taken:
     /// writes and notes the output, and does the transition. A piece that is written has the octets
-    /// that are held, and the rest. A number may be known as a primitive's.
+    /// that are held, and the rest.
     #[inline(always)]
     pub(crate) fn emit<O: Out>(
         &mut self,
         catalogue: &Catalogue,
         ahead: Lookahead<'_>,
-        is_plain: bool,
         out: &mut O,
     ) -> Result<Progress, OutFault>
         requires around { IsAround catalogue.now self.old ahead.of.0 }
@@ -348,8 +296,6 @@ impl Decoder {
             ahead.step.transition self.old.carry
             (still_held ahead.step.output self.old.piece.items) }
         requires has_output { HasOutput (tree catalogue.now ahead.of.0) ahead.step.output }
-        requires plain { IsTrue is_plain →
-            IsPlain (tree catalogue.now ahead.of.0) ahead.step.output }
         requires short { 0 < length ahead.rest.now →
             length self.old.piece.items + length ahead.rest.now ≤ 32 }
         ensures passes { IfOk result (λ p. Passes catalogue.now self.old self.new
@@ -372,24 +318,17 @@ impl Decoder {
             },
             out,
         )?;
-        Ok(self.pass(catalogue, ahead, is_plain))
+        Ok(self.pass(catalogue, ahead))
     }
 
     /// What `emit` does but for the line.
     #[inline(always)]
-    pub(crate) fn pass(
-        &mut self,
-        catalogue: &Catalogue,
-        ahead: Lookahead<'_>,
-        is_plain: bool,
-    ) -> Progress
+    pub(crate) fn pass(&mut self, catalogue: &Catalogue, ahead: Lookahead<'_>) -> Progress
         requires around { IsAround catalogue.now self.old ahead.of.0 }
         requires transition_fits { TransitionFits (tree catalogue.now ahead.of.0) ahead.of.0
             ahead.step.transition self.old.carry
             (still_held ahead.step.output self.old.piece.items) }
         requires has_output { HasOutput (tree catalogue.now ahead.of.0) ahead.step.output }
-        requires plain { IsTrue is_plain →
-            IsPlain (tree catalogue.now ahead.of.0) ahead.step.output }
         ensures { Passes catalogue.now self.old self.new
             ahead.entry.of.0 ahead.entry.step ahead.entry.rest.now result }
     {
@@ -403,7 +342,6 @@ impl Decoder {
                 held: &self.piece,
                 rest: ahead.rest,
             },
-            is_plain,
         );
         let_go(ahead.step.output, &mut self.piece);
         self.at = (self.at + 1) % 8;

@@ -114,20 +114,6 @@ fn counted_by(frame: Frame, octets: usize) -> Frame
     }
 }
 
-/// How many of so many octets stand before the last one of each encapsulation: all of them where there is none.
-#[inline(always)]
-pub(crate) fn before_end(inside: bool, outer: &[Frame], octets: usize) -> usize
-    requires inside { inside ≡ is_inside outer.now }
-    requires ahead { HaveOctetsLeft outer.now }
-    ensures within { result ≤ octets }
-    ensures ahead { HaveOctetsLeft (ticked_by result outer.now) }
-{
-    if !inside {
-        return octets;
-    }
-    before_ends(outer, octets)
-}
-
 /// How many of so many octets stand before the last one of each frame that is an encapsulation.
 fn before_ends(outer: &[Frame], octets: usize) -> usize
     requires ahead { HaveOctetsLeft outer.now }

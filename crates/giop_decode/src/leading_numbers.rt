@@ -1,14 +1,14 @@
 //! The number that begins an innermost part, and what follows it.
 
-ghost use Rattle.std.specs.Prelude.{◌≡◌, ℕ, ◌+◌, ◌-◌, ◌%◌, ◌<◌, ◌≤◌, List, [], ◌++◌, length, take, IsTrue, false};
+ghost use Rattle.std.specs.Prelude.{◌≡◌, ℕ, ◌+◌, ◌<◌, ◌≤◌, List, [], ◌++◌, length, take, eqb, false};
 ghost use Rattle.giop_cdr.specs.Alignment.{IsAlignment, padding};
 ghost use Rattle.giop_cdr.specs.Numbers.{num};
 ghost use Rattle.giop_decode.specs.ReadResult.{Coding, PathSegment};
 ghost use Rattle.giop_decode.specs.Pieces.{over};
 ghost use Rattle.giop_decode.specs.NotingSteps.{OutputFitsString, StringGoesOn};
-ghost use Rattle.giop_decode.specs.ReadingSteps.{after, leading_width, number_step, AreHeld};
+ghost use Rattle.giop_decode.specs.ReadingSteps.{after, leading_width};
 ghost use Rattle.giop_decode.specs.Fits.{HasLeadingNumber};
-ghost use Rattle.giop_decode.specs.Transitions.{TransitionGives, TransitionFits, HasOutput, IsNumberOf, over_by, block_of};
+ghost use Rattle.giop_decode.specs.Transitions.{TransitionGives, TransitionFits, HasOutput, IsNumberOf, NumberStands, over_by};
 ghost use Rattle.giop_sig.specs.Types.{Ty, Text, Octets, Sequence, switch_of, shape_in, IsUnion};
 ghost use Rattle.giop_sig.specs.Fits.{IsFit};
 ghost use Rattle.giop_sig.specs.Trees.{tree};
@@ -67,38 +67,15 @@ pub(crate) fn padding_at(at: u8, width: u8) -> u8
     }
 }
 
-/// Takes an octet of the padding before a number, or one that leaves the number incomplete, and answers whether it was
-/// such an octet.
-#[inline(always)]
-#[tactic(auto, using(crate::proofs::Padding::number_laws))]
-fn hold_number(carry: &mut Carry, at: u8, width: u8, octet: u8) -> bool
-    requires width { IsAlignment width }
-    requires room { length carry.old < width }
-    ensures left { result ≡ false → carry.new ≡ carry.old }
-    ensures last { result ≡ false →
-        (length carry.old + 1 ≡ width) × (carry.old ≡ [] → padding at width ≡ 0) }
-    ensures holds { IsTrue result → (origin here : ℕ) → (here - origin) % 8 ≡ at →
-        number_step origin width here carry.old octet ≡ block_of false carry.new (here + 1) }
-{
-    if carry.is_empty() && padding_at(at, width) > 0 {
-        return true;
-    }
-    if carry.len() + 1 < usize::from(width) {
-        carry.push(octet);
-        return true;
-    }
-    false
-}
-
-/// Takes octets of the padding before a number, and octets as long as they leave the number incomplete, and answers how
-/// many it took.
-#[inline]
-pub(crate) fn gather_number(carry: &mut Carry, at: u8, width: u8, octets: &[u8]) -> usize
+/// Holds octets of a number, after those of its padding, up to its last, and answers how many octets these are.
+pub(crate) fn hold_number(carry: &mut Carry, at: u8, width: u8, octets: &[u8]) -> usize
     requires width { IsAlignment width }
     requires room { length carry.old < width }
     requires small { at < 8 }
-    ensures within { result ≤ length octets.now }
-    ensures holds { AreHeld width at carry.old (take result octets.now) carry.new }
+    requires some { 0 < length octets.now }
+    ensures size { length carry.new ≤ width }
+    ensures stands { NumberStands width at carry.old octets.now result
+        (eqb (length carry.new) width) carry.new }
 {
     if !carry.is_empty() {
         return hold_some(carry, width, octets);
@@ -107,38 +84,21 @@ pub(crate) fn gather_number(carry: &mut Carry, at: u8, width: u8, octets: &[u8])
     padding + hold_some(carry, width, &octets[padding..])
 }
 
-/// Holds octets as long as they leave the number incomplete, and answers how many it took.
-#[inline]
+/// Holds octets of a number up to its last, and answers how many these are.
 fn hold_some(carry: &mut Carry, width: u8, octets: &[u8]) -> usize
     requires width { IsAlignment width }
     requires room { length carry.old < width }
     ensures within { result ≤ length octets.now }
     ensures held { carry.new ≡ carry.old ++ take result octets.now }
-    ensures room { length carry.old + result < width }
+    ensures room { length carry.old + result ≤ width }
+    ensures some { 0 < length octets.now → 0 < result }
 {
-    let room = usize::from(width) - carry.len() - 1;
+    let room = usize::from(width) - carry.len();
     let count = room.min(octets.len());
     for octet in &octets[..count] {
         carry.push(*octet);
     }
     count
-}
-
-/// Takes an octet of a number or of the padding before it, and answers whether the number is whole.
-#[inline(always)]
-#[tactic(auto, using(crate::proofs::Padding::number_laws))]
-pub(crate) fn take_number(carry: &mut Carry, at: u8, width: u8, octet: u8) -> bool
-    requires width { IsAlignment width }
-    requires room { length carry.old < width }
-    ensures whole { IsTrue result → length carry.new ≡ width }
-    ensures takes { (origin here : ℕ) → (here - origin) % 8 ≡ at →
-        number_step origin width here carry.old octet ≡ block_of result carry.new (here + 1) }
-{
-    if hold_number(carry, at, width, octet) {
-        return false;
-    }
-    carry.push(octet);
-    true
 }
 
 /// Goes on after the number that begins a type, which has these octets.

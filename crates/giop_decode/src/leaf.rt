@@ -1,22 +1,11 @@
 //! The innermost part that is begun and not ended, and the transition and the output of one octet of it.
 
-ghost use Rattle.std.specs.Prelude.{◌≡◌, ℕ, ◌+◌, ◌-◌, ◌%◌, ◌<◌, List, [], length};
-ghost use Rattle.giop_decode.specs.ReadResult.{Coding, PathSegment};
-ghost use Rattle.giop_decode.specs.NameBuffer.{string_offset};
-ghost use Rattle.giop_decode.specs.NotingSteps.{OutputFitsString, StringGoesOn, leaf_in_string};
-ghost use Rattle.giop_decode.specs.ReadingSteps.{leaf_step};
-ghost use Rattle.giop_decode.specs.Fits.{FitsIn};
-ghost use Rattle.giop_decode.specs.Transitions.{leaf_of, leaf_type, TransitionGives, TransitionFits, HasOutput, IsClean, still_held};
-ghost use Rattle.giop_sig.specs.Fits.{IsFit};
-ghost use Rattle.giop_sig.specs.Trees.{tree};
+ghost use Rattle.std.specs.Prelude.{◌≡◌};
+ghost use Rattle.giop_decode.specs.Transitions.{leaf_type};
 
-use crate::contents::take_content;
-use crate::encapsulation::take_order;
-use crate::leading_numbers::{take_number, take_value, width};
 use crate::progress::Kind;
-use arrayvec::ArrayVec;
-use giop_cdr::{Carry, Number, Order};
-use giop_sig::{Catalogue, TypeId};
+use giop_cdr::{Number, Order};
+use giop_sig::TypeId;
 
 /// The innermost part: the number that begins it, or its content, in which the unfinished piece begins at an offset.
 #[derive(Clone, Copy, Debug, PartialEq, Eq)]
@@ -124,56 +113,5 @@ pub(crate) fn refused(kind: Kind) -> Step
     Step {
         transition: Transition::Refused(kind),
         output: Output::Nothing,
-    }
-}
-
-/// Takes an octet of the innermost part, in this byte order and by this offset modulo 8.
-#[inline(always)]
-pub(crate) fn take_octet(
-    catalogue: &Catalogue,
-    coded: (Order, u8),
-    leaf: Leaf,
-    octet: u8,
-    carry: &mut Carry,
-    piece: &mut ArrayVec<u8, 32>,
-) -> Step
-    requires known { leaf_type leaf < length catalogue.now.types }
-    requires fits { FitsIn (tree catalogue.now (leaf_type leaf)) []
-        (leaf_of catalogue.now leaf carry.old piece.old.items) }
-    requires fit { (d : ℕ) × IsFit d (tree catalogue.now (leaf_type leaf)) }
-    requires clean { IsClean leaf carry.old piece.old.items }
-    ensures transition_fits { TransitionFits (tree catalogue.now (leaf_type leaf)) (leaf_type leaf)
-        result.transition carry.new (still_held result.output piece.new.items) }
-    ensures has_output { HasOutput (tree catalogue.now (leaf_type leaf)) result.output }
-    ensures output_fits_string { OutputFitsString (tree catalogue.now (leaf_type leaf))
-        (leaf_in_string (tree catalogue.now (leaf_type leaf)) leaf)
-        result.transition result.output }
-    ensures string_goes_on { StringGoesOn (tree catalogue.now (leaf_type leaf))
-        (string_offset (tree catalogue.now (leaf_type leaf)) leaf) result.transition result.output
-        (length piece.new.items) }
-    ensures transitions { (coding : Coding) (path : List PathSegment) (here : ℕ) →
-        coding.order ≡ coded.0 → (here - coding.origin) % 8 ≡ coded.1 →
-        TransitionGives catalogue.now (tree catalogue.now (leaf_type leaf))
-        result.transition result.output
-        carry.new piece.new.items path (here + 1)
-        (leaf_step coding path (leaf_of catalogue.now leaf carry.old piece.old.items) here octet) }
-{
-    let (order, at) = coded;
-    match leaf {
-        Leaf::Number(of) => {
-            if !take_number(carry, at, width(catalogue, of), octet) {
-                return Step {
-                    transition: Transition::More(leaf),
-                    output: Output::Nothing,
-                };
-            }
-            let step = take_value(catalogue, order, of, carry.as_slice());
-            *carry = Carry::new();
-            step
-        }
-        Leaf::Opening { of, count } => take_order(catalogue, of, count, octet),
-        Leaf::Content { of, total, offset } => {
-            take_content(catalogue, of, total, offset, octet, piece)
-        }
     }
 }

@@ -1,19 +1,20 @@
 //! Octets ahead that are taken together: those of a number that is whole in them, or of the rest of a piece.
 
-ghost use Rattle.std.specs.Prelude.{◌≡◌, ◌-◌, ◌<◌, ◌≤◌, false, length, Some, IfSome};
+ghost use Rattle.std.specs.Prelude.{◌≡◌, ◌-◌, ◌<◌, ◌≤◌, [], true, length, Some, IfSome, IfNone};
 ghost use Rattle.giop_cdr.specs.Alignment.{IsAlignment};
 ghost use Rattle.giop_cdr.specs.Primitives.{size_of};
-ghost use Rattle.giop_decode.specs.Fits.{IsBare};
 ghost use Rattle.giop_decode.specs.DecoderState.{Fits};
-ghost use Rattle.giop_decode.specs.NotingSteps.{IsPlain, IsPrim};
-ghost use Rattle.giop_decode.specs.Runs.{TakenTogether};
-ghost use Rattle.giop_decode.specs.Transitions.{HaveOctetsLeft, IsWholeNumber, StandsWhole, coding_by, ticked_by};
+ghost use Rattle.giop_decode.specs.Pieces.{tail};
+ghost use Rattle.giop_decode.specs.Runs.{IsParted, TakenTogether};
+ghost use Rattle.giop_decode.specs.Transitions.{HaveOctetsLeft, IsWholeNumber, NumberStands, coding_by, ticked_by};
 ghost use Rattle.giop_sig.specs.Types.{Single, Plain};
 ghost use Rattle.giop_sig.specs.Trees.{tree};
 
 use crate::decoder::Decoder;
+use crate::encapsulation::take_order;
 use crate::leading_numbers::{padding_at, take_value, width};
-use crate::leaf::{Leaf, Output, Step, Transition};
+use crate::leaf::{Leaf, Output, Step, Transition, refused};
+use crate::progress::Kind;
 use giop_cdr::{Number, Order, Prim, number_of, size};
 use giop_sig::{Catalogue, Shape, TypeId};
 
@@ -43,11 +44,9 @@ impl Decoder {
         requires fits { Fits catalogue.now self.now }
         requires coded { coding_by self.now.order self.now.at self.now.outer.items ≡ coded }
         requires ahead { HaveOctetsLeft (ticked_by (length octets.now - 1) self.now.outer.items) }
-        ensures ahead { IfSome result (λ ahead.
+        ensures { IfSome result (λ ahead.
             TakenTogether catalogue.now self.now octets.now ahead.of
-            ahead.count ahead.step ahead.rest.now) }
-        ensures plain { IfSome result (λ ahead.
-            IsPlain (tree catalogue.now ahead.of.0) ahead.step.output) }
+            ahead.count ahead.step ahead.rest.now self.now.carry self.now.piece.items) }
     {
         if !self.carry.is_empty() {
             return None;
@@ -82,7 +81,7 @@ impl Decoder {
         requires coded { coding_by self.now.order self.now.at self.now.outer.items ≡ coded }
         requires ahead { HaveOctetsLeft (ticked_by (length octets.now - 1) self.now.outer.items) }
         ensures { IfSome result (λ ahead. TakenTogether catalogue.now self.now octets.now ahead.of
-            ahead.count ahead.step ahead.rest.now) }
+            ahead.count ahead.step ahead.rest.now self.now.carry self.now.piece.items) }
     {
         if !self.carry.is_empty() {
             return None;
@@ -102,36 +101,35 @@ impl Decoder {
         }
     }
 
-    /// The rest of the unfinished piece, where it stands whole at the head of these octets, with the zero that ends it
-    /// where it is a string's last. No encapsulation ends before the last of them.
+    /// The octet with the byte order of an encapsulation of so many octets.
+    #[inline(always)]
+    pub(crate) fn order_ahead<'a>(
+        &self,
+        catalogue: &Catalogue,
+        of: TypeId,
+        count: u32,
+        octets: &'a [u8],
+    ) -> Lookahead<'a>
+        requires fits { Fits catalogue.now self.now }
+        requires leaf { self.now.leaf ≡ Some (Leaf.Opening of count) }
+        requires some { 0 < length octets.now }
+        ensures { TakenTogether catalogue.now self.now octets.now result.of result.count
+            result.step result.rest.now self.now.carry self.now.piece.items }
+    {
+        Lookahead {
+            of,
+            count: 1,
+            step: take_order(catalogue, of, count, octets[0]),
+            rest: &[],
+        }
+    }
+
+    /// The rest of a piece, from this offset of its content, where it stands whole at the head of these octets, with the
+    /// zero that ends it where it is a string's last. No encapsulation ends before the last of them.
     #[inline(always)]
     pub(crate) fn piece_ahead<'a>(
         &self,
         catalogue: &Catalogue,
-        octets: &'a [u8],
-    ) -> Option<Lookahead<'a>>
-        requires fits { Fits catalogue.now self.now }
-        requires ahead { HaveOctetsLeft (ticked_by (length octets.now - 1) self.now.outer.items) }
-        ensures { IfSome result (λ ahead. TakenTogether catalogue.now self.now octets.now ahead.of
-            ahead.count ahead.step ahead.rest.now) }
-    {
-        match self.leaf {
-            Some(Leaf::Content { of, total, offset }) => {
-                if total.saturating_sub(offset) > 32 {
-                    self.full_ahead(catalogue, of, total, offset, octets)
-                } else {
-                    self.last_ahead(catalogue, of, total, offset, octets)
-                }
-            }
-            _ => None,
-        }
-    }
-
-    /// The rest of a piece that isn't the last of its content.
-    #[inline(always)]
-    fn full_ahead<'a>(
-        &self,
-        catalogue: &Catalogue,
         of: TypeId,
         total: u32,
         offset: u32,
@@ -140,114 +138,91 @@ impl Decoder {
         requires fits { Fits catalogue.now self.now }
         requires leaf { self.now.leaf ≡ Some (Leaf.Content of total offset) }
         requires ahead { HaveOctetsLeft (ticked_by (length octets.now - 1) self.now.outer.items) }
-        requires more { 32 < total - offset }
-        ensures { IfSome result (λ ahead. TakenTogether catalogue.now self.now octets.now ahead.of
-            ahead.count ahead.step ahead.rest.now) }
+        ensures ahead { IfSome result (λ ahead.
+            TakenTogether catalogue.now self.now octets.now ahead.of ahead.count ahead.step
+            ahead.rest.now self.now.carry self.now.piece.items) }
+        ensures parted { IfNone result (IsParted catalogue.now (Leaf.Content of total offset)
+            self.now.piece.items (length octets.now)) }
     {
-        let count = 32_usize.saturating_sub(self.piece.len());
-        if octets.len() < count {
+        let left = total.saturating_sub(offset) as usize;
+        let size = left.min(32).saturating_sub(self.piece.len());
+        let behind = octets_behind(catalogue, of, left);
+        if octets.len() < size + behind {
             return None;
+        }
+        let rest = &octets[..size];
+        if left > 32 {
+            let next = Leaf::Content {
+                of,
+                total,
+                offset: offset + 32,
+            };
+            return Some(Lookahead {
+                of,
+                count: size,
+                step: Step {
+                    transition: Transition::More(next),
+                    output: Output::Piece { offset, more: true },
+                },
+                rest,
+            });
+        }
+        if behind > 0 && octets[size] != 0 {
+            return Some(Lookahead {
+                of,
+                count: size + behind,
+                step: refused(Kind::StringEnd),
+                rest,
+            });
         }
         Some(Lookahead {
             of,
-            count,
+            count: size + behind,
             step: Step {
-                transition: Transition::More(Leaf::Content {
-                    of,
-                    total,
-                    offset: offset + 32,
-                }),
-                output: Output::Piece { offset, more: true },
+                transition: Transition::Ended,
+                output: Output::Piece {
+                    offset,
+                    more: false,
+                },
             },
-            rest: &octets[..count],
+            rest,
         })
-    }
-
-    /// The rest of the last piece of a content.
-    #[inline(always)]
-    fn last_ahead<'a>(
-        &self,
-        catalogue: &Catalogue,
-        of: TypeId,
-        total: u32,
-        offset: u32,
-        octets: &'a [u8],
-    ) -> Option<Lookahead<'a>>
-        requires fits { Fits catalogue.now self.now }
-        requires leaf { self.now.leaf ≡ Some (Leaf.Content of total offset) }
-        requires ahead { HaveOctetsLeft (ticked_by (length octets.now - 1) self.now.outer.items) }
-        requires last { total - offset ≤ 32 }
-        ensures { IfSome result (λ ahead. TakenTogether catalogue.now self.now octets.now ahead.of
-            ahead.count ahead.step ahead.rest.now) }
-    {
-        match catalogue.shape(of) {
-            Shape::Text(_) => {
-                let size = self.left_of(total, offset);
-                if octets.len() <= size || octets[size] != 0 {
-                    return None;
-                }
-                Some(last(of, size + 1, offset, &octets[..size]))
-            }
-            Shape::Octets(_) => self.bare_ahead(catalogue, of, total, offset, octets),
-            Shape::Encapsulation => self.bare_ahead(catalogue, of, total, offset, octets),
-            _ => None,
-        }
-    }
-
-    /// The rest of the last piece of a content that has no zero behind it.
-    #[inline(always)]
-    fn bare_ahead<'a>(
-        &self,
-        catalogue: &Catalogue,
-        of: TypeId,
-        total: u32,
-        offset: u32,
-        octets: &'a [u8],
-    ) -> Option<Lookahead<'a>>
-        requires fits { Fits catalogue.now self.now }
-        requires leaf { self.now.leaf ≡ Some (Leaf.Content of total offset) }
-        requires bare { IsBare (tree catalogue.now of.0) }
-        requires ahead { HaveOctetsLeft (ticked_by (length octets.now - 1) self.now.outer.items) }
-        requires last { total - offset ≤ 32 }
-        ensures { IfSome result (λ ahead. TakenTogether catalogue.now self.now octets.now ahead.of
-            ahead.count ahead.step ahead.rest.now) }
-    {
-        let size = self.left_of(total, offset);
-        if octets.len() < size {
-            return None;
-        }
-        Some(last(of, size, offset, &octets[..size]))
-    }
-
-    /// How many octets are still to come of the last piece of a content.
-    #[inline]
-    fn left_of(&self, total: u32, offset: u32) -> usize
-        ensures { result ≡ total - offset - length self.now.piece.items }
-    {
-        (total.saturating_sub(offset) as usize).saturating_sub(self.piece.len())
     }
 }
 
-/// The rest of the last piece of a content, which ends the content.
+/// How many octets stand behind a piece of a content of which so many are left: a string's last is ended by a zero.
 #[inline(always)]
-fn last(of: TypeId, count: usize, offset: u32, rest: &[u8]) -> Lookahead<'_>
+fn octets_behind(catalogue: &Catalogue, of: TypeId, left: usize) -> usize
+    requires known { of.0 < length catalogue.now.types }
+    ensures full { 32 < left → result ≡ 0 }
+    ensures last { left ≤ 32 → result ≡ tail (tree catalogue.now of.0) }
+{
+    if left > 32 {
+        return 0;
+    }
+    match catalogue.shape(of) {
+        Shape::Text(_) => 1,
+        _ => 0,
+    }
+}
+
+/// Octets that are held of a part that goes on.
+#[inline(always)]
+pub(crate) fn held(of: TypeId, count: usize, leaf: Leaf) -> Lookahead<'static>
     ensures of { result.of ≡ of }
     ensures count { result.count ≡ count }
     ensures step { result.step
-        ≡ record { transition = Transition.Ended; output = Output.Piece offset false } }
-    ensures rest { result.rest.now ≡ rest.now }
+        ≡ record { transition = Transition.More leaf; output = Output.Nothing } }
+    ensures rest { result.rest.now ≡ [] }
 {
     Lookahead {
         of,
         count,
         step: Step {
-            transition: Transition::Ended,
-            output: Output::Piece {
-                offset,
-                more: false,
-            },
+            transition: Transition::More(leaf),
+            output: Output::Nothing,
         },
-        rest,
+        rest: &[],
     }
 }
 
@@ -263,9 +238,8 @@ pub(crate) fn whole_number(
 ) -> Option<(usize, Number)>
     requires known { of.0 < length catalogue.now.types }
     requires small { at < 8 }
-    ensures whole { IfSome result (λ whole.
+    ensures { IfSome result (λ whole.
         IsWholeNumber (tree catalogue.now of.0) order at octets.now whole.0 whole.1) }
-    ensures plain { IfSome result (λ _. IsPrim (tree catalogue.now of.0)) }
 {
     match catalogue.shape(of) {
         Shape::Prim(prim) => match size(prim) {
@@ -310,7 +284,7 @@ pub(crate) fn whole_octets(width: u8, at: u8, octets: &[u8]) -> Option<(usize, &
     requires aligned { IsAlignment width }
     requires small { at < 8 }
     ensures stands { IfSome result (λ whole.
-        StandsWhole width at octets.now whole.0 whole.1.now) }
+        NumberStands width at [] octets.now whole.0 true whole.1.now) }
     ensures width { IfSome result (λ whole. length whole.1.now ≡ width) }
 {
     let padding = usize::from(padding_at(at, width));

@@ -5,7 +5,7 @@ ghost use Rattle.std.specs.Prelude.{◌≡◌, ℕ, ◌<◌, ◌&&◌, IsTrue, t
 ghost use Rattle.std.specs.Option.{option_map};
 ghost use Rattle.giop_decode.specs.Noted.{Noted, nothing_noted, with_piece, ended, noted_piece, is_member, is_header_root, without_name_if, note_value, noted, names_operation, expects_after, with_expects};
 ghost use Rattle.giop_decode.specs.DecoderState.{HoldsNoted};
-ghost use Rattle.giop_decode.specs.NotingSteps.{IsPlain, clears_name, is_set};
+ghost use Rattle.giop_decode.specs.NotingSteps.{clears_name, is_set};
 ghost use Rattle.giop_decode.specs.ReadResult.{Line};
 ghost use Rattle.giop_decode.specs.ReadResult as results;
 ghost use Rattle.giop_decode.specs.Passes.{Finishes};
@@ -240,8 +240,7 @@ impl Notes {
     }
 
     /// Notes what an octet of an innermost part finishes, and answers whether that ends the
-    /// operation of a Request's header. Below any other root nothing is noted of a primitive, as
-    /// which this may be known.
+    /// operation of a Request's header.
     #[inline(always)]
     pub(crate) fn note(
         &mut self,
@@ -249,13 +248,10 @@ impl Notes {
         root: Root,
         outer: &[Frame],
         finished: Finished<'_>,
-        is_plain: bool,
     ) -> bool
         requires known { finished.of.0 < length catalogue.now.types }
         requires known_outer { AreKnown catalogue.now outer.now }
         requires has_output { HasOutput (tree catalogue.now finished.of.0) finished.output }
-        requires plain { IsTrue is_plain →
-            IsPlain (tree catalogue.now finished.of.0) finished.output }
         ensures id { is_header_root root ≡ false → self.new.request_id ≡ self.old.request_id }
         ensures notes { (h : Noted) (here at : ℕ) (lines : List Line) → HoldsNoted self.old h →
             Finishes catalogue.now outer.now finished.entry here at lines →
@@ -265,9 +261,6 @@ impl Notes {
             Finishes catalogue.now outer.now finished.entry here at lines →
             result ≡ names_operation (is_header_root root) lines }
     {
-        if is_plain && !is_header(root) {
-            return false;
-        }
         match finished.output {
             Output::Nothing => false,
             Output::Count(_) => false,

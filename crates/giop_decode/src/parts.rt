@@ -219,7 +219,7 @@ impl Decoder {
             },
             rest: &[],
         };
-        let progress = self.pass(catalogue, ahead, true);
+        let progress = self.pass(catalogue, ahead);
         Ok((part.count, progress))
     }
 

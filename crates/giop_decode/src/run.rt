@@ -1,25 +1,23 @@
 //! A run of octets, taken up to the one at which an operation or the value ends, or a rule is broken.
 
-ghost use Rattle.std.specs.Prelude.{◌≡◌, ℕ, ◌+◌, ◌-◌, ◌%◌, ◌^◌, ◌<◌, ◌≤◌, List, length, take, IfOk, IsTrue};
+ghost use Rattle.std.specs.Prelude.{◌≡◌, ℕ, ◌+◌, ◌-◌, ◌%◌, ◌^◌, ◌<◌, ◌≤◌, List, length, take, IfOk, Some};
 ghost use Rattle.giop_cdr.specs.declared.order.Order.{Order as ByteOrder};
+ghost use Rattle.giop_decode.specs.declared.decoder.Decoder.{Decoder as Before};
 ghost use Rattle.giop_decode.specs.DecoderState.{Fits, GoesOn, IsDone, Reads};
-ghost use Rattle.giop_decode.specs.NotingSteps.{IsPlain};
-ghost use Rattle.giop_decode.specs.Runs.{TakesRun, TakesSome, WritesRun, AllGathered, TakenTogether};
+ghost use Rattle.giop_decode.specs.Runs.{IsHeldOf, IsParted, TakesRun, TakesSome, WritesRun, TakenTogether};
 ghost use Rattle.giop_decode.specs.Transitions.{HaveOctetsLeft, coding_by, ticked_by};
 ghost use Rattle.giop_print.specs.declared.path.Root.{Root as PathRoot};
-ghost use Rattle.giop_sig.specs.Trees.{tree};
 ghost use Rattle.giop_sig.specs.Types.{Ty};
 
-use crate::contents::gather_content;
 use crate::decoder::Decoder;
-use crate::frame::{before_end, coding, tick_by, up_to_end};
-use crate::leading_numbers::{gather_number, width};
+use crate::frame::{coding, tick_by, up_to_end};
+use crate::leading_numbers::{hold_number, take_value, width};
 use crate::leaf::Leaf;
-use crate::lookahead::Lookahead;
+use crate::lookahead::{Lookahead, held};
 use crate::progress::Progress;
 use giop_cdr::Order;
 use giop_print::{Out, OutFault};
-use giop_sig::Catalogue;
+use giop_sig::{Catalogue, TypeId};
 
 impl Decoder {
     /// Takes octets of the value, and writes their lines: all of them, or as many as there are up to one that ends an
@@ -91,7 +89,7 @@ impl Decoder {
         if self.has_parts(octets) {
             return self.take_parts(catalogue, octets, out);
         }
-        self.take_ahead(catalogue, octets, ahead, true, out)
+        self.take_ahead(catalogue, octets, ahead, out)
     }
 
     /// The same, but for numbers and full pieces one at a time, and within encapsulations too: there of the octets up to
@@ -111,7 +109,7 @@ impl Decoder {
         let coded = coding(self.inside, self.order, self.at, self.outer.as_slice());
         let near = up_to_end(self.inside, self.outer.as_slice(), octets);
         match self.number_ahead(catalogue, coded, near) {
-            Some(ahead) => self.take_ahead(catalogue, near, ahead, true, out),
+            Some(ahead) => self.take_ahead(catalogue, near, ahead, out),
             None => self.take_other(catalogue, coded, near, out),
         }
     }
@@ -133,75 +131,124 @@ impl Decoder {
         ensures { TakesSome catalogue.now self.old self.new octets.now
             (O.log out.old) (O.log out.new) result }
     {
-        if let Some(ahead) = self.piece_ahead(catalogue, octets) {
-            return self.take_ahead(catalogue, octets, ahead, false, out);
+        let Some(leaf) = self.leaf else {
+            unreachable!();
+        };
+        match leaf {
+            Leaf::Number(of) => {
+                match self.leading_number_ahead(catalogue, coded, octets) {
+                    Some(ahead) => self.take_ahead(catalogue, octets, ahead, out),
+                    None => self.take_parted_number(catalogue, coded, of, octets, out),
+                }
+            }
+            Leaf::Opening { of, count } => {
+                let ahead = self.order_ahead(catalogue, of, count, octets);
+                self.take_ahead(catalogue, octets, ahead, out)
+            }
+            Leaf::Content { of, total, offset } => {
+                match self.piece_ahead(catalogue, of, total, offset, octets) {
+                    Some(ahead) => self.take_ahead(catalogue, octets, ahead, out),
+                    None => self.take_parted_piece(catalogue, leaf, octets, out),
+                }
+            }
         }
-        if let Some(ahead) = self.leading_number_ahead(catalogue, coded, octets) {
-            return self.take_ahead(catalogue, octets, ahead, false, out);
-        }
-        let gathered = self.gather(catalogue, octets);
-        if gathered == octets.len() {
-            return Ok((gathered, Progress::More));
-        }
-        let progress = self.advance(catalogue, octets[gathered], out)?;
-        Ok((gathered + 1, progress))
     }
 
-    /// Takes octets ahead that belong together, perhaps known as a primitive, and writes their line.
+    /// Holds octets of the number that comes next, and takes it from what is held once it is whole.
+    #[inline(never)]
+    fn take_parted_number<O: Out>(
+        &mut self,
+        catalogue: &Catalogue,
+        coded: (Order, u8),
+        of: TypeId,
+        octets: &[u8],
+        out: &mut O,
+    ) -> Result<(usize, Progress), OutFault>
+        requires fits { Fits catalogue.now self.old }
+        requires leaf { self.old.leaf ≡ Some (Leaf.Number of) }
+        requires coded { coding_by self.old.order self.old.at self.old.outer.items ≡ coded }
+        requires ahead { HaveOctetsLeft (ticked_by (length octets.now - 1) self.old.outer.items) }
+        requires some { 0 < length octets.now }
+        ensures { TakesSome catalogue.now self.old self.new octets.now
+            (O.log out.old) (O.log out.new) result }
+    {
+        let (order, at) = coded;
+        let width = width(catalogue, of);
+        let count = hold_number(&mut self.carry, at, width, octets);
+        if self.carry.len() < usize::from(width) {
+            return self.finish(catalogue, octets, held(of, count, Leaf::Number(of)), out);
+        }
+        let step = take_value(catalogue, order, of, self.carry.as_slice());
+        self.carry.clear();
+        let ahead = Lookahead {
+            of,
+            count,
+            step,
+            rest: &[],
+        };
+        self.finish(catalogue, octets, ahead, out)
+    }
+
+    /// Holds octets of a piece of a content that isn't whole with them.
+    #[inline(never)]
+    fn take_parted_piece<O: Out>(
+        &mut self,
+        catalogue: &Catalogue,
+        leaf: Leaf,
+        octets: &[u8],
+        out: &mut O,
+    ) -> Result<(usize, Progress), OutFault>
+        requires fits { Fits catalogue.now self.old }
+        requires leaf { self.old.leaf ≡ Some leaf }
+        requires ahead { HaveOctetsLeft (ticked_by (length octets.now - 1) self.old.outer.items) }
+        requires some { 0 < length octets.now }
+        requires parted { IsParted catalogue.now leaf self.old.piece.items (length octets.now) }
+        ensures { TakesSome catalogue.now self.old self.new octets.now
+            (O.log out.old) (O.log out.new) result }
+    {
+        match self.piece.try_extend_from_slice(octets) {
+            Ok(()) => self.finish(catalogue, octets, held(leaf.of(), octets.len(), leaf), out),
+            Err(_) => unreachable!(),
+        }
+    }
+
+    /// Takes octets ahead that belong together, and writes their line.
     #[inline(always)]
     fn take_ahead<O: Out>(
         &mut self,
         catalogue: &Catalogue,
         octets: &[u8],
         ahead: Lookahead<'_>,
-        is_plain: bool,
         out: &mut O,
     ) -> Result<(usize, Progress), OutFault>
         requires fits { Fits catalogue.now self.old }
         requires ahead { TakenTogether catalogue.now self.old octets.now ahead.of ahead.count
-            ahead.step ahead.rest.now }
-        requires plain { IsTrue is_plain →
-            IsPlain (tree catalogue.now ahead.of.0) ahead.step.output }
+            ahead.step ahead.rest.now self.old.carry self.old.piece.items }
         ensures { TakesSome catalogue.now self.old self.new octets.now
             (O.log out.old) (O.log out.new) result }
     {
-        self.at = further(self.at, ahead.count - 1);
-        tick_by(self.inside, &mut self.outer, ahead.count - 1);
-        let progress = self.emit(catalogue, ahead, is_plain, out)?;
-        Ok((ahead.count, progress))
+        self.finish(catalogue, octets, ahead, out)
     }
 
-    /// Takes octets as long as they only add to what is held, up to before the last one of an encapsulation, and
-    /// answers how many it took.
+    /// The same, where those of them that are to be held are held already.
     #[inline(always)]
-    fn gather(&mut self, catalogue: &Catalogue, octets: &[u8]) -> usize
-        requires { Fits catalogue.now self.old }
-        ensures within { result ≤ length octets.now }
-        ensures fits { Fits catalogue.now self.new }
-        ensures takes { AllGathered catalogue.now self.old self.new (take result octets.now) }
+    fn finish<O: Out>(
+        &mut self,
+        catalogue: &Catalogue,
+        octets: &[u8],
+        ahead: Lookahead<'_>,
+        out: &mut O,
+    ) -> Result<(usize, Progress), OutFault>
+        requires { (d : Before) × IsHeldOf catalogue.now d self.old octets.now ahead.of
+            ahead.count ahead.step ahead.rest.now }
+        ensures { (d : Before) → IsHeldOf catalogue.now d self.old octets.now ahead.entry.of
+            ahead.entry.count ahead.entry.step ahead.entry.rest.now →
+            TakesSome catalogue.now d self.new octets.now (O.log out.old) (O.log out.new) result }
     {
-        let Some(leaf) = self.leaf else {
-            unreachable!();
-        };
-        let most = before_end(self.inside, self.outer.as_slice(), octets.len());
-        match leaf {
-            Leaf::Number(of) => {
-                let (_, at) = coding(self.inside, self.order, self.at, self.outer.as_slice());
-                let width = width(catalogue, of);
-                let count = gather_number(&mut self.carry, at, width, &octets[..most]);
-                self.at = further(self.at, count);
-                tick_by(self.inside, &mut self.outer, count);
-                count
-            }
-            Leaf::Opening { .. } => 0,
-            Leaf::Content { total, offset, .. } => {
-                let left = total.saturating_sub(offset);
-                let count = gather_content(left, &octets[..most], &mut self.piece);
-                self.at = further(self.at, count);
-                tick_by(self.inside, &mut self.outer, count);
-                count
-            }
-        }
+        self.at = further(self.at, ahead.count - 1);
+        tick_by(self.inside, &mut self.outer, ahead.count - 1);
+        let progress = self.emit(catalogue, ahead, out)?;
+        Ok((ahead.count, progress))
     }
 }
 

@@ -102,7 +102,7 @@ impl Decoder {
             },
             rest: text.content,
         };
-        let progress = self.emit(catalogue, ahead, false, out)?;
+        let progress = self.emit(catalogue, ahead, out)?;
         Ok((last + 1, progress))
     }
 }

@@ -1,3 +1,4 @@
+mod IdLemmas
 mod ListLemmas
 mod HoldingLemmas
 mod SearchLemmas

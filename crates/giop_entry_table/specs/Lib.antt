@@ -1,3 +1,4 @@
 pub mod EntryTable
 pub mod EntryTableView
+pub mod Ids
 pub mod MutBorrow

@@ -5,7 +5,7 @@ ghost use Rattle.std.specs.List.{remove, position_from};
 ghost use Rattle.std.specs.Option.{option_map, option_copied_mut};
 ghost use Rattle.std.specs.Borrow.{sem};
 
-use crate::search::place_of;
+use crate::ids::Ids;
 use slab::Slab;
 use std::alloc::{AllocError, Global};
 use std::marker::Model;
@@ -23,7 +23,7 @@ pub struct EntryTable<V> {
     // How many entries there may be.
     most: usize,
     // The id of each entry.
-    keys: Vec<u32>,
+    ids: Ids,
     // The number of each entry's value in `values`.
     numbers: Vec<usize>,
     values: Slab<V>,
@@ -41,11 +41,11 @@ impl<V> Model for EntryTable<V> {
 
     ghost view = { λ r. record {
       most = r.most;
-      entries = entries_of r.values r.keys.items r.numbers.items;
+      entries = entries_of r.values r.ids.keys.items r.numbers.items;
     } };
 
-    ghost invariant = { λ r. IsTied r.keys.items r.numbers.items r.values
-        × HasRoom r.most (vec_capacity r.keys) (vec_capacity r.numbers) r.values
+    ghost invariant = { λ r. IsTied r.ids.keys.items r.numbers.items r.values
+        × HasRoom r.most (vec_capacity r.ids.keys) (vec_capacity r.numbers) r.values
         × (length r.numbers.items ≤ r.most) };
 }
 
@@ -59,7 +59,7 @@ impl<V> EntryTable<V> {
     {
         Ok(EntryTable {
             most,
-            keys: Vec::with_capacity(alloc, most)?,
+            ids: Ids::with_capacity(alloc, most)?,
             numbers: Vec::with_capacity(alloc, most)?,
             values: Slab::with_capacity(alloc, most)?,
         })
@@ -92,14 +92,14 @@ impl<V> EntryTable<V> {
         ensures value { result ≡ position_from (λ e. e.key == key) 0 self.now.entries }
         ensures within { IfSome result (λ place. place < length self.now.entries) }
     {
-        place_of(self.keys.as_slice(), key)
+        self.ids.find(key)
     }
 
     /// The id of the entry at this place.
     pub fn key(&self, place: usize) -> Option<u32>
         ensures { result ≡ option_map (λ e. e.key) (slice_get self.now.entries place) }
     {
-        match self.keys.get(place) {
+        match self.ids.keys.get(place) {
             Some(key) => Some(*key),
             None => None,
         }
@@ -148,7 +148,7 @@ impl<V> EntryTable<V> {
     {
         let number = self.values.insert_reserved(value);
         self.numbers.push_reserved(number);
-        self.keys.push_reserved(key);
+        self.ids.push_reserved(key);
     }
 
     /// Removes the entry at this place and returns it; those after it move up.
@@ -180,7 +180,7 @@ impl<V> EntryTable<V> {
         ensures len { length self.new.entries + 1 ≡ length self.old.entries }
         ensures most { self.new.most ≡ self.old.most }
     {
-        self.keys.remove(place);
+        self.ids.remove(place);
         let number = self.numbers.remove(place);
         self.values.remove(number)
     }
@@ -192,7 +192,7 @@ impl<V> EntryTable<V> {
         ensures entries { self.new.entries ≡ [] }
         ensures most { self.new.most ≡ self.old.most }
     {
-        self.keys.clear();
+        self.ids.clear();
         self.numbers.clear();
         self.values.clear();
     }

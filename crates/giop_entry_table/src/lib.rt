@@ -2,6 +2,7 @@
 #![tactic(auto)]
 
 mod entry_table;
+mod ids;
 mod search;
 
 pub use entry_table::{Entry, EntryTable};

@@ -1,4 +1,4 @@
-//! Searches the first place of an id among many, block by block.
+//! Searches the first place of an id among many, from a place on, block by block.
 
 ghost use Rattle.std.specs.Prelude.{◌≡◌, ◌<◌, ◌≤◌, ◌==◌, drop, length, IfSome};
 ghost use Rattle.std.specs.List.{list_any, position_from};
@@ -17,13 +17,14 @@ fn is_among(keys: &[u32], key: u32) -> bool
     found
 }
 
-/// How many ids are before the first block that has the id, or before the last ones that fill no block.
-fn passed_over(keys: &[u32], key: u32) -> usize
+/// How many ids are before the first block from a place on that has the id, or before the last ones that fill no block.
+fn passed_over(keys: &[u32], from: usize, key: u32) -> usize
+    requires { from ≤ length keys.now }
     ensures within { result ≤ length keys.now }
-    ensures value { position_from (λ k. k == key) 0 keys.now
+    ensures value { position_from (λ k. k == key) from (drop from keys.now)
         ≡ position_from (λ k. k == key) result (drop result keys.now) }
 {
-    let mut at = 0;
+    let mut at = from;
     while BLOCK <= keys.len() - at && !is_among(&keys[at..at + BLOCK], key) {
         at += BLOCK;
     }
@@ -38,12 +39,13 @@ fn first_of(keys: &[u32], key: u32) -> Option<usize>
     keys.iter().position(|k| *k == key)
 }
 
-/// The first place of an id.
-pub(crate) fn place_of(keys: &[u32], key: u32) -> Option<usize>
-    ensures value { result ≡ position_from (λ k. k == key) 0 keys.now }
+/// The first place of an id, from this place on.
+pub(crate) fn place_of(keys: &[u32], from: usize, key: u32) -> Option<usize>
+    requires { from ≤ length keys.now }
+    ensures value { result ≡ position_from (λ k. k == key) from (drop from keys.now) }
     ensures within { IfSome result (λ k. k < length keys.now) }
 {
-    let at = passed_over(keys, key);
+    let at = passed_over(keys, from, key);
     match first_of(&keys[at..], key) {
         Some(rest) => Some(at + rest),
         None => None,

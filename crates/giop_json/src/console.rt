@@ -3,22 +3,12 @@
 ghost use Rattle.std.specs.Prelude.{◌≤◌};
 
 use crate::arguments::Arguments;
-use crate::run::{Failure, Report, run};
-use crate::watching::Watching;
-use giop_run::{
-    Inputs, Lines, ProgramFault, Reading, Retrying, RunFault, ShownName, failed, refused,
-    unreadable, words,
-};
-use std::io::Read;
+use giop_json_messages::Dump;
+use giop_run::{ProgramFault, failed, refused, words};
+use giop_views::viewed;
 
 /// The program's name, which stands in front of what it says on standard error.
 const PROGRAM: &str = "giop-json";
-
-/// The status where a line is none of a dump.
-const UNKNOWN: u8 = 3;
-
-/// The status where nobody reads what is written.
-const UNREAD: u8 = 4;
 
 /// Runs the program, and returns its status.
 pub(crate) fn program(rt: &HostRuntime) -> u8
@@ -38,46 +28,22 @@ pub(crate) fn program(rt: &HostRuntime) -> u8
 fn view(rt: &HostRuntime, asked: Arguments<'_>) -> u8
     ensures { result ≤ 5 }
 {
-    let Some(name) = asked.file else {
-        return view_source(rt, rt.standard_input(), asked);
-    };
-    match rt.open(name) {
-        Ok(file) => view_source(rt, file, asked),
-        Err(error) => failed(rt, PROGRAM, &unreadable(name, &error)),
-    }
-}
-
-/// Writes what a reader gives as JSON; returns the program's status.
-fn view_source<R: Read + Drop>(rt: &HostRuntime, reader: R, asked: Arguments<'_>) -> u8
-    ensures { result ≤ 5 }
-{
-    let writer = Watching::new(Retrying::new(rt.stdout()));
-    let Ok(mut out) = Lines::new(rt.alloc(), writer) else {
+    let Ok(mut dump) = Dump::new(rt.alloc(), asked.settings) else {
         return failed(rt, PROGRAM, &ProgramFault::OutOfMemory);
     };
-    let mut source = Reading::new(reader);
-    match run(rt.alloc(), &mut source, &mut out, asked.settings) {
-        Ok(report) => report_run(rt, asked, report),
-        Err(Failure::Memory) => failed(rt, PROGRAM, &ProgramFault::OutOfMemory),
-        Err(Failure::Out) if out.writer().is_unread() => UNREAD,
-        Err(Failure::Out) => failed(rt, PROGRAM, &ProgramFault::Run(RunFault::Out)),
+    match viewed(rt, PROGRAM, asked.file, &mut dump) {
+        Err(status) => status,
+        Ok(report) => {
+            report.say_unknown(rt, PROGRAM, asked.file);
+            say_parts(rt, dump.in_parts());
+            report.status(rt, PROGRAM)
+        }
     }
 }
 
-/// Says what is to be said of a run whose objects are written; returns the program's status.
-fn report_run(rt: &HostRuntime, asked: Arguments<'_>, report: Report) -> u8
-    ensures { result ≤ 5 }
-{
-    let mut status = 0;
-    if let Some(number) = report.unknown {
-        let name = asked.file.unwrap_or("standard input");
-        let _ = eprintln!(rt;
-            "{PROGRAM}: {}:{number}: no dump has this line",
-            ShownName(name)
-        );
-        status = UNKNOWN;
-    }
-    match report.in_parts {
+/// Says how many messages were written in parts, if some were.
+fn say_parts(rt: &HostRuntime, in_parts: u64) {
+    match in_parts {
         0 => {}
         1 => {
             let _ = eprintln!(rt; "{PROGRAM}: 1 message in parts: --hold");
@@ -86,8 +52,4 @@ fn report_run(rt: &HostRuntime, asked: Arguments<'_>, report: Report) -> u8
             let _ = eprintln!(rt; "{PROGRAM}: {many} messages in parts: --hold");
         }
     }
-    if report.is_unread {
-        return failed(rt, PROGRAM, &ProgramFault::Run(RunFault::Read));
-    }
-    status
 }

@@ -3,9 +3,6 @@
 
 mod arguments;
 mod console;
-mod input;
-mod run;
-mod watching;
 
 use std::process::ExitCode;
 

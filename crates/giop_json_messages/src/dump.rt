@@ -1,14 +1,13 @@
 //! A dump: its lines by stream and message, and what is written after each.
 
 use crate::facts::Faulted;
-use crate::fault::JsonFault;
-use crate::message::{Key, Message};
+use crate::message::Message;
 use crate::objects::Objects;
-use crate::open::{OPEN_MAX, Open};
 use crate::streams::Streams;
 use giop_json_values::Options;
 use giop_lines::{Line, Said, Start};
 use giop_print::Out;
+use giop_view_parts::{Key, OPEN_MAX, Open, View, ViewFault, is_after_end, is_last};
 use std::alloc::{AllocError, Global};
 
 /// The greatest number of KiB of text that may be held.
@@ -29,7 +28,7 @@ pub struct Dump {
     alloc: Global,
     settings: Settings,
     streams: Streams,
-    open: Open,
+    open: Open<Message>,
     objects: Objects,
     fault: Faulted,
     in_parts: u64,
@@ -54,31 +53,13 @@ impl Dump {
         self.in_parts
     }
 
-    /// Takes a line, and writes what is over then.
-    #[inline]
-    pub fn take<O: Out>(&mut self, out: &mut O, line: Line<'_>) -> Result<(), JsonFault> {
-        let key = Key {
-            stream: line.stream,
-            number: line.message,
-        };
-        if let Said::Value(path, value) = line.said
-            && let Some(message) = self.open.current()
-            && message.key == key
-            && !message.is_waiting
-        {
-            message.take_value(self.settings.options, path, value)?;
-            return self.put_parts(out);
-        }
-        self.take_other(out, key, line.said)
-    }
-
     /// Takes a line that isn't of a value of the same message as the line before.
     fn take_other<O: Out>(
         &mut self,
         out: &mut O,
         key: Key,
         said: Said<'_>,
-    ) -> Result<(), JsonFault> {
+    ) -> Result<(), ViewFault> {
         if self.open.is_waiting() {
             if self.open.current_key() == Some(key) && is_after_end(said) {
                 return self.take_after_end(out, key, said);
@@ -102,7 +83,7 @@ impl Dump {
         out: &mut O,
         key: Key,
         said: Said<'_>,
-    ) -> Result<(), JsonFault> {
+    ) -> Result<(), ViewFault> {
         self.note_time(key, said)?;
         if let Some(message) = self.open.current() {
             message.take(self.settings.options, said)?;
@@ -114,7 +95,7 @@ impl Dump {
     }
 
     /// Writes the message that the last line was of, which is over.
-    fn end_current<O: Out>(&mut self, out: &mut O) -> Result<(), JsonFault> {
+    fn end_current<O: Out>(&mut self, out: &mut O) -> Result<(), ViewFault> {
         match self.open.current_key() {
             None => Ok(()),
             Some(key) => self.end_message(out, key),
@@ -122,7 +103,7 @@ impl Dump {
     }
 
     /// Writes a message that is over, if it is open.
-    fn end_message<O: Out>(&mut self, out: &mut O, key: Key) -> Result<(), JsonFault> {
+    fn end_message<O: Out>(&mut self, out: &mut O, key: Key) -> Result<(), ViewFault> {
         let Some(mut message) = self.open.remove(key) else {
             return Ok(());
         };
@@ -133,7 +114,7 @@ impl Dump {
     }
 
     /// Writes an open message that is cut.
-    fn cut_message<O: Out>(&mut self, out: &mut O, key: Key) -> Result<(), JsonFault> {
+    fn cut_message<O: Out>(&mut self, out: &mut O, key: Key) -> Result<(), ViewFault> {
         if let Some(stream) = self.streams.get_mut(key.stream) {
             stream.remove(key.number);
         }
@@ -146,7 +127,7 @@ impl Dump {
         out: &mut O,
         key: Key,
         said: Said<'_>,
-    ) -> Result<(), JsonFault> {
+    ) -> Result<(), ViewFault> {
         if let Said::Start(start) = said {
             self.take_start(out, key, start)?;
         }
@@ -170,7 +151,7 @@ impl Dump {
         out: &mut O,
         key: Key,
         start: Start<'_>,
-    ) -> Result<(), JsonFault> {
+    ) -> Result<(), ViewFault> {
         let Some(stream) = self.streams.get_mut(key.stream) else {
             return Ok(());
         };
@@ -190,14 +171,14 @@ impl Dump {
     }
 
     /// Begins a message that isn't open, in the place of the one that began first where there is no room.
-    fn begin_message<O: Out>(&mut self, out: &mut O, key: Key) -> Result<(), JsonFault> {
+    fn begin_message<O: Out>(&mut self, out: &mut O, key: Key) -> Result<(), ViewFault> {
         if let Some(first) = self.open.first_without_room() {
             self.cut_message(out, first)?;
         }
         if let Some(stream) = self.streams.get_mut(key.stream) {
             match stream.open.push(key.number) {
                 Ok(()) => {}
-                Err(_) => return Err(JsonFault::OutOfMemory),
+                Err(_) => return Err(ViewFault::OutOfMemory),
             }
         }
         self.open.begin(self.alloc, key)?;
@@ -220,7 +201,7 @@ impl Dump {
         out: &mut O,
         key: Key,
         said: Said<'_>,
-    ) -> Result<(), JsonFault> {
+    ) -> Result<(), ViewFault> {
         if let Some(stream) = self.streams.get_mut(key.stream) {
             stream.remove(key.number);
         }
@@ -260,7 +241,7 @@ impl Dump {
         out: &mut O,
         key: Key,
         said: Said<'_>,
-    ) -> Result<(), JsonFault> {
+    ) -> Result<(), ViewFault> {
         match said {
             Said::CaptureFault(fault) => Ok(self.fault.take(fault)?),
             Said::CaptureTotal(total) => {
@@ -281,7 +262,7 @@ impl Dump {
     }
 
     /// Writes a stream that is over, after its open messages.
-    fn end_stream<O: Out>(&mut self, out: &mut O, number: u64) -> Result<(), JsonFault> {
+    fn end_stream<O: Out>(&mut self, out: &mut O, number: u64) -> Result<(), ViewFault> {
         let Some(stream) = self.streams.get_mut(number) else {
             return Ok(());
         };
@@ -299,26 +280,9 @@ impl Dump {
         }
     }
 
-    /// Writes all that isn't over: no more lines come.
-    pub fn finish<O: Out>(&mut self, out: &mut O) -> Result<(), JsonFault> {
-        if self.open.is_waiting() {
-            self.end_current(out)?;
-        }
-        for _ in 0..self.streams.len() {
-            match self.streams.first() {
-                None => break,
-                Some(number) => self.end_stream(out, number)?,
-            }
-        }
-        if !self.fault.is_none() {
-            self.objects.put_capture(out, None, &self.fault)?;
-        }
-        Ok(())
-    }
-
     /// Writes what is held of the messages with the most text, while all hold more than they may.
     #[inline]
-    fn put_parts<O: Out>(&mut self, out: &mut O) -> Result<(), JsonFault> {
+    fn put_parts<O: Out>(&mut self, out: &mut O) -> Result<(), ViewFault> {
         let hold = u64::from(self.settings.hold) * 1_024;
         if self.open.held() <= hold {
             return Ok(());
@@ -333,7 +297,7 @@ impl Dump {
     }
 
     /// Writes what is held of a message, which goes on with nothing held.
-    fn put_part<O: Out>(&mut self, out: &mut O, key: Key) -> Result<(), JsonFault> {
+    fn put_part<O: Out>(&mut self, out: &mut O, key: Key) -> Result<(), ViewFault> {
         let is_current = self.open.current_key() == Some(key);
         let Some(mut message) = self.open.remove(key) else {
             return Ok(());
@@ -349,15 +313,37 @@ impl Dump {
     }
 }
 
-/// Whether a line ends its message.
-fn is_last(said: Said<'_>) -> bool {
-    matches!(
-        said,
-        Said::End | Said::Fault(_) | Said::Cancelled(_) | Said::Continues(_) | Said::Unfinished
-    )
-}
+impl View for Dump {
+    #[inline]
+    fn take<O: Out>(&mut self, out: &mut O, line: Line<'_>) -> Result<(), ViewFault> {
+        let key = Key {
+            stream: line.stream,
+            number: line.message,
+        };
+        if let Said::Value(path, value) = line.said
+            && let Some(message) = self.open.current()
+            && message.key == key
+            && !message.is_waiting
+        {
+            message.take_value(self.settings.options, path, value)?;
+            return self.put_parts(out);
+        }
+        self.take_other(out, key, line.said)
+    }
 
-/// Whether a line may tell of a message that has ended.
-fn is_after_end(said: Said<'_>) -> bool {
-    matches!(said, Said::Time(_) | Said::Answers(_) | Said::Raises(_))
+    fn finish<O: Out>(&mut self, out: &mut O) -> Result<(), ViewFault> {
+        if self.open.is_waiting() {
+            self.end_current(out)?;
+        }
+        for _ in 0..self.streams.len() {
+            match self.streams.first() {
+                None => break,
+                Some(number) => self.end_stream(out, number)?,
+            }
+        }
+        if !self.fault.is_none() {
+            self.objects.put_capture(out, None, &self.fault)?;
+        }
+        Ok(())
+    }
 }

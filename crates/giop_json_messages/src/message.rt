@@ -3,20 +3,11 @@
 use crate::facts::{Facts, Faulted, put_flag, put_number, put_octets, put_total, replace};
 use giop_json_values::{Options, Text, Values};
 use giop_lines::{Said, Value};
+use giop_view_parts::{Key, OpenMessage};
 use std::alloc::{AllocError, Global};
-
-/// What is held of a message beside its text counts as so many octets.
-pub(crate) const OF_A_MESSAGE: u64 = 1_024;
 
 /// The octets of the header of a message (GIOP Message Header).
 const HEADER: u64 = 12;
-
-/// Which message it is.
-#[derive(Clone, Copy, Debug, Drop, PartialEq, Eq, PartialOrd, Ord, Hash)]
-pub(crate) struct Key {
-    pub(crate) stream: u64,
-    pub(crate) number: u64,
-}
 
 /// A message, as far as its lines came.
 #[derive(Drop)]
@@ -48,8 +39,8 @@ pub(crate) struct Message {
     later_size: u64,
 }
 
-impl Message {
-    pub(crate) fn new(alloc: Global) -> Message {
+impl OpenMessage for Message {
+    fn new(alloc: Global) -> Message {
         Message {
             key: Key {
                 stream: 0,
@@ -76,8 +67,7 @@ impl Message {
         }
     }
 
-    /// Becomes another message, of which nothing is known.
-    pub(crate) fn begin(&mut self, key: Key, order: u64) {
+    fn begin(&mut self, key: Key, order: u64) {
         self.key = key;
         self.order = order;
         self.is_waiting = false;
@@ -99,20 +89,32 @@ impl Message {
         self.later_size = 0;
     }
 
-    /// How many octets of text are held.
-    pub(crate) fn size(&self) -> u64 {
+    fn size(&self) -> u64 {
         self.values.size().saturating_add(self.later_size)
     }
 
+    fn key(&self) -> Key {
+        self.key
+    }
+
+    fn order(&self) -> u64 {
+        self.order
+    }
+
+    fn is_waiting(&self) -> bool {
+        self.is_waiting
+    }
+
+    fn join(&mut self, octets: u64) {
+        self.fragments = self.fragments.saturating_add(1);
+        self.octets = self.octets.saturating_add(octets);
+    }
+}
+
+impl Message {
     /// Whether, after its end, a line may still tell its time, what it answers or what it raises.
     pub(crate) fn may_wait(&self) -> bool {
         !self.facts.are_whole() || self.has_exception && self.raises.is_empty()
-    }
-
-    /// Counts a Fragment that continues it.
-    pub(crate) fn join(&mut self, octets: u64) {
-        self.fragments = self.fragments.saturating_add(1);
-        self.octets = self.octets.saturating_add(octets);
     }
 
     /// Takes a line of a value.

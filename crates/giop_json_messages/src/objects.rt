@@ -1,12 +1,12 @@
 //! Objects on an out, each in a line of ASCII.
 
 use crate::facts::{Faulted, put_flag, put_number, put_total};
-use crate::fault::JsonFault;
-use crate::message::{Key, Message, put_later, put_later_line};
+use crate::message::{Message, put_later, put_later_line};
 use crate::streams::Stream;
 use giop_json_values::{Text, shown_text};
 use giop_lines::CaptureTotal;
 use giop_print::Out;
+use giop_view_parts::{Key, ViewFault};
 use std::alloc::Global;
 use std::mem;
 
@@ -36,7 +36,7 @@ impl Objects {
         stream: Option<&Stream>,
         message: &mut Message,
         is_last: bool,
-    ) -> Result<(), JsonFault> {
+    ) -> Result<(), ViewFault> {
         let mut front = self.text();
         front.open(false)?;
         if let Some(stream) = stream {
@@ -61,7 +61,7 @@ impl Objects {
         &mut self,
         out: &mut O,
         stream: &Stream,
-    ) -> Result<(), JsonFault> {
+    ) -> Result<(), ViewFault> {
         let mut text = self.text();
         let is_told = stream.put(&mut text)?;
         self.put_text(out, text, is_told)
@@ -74,7 +74,7 @@ impl Objects {
         stream: &Stream,
         key: Key,
         later: &[u8],
-    ) -> Result<(), JsonFault> {
+    ) -> Result<(), ViewFault> {
         let mut line = Vec::new(self.alloc);
         put_later_line(&mut line, key, later)?;
         let mut text = self.text();
@@ -91,7 +91,7 @@ impl Objects {
         out: &mut O,
         total: Option<CaptureTotal>,
         fault: &Faulted,
-    ) -> Result<(), JsonFault> {
+    ) -> Result<(), ViewFault> {
         let mut text = self.text();
         text.open(false)?;
         if let Some(total) = total {
@@ -111,7 +111,7 @@ impl Objects {
     }
 
     /// Writes a text with its LF, if it is due.
-    fn put_text<O: Out>(&mut self, out: &mut O, text: Text, is_due: bool) -> Result<(), JsonFault> {
+    fn put_text<O: Out>(&mut self, out: &mut O, text: Text, is_due: bool) -> Result<(), ViewFault> {
         let mut octets = text.into_octets();
         if is_due {
             push(&mut octets, b'\n')?;
@@ -122,15 +122,15 @@ impl Objects {
     }
 }
 
-fn push(octets: &mut Vec<u8>, octet: u8) -> Result<(), JsonFault> {
+fn push(octets: &mut Vec<u8>, octet: u8) -> Result<(), ViewFault> {
     match octets.push(octet) {
         Ok(()) => Ok(()),
-        Err(_) => Err(JsonFault::OutOfMemory),
+        Err(_) => Err(ViewFault::OutOfMemory),
     }
 }
 
 /// Writes a text of JSON, each character outside ASCII, which stands in its strings alone, as its escape.
-fn put_ascii<O: Out>(out: &mut O, text: &[u8]) -> Result<(), JsonFault> {
+fn put_ascii<O: Out>(out: &mut O, text: &[u8]) -> Result<(), ViewFault> {
     if text.is_ascii() {
         out.put_all(text)?;
         return Ok(());

@@ -1,9 +1,9 @@
 //! The streams that aren't over.
 
-use crate::connections::{Connections, Of};
 use crate::facts::{Faulted, put_flag, put_number, put_octets, put_total, replace, replace_known};
 use giop_json_values::{Text, shown_text};
 use giop_lines::{Said, StreamStart, Total};
+use giop_view_parts::{Connections, Of};
 use lru::LruCache;
 use std::alloc::{AllocError, Global};
 
@@ -209,7 +209,10 @@ impl Streams {
                 replace(&mut stream.closed, word)?;
                 match stream.connection {
                     None => Ok(()),
-                    Some(of) => self.connections.close(alloc, of, stream.ends(), word),
+                    Some(of) => {
+                        self.connections.close(alloc, of, stream.ends(), word)?;
+                        Ok(())
+                    }
                 }
             }
             _ => Ok(()),

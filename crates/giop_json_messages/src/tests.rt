@@ -1,9 +1,10 @@
 //! A dump as JSON, by hand.
 
-use crate::{Dump, JsonFault, Settings};
+use crate::{Dump, Settings};
 use giop_json_values::{Characters, Options};
 use giop_lines::read;
 use giop_print::Written;
+use giop_view_parts::{View, ViewFault};
 use std::alloc::Global;
 
 const LINES: &str = "\
@@ -19,7 +20,7 @@ const OBJECTS: &str = "\
 {\"messages\":1,\"faults\":0,\"octets\":16}
 ";
 
-fn objects_of(alloc: Global, lines: &str) -> Result<Vec<u8>, JsonFault> {
+fn objects_of(alloc: Global, lines: &str) -> Result<Vec<u8>, ViewFault> {
     let options = Options {
         characters: Characters::Escapes,
         are_strings: false,
@@ -38,7 +39,7 @@ fn objects_of(alloc: Global, lines: &str) -> Result<Vec<u8>, JsonFault> {
 }
 
 #[test]
-fn a_message_is_an_object(rt: HostRuntime) -> Result<(), JsonFault> {
+fn a_message_is_an_object(rt: HostRuntime) -> Result<(), ViewFault> {
     let objects = objects_of(rt.alloc(), LINES)?;
     assert_eq!(rt; objects.as_slice(), OBJECTS.as_bytes());
     Ok(())

@@ -7,7 +7,6 @@ use Rattle.giop_sig.specs.declared.types.Shape.{Shape}
 use Rattle.giop_sig.specs.declared.types.Shape.TheVariants as shapes
 use Rattle.giop_sig.specs.Types.{Cases, Ty, Plain, Single, Struct, Union, shape_in}
 use Rattle.giop_sig.specs.Table.{Table}
-use Rattle.giop_decode.specs.declared.decoder.Decoder.{Decoder}
 use Rattle.giop_decode.specs.ReadResult.{Line, OpenPart, Leaf, Short}
 use Rattle.giop_decode.specs.Noted.{Noted}
 use Rattle.giop_message.specs.declared.message.Message.{Message as Struct_of}
@@ -67,9 +66,9 @@ module _ {C : Table} {answers : Answers} {number : ℕ} {header : List ℕ} {m :
   At = stage_of (message (signatures_of C (answers number)) header s)
 
   -- inside a section it is short
-  pub section_short : {section : Section} {d : Decoder} → m.part ≡ parts.Typed section d →
+  pub section_short : {section : Section} → m.part ≡ parts.Typed section →
       close At ≡ ShortLine ∷ []
-  section_short {section} {d} is = search (arith, stage_front, short_stage)
+  section_short {section} is = search (arith, stage_front, short_stage)
 
   pub padding_stage : {body_type_id : BodyTypeId} → m.part ≡ parts.Padding body_type_id →
       At ≡ In_padding (body_type C body_type_id)
@@ -146,7 +145,7 @@ module _ {C : Table} {answers : Answers} {number : ℕ} {header : List ℕ} {m :
   ended_by : (p : Part) → m.part ≡ p → is_short Close ≡ false →
       closing_text number place Close ≡ last_rest_text number p ++ end_line number
   unfolding close is_short
-  ended_by (parts.Typed section d) is e =
+  ended_by (parts.Typed section) is e =
       absurd (false≢true (sym (rw (section_short f fits is) at e)))
   ended_by (parts.Padding body_type_id) is e = search (arith, padding_stage, if_ends, ends_text_is)
   ended_by (parts.Rest r) is e = ap (λ stage. closing_text number place (close stage))

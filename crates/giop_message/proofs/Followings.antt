@@ -220,15 +220,15 @@ module _ {C : Table} {S : Signatures} {number : ℕ} {header s : List ℕ} {sect
 
 -- the request id that a message answers inside a section
 pub id_read : {C : Table} {answers : Answers} {number : ℕ} {header : List ℕ} {m : Struct_of}
-    {s : List ℕ} {section : Section}
-    {d : Decoder} → Follows C answers number header m s → m.part ≡ parts.Typed section d →
-    (r : Read) × decoders.KeepsNoted (root_of section) d r
+    {s : List ℕ} {section : Section} → Follows C answers number header m s →
+    m.part ≡ parts.Typed section →
+    (r : Read) × decoders.KeepsNoted (root_of section) m.decoder r
     × (cond (is_header section) (noted_of true r).request_id m.id
     ≡ first_request_id (message_lines (message (signatures_of C (answers number)) header s)))
-id_read {C} {answers} {number} {header} {m} {s} {section} {d} f is =
+id_read {C} {answers} {number} {header} {m} {s} {section} f is =
     (noted_reading stands, stands.reads.keeps_noted, go (is_header section) refl)
   where
-    stands : Decodes C (signatures_of C (answers number)) number header s section d
+    stands : Decodes C (signatures_of C (answers number)) number header s section m.decoder
     stands = search (arith)
 
     go : (inside : Bool) → is_header section ≡ inside →
@@ -266,7 +266,7 @@ module _ {C : Table} {answers : Answers} {number : ℕ} {header : List ℕ} {m :
   pub follows_on : {n : Struct_of} → Moved m n (length more) → n.id ≡ cond (in_header n.part) None
       (first_request_id (message_lines (message (signatures_of C (answers number)) header
       (s ++ more)))) →
-      Stands C answers number header (s ++ more) n.part →
+      Stands C answers number header (s ++ more) n.decoder n.part →
       Follows C answers number header n (s ++ more)
   follows_on move id stands =
       let is = is_at move in
@@ -289,11 +289,11 @@ module _ {C : Table} {answers : Answers} {number : ℕ} {header : List ℕ} {m :
 pub same_fields : {C : Table} {answers : Answers} {number : ℕ} {header : List ℕ} {m n : Struct_of}
     {s : List ℕ} →
     Follows C answers number header m s → n.number ≡ m.number → n.header ≡ m.header → n.id ≡ m.id →
-    n.at ≡ m.at → n.part ≡ m.part → Follows C answers number header n s
-same_fields f same_number same_header id at part = record {
+    n.at ≡ m.at → n.part ≡ m.part → n.decoder ≡ m.decoder → Follows C answers number header n s
+same_fields f same_number same_header id at part decoder = record {
   same_number = same_number ∙ f.same_number;
   same_header = same_header ∙ f.same_header;
   id = id ∙ rw part f.id;
   at = at ∙ f.at;
-  stands = rw part f.stands;
+  stands = rw (part, decoder) f.stands;
 }

@@ -72,13 +72,13 @@ through_body C x y header (Fault lines at why T) = refl
 
 module _ (C : Table) (a b : Answers) (number : ℕ) (header s : List ℕ) where
   -- where the answers agree
-  stands_same : (p : Part) → a number ≡ b number → Stands C a number header s p →
-      Stands C b number header s p
-  stands_same (parts.Typed section d) e h =
+  stands_same : (d : Decoder) (p : Part) → a number ≡ b number →
+      Stands C a number header s d p → Stands C b number header s d p
+  stands_same d (parts.Typed section) e h =
       subst (λ (x : Answer). Decodes C (signatures_of C x) number header s section d) e h
-  stands_same (parts.Padding body_type_id) e h =
+  stands_same d (parts.Padding body_type_id) e h =
       (h.0, ap (λ (x : Answer). message (signatures_of C x) header s) (sym e) ∙ h.1)
-  stands_same (parts.Rest r) e h = (
+  stands_same d (parts.Rest r) e h = (
     h.0,
     ap (λ (x : Answer). message (signatures_of C x) header s)
         (sym e) ∙ h.1,
@@ -113,12 +113,12 @@ module _ (C : Table) (a b : Answers) (number : ℕ) (header s : List ℕ) where
       go sections.SystemException d' k none' = through_system C (a number) (b number) header _
       go sections.Body d' k none' = through_body C (a number) (b number) header _
 
-  stands_new : (p : Part) → header_noted header s ≡ None → Stands C a number header s p →
-      Stands C b number header s p
-  stands_new (parts.Typed section d) none h = decodes_new section d none h
-  stands_new (parts.Padding body_type_id) none h =
+  stands_new : (d : Decoder) (p : Part) → header_noted header s ≡ None →
+      Stands C a number header s d p → Stands C b number header s d p
+  stands_new d (parts.Typed section) none h = decodes_new section d none h
+  stands_new d (parts.Padding body_type_id) none h =
       (h.0, sym (unended_agree C (a number) (b number) header s none) ∙ h.1)
-  stands_new (parts.Rest r) none h = (
+  stands_new d (parts.Rest r) none h = (
     h.0,
     sym (unended_agree C (a number) (b number) header s none) ∙ h.1,
   )
@@ -132,7 +132,7 @@ module _ (C : Table) (a b : Answers) (number : ℕ) (header s : List ℕ) where
     id = f.id ∙ ap (λ (x : Answer). cond (in_header m.part) None
         (first_request_id (message_lines (message (signatures_of C x) header s)))) e;
     at = f.at;
-    stands = stands_same m.part e f.stands;
+    stands = stands_same m.decoder m.part e f.stands;
   }
   follows_agree m (inr none) f = record {
     same_number = f.same_number;
@@ -140,5 +140,5 @@ module _ (C : Table) (a b : Answers) (number : ℕ) (header s : List ℕ) where
     id = f.id ∙ ap (λ (x : Message). cond (in_header m.part) None
         (first_request_id (message_lines x))) (unended_agree C (a number) (b number) header s none);
     at = f.at;
-    stands = stands_new m.part none f.stands;
+    stands = stands_new m.decoder m.part none f.stands;
   }

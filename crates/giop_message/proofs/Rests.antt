@@ -106,14 +106,14 @@ module _ {C : Table} {answers : Answers} {number : ℕ} {header : List ℕ} {m :
 
     pub padding_follows : (1 < padding Here 8) → {n : Struct_of} → Moved m n 1 → n.id ≡ m.id →
         n.part ≡ m.part → Follows C answers number header n further
-    padding_follows h move id part =
+    padding_follows h {n} move id part =
         let comes = one_comes (ReadTo [] (Here + 1) (In_padding T)) (padding_on S header Here b T h)
         in
         let at = comes_next padded.0 [] (Here + 1) (12 + length further) (In_padding T)
         (next_at s b)
         in
         follows_on f (b ∷ []) move (id ∙ rw (part, is) (same_id (padding_told h)))
-        (subst (Stands C answers number header further) (sym (part ∙ is))
+        (subst (Stands C answers number header further n.decoder) (sym (part ∙ is))
         (padded.0 ++ [], comes ∙ at))
 
     pub last_follows : padding Here 8 ≤ 1 → {k n : Struct_of} → Moved m k 1 →
@@ -196,7 +196,7 @@ module _ {C : Table} {answers : Answers} {number : ℕ} {header : List ℕ} {m :
   pub rest_follows : {m' : Struct_of} {r' : Rest} → Moved m m' n → m'.id ≡ m.id →
       m'.part ≡ parts.Rest r' →
       stage_of Step ≡ In_rest r'.offset r'.held.items → Follows C answers number header m' (s ++ xs)
-  rest_follows {r' = r'} move id part stage =
+  rest_follows {m' = m'} {r' = r'} move id part stage =
       let step = rested r.offset (r.held.items ++ xs) (At + length xs) in
       let e : At + length xs ≡ 12 + length (s ++ xs) = omega (arith, length-append s xs) in
       let next = comes_next stood.0 (message_lines Step) (At + length xs) (12 + length (s ++ xs))
@@ -205,7 +205,7 @@ module _ {C : Table} {answers : Answers} {number : ℕ} {header : List ℕ} {m :
       ∙ ap (ReadTo (message_lines Step) (At + length xs)) stage) in
       follows_on f xs (rw size move) (id ∙ rw part
       (id_kept f xs (ap first_request_id rest_due ∙ step.no_id) (rw is refl)))
-      (subst (Stands C answers number header (s ++ xs)) (sym part)
+      (subst (Stands C answers number header (s ++ xs) m'.decoder) (sym part)
       (stood.0 ++ message_lines Step, rest_comes ∙ (comes ∙ next)))
 
 -- the text of a step in the rest

@@ -67,17 +67,14 @@ pub record Standing : Type 0 where
   pub s : List ℕ
   pub follows : Follows C answers number header m s
   pub section : Section
-  pub d : Decoder
-  pub is : m.part ≡ parts.Typed section d
-  pub fits : decoders.Fits C d
+  pub is : m.part ≡ parts.Typed section
+  pub fits : decoders.Fits C m.decoder
 
 abbrev pub standing : {C : Table} {answers : Answers} {number : ℕ} {header : List ℕ} {m : Struct_of}
-    {s : List ℕ} {section : Section}
-    {d : Decoder} → Follows C answers number header m s → m.part ≡ parts.Typed section d →
-    Fits C m →
-    Standing
+    {s : List ℕ} {section : Section} → Follows C answers number header m s →
+    m.part ≡ parts.Typed section → Fits C m → Standing
 standing {C} {m = m} f is fits =
-    let e = subst (FitsPart C m.at) is fits in
+    let e = subst (FitsPart C m.at m.decoder) is fits in
     record {
       C = C;
       answers = _;
@@ -87,20 +84,18 @@ standing {C} {m = m} f is fits =
       s = _;
       follows = f;
       section = _;
-      d =
-          _;
       is = is;
       fits = e;
     }
 
 module _ (t : Standing) where
-  open t use {C, answers, number, header, m, s, follows, section, d, is}
+  open t use {C, answers, number, header, m, s, follows, section, is}
 
   abbrev S : Signatures
   S = signatures_of C (answers number)
 
-  abbrev opened : Decodes C S number header s section d
-  opened = subst (Stands C answers number header s) is follows.stands
+  abbrev opened : Decodes C S number header s section m.decoder
+  opened = subst (Stands C answers number header s m.decoder) is follows.stands
 
   abbrev octets_of : List ℕ
   octets_of = opened.octets
@@ -120,7 +115,7 @@ module _ (t : Standing) where
 
   inside : Inside begun s octets_of
   inside =
-      let goes_on = ap (λ leaf. decoders.read_by_leaf C d leaf opened.reads.lines
+      let goes_on = ap (λ leaf. decoders.read_by_leaf C m.decoder leaf opened.reads.lines
       (start begun + length octets_of)) t.fits.goes_on in
       record {
         since = opened.since;
@@ -149,13 +144,14 @@ module _ (t : Standing) where
   kept_id xs p l false e = follows.id ∙ rw (is, e) (sym (same_id begun s octets_of inside xs p l e))
 
   -- it goes on
-  section_on : (xs : List ℕ) (p : Progress) → LastOf xs p → (n : Struct_of) (d' : Decoder) →
-      Moved m n (length xs) → n.id ≡ m.id → n.part ≡ parts.Typed section d' → ReadsWith d' xs →
+  section_on : (xs : List ℕ) (p : Progress) → LastOf xs p → (n : Struct_of) →
+      Moved m n (length xs) → n.id ≡ m.id → n.part ≡ parts.Typed section →
+      ReadsWith n.decoder xs →
       Follows C answers number header n (s ++ xs)
-  section_on xs p l n d' move id part reads =
+  section_on xs p l n move id part reads =
       follows_on follows xs move (id ∙ rw part (kept_id xs p l (is_header section) refl))
-      (subst (Stands C answers number header (s ++ xs)) (sym part)
-      (decodes begun s octets_of inside C xs d' reads))
+      (subst (Stands C answers number header (s ++ xs) n.decoder) (sym part)
+      (decodes begun s octets_of inside C xs n.decoder reads))
 
   ended_id : (xs : List ℕ) → LastOf xs progress.Done → (d' : Decoder) → ReadsWith d' xs →
       (id : Option ℕ) (inside : Bool) →
@@ -168,7 +164,7 @@ module _ (t : Standing) where
   -- what holds of each reading of its decoder holds of this one
   pub by_reads : {P : Ty → Order → ℕ → ℕ → Root → List ℕ → Type 0} →
       ((T : Ty) (o : Order) (at number : ℕ) (root : Root) (xs : List ℕ) →
-      decoders.Reads C T o at number root d xs → P T o at number root xs) →
+      decoders.Reads C T o at number root m.decoder xs → P T o at number root xs) →
       P opened.T (order header) (start begun) number (root_of section) octets_of
   by_reads each = each opened.T (order header) (start begun) number (root_of section) octets_of
       opened.reads
@@ -257,9 +253,10 @@ module _ {t : Standing} {octets : List ℕ} {n : ℕ} {d' : Decoder} where
 
   pub went_on : {p : Progress} → Took t octets n d' p → (decoders.IsFault p → ⊥) →
       (m' : Struct_of) → Moved m m' n → m'.id ≡ m.id →
-      m'.part ≡ parts.Typed section d' → Follows C answers number header m' (s ++ (take n octets))
-  went_on {p} k going m' move id part = section_on t (take n octets) p (last p k) m' d'
-      (moved p k m' move) id part (k.takes.reads going)
+      m'.part ≡ parts.Typed section → m'.decoder ≡ d' →
+      Follows C answers number header m' (s ++ (take n octets))
+  went_on {p} k going m' move id part decoder = section_on t (take n octets) p (last p k) m'
+      (moved p k m' move) id part (rw decoder (k.takes.reads going))
 
   pub went_done : Took t octets n d' progress.Done → (m1 m2 : Struct_of) → Moved m m1 n →
       m1.id ≡ m.id → Arrives C answers number header m1 m2 (s ++ (take n octets))
@@ -328,7 +325,7 @@ raising_root sections.SystemException e = refl
 raising_root sections.Body e = absurd (false≢true e)
 
 module _ (t : Standing) where
-  open t use {C, answers, number, header, m, s, follows, section, d, is}
+  open t use {C, answers, number, header, m, s, follows, section, is}
 
   header_reads : section ≡ sections.Header → (xs : List ℕ) →
       (header_type (minor header) (kind header) ≡ Some (opened t).T)
@@ -666,7 +663,7 @@ module _ {C : Table} {answers : Answers} {number : ℕ} {header : List ℕ} {m :
       header_ends number header s (x ∷ []) ≡ []
   unfolding header_ends waits pads_here stage_of
   padding_none {body_type_id} is x =
-      let stands = subst (Stands C answers number header s) is f.stands in
+      let stands = subst (Stands C answers number header s m.decoder) is f.stands in
       let names = raised_pads C (answers number) header s x
       (ap (λ z. pads_here (stage_of z)) stands.1) in
       rw (
@@ -680,7 +677,7 @@ module _ {C : Table} {answers : Answers} {number : ℕ} {header : List ℕ} {m :
       header_ends number header s more ≡ []
   unfolding header_ends waits is_settled stage_of
   rest_none {r} is more =
-      let stands = subst (Stands C answers number header s) is f.stands in
+      let stands = subst (Stands C answers number header s m.decoder) is f.stands in
       rw (past_none C (answers number) number header s more (ap (λ z. waits (stage_of z)) stands.1))
       (settled_none C (answers number) number header s more
       (ap (λ z. is_settled (stage_of z)) stands.1))

@@ -5,6 +5,7 @@ use Rattle.std.proofs.lemmas.List.{take-append-drop, length-take-le}
 use Rattle.giop_sig.specs.Table.{Table}
 use Rattle.giop_octets.specs.Fields.{four, eight, optional, held}
 use Rattle.giop_octets.proofs.FieldLaws.{eight_long, optional_long, behind}
+use Rattle.giop_decode.specs.declared.decoder.Decoder.{Decoder}
 use Rattle.giop_message.specs.declared.message.Message.{Message}
 use Rattle.giop_message.specs.declared.part.Part.{Part}
 use Rattle.giop_message.specs.declared.part.Part.TheVariants as parts
@@ -147,42 +148,46 @@ same_own e m at octet id = rw (octet, at, id) refl
 
 -- the part that is read of the octets goes on for the one that was stored
 pub goes_on : (C : Table) (m : Message) (fixed frames octets : List ℕ) (at octet : ℕ)
-    (r : Option Part) → Fits C m → Stored m fixed frames
+    (r : Option (Part × Decoder)) → Fits C m → Stored m fixed frames
     → ((n : ℕ) (rest : List ℕ) → n < 2 ^ 64 → drop 1 fixed ≡ eight n ++ rest → at ≡ n)
     → ((n : ℕ) (rest : List ℕ) → drop 0 fixed ≡ n ∷ rest → octet ≡ n) → octets ≡ drop 16 fixed
-    → ((p : Part) → FitsPart C at p → part_octet p ≡ octet → PartStored p octets frames
-    → IsSomeAnd r (λ q. GoesOn C p q)) → IsSomeAnd r (λ q. GoesOn C m.part q)
+    → ((d : Decoder) (p : Part) → FitsPart C at d p → part_octet p ≡ octet
+    → PartStored d p octets frames → IsSomeAnd r (λ q. GoesOn C d p q.1 q.0))
+    → IsSomeAnd r (λ q. GoesOn C m.decoder m.part q.1 q.0)
 goes_on C m fixed frames octets at octet r fits stored at_read octet_read octets_read again =
     let fields = own_fields m fixed stored.own in
     let at_is : at ≡ m.at = at_read m.at _ stored.own.at fields.at in
     let octet_is = sym (octet_read _ _ fields.part) in
-    again m.part (rw at_is fits) octet_is (rw octets_read stored.part)
+    again m.decoder m.part (rw at_is fits) octet_is (rw octets_read stored.part)
 
-pub same_place : (C : Table) (p q : Part) → GoesOn C p q → in_header q ≡ in_header p
-same_place C (parts.Typed section d) (parts.Typed other e) on = rw on.0 refl
-same_place C (parts.Padding body_type_id) (parts.Padding other) on = refl
-same_place C (parts.Rest r) (parts.Rest other) on = refl
-same_place C p q on = absurd on
+pub same_place : (C : Table) (d e : Decoder) (p q : Part) → GoesOn C d p e q →
+    in_header q ≡ in_header p
+same_place C d e (parts.Typed section) (parts.Typed other) on = rw on.0 refl
+same_place C d e (parts.Padding body_type_id) (parts.Padding other) on = refl
+same_place C d e (parts.Rest r) (parts.Rest other) on = refl
+same_place C d e p q on = absurd on
 
 cond_again : {A : Type 0} (b : Bool) (x y : A) → cond b x (cond b x y) ≡ cond b x y
 cond_again true x y = refl
 cond_again false x y = refl
 
 -- What is stored of the request id is stored again.
-pub kept_again : (C : Table) (p q : Part) (id : Option ℕ) → GoesOn C p q
+pub kept_again : (C : Table) (d e : Decoder) (p q : Part) (id : Option ℕ) → GoesOn C d p e q
     → kept_id q (kept_id p id) ≡ kept_id p id
-kept_again C p q id on = search (arith, same_place, cond_again)
+kept_again C d e p q id on = search (arith, same_place, cond_again)
 
-pub id_on : (C : Table) (p q : Part) (id given said : Option ℕ) → GoesOn C p q
+pub id_on : (C : Table) (d e : Decoder) (p q : Part) (id given said : Option ℕ) →
+    GoesOn C d p e q
     → given ≡ kept_id p id → id ≡ kept_id p said → given ≡ kept_id q said
-id_on C p q id given said on is was = search (arith, cond_again, said, cond, same_place)
+id_on C d e p q id given said on is was = search (arith, cond_again, said, cond, same_place)
 
-pub stands_on : (C : Table) (answers : Answers) (number : ℕ) (header s : List ℕ) (p q : Part)
-    → GoesOn C p q → Stands C answers number header s p → Stands C answers number header s q
-stands_on C answers number header s (parts.Typed section d) (parts.Typed other e) on is = search
+pub stands_on : (C : Table) (answers : Answers) (number : ℕ) (header s : List ℕ) (d e : Decoder)
+    (p q : Part) → GoesOn C d p e q → Stands C answers number header s d p →
+    Stands C answers number header s e q
+stands_on C answers number header s d e (parts.Typed section) (parts.Typed other) on is = search
     (arith)
-stands_on C answers number header s (parts.Padding body_type_id) (parts.Padding other) on is =
+stands_on C answers number header s d e (parts.Padding body_type_id) (parts.Padding other) on is =
     rw on is
-stands_on C answers number header s (parts.Rest r) (parts.Rest other) on is =
+stands_on C answers number header s d e (parts.Rest r) (parts.Rest other) on is =
     rw (on.offset, on.held) is
-stands_on C answers number header s p q on is = absurd on
+stands_on C answers number header s d e p q on is = absurd on

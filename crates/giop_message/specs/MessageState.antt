@@ -87,15 +87,16 @@ IsKnown C (body_type_ids.Type of) = of.0 < length C.types
 IsKnown C body_type_ids.Exception = Unit {0}
 IsKnown C body_type_ids.SystemException = Unit {0}
 
--- the part fits a message that has taken so many octets
-abbrev pub FitsPart : Table → ℕ → Part → Type 0
-FitsPart C at (parts.Typed section d) = decoder.Fits C d
-FitsPart C at (parts.Padding body_type_id) = IsKnown C body_type_id
-FitsPart C at (parts.Rest r) = r.offset + length r.held.items ≤ at
+-- the part, which this decoder reads if it is a section, fits a message that has taken so many
+-- octets
+abbrev pub FitsPart : Table → ℕ → Decoder → Part → Type 0
+FitsPart C at d (parts.Typed section) = decoder.Fits C d
+FitsPart C at d (parts.Padding body_type_id) = IsKnown C body_type_id
+FitsPart C at d (parts.Rest r) = r.offset + length r.held.items ≤ at
 
 -- a message that isn't faulted, and whose types are those of the table
 abbrev pub Fits : Table → Message → Type 0
-Fits C m = FitsPart C m.at m.part
+Fits C m = FitsPart C m.at m.decoder m.part
 
 -- how many of its octets a message has taken, its header's 12 included
 abbrev pub reach : Message → ℕ
@@ -129,14 +130,14 @@ pub record Decodes (C : Table) (S : Signatures) (number : ℕ) (header s : List 
   pub reads : decoder.Reads C T (order header) (12 + length front) number (root_of section) d octets
 
 -- where a message of this number and header is after these octets, by the part that the next octet
--- belongs to
-abbrev pub Stands : Table → Answers → ℕ → List ℕ → List ℕ → Part → Type 0
-Stands C answers number header s (parts.Typed section d) =
+-- belongs to, and the decoder of a section
+abbrev pub Stands : Table → Answers → ℕ → List ℕ → List ℕ → Decoder → Part → Type 0
+Stands C answers number header s d (parts.Typed section) =
     Decodes C (signatures_of C (answers number)) number header s section d
-Stands C answers number header s (parts.Padding body_type_id) =
+Stands C answers number header s d (parts.Padding body_type_id) =
     (emitted : List LineAt) × (message (signatures_of C (answers number)) header s
     ≡ ReadTo emitted (12 + length s) (In_padding (body_type C body_type_id)))
-Stands C answers number header s (parts.Rest r) =
+Stands C answers number header s d (parts.Rest r) =
     (emitted : List LineAt) × (message (signatures_of C (answers number)) header s
     ≡ ReadTo emitted (12 + length s) (In_rest r.offset r.held.items))
 
@@ -148,7 +149,7 @@ is_header sections.SystemException = false
 is_header sections.Body = false
 
 abbrev pub in_header : Part → Bool
-in_header (parts.Typed section d) = is_header section
+in_header (parts.Typed section) = is_header section
 in_header (parts.Padding body_type_id) = false
 in_header (parts.Rest r) = false
 
@@ -161,7 +162,7 @@ pub record Follows (C : Table) (answers : Answers) (number : ℕ) (header : List
   pub id : m.id ≡ cond (in_header m.part) None
       (first_request_id (message_lines (message (signatures_of C (answers number)) header s)))
   pub at : m.at ≡ 12 + length s
-  pub stands : Stands C answers number header s m.part
+  pub stands : Stands C answers number header s m.decoder m.part
 
 -- ---- its calls
 

@@ -6,6 +6,7 @@ use Rattle.giop_print.specs.Lines.{call_line, fault_line, rest_line}
 use Rattle.giop_sig.specs.declared.types.OpId.{OpId}
 use Rattle.giop_sig.specs.Types.{Ty}
 use Rattle.giop_sig.specs.Table.{Table}
+use Rattle.giop_decode.specs.declared.decoder.Decoder.{Decoder}
 use Rattle.giop_decode.specs.ReadResult.{plain, Read, Done, Short, Fault}
 use Rattle.giop_decode.specs.Reading.{read}
 use Rattle.giop_decode.specs.Noted.{Noted, nothing_noted, noted_of}
@@ -70,7 +71,7 @@ abbrev pub Arrives : Table → Answers → ℕ → List ℕ → Message → Mess
 Arrives C answers number header old new s m =
     IsAt number header old s → (before : List LineAt) →
     message (signatures_of C (answers number)) header s ≡ with_front before m →
-    Stands C answers number header s new.part
+    Stands C answers number header s new.decoder new.part
 
 -- A message that is read to these lines, and then to a section of this type of which no octet has
 -- come, is in that section.
@@ -81,17 +82,17 @@ Enters C answers number header old new s section T =
     message (signatures_of C (answers number)) header s
     ≡ with_front before (section_and_rest (signatures_of C (answers number)) header section
     nothing_noted (read (plain (order header)) [] T (12 + length s) [])) →
-    Stands C answers number header s new.part
+    Stands C answers number header s new.decoder new.part
 
 -- a part that is read as a value
 abbrev pub IsTyped : Part → Type 0
-IsTyped (parts.Typed section d) = Unit {0}
+IsTyped (parts.Typed section) = Unit {0}
 IsTyped part = ⊥
 
--- a part that is this section, and whose decoder has the notes of this reading
-abbrev pub Ended : Part → Section → Read → Type 0
-Ended (parts.Typed held d) section r = (held ≡ section) × KeepsNoted (root_of section) d r
-Ended part section r = ⊥
+-- a part that is this section, whose decoder has the notes of this reading
+abbrev pub Ended : Decoder → Part → Section → Read → Type 0
+Ended d (parts.Typed held) section r = (held ≡ section) × KeepsNoted (root_of section) d r
+Ended d part section r = ⊥
 
 -- what is told where a section ends, by its reading, and the operation that it names if it is a
 -- header
@@ -110,7 +111,7 @@ held_text number offset [] = []
 held_text number offset (x ∷ held) = rest_line number offset (x ∷ held)
 
 abbrev pub last_rest_text : ℕ → Part → List ℕ
-last_rest_text number (parts.Typed section d) = []
+last_rest_text number (parts.Typed section) = []
 last_rest_text number (parts.Padding body_type_id) = []
 last_rest_text number (parts.Rest r) = held_text number r.offset r.held.items
 

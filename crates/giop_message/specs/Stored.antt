@@ -51,7 +51,7 @@ section_octet sections.Body = 2
 
 -- the octet of a part
 abbrev pub part_octet : Part → ℕ
-part_octet (parts.Typed section d) = section_octet section
+part_octet (parts.Typed section) = section_octet section
 part_octet (parts.Padding body_type_id) = 3
 part_octet (parts.Rest r) = 4
 
@@ -103,17 +103,18 @@ pub record IsOwnOf (octets : List ℕ) (m : Message) : Type 0 where
   pub at : m.at < 2 ^ 64
   pub id : IfSome (kept_id m.part m.id) (λ n. n < 2 ^ 32)
 
--- a part is stored in these 208 octets and these frames, which only a decoder has
-abbrev pub PartStored : Part → List ℕ → List ℕ → Type 0
-PartStored (parts.Typed section d) octets frames = decoders.Stored d octets frames
-PartStored (parts.Padding body_type_id) octets frames =
+-- a part, with the decoder of a section, is stored in these 208 octets and these frames, which only
+-- a decoder has
+abbrev pub PartStored : Decoder → Part → List ℕ → List ℕ → Type 0
+PartStored d (parts.Typed section) octets frames = decoders.Stored d octets frames
+PartStored d (parts.Padding body_type_id) octets frames =
     IsPaddingOf octets body_type_id × (frames ≡ [])
-PartStored (parts.Rest r) octets frames = IsRestOf octets r × (frames ≡ [])
+PartStored d (parts.Rest r) octets frames = IsRestOf octets r × (frames ≡ [])
 
 -- These 224 octets and these frames are what is stored of the message.
 pub record Stored (m : Message) (fixed frames : List ℕ) : Type 0 where
   pub own : IsOwnOf (take 16 fixed) m
-  pub part : PartStored m.part (drop 16 fixed) frames
+  pub part : PartStored m.decoder m.part (drop 16 fixed) frames
 
 -- ---- a part that goes on for another
 
@@ -126,9 +127,9 @@ pub record ReadsOn (C : Table) (d e : Decoder) : Type 0 where
   pub reads : (T : Ty) (order : Order) (at message : ℕ) (root : Root) (s : List ℕ) →
       decoder.Reads C T order at message root d s → decoder.Reads C T order at message root e s
 
--- the other part goes on where this one is
-abbrev pub GoesOn : Table → Part → Part → Type 0
-GoesOn C (parts.Typed section d) (parts.Typed other e) = (other ≡ section) × ReadsOn C d e
-GoesOn C (parts.Padding body_type_id) (parts.Padding other) = other ≡ body_type_id
-GoesOn C (parts.Rest r) (parts.Rest other) = IsSameRest other r
-GoesOn C part other = ⊥
+-- the other part, with its decoder, goes on where this one is
+abbrev pub GoesOn : Table → Decoder → Part → Decoder → Part → Type 0
+GoesOn C d (parts.Typed section) e (parts.Typed other) = (other ≡ section) × ReadsOn C d e
+GoesOn C d (parts.Padding body_type_id) e (parts.Padding other) = other ≡ body_type_id
+GoesOn C d (parts.Rest r) e (parts.Rest other) = IsSameRest other r
+GoesOn C d part e other = ⊥

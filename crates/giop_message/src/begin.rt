@@ -1,4 +1,4 @@
-//! What begins after a part of a message that has ended.
+//! What begins: a message in the place of another, and what comes after a part of it that has ended.
 
 ghost use Rattle.std.specs.Prelude.{◌≡◌, ℕ, ◌+◌, ◌<◌, List, [], length, true, false, cond};
 ghost use Rattle.giop_sig.specs.Trees.{tree};
@@ -16,8 +16,9 @@ use crate::header::{kind_of, minor_of, order_of};
 use crate::message::Message;
 use crate::notifying::{notify_of_section, operation_of};
 use crate::part::{Part, Rest, Section};
-use giop_cdr::pad;
+use giop_cdr::{Order, pad};
 use giop_decode::Decoder;
+use giop_print::Root;
 use giop_sig::{Catalogue, Fixed, TypeId};
 
 /// The request id after what has come of a section: a header's own, or the one from before.
@@ -33,15 +34,38 @@ pub(crate) fn id_behind(section: Section, decoder: &Decoder, before: Option<u32>
     }
 }
 
+/// A decoder for a message that is in no section.
+pub(crate) fn idle(catalogue: &Catalogue) -> Decoder {
+    let of = catalogue.fixed(Fixed::ExceptionId);
+    Decoder::start(catalogue, of, Order::Big, 12, 0, Root::Exception)
+}
+
 impl Message {
     ghost use Rattle.giop_sig.specs.Table.{Table};
     ghost use Rattle.giop_message.specs.declared.part.Section.{Section as Within};
     ghost use Rattle.giop_message.specs.Signatures.{Answers, signatures_of};
     ghost use Rattle.giop_message.specs.Headers.{order};
     ghost use Rattle.giop_message.specs.Messages.{body, rest, typed, after};
-    ghost use Rattle.giop_message.specs.MessageState.{AreKnown, IsKnown, Fits, in_header, body_type};
+    ghost use Rattle.giop_message.specs.MessageState.{AreKnown, IsKnown, Fits, Follows, in_header, body_type, reach};
     ghost use Rattle.giop_message.specs.HeaderEnds.{after_event, operation_of};
     ghost use Rattle.giop_message.specs.MessageSteps.{is_padded, is_unaligned, Arrives, Enters, IsTyped, Ended, section_event};
+
+    /// Begins a message of this number, whose header has come, in the place of another.
+    pub fn restart(&mut self, catalogue: &Catalogue, number: u64, header: [u8; 12])
+        ensures follows { (answers : Answers) →
+            Follows catalogue.now answers number header self.new [] }
+        ensures fits { Fits catalogue.now self.new }
+        ensures reach { reach self.new ≡ 12 }
+    {
+        self.number = number;
+        self.header = header;
+        self.id = None;
+        self.at = 12;
+        match catalogue.header(minor_of(&header), kind_of(&header)) {
+            Some(of) => self.begin(catalogue, Section::Header, of),
+            None => self.begin_rest(),
+        }
+    }
 
     /// Begins the rest.
     fn begin_rest(&mut self)
@@ -58,7 +82,7 @@ impl Message {
     }
 
     /// Begins a section of this type, which has octets.
-    pub(crate) fn begin(&mut self, catalogue: &Catalogue, section: Section, of: TypeId)
+    fn begin(&mut self, catalogue: &Catalogue, section: Section, of: TypeId)
         requires known { of.0 < length catalogue.now.types }
         requires some { IsEmptyStruct (tree catalogue.now of.0) → ⊥ }
         ensures number { self.new.number ≡ self.old.number }
@@ -73,30 +97,9 @@ impl Message {
     {
         let order = order_of(&self.header);
         let root = section.root();
-        let decoder = Decoder::start(catalogue, of, order, self.at, self.number, root);
-        self.part = Part::Typed(section, decoder);
-    }
-
-    /// The same in the place of a section that has ended, where one has.
-    fn begin_behind(&mut self, catalogue: &Catalogue, section: Section, of: TypeId)
-        requires known { of.0 < length catalogue.now.types }
-        requires some { IsEmptyStruct (tree catalogue.now of.0) → ⊥ }
-        ensures number { self.new.number ≡ self.old.number }
-        ensures header { self.new.header ≡ self.old.header }
-        ensures id { self.new.id ≡ self.old.id }
-        ensures at { self.new.at ≡ self.old.at }
-        ensures within { in_header self.new.part ≡ is_header section }
-        ensures fits { Fits catalogue.now self.new }
-        ensures enters { (answers : Answers) (number : ℕ) (header s : List ℕ) →
-            Enters catalogue.now answers number header self.old self.new s section
-            (tree catalogue.now of.0) }
-    {
-        let Part::Typed(within, decoder) = &mut self.part else {
-            return self.begin(catalogue, section, of);
-        };
-        let order = order_of(&self.header);
-        *within = section;
-        decoder.restart(catalogue, of, order, self.at, self.number, section.root());
+        self.decoder
+            .restart(catalogue, of, order, self.at, self.number, root);
+        self.part = Part::Typed(section);
     }
 
     /// Begins a body of this type.
@@ -115,7 +118,7 @@ impl Message {
         if is_empty(catalogue, of) {
             self.begin_rest();
         } else {
-            self.begin_behind(catalogue, Section::Body, of);
+            self.begin(catalogue, Section::Body, of);
         }
     }
 
@@ -139,11 +142,11 @@ impl Message {
             BodyTypeId::Type(of) => self.begin_typed(catalogue, of),
             BodyTypeId::Exception => {
                 let of = catalogue.fixed(Fixed::ExceptionId);
-                self.begin_behind(catalogue, Section::Exception, of);
+                self.begin(catalogue, Section::Exception, of);
             }
             BodyTypeId::SystemException => {
                 let of = catalogue.fixed(Fixed::SystemException);
-                self.begin_behind(catalogue, Section::SystemException, of);
+                self.begin(catalogue, Section::SystemException, of);
             }
         }
     }
@@ -159,23 +162,26 @@ impl Message {
         ensures at { self.new.at ≡ self.old.at }
         ensures past { in_header self.new.part ≡ false }
         ensures fits { Fits catalogue.now self.new }
-        ensures id { (section : Within) (r : MessageReader) → Ended self.old.part section r →
+        ensures id { (section : Within) (r : MessageReader) →
+            Ended self.old.decoder self.old.part section r →
             self.new.id ≡ cond (is_header section) (noted_of true r).request_id self.old.id }
-        ensures told { (section : Within) (r : MessageReader) → Ended self.old.part section r →
+        ensures told { (section : Within) (r : MessageReader) →
+            Ended self.old.decoder self.old.part section r →
             Q.state correspondent.new ≡ after_event Q.notified (Q.state correspondent.old)
             (section_event section self.old.number self.old.header r
             (operation_of catalogue.now self.old.header (noted_of true r))) }
         ensures arrives { (answers : Answers) (number : ℕ) (header s : List ℕ) (section : Within)
-            (r : MessageReader) → Ended self.old.part section r →
+            (r : MessageReader) →
+            Ended self.old.decoder self.old.part section r →
             (is_header section ≡ true → answers number ≡ Q.answer (Q.state correspondent.old)) →
             Arrives catalogue.now answers number header self.old self.new s (after
             (signatures_of catalogue.now (answers number)) header section
             (noted_of (is_header_root (root_of section)) r) (12 + length s) []) }
     {
-        let Part::Typed(section, decoder) = &self.part else {
+        let Part::Typed(section) = self.part else {
             unreachable!();
         };
-        let section = *section;
+        let decoder = &self.decoder;
         let operation = operation_of(catalogue, &self.header, section, decoder);
         let body_type_id = body_type_after(
             catalogue,

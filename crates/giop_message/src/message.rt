@@ -3,11 +3,11 @@
 ghost use Rattle.std.specs.Prelude.{◌≡◌, ℕ, ◌+◌, ◌^◌, ◌<◌, ◌≤◌, true, false, List, [], length, take, IfOk, None};
 ghost use Rattle.giop_print.specs.Output.{Writes};
 
-use crate::begin::id_behind;
+use crate::begin::{id_behind, idle};
 use crate::body_type::body_may_be_missing;
 use crate::correspondent::Correspondent;
-use crate::header::{kind_of, minor_of};
-use crate::part::{Part, Rest, Section};
+use crate::part::{Part, Rest};
+use giop_decode::Decoder;
 use giop_print::{Out, OutFault, end_line, fault_line};
 use giop_sig::Catalogue;
 
@@ -21,6 +21,8 @@ pub struct Message {
     // The offset of the next octet.
     pub(crate) at: u64,
     pub(crate) part: Part,
+    // That of the section that it is in; in another part, of any.
+    pub(crate) decoder: Decoder,
     ghost begun: { 12 ≤ at },
 }
 
@@ -47,11 +49,9 @@ impl Message {
             id: None,
             at: 12,
             part: Part::Rest(Rest::new()),
+            decoder: idle(catalogue),
         };
-        let Some(of) = catalogue.header(minor_of(&header), kind_of(&header)) else {
-            return message;
-        };
-        message.begin(catalogue, Section::Header, of);
+        message.restart(catalogue, number, header);
         message
     }
 
@@ -162,7 +162,7 @@ impl Message {
             (signatures_of catalogue.now (answers number)) header s))) }
     {
         match &self.part {
-            Part::Typed(_, _) => true,
+            Part::Typed(_) => true,
             Part::Padding(body_type_id) => !body_may_be_missing(catalogue, *body_type_id),
             Part::Rest(_) => false,
         }
@@ -174,7 +174,7 @@ impl Message {
             (last_rest_text self.now.number self.now.part) }
     {
         match &self.part {
-            Part::Typed(_, _) => Ok(()),
+            Part::Typed(_) => Ok(()),
             Part::Padding(_) => Ok(()),
             Part::Rest(rest) => rest.end(self.number, out),
         }
@@ -202,7 +202,7 @@ impl Message {
             (message (signatures_of C (answers number)) header s)) }
     {
         match &self.part {
-            Part::Typed(section, decoder) => id_behind(*section, decoder, self.id),
+            Part::Typed(section) => id_behind(*section, &self.decoder, self.id),
             Part::Padding(_) => self.id,
             Part::Rest(_) => self.id,
         }

@@ -6,7 +6,6 @@ ghost use Rattle.giop_print.specs.Output.{Writes};
 
 use crate::body_type::BodyTypeId;
 use arrayvec::ArrayVec;
-use giop_decode::Decoder;
 use giop_print::{Out, OutFault, Root, rest_line, split_rest_line};
 
 /// A part that is read as a value.
@@ -39,8 +38,8 @@ impl Section {
 /// The part of a message that the next octet belongs to.
 #[derive(Drop)]
 pub enum Part {
-    /// A value that has begun and not ended.
-    Typed(Section, Decoder),
+    /// A value that has begun and not ended, which the message's decoder reads.
+    Typed(Section),
     /// The padding in front of a body of this type.
     Padding(BodyTypeId),
     Rest(Rest),

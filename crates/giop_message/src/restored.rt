@@ -5,6 +5,7 @@ ghost use Rattle.std.specs.Prelude.{◌≡◌, ℕ, ◌+◌, ◌<◌, ◌≤◌,
 ghost use Rattle.std.specs.Option.{IsSomeAnd};
 ghost use Rattle.giop_sig.specs.Table.{Table};
 
+use crate::begin::idle;
 use crate::body_type::BodyTypeId;
 use crate::message::Message;
 use crate::part::{Part, Rest, Section};
@@ -109,6 +110,7 @@ impl Rest {
 
 impl Part {
     ghost use Rattle.giop_message.specs.declared.part.Part.{Part as StoredPart};
+    ghost use Rattle.giop_decode.specs.declared.decoder.Decoder.{Decoder as StoredDecoder};
     ghost use Rattle.giop_message.specs.MessageState.{FitsPart};
     ghost use Rattle.giop_message.specs.Stored.{section_octet, part_octet, PartStored, GoesOn};
 
@@ -120,20 +122,20 @@ impl Part {
         at: u64,
         octets: &[u8; 208],
         frames: &[u8],
-    ) -> Option<Part>
-        ensures fits { IfSome result (λ p. FitsPart catalogue.now at p) }
-        ensures stored { IfSome result (λ p. PartStored p octets.now frames.now) }
-        ensures octet { IfSome result (λ p. part_octet p ≡ octet) }
-        ensures again { (p : StoredPart) → FitsPart catalogue.now at p → part_octet p ≡ octet →
-            PartStored p octets.now frames.now →
-            IsSomeAnd result (λ other. GoesOn catalogue.now p other) }
+    ) -> Option<(Part, Decoder)>
+        ensures fits { IfSome result (λ p. FitsPart catalogue.now at p.1 p.0) }
+        ensures stored { IfSome result (λ p. PartStored p.1 p.0 octets.now frames.now) }
+        ensures octet { IfSome result (λ p. part_octet p.0 ≡ octet) }
+        ensures again { (d : StoredDecoder) (p : StoredPart) → FitsPart catalogue.now at d p →
+            part_octet p ≡ octet → PartStored d p octets.now frames.now →
+            IsSomeAnd result (λ other. GoesOn catalogue.now d p other.1 other.0) }
     {
         match octet {
             0 => Part::restore_typed(catalogue, Section::Header, octets, frames),
             1 => Part::restore_typed(catalogue, Section::Exception, octets, frames),
             2 => Part::restore_typed(catalogue, Section::Body, octets, frames),
             3 => Part::restore_padding(catalogue, octets, frames),
-            4 => Part::restore_rest(at, octets, frames),
+            4 => Part::restore_rest(catalogue, at, octets, frames),
             5 => Part::restore_typed(catalogue, Section::SystemException, octets, frames),
             _ => None,
         }
@@ -145,28 +147,34 @@ impl Part {
         section: Section,
         octets: &[u8; 208],
         frames: &[u8],
-    ) -> Option<Part>
-        ensures fits { (at : ℕ) → IfSome result (λ p. FitsPart catalogue.now at p) }
-        ensures stored { IfSome result (λ p. PartStored p octets.now frames.now) }
-        ensures octet { IfSome result (λ p. part_octet p ≡ section_octet section) }
-        ensures again { (at : ℕ) (p : StoredPart) → FitsPart catalogue.now at p →
-            part_octet p ≡ section_octet section → PartStored p octets.now frames.now →
-            IsSomeAnd result (λ other. GoesOn catalogue.now p other) }
+    ) -> Option<(Part, Decoder)>
+        ensures fits { (at : ℕ) → IfSome result (λ p. FitsPart catalogue.now at p.1 p.0) }
+        ensures stored { IfSome result (λ p. PartStored p.1 p.0 octets.now frames.now) }
+        ensures octet { IfSome result (λ p. part_octet p.0 ≡ section_octet section) }
+        ensures again { (at : ℕ) (d : StoredDecoder) (p : StoredPart) →
+            FitsPart catalogue.now at d p → part_octet p ≡ section_octet section →
+            PartStored d p octets.now frames.now →
+            IsSomeAnd result (λ other. GoesOn catalogue.now d p other.1 other.0) }
     {
         let Some(decoder) = Decoder::restore(catalogue, octets, frames) else {
             return None;
         };
-        Some(Part::Typed(section, decoder))
+        Some((Part::Typed(section), decoder))
     }
 
     /// The padding that was stored in these octets. It has no frames.
-    fn restore_padding(catalogue: &Catalogue, octets: &[u8; 208], frames: &[u8]) -> Option<Part>
-        ensures fits { (at : ℕ) → IfSome result (λ p. FitsPart catalogue.now at p) }
-        ensures stored { IfSome result (λ p. PartStored p octets.now frames.now) }
-        ensures octet { IfSome result (λ p. part_octet p ≡ 3) }
-        ensures again { (at : ℕ) (p : StoredPart) → FitsPart catalogue.now at p →
-            part_octet p ≡ 3 → PartStored p octets.now frames.now →
-            IsSomeAnd result (λ other. GoesOn catalogue.now p other) }
+    fn restore_padding(
+        catalogue: &Catalogue,
+        octets: &[u8; 208],
+        frames: &[u8],
+    ) -> Option<(Part, Decoder)>
+        ensures fits { (at : ℕ) → IfSome result (λ p. FitsPart catalogue.now at p.1 p.0) }
+        ensures stored { IfSome result (λ p. PartStored p.1 p.0 octets.now frames.now) }
+        ensures octet { IfSome result (λ p. part_octet p.0 ≡ 3) }
+        ensures again { (at : ℕ) (d : StoredDecoder) (p : StoredPart) →
+            FitsPart catalogue.now at d p → part_octet p ≡ 3 →
+            PartStored d p octets.now frames.now →
+            IsSomeAnd result (λ other. GoesOn catalogue.now d p other.1 other.0) }
     {
         let Some(body_type_id) = BodyTypeId::restore(catalogue, octets) else {
             return None;
@@ -174,17 +182,22 @@ impl Part {
         if !frames.is_empty() {
             return None;
         }
-        Some(Part::Padding(body_type_id))
+        Some((Part::Padding(body_type_id), idle(catalogue)))
     }
 
     /// The rest that was stored in these octets. It has no frames.
-    fn restore_rest(at: u64, octets: &[u8; 208], frames: &[u8]) -> Option<Part>
-        ensures fits { (C : Table) → IfSome result (λ p. FitsPart C at p) }
-        ensures stored { IfSome result (λ p. PartStored p octets.now frames.now) }
-        ensures octet { IfSome result (λ p. part_octet p ≡ 4) }
-        ensures again { (C : Table) (p : StoredPart) → FitsPart C at p →
-            part_octet p ≡ 4 → PartStored p octets.now frames.now →
-            IsSomeAnd result (λ other. GoesOn C p other) }
+    fn restore_rest(
+        catalogue: &Catalogue,
+        at: u64,
+        octets: &[u8; 208],
+        frames: &[u8],
+    ) -> Option<(Part, Decoder)>
+        ensures fits { (C : Table) → IfSome result (λ p. FitsPart C at p.1 p.0) }
+        ensures stored { IfSome result (λ p. PartStored p.1 p.0 octets.now frames.now) }
+        ensures octet { IfSome result (λ p. part_octet p.0 ≡ 4) }
+        ensures again { (C : Table) (d : StoredDecoder) (p : StoredPart) → FitsPart C at d p →
+            part_octet p ≡ 4 → PartStored d p octets.now frames.now →
+            IsSomeAnd result (λ other. GoesOn C d p other.1 other.0) }
     {
         let Some(rest) = Rest::restore(octets, at) else {
             return None;
@@ -192,7 +205,7 @@ impl Part {
         if !frames.is_empty() {
             return None;
         }
-        Some(Part::Rest(rest))
+        Some((Part::Rest(rest), idle(catalogue)))
     }
 }
 
@@ -228,7 +241,13 @@ impl Message {
             return None;
         }
         let octets: [u8; 208] = octets_at(fixed, 16);
-        let Some(part) = Part::restore(catalogue, octet_at(fixed, 0), at, &octets, frames) else {
+        let Some((part, decoder)) = Part::restore(
+            catalogue,
+            octet_at(fixed, 0),
+            at,
+            &octets,
+            frames,
+        ) else {
             return None;
         };
         let message = Message {
@@ -237,6 +256,7 @@ impl Message {
             id: optional_at(fixed, 9),
             at,
             part,
+            decoder,
         };
         let own: [u8; 16] = octets_at(fixed, 0);
         if !same(&message.own_octets(), &own) {

@@ -10,6 +10,7 @@ use crate::body_type::BodyTypeId;
 use crate::message::Message;
 use crate::part::{Part, Rest, Section};
 use arrayvec::ArrayVec;
+use giop_decode::Decoder;
 use giop_octets::{put_eight, put_four, put_held, put_octets, put_optional, put_zeros};
 
 impl Section {
@@ -79,23 +80,25 @@ impl Part {
         ensures { result ≡ part_octet self.now }
     {
         match self {
-            Part::Typed(section, _) => section.octet(),
+            Part::Typed(section) => section.octet(),
             Part::Padding(_) => 3,
             Part::Rest(_) => 4,
         }
     }
 
-    /// Writes what is kept of it, and answers the number of its decoder's frames: 0 where it has none.
-    fn store(&self, octets: &mut [u8; 208], frames: &mut [u8; 576]) -> u8
+    /// Writes what is kept of it and of its decoder, and answers the number of the decoder's frames: 0 where it has
+    /// none.
+    fn store(&self, decoder: &Decoder, octets: &mut [u8; 208], frames: &mut [u8; 576]) -> u8
         ensures few { result ≤ 24 }
-        ensures depth { (C : Table) (at : ℕ) → FitsPart C at self.now → result ≤ depth_of C.types }
-        ensures stored { (C : Table) (at : ℕ) → FitsPart C at self.now →
-            PartStored self.now octets.new (take (frame_size * result) frames.new) }
+        ensures depth { (C : Table) (at : ℕ) → FitsPart C at decoder.now self.now →
+            result ≤ depth_of C.types }
+        ensures stored { (C : Table) (at : ℕ) → FitsPart C at decoder.now self.now →
+            PartStored decoder.now self.now octets.new (take (frame_size * result) frames.new) }
         ensures behind { drop (frame_size * result) frames.new
             ≡ drop (frame_size * result) frames.old }
     {
         match self {
-            Part::Typed(_, decoder) => decoder.store(octets, frames),
+            Part::Typed(_) => decoder.store(octets, frames),
             Part::Padding(body_type_id) => {
                 *octets = body_type_id.octets();
                 0
@@ -131,7 +134,7 @@ impl Message {
             ≡ drop (frame_size * result) frames.old }
     {
         let mut part = [0; 208];
-        let count = self.part.store(&mut part, frames);
+        let count = self.part.store(&self.decoder, &mut part, frames);
         let own = self.own_octets();
         let mut out: ArrayVec<u8, 224> = ArrayVec::new();
         put_octets(&mut out, &own);
@@ -160,7 +163,7 @@ impl Message {
         ensures { result ≡ kept_id self.now.part self.now.id }
     {
         match self.part {
-            Part::Typed(Section::Header, _) => None,
+            Part::Typed(Section::Header) => None,
             _ => self.id,
         }
     }

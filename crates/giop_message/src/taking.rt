@@ -112,7 +112,8 @@ impl Message {
         ensures at { IfOk result (λ went. self.new.at ≡ self.old.at + went.0) }
     {
         match &mut self.part {
-            Part::Typed(_, decoder) => {
+            Part::Typed(_) => {
+                let decoder = &mut self.decoder;
                 let (taken, progress) = decoder.take_run(catalogue, octets, out)?;
                 self.at += taken as u64;
                 match progress {

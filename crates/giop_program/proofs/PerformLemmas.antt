@@ -42,12 +42,13 @@ failed_by t (faults.Run fault.Out) x y d r u s = record { run = d }
 failed_by t (faults.Unwritable name) x y d r u s =
     absurd (not_unwritable t.held t.asked name (r refl))
 failed_by t faults.Words x y d r u s = absurd (not_words t.held t.asked (r refl))
-failed_by t (faults.Signatures name why) x y d r u s =
+failed_by t (faults.Signatures name why look) x y d r u s =
     record { refused = r refl; unwritten = u refl }
 failed_by t (faults.Requests name why) x y d r u s = record { refused = r refl; unwritten = u refl }
 failed_by t (faults.Checkpoint name why) x y d r u s =
     record { refused = r refl; unwritten = u refl }
-failed_by t (faults.Unreadable name) x y d r u s = record { refused = r refl; unwritten = u refl }
+failed_by t (faults.Unreadable name why) x y d r u s =
+    record { refused = r refl; unwritten = u refl }
 failed_by t faults.OutOfMemory x y d r u s = record { refused = r refl; unwritten = u refl }
 
 perform_run : (t : Task) (C : Table) (l : RequestTable) (r : Result Report RunFault) (x y : _) →

@@ -13,6 +13,7 @@ use Rattle.giop_message.specs.Signatures.{RequestTable}
 use Rattle.giop_checkpoint.specs.declared.fixed.Counts.{Counts}
 use Rattle.giop_checkpoint.specs.Refusals.{IsOurs}
 use Rattle.giop_stream.specs.Checkpoint.{counts_of, IsRefused, Spells}
+use Rattle.giop_run.specs.Looks.{looks_of}
 use Rattle.giop_run.specs.Running.{RunSetup}
 use Rattle.giop_run.specs.declared.running.Ending.{Ending}
 use Rattle.giop_run.specs.declared.running.Ending.TheVariants as endings
@@ -79,14 +80,15 @@ abbrev pub stream_of : Folder → Option (List ℕ) → Option (List ℕ) → Op
 stream_of held given None = given
 stream_of held given (Some name) = held name
 
--- why there is no catalogue: no memory, or the signature file can't be read or is refused, by name
+-- why there is no catalogue: no memory, or the signature file can't be read or is refused, by name,
+-- with what its text looks like
 abbrev pub NoCatalogue : Folder → Option (List ℕ) → ProgramFault → Type 0
-NoCatalogue held asked (faults.Signatures name why) =
+NoCatalogue held asked (faults.Signatures name why look) =
     (asked ≡ Some name.now)
-    × ((text : List ℕ) × IsFront signatures_most (held name.now) text
+    × ((text : List ℕ) × IsFront signatures_most (held name.now) text × (look ≡ looks_of text)
     × (signatures_most < length text → why ≡ text_too_long)
     × (length text ≤ signatures_most → IsFirstRefusal text why))
-NoCatalogue held asked (faults.Unreadable name) = asked ≡ Some name.now
+NoCatalogue held asked (faults.Unreadable name why) = asked ≡ Some name.now
 NoCatalogue held asked faults.OutOfMemory = Unit {0}
 NoCatalogue held asked faults.Words = ⊥
 NoCatalogue held asked (faults.Requests name why) = ⊥
@@ -100,10 +102,10 @@ NoRequests held asked (faults.Requests name why) =
     (asked ≡ Some name.now)
     × ((text : List ℕ) × IsFront requests_most (held name.now) text
     × IsRefusedAs text why.line why.kind)
-NoRequests held asked (faults.Unreadable name) = asked ≡ Some name.now
+NoRequests held asked (faults.Unreadable name why) = asked ≡ Some name.now
 NoRequests held asked faults.OutOfMemory = Unit {0}
 NoRequests held asked faults.Words = ⊥
-NoRequests held asked (faults.Signatures name why) = ⊥
+NoRequests held asked (faults.Signatures name why look) = ⊥
 NoRequests held asked (faults.Checkpoint name why) = ⊥
 NoRequests held asked (faults.Unwritable name) = ⊥
 NoRequests held asked (faults.Run why) = ⊥
@@ -114,20 +116,20 @@ NoCheckpoint held asked counts (faults.Checkpoint name why) =
     (asked ≡ Some name.now)
     × ((octets : List ℕ) × IsFront checkpoint_most (held name.now) octets
     × IsRefused counts octets why)
-NoCheckpoint held asked counts (faults.Unreadable name) = asked ≡ Some name.now
+NoCheckpoint held asked counts (faults.Unreadable name why) = asked ≡ Some name.now
 NoCheckpoint held asked counts faults.OutOfMemory = Unit {0}
 NoCheckpoint held asked counts faults.Words = ⊥
-NoCheckpoint held asked counts (faults.Signatures name why) = ⊥
+NoCheckpoint held asked counts (faults.Signatures name why look) = ⊥
 NoCheckpoint held asked counts (faults.Requests name why) = ⊥
 NoCheckpoint held asked counts (faults.Unwritable name) = ⊥
 NoCheckpoint held asked counts (faults.Run why) = ⊥
 
 -- why the stream isn't opened: no memory, or its file can't be, by its name
 abbrev pub NoStream : Option (List ℕ) → ProgramFault → Type 0
-NoStream asked (faults.Unreadable name) = asked ≡ Some name.now
+NoStream asked (faults.Unreadable name why) = asked ≡ Some name.now
 NoStream asked faults.OutOfMemory = Unit {0}
 NoStream asked faults.Words = ⊥
-NoStream asked (faults.Signatures name why) = ⊥
+NoStream asked (faults.Signatures name why look) = ⊥
 NoStream asked (faults.Requests name why) = ⊥
 NoStream asked (faults.Checkpoint name why) = ⊥
 NoStream asked (faults.Unwritable name) = ⊥

@@ -3,9 +3,11 @@ pub mod Flushing
 pub mod Piecewise
 pub mod ReaderLog
 pub mod Retrying
+pub mod Watched
 pub mod Buffered
 pub mod Running
 pub mod RunSteps
+pub mod Looks
 pub mod Console
 pub mod Files
 pub mod Saving

@@ -76,10 +76,10 @@ FailedBy t (faults.Run fault.Turns) x y = Broken t fault.Turns x y
 FailedBy t (faults.Run fault.Out) x y = Broken t fault.Out x y
 FailedBy t (faults.Unwritable name) x y = Unsaved t name.now x y
 FailedBy t faults.Words x y = ⊥
-FailedBy t (faults.Signatures name why) x y = NotRun t (faults.Signatures name why) x y
+FailedBy t (faults.Signatures name why look) x y = NotRun t (faults.Signatures name why look) x y
 FailedBy t (faults.Requests name why) x y = NotRun t (faults.Requests name why) x y
 FailedBy t (faults.Checkpoint name why) x y = NotRun t (faults.Checkpoint name why) x y
-FailedBy t (faults.Unreadable name) x y = NotRun t (faults.Unreadable name) x y
+FailedBy t (faults.Unreadable name why) x y = NotRun t (faults.Unreadable name why) x y
 FailedBy t faults.OutOfMemory x y = NotRun t faults.OutOfMemory x y
 
 -- what the program did, by its result; where it failed nothing is saved

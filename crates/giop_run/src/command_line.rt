@@ -40,6 +40,14 @@ pub fn failed(rt: &HostRuntime, program: &str, fault: &ProgramFault) -> u8
     fault.status()
 }
 
+/// The same, with why a file can't be read, or what a refused signature file looks like.
+pub fn explained(rt: &HostRuntime, program: &str, fault: &ProgramFault) -> u8
+    ensures { result ≡ fault_status fault.now }
+{
+    let _ = eprintln!(rt; "{program}: {fault}{}", fault.words());
+    fault.status()
+}
+
 /// Prints why the arguments of the program of this name can't be read, or the help that they ask for, and returns its
 /// status.
 pub fn refused(rt: &HostRuntime, program: &str, error: &Error) -> u8

@@ -2,8 +2,10 @@
 
 ghost use Rattle.std.specs.Prelude.{◌≡◌, ◌≢◌};
 ghost use Rattle.std.specs.IoError.{error_kind};
-ghost use Rattle.giop_run.specs.Console.{fault_status};
+ghost use Rattle.giop_run.specs.Console.{fault_status, fault_words};
+ghost use Rattle.giop_run.specs.Looks.{looks_of};
 
+use super::reason::{Look, Reason};
 use super::shown::ShownName;
 use giop_checkpoint::LoadFault;
 use giop_sig::{ListFault, ListFaultKind, SigFault, SigFaultKind};
@@ -39,21 +41,36 @@ pub enum ProgramFault<'a> {
     /// An argument of the command line is no text.
     #[error("a word of the command line is not UTF-8")]
     Words,
-    /// The signature file is refused.
+    /// The signature file is refused, and its text looks like this.
     #[error("{}:{}: {fault}", ShownName(.name), .fault.line)]
-    Signatures { name: &'a str, fault: SigFault },
+    Signatures {
+        name: &'a str,
+        fault: SigFault,
+        look: Look,
+    },
     /// The request list is refused.
     #[error("{}:{}: {fault}", ShownName(.name), .fault.line)]
-    Requests { name: &'a str, fault: ListFault },
+    Requests {
+        name: &'a str,
+        fault: ListFault,
+    },
     /// The checkpoint is refused.
     #[error("{}: checkpoint refused: {fault}", ShownName(.name))]
-    Checkpoint { name: &'a str, fault: LoadFault },
+    Checkpoint {
+        name: &'a str,
+        fault: LoadFault,
+    },
     /// A file can't be opened, or one that is read whole can't be read.
     #[error("{}: cannot read", ShownName(.name))]
-    Unreadable { name: &'a str },
+    Unreadable {
+        name: &'a str,
+        why: Reason,
+    },
     /// The file for a checkpoint can't be written. It still holds what it held.
     #[error("{}: cannot write", ShownName(.name))]
-    Unwritable { name: &'a str },
+    Unwritable {
+        name: &'a str,
+    },
     /// The run failed.
     #[error("{0}")]
     Run(RunFault),
@@ -76,16 +93,20 @@ impl<'a> ProgramFault<'a> {
         }
     }
 
-    /// The fault of a signature file of this name that is refused.
-    pub fn of_signatures(name: &'a str, fault: SigFault) -> ProgramFault<'a>
+    /// The fault of a signature file of this name that is refused, with this text.
+    pub fn of_signatures(name: &'a str, fault: SigFault, text: &[u8]) -> ProgramFault<'a>
         ensures memory { fault.kind ≡ SigFaultKind.OutOfMemory → result ≡ ProgramFault.OutOfMemory }
         ensures refused { fault.kind ≢ SigFaultKind.OutOfMemory
-            → result ≡ ProgramFault.Signatures name.entry fault }
+            → result ≡ ProgramFault.Signatures name.entry fault (looks_of text.now) }
     {
         if fault.kind == SigFaultKind::OutOfMemory {
             return ProgramFault::OutOfMemory;
         }
-        ProgramFault::Signatures { name, fault }
+        ProgramFault::Signatures {
+            name,
+            fault,
+            look: Look::of(text),
+        }
     }
 
     /// The fault of a request list of this name that is refused.
@@ -111,6 +132,17 @@ impl<'a> ProgramFault<'a> {
             return ProgramFault::OutOfMemory;
         }
         ProgramFault::Checkpoint { name, fault }
+    }
+
+    /// What `giopcap` says behind it: why a file can't be read, or what a refused signature file looks like.
+    pub fn words(&self) -> &'static str
+        ensures { result.now ≡ fault_words self.now }
+    {
+        match self {
+            ProgramFault::Unreadable { why, .. } => why.words(),
+            ProgramFault::Signatures { look, .. } => look.words(),
+            _ => "",
+        }
     }
 
     /// The status that the program ends with.

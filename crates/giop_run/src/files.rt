@@ -6,10 +6,12 @@ ghost use Rattle.giop_sig.specs.FileReading.{text_too_long, IsFirstRefusal};
 ghost use Rattle.giop_sig.specs.RequestList.{IsRefusedAs};
 ghost use Rattle.giop_stream.specs.EngineHolds.{AreOf};
 ghost use Rattle.giop_run.specs.Console.{run_fault};
+ghost use Rattle.giop_run.specs.Looks.{HasReason, looks_of};
 ghost use Rattle.giop_run.specs.Files.{signatures_most, IsFront, Declares, Requests as Requested, CatalogueOf, RequestsOf, NoCatalogue, NoRequests};
 
 use super::fault::ProgramFault;
 use super::inputs::Inputs;
+use super::reason::Reason;
 use super::retrying::Retrying;
 use super::source::one_more;
 use giop_sig::{Catalogue, ListFault, Requests, SigFault};
@@ -38,12 +40,16 @@ pub fn unreadable<'a>(name: &'a str, error: &io::Error) -> ProgramFault<'a>
     ensures memory { error_kind error.now ≡ ErrorKind.OutOfMemory →
         result ≡ ProgramFault.OutOfMemory }
     ensures named { error_kind error.now ≢ ErrorKind.OutOfMemory
-        → result ≡ ProgramFault.Unreadable name.entry }
+        → (why : Reason) × (result ≡ ProgramFault.Unreadable name.entry why)
+        × HasReason (error_kind error.now) why }
 {
     if error.kind() == ErrorKind::OutOfMemory {
         ProgramFault::OutOfMemory
     } else {
-        ProgramFault::Unreadable { name }
+        ProgramFault::Unreadable {
+            name,
+            why: Reason::of(error.kind()),
+        }
     }
 }
 
@@ -55,7 +61,8 @@ pub(crate) fn contents<'a, R: Inputs + AllocGlobal>(
 ) -> Result<Vec<u8>, ProgramFault<'a>>
     ensures ok { IfOk result (λ octets. IsFront most (R.held rt.now name.entry.now) octets.items) }
     ensures err { IfErr result (λ fault.
-        (fault ≡ ProgramFault.OutOfMemory) ⊎ (fault ≡ ProgramFault.Unreadable name.entry)) }
+        (fault ≡ ProgramFault.OutOfMemory)
+        ⊎ ((why : Reason) × (fault ≡ ProgramFault.Unreadable name.entry why))) }
 {
     let read = match rt.open(name) {
         Ok(file) => front(rt.alloc(), file, most),
@@ -76,13 +83,14 @@ fn catalogue_of<'a>(
     ensures ok { IfOk result (λ catalogue. Declares text.now catalogue) }
     // The refusal has the file's name, and is that of the text.
     ensures err { IfErr result (λ fault. (fault ≡ ProgramFault.OutOfMemory)
-        ⊎ ((why : SigFault) × (fault ≡ ProgramFault.Signatures name.entry why)
+        ⊎ ((why : SigFault)
+        × (fault ≡ ProgramFault.Signatures name.entry why (looks_of text.now))
         × (signatures_most < length text.now → why ≡ text_too_long)
         × (length text.now ≤ signatures_most → IsFirstRefusal text.now why))) }
 {
     match Catalogue::parse(alloc, text) {
         Ok(catalogue) => Ok(catalogue),
-        Err(fault) => Err(ProgramFault::of_signatures(name, fault)),
+        Err(fault) => Err(ProgramFault::of_signatures(name, fault, text)),
     }
 }
 

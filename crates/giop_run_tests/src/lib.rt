@@ -12,6 +12,8 @@ mod fault_tests;
 #[cfg(test)]
 mod files_tests;
 #[cfg(test)]
+mod reason_tests;
+#[cfg(test)]
 mod run_tests;
 #[cfg(test)]
 mod save_tests;

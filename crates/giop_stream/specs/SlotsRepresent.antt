@@ -1,5 +1,5 @@
 -- When the code's slots represent what is tracked of the messages of a stream (state).
-use Rattle.std.specs.Prelude.{◌≡◌, ◌<◌, ℕ, List, [], ◌∷◌, Option, Some, None, slice_get}
+use Rattle.std.specs.Prelude.{◌≡◌, ◌<◌, ℕ, cond, List, [], ◌∷◌, Option, Some, None, slice_get}
 use Rattle.std.specs.List.{AllByRecursion as Each}
 use Rattle.giop_sig.specs.Table.{Table}
 use Rattle.giop_message.specs.declared.message.Message.{Message as CodeMessage}
@@ -42,12 +42,12 @@ IsReady C at (Some m) = Fits C m × (reach m < at)
 
 -- the current message, unless it is open or over
 abbrev pub current_of : PayloadOwner → Option CodeMessage
-current_of (Current message) = message
+current_of (Current message is_over) = cond is_over None message
 current_of (Open k) = None
 
 -- the index of the open message that the payload's octets belong to
 abbrev pub index_of : PayloadOwner → Option ℕ
-index_of (Current message) = None
+index_of (Current message is_over) = None
 index_of (Open k) = k
 
 -- each message in the slots can
@@ -93,4 +93,4 @@ pub record SlotsRepresent (C : Table) (l : Answers) (s : Slots) (c : Tracked)
 -- the slots hold no message
 pub record IsBare (s : Slots) : Type 0 where
   pub no_slots : s.slots.entries ≡ []
-  pub no_owner : s.owner ≡ Current None
+  pub no_owner : s.owner ≡ Open None

@@ -12,7 +12,7 @@ ghost use Rattle.giop_checkpoint.specs.declared.record.RecordKind.TheVariants as
 ghost use Rattle.giop_stream.specs.Rules.{rules, most_open};
 ghost use Rattle.giop_stream.specs.OpenSlots.{Slot as Held};
 ghost use Rattle.giop_stream.specs.SlotsRepresent.{AreReady, KeepsRoom, IsBare, IsReady, current_of};
-ghost use Rattle.giop_stream.specs.declared.slots.PayloadOwner.TheVariants.{Current};
+ghost use Rattle.giop_stream.specs.declared.slots.PayloadOwner.TheVariants.{Open};
 ghost use Rattle.giop_stream.specs.FramingView.{framing_view};
 ghost use Rattle.giop_stream.specs.Events.{MessageKey};
 ghost use Rattle.giop_stream.specs.EngineState.{state_of};
@@ -188,7 +188,7 @@ fn add_all(
     ensures again { (l : Answers) (held : List Held) (w : MessageKey) (xs : Option (List ℕ)) →
         AreLeft catalogue.now l (octets + 1) count records.now held w xs →
         length slots.old.slots.entries + length held ≤ slots.old.slots.most →
-        slots.old.owner ≡ Current None →
+        slots.old.owner ≡ Open None →
         (result ≡ true) × HasAdded catalogue.now l slots.old slots.new held
         × IsCurrentOwner catalogue.now l slots.new.owner w xs }
     ensures most { slots.new.slots.most ≡ slots.old.slots.most }
@@ -220,7 +220,7 @@ fn add_first<'a>(
         (xs : Option (List ℕ)) → (count ≡ 0 → ⊥) →
         AreLeft catalogue.now l (octets + 1) count records.now held w xs →
         length slots.old.slots.entries + length held ≤ slots.old.slots.most →
-        slots.old.owner ≡ Current None →
+        slots.old.owner ≡ Open None →
         IsSomeAnd result (λ rest. HasAddedFirst catalogue.now l (octets + 1) count
         slots.old slots.new rest.now held w xs) }
     ensures last { IsSome (current_of slots.old.owner) → result ≡ None }
@@ -279,7 +279,7 @@ fn add_current(
 {
     let message = message_of(catalogue, octets, first);
     let in_range = message.is_some();
-    slots.owner = PayloadOwner::Current(message);
+    slots.owner = PayloadOwner::Current(message, false);
     in_range
 }
 

@@ -147,8 +147,8 @@ fn owner_of(slots: &Slots) -> Option<u32>
         (length slots.now.slots.entries) }
 {
     match &slots.owner {
-        PayloadOwner::Current(Some(_)) => Some(slots.slots.len() as u32),
-        PayloadOwner::Current(None) => None,
+        PayloadOwner::Current(Some(_), false) => Some(slots.slots.len() as u32),
+        PayloadOwner::Current(_, _) => None,
         PayloadOwner::Open(Some(place)) if *place < slots.slots.len() => Some(*place as u32),
         PayloadOwner::Open(_) => None,
     }

@@ -33,8 +33,9 @@ pub struct Slot {
 /// The message that the payload's octets belong to.
 #[derive(Drop)]
 pub enum PayloadOwner {
-    /// The current message itself, which isn't open; None once it is over.
-    Current(Option<Message>),
+    /// The current message itself, which isn't open, or None once it is faulted; and whether it is over: then the next
+    /// one begins in its place.
+    Current(Option<Message>, bool),
     /// The open message at this index; None where the octets belong to no message.
     Open(Option<usize>),
 }
@@ -45,7 +46,8 @@ impl PayloadOwner {
         ensures { result ≡ current_of self.old }
     {
         match self {
-            PayloadOwner::Current(message) => message.take(),
+            PayloadOwner::Current(message, false) => message.take(),
+            PayloadOwner::Current(_, true) => None,
             PayloadOwner::Open(_) => None,
         }
     }
@@ -84,7 +86,7 @@ impl Slots {
     {
         Ok(Slots {
             slots: EntryTable::new(alloc, most)?,
-            owner: PayloadOwner::Current(None),
+            owner: PayloadOwner::Open(None),
         })
     }
 
@@ -95,7 +97,7 @@ impl Slots {
         ensures ready { (C : Table) (n : ℕ) → AreReady C n self.new }
     {
         self.slots.clear();
-        self.owner = PayloadOwner::Current(None);
+        self.owner = PayloadOwner::Open(None);
     }
 
     /// The open message at this index.
@@ -127,7 +129,8 @@ impl Slots {
         ensures variant { is_some result ≡ is_some (current_of self.now.owner) }
     {
         match &self.owner {
-            PayloadOwner::Current(message) => message.as_ref(),
+            PayloadOwner::Current(message, false) => message.as_ref(),
+            PayloadOwner::Current(_, true) => None,
             PayloadOwner::Open(_) => None,
         }
     }
@@ -188,7 +191,10 @@ impl Slots {
         ensures most { self.new.slots.most ≡ self.old.slots.most }
     {
         match &mut self.owner {
-            PayloadOwner::Current(message) => {
+            PayloadOwner::Current(message, is_over) => {
+                if *is_over {
+                    return Ok((octets.len(), false));
+                }
                 take_octets(message, catalogue, correspondent, octets, before, out)
             }
             PayloadOwner::Open(None) => Ok((octets.len(), false)),
@@ -223,7 +229,12 @@ impl Slots {
         ensures room { KeepsRoom self.old self.new }
     {
         match &mut self.owner {
-            PayloadOwner::Current(message) => fault_message(message, number, fault, place, out),
+            PayloadOwner::Current(message, is_over) => {
+                if *is_over {
+                    return Ok(false);
+                }
+                fault_message(message, number, fault, place, out)
+            }
             PayloadOwner::Open(None) => Ok(false),
             PayloadOwner::Open(Some(k)) => match self.slots.get_mut(*k) {
                 Some(slot) => fault_message(&mut slot.message, slot.number, fault, place, out),
@@ -247,10 +258,12 @@ impl Slots {
         ensures room { KeepsRoom self.old self.new }
     {
         match &mut self.owner {
-            PayloadOwner::Current(message) => {
-                let closed = close_message(message, catalogue, place, out);
-                *message = None;
-                closed
+            PayloadOwner::Current(message, is_over) => {
+                if *is_over {
+                    return Ok(false);
+                }
+                *is_over = true;
+                close_message(message, catalogue, place, out)
             }
             PayloadOwner::Open(owner) => match owner.take() {
                 Some(k) => match self.slots.take(k) {
@@ -307,8 +320,7 @@ impl Slots {
         ensures room { KeepsRoom self.old self.new }
     {
         match &mut self.owner {
-            PayloadOwner::Current(None) => {}
-            PayloadOwner::Current(message) => *message = None,
+            PayloadOwner::Current(_, is_over) => *is_over = true,
             PayloadOwner::Open(owner) => *owner = None,
         }
     }
@@ -325,7 +337,19 @@ impl Slots {
             AreReady catalogue.now n self.new }
         ensures most { self.new.slots.most ≡ self.old.slots.most }
     {
-        self.owner = PayloadOwner::Current(Some(Message::start(catalogue, number, header)));
+        match &mut self.owner {
+            PayloadOwner::Current(room, is_over) => {
+                *is_over = false;
+                match room {
+                    Some(message) => message.restart(catalogue, number, header),
+                    None => *room = Some(Message::start(catalogue, number, header)),
+                }
+            }
+            PayloadOwner::Open(_) => {
+                let message = Message::start(catalogue, number, header);
+                self.owner = PayloadOwner::Current(Some(message), false);
+            }
+        }
     }
 
     /// The request id of the current message, once its own octets have completed it.

@@ -1,6 +1,6 @@
 -- The lines and the closing of each worked stream, and the checkpoints without a record, by
 -- computation.
-use Rattle.std.proofs.Common.{◌≡◌, ℕ, zero, suc, true, nat_lt, List, [], ◌∷◌, None, Some, arith, refl}
+use Rattle.std.proofs.Common.{◌≡◌, ℕ, zero, suc, false, true, nat_lt, List, [], ◌∷◌, None, Some, arith, refl}
 use Rattle.std.specs.List.{list_all}
 use Rattle.std.proofs.lemmas.Bool.{ltb-true, and_parts}
 use Rattle.std.specs.Fmt.{digits}
@@ -135,7 +135,7 @@ are_octets (x ∷ xs) h (suc k) d below =
 no_messages : ℕ → Slots
 no_messages most = record {
   slots = record { most = most; entries = [] };
-  owner = owners.Current None;
+  owner = owners.Current None false;
 }
 
 -- the fields of the engine after each stream

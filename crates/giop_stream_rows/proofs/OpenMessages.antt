@@ -83,7 +83,8 @@ first = record {
   header = header 40;
   id = Some 5;
   at = 52;
-  part = parts.Typed sections.Body in_body;
+  part = parts.Typed sections.Body;
+  decoder = in_body;
   begun = omega arith;
 }
 
@@ -112,6 +113,7 @@ second = record {
   id = Some 6;
   at = 48;
   part = parts.Rest nothing;
+  decoder = in_body;
   begun = omega arith;
 }
 
@@ -157,7 +159,7 @@ between = record {
             };
           } ∷ [];
     };
-    owner = owners.Current None;
+    owner = owners.Current None false;
   };
 }
 

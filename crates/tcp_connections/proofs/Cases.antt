@@ -12,7 +12,7 @@ use Rattle.tcp_flow.proofs.Steps.{missed_none}
 use Rattle.tcp_streams.specs.declared.pair.Side.{Side}
 use Rattle.tcp_streams.specs.Pairs.{pair_of, opposite, flow_id}
 use Rattle.tcp_streams.specs.Lives.{lives, elder_side}
-use Rattle.tcp_connections.specs.Connections.{State, flow_at, with_flow, arrived, began, gapped, closed_at, flow_forgotten, live_at, place_of, room_at, forgotten, goes_before, eldest, with_room, next_room, made_known, first_number, number_behind, is_first, is_anew, fin_taken, unknown_taken, acknowledgement_taken, payload_taken, reset_taken, known_taken, step, is_holding, gaps_from, end_cause, all_closed}
+use Rattle.tcp_connections.specs.Connections.{State, flow_at, with_flow, arrived, began, gapped, closed_at, flow_forgotten, place_of, room_at, forgotten, goes_before, eldest, with_room, next_room, made_known, first_number, number_behind, is_first, is_kept, is_anew, is_reset, syn_at, syn_kept, flow_of_side, fin_taken, unknown_taken, acknowledgement_taken, payload_taken, reset_taken, known_taken, step, is_holding, gaps_from, end_cause, all_closed}
 
 pub arrived_none : (F : Reader) (w : State) (id : ℕ) (a : Arrival) → flow_at w id ≡ None →
     arrived F w id a ≡ w
@@ -138,15 +138,18 @@ pub a_fin : (F : Reader) (w : State) (id : ℕ) (s : Segment) → s.fin ≡ true
 unfolding fin_taken
 a_fin F w id s e = cond-true s.fin (arrived F w id (End (number_behind s))) w e
 
-pub no_reset : (w : State) (place : ℕ) (side : Side) (s : Segment) → s.reset ≡ false →
-    reset_taken w place side s ≡ w
+pub no_reset : (w : State) (place : ℕ) (side : Side) (s : Segment) →
+    is_reset (flow_of_side w place side) s ≡ false → reset_taken w place side s ≡ w
 unfolding reset_taken
-no_reset w place side s e = cond-false s.reset (forgotten w place side Reset) w e
+no_reset w place side s e =
+    cond-false (is_reset (flow_of_side w place side) s) (forgotten w place side Reset) w e
 
-pub a_reset : (w : State) (place : ℕ) (side : Side) (s : Segment) → s.reset ≡ true →
+pub a_reset : (w : State) (place : ℕ) (side : Side) (s : Segment) →
+    is_reset (flow_of_side w place side) s ≡ true →
     reset_taken w place side s ≡ forgotten w place side Reset
 unfolding reset_taken
-a_reset w place side s e = cond-true s.reset (forgotten w place side Reset) w e
+a_reset w place side s e =
+    cond-true (is_reset (flow_of_side w place side) s) (forgotten w place side Reset) w e
 
 pub unknown_nothing : (F : Reader) (w : State) (s : Segment) → is_first w.ports s ≡ false →
     unknown_taken F w s ≡ w
@@ -188,26 +191,53 @@ pub step_unknown : (F : Reader) (w : State) (s : Segment) →
 unfolding step
 step_unknown F w s e = rw (e, step) refl
 
+pub step_kept : (F : Reader) (w : State) (s : Segment) (place : ℕ) →
+    place_of (pair_of s.flow).0 w.known ≡ Some place →
+    is_kept (flow_of_side w place (pair_of s.flow).1) s ≡ true
+    → step F w s ≡ syn_kept (record w { segments = w.segments + 1 }) (room_at w place)
+    (flow_id (room_at w place) (pair_of s.flow).1) s
+unfolding step
+step_kept F w s place e a =
+    let v : State = record w { segments = w.segments + 1 } in
+    let side : Side = (pair_of s.flow).1 in
+    let id : ℕ = flow_id (room_at v place) side in
+    rw (e, step) (cond-true (is_kept (flow_of_side v place side) s)
+    (syn_kept v (room_at v place) id s)
+    (cond (is_anew (syn_at v (room_at v place)) id s)
+    (unknown_taken F (forgotten v place side Syn) s) (known_taken F v place s)) a)
+
 pub step_anew : (F : Reader) (w : State) (s : Segment) (place : ℕ) →
     place_of (pair_of s.flow).0 w.known ≡ Some place →
-    is_anew (live_at w (flow_id (room_at w place) (pair_of s.flow).1)) s ≡ true
+    is_kept (flow_of_side w place (pair_of s.flow).1) s ≡ false →
+    is_anew (syn_at w (room_at w place)) (flow_id (room_at w place) (pair_of s.flow).1) s ≡ true
     → step F w s ≡ unknown_taken F (forgotten (record w { segments = w.segments + 1 }) place
     (pair_of s.flow).1 Syn) s
 unfolding step
-step_anew F w s place e a =
+step_anew F w s place e k a =
     let v : State = record w { segments = w.segments + 1 } in
-    rw (e, step) (cond-true (is_anew (live_at v (flow_id (room_at v place) (pair_of s.flow).1)) s)
-    (unknown_taken F (forgotten v place (pair_of s.flow).1 Syn) s) (known_taken F v place s) a)
+    let side : Side = (pair_of s.flow).1 in
+    let id : ℕ = flow_id (room_at v place) side in
+    let there : State = unknown_taken F (forgotten v place side Syn) s in
+    rw (e, step) (cond-false (is_kept (flow_of_side v place side) s)
+    (syn_kept v (room_at v place) id s)
+    (cond (is_anew (syn_at v (room_at v place)) id s) there (known_taken F v place s)) k
+    ∙ cond-true (is_anew (syn_at v (room_at v place)) id s) there (known_taken F v place s) a)
 
 pub step_known : (F : Reader) (w : State) (s : Segment) (place : ℕ) →
     place_of (pair_of s.flow).0 w.known ≡ Some place →
-    is_anew (live_at w (flow_id (room_at w place) (pair_of s.flow).1)) s ≡ false
+    is_kept (flow_of_side w place (pair_of s.flow).1) s ≡ false →
+    is_anew (syn_at w (room_at w place)) (flow_id (room_at w place) (pair_of s.flow).1) s ≡ false
     → step F w s ≡ known_taken F (record w { segments = w.segments + 1 }) place s
 unfolding step
-step_known F w s place e a =
+step_known F w s place e k a =
     let v : State = record w { segments = w.segments + 1 } in
-    rw (e, step) (cond-false (is_anew (live_at v (flow_id (room_at v place) (pair_of s.flow).1)) s)
-    (unknown_taken F (forgotten v place (pair_of s.flow).1 Syn) s) (known_taken F v place s) a)
+    let side : Side = (pair_of s.flow).1 in
+    let id : ℕ = flow_id (room_at v place) side in
+    let there : State = unknown_taken F (forgotten v place side Syn) s in
+    rw (e, step) (cond-false (is_kept (flow_of_side v place side) s)
+    (syn_kept v (room_at v place) id s)
+    (cond (is_anew (syn_at v (room_at v place)) id s) there (known_taken F v place s)) k
+    ∙ cond-false (is_anew (syn_at v (room_at v place)) id s) there (known_taken F v place s) a)
 
 -- what a segment of a known connection does, one after the other
 pub known_is : (F : Reader) (w : State) (place : ℕ) (s : Segment) (room : ℕ) (side : Side)

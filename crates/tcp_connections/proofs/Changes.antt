@@ -1,7 +1,9 @@
 -- The code has a state: what is noted of a segment, and of a connection that is known from now on.
-use Rattle.std.proofs.Common.{◌≡◌, ℕ, ◌+◌, ◌<◌, cond, nat_eq, nat_lt, List, [], ◌∷◌, ◌++◌, length, set, None, refl, sym, ◌∙◌, ap, subst, arith, length-set}
+use Rattle.std.proofs.Common.{◌≡◌, ℕ, ◌+◌, ◌<◌, cond, nat_eq, List, [], ◌∷◌, ◌++◌, length, set, Option, Some, None, refl, sym, ◌∙◌, ap, subst, arith, length-set}
 use Rattle.std.specs.List.{insert}
 use Rattle.tcp_segment.specs.declared.endpoint.Flow.{Flow as Endpoints}
+use Rattle.tcp_segment.specs.Segments.{Segment}
+use Rattle.tcp_waiting.specs.Numbers.{onward}
 use Rattle.tcp_flow.specs.Flow.{Event, Opens}
 use Rattle.tcp_streams.specs.declared.pair.EndpointPair.{EndpointPair}
 use Rattle.tcp_streams.specs.declared.pair.Side.TheVariants.{FromLesser, FromGreater}
@@ -9,7 +11,8 @@ use Rattle.tcp_streams.specs.Lives.{lives, behind}
 use Rattle.tcp_streams.proofs.Order.{lives_more}
 use Rattle.tcp_streams.specs.Pairs.{flow_id, flow_from}
 use Rattle.tcp_connections.specs.declared.connections.Connections.{Connections}
-use Rattle.tcp_connections.specs.Connections.{State, place_of, place_among, next_room, rest_of_rooms, made_known}
+use Rattle.tcp_connections.specs.declared.syns.KeptSyn.{KeptSyn}
+use Rattle.tcp_connections.specs.Connections.{State, place_of, place_among, next_room, rest_of_rooms, made_known, syn_kept}
 use Rattle.tcp_connections.specs.State.{IsSound, IsState, state_of, times}
 use Rattle.tcp_connections.proofs.Sound.{sound_seen, known_sound}
 use Rattle.tcp_connections.proofs.Times.{next_is, rest_is, times_last, times_own}
@@ -31,7 +34,29 @@ noted O live c c' w room h same free table =
       same = same w.events ∙ ap (λ (u : State). record u { lasts = set u.lasts room u.segments })
           h.same;
       told = h.told;
-      sound = sound_seen w (set w.lasts room w.segments) w.segments w.events long h.sound;
+      sound = sound_seen w (set w.lasts room w.segments) w.syns w.segments w.events long h.sound;
+      free = free ∙ h.free ∙ sym long;
+      room = table ∙ h.room ∙ sym long;
+    }
+
+-- a SYN is kept
+pub syn_noted : (O : List Event → Type 0) (live : List ℕ) (c c' : Connections) (w : State)
+    (room id : ℕ) (s : Segment) → IsState O live c w
+    → ((e : List Event) → state_of c' e ≡ syn_kept (state_of c e) room id s)
+    → c'.free.most ≡ c.free.most → c'.table.most ≡ c.table.most
+    → IsState O live c' (syn_kept w room id s)
+unfolding syn_kept
+syn_noted O live c c' w room id s h same free table =
+    let long : length (set w.lasts room w.segments) ≡ length w.lasts =
+    length-set w.lasts room w.segments in
+    record {
+      observed = h.observed;
+      live = h.live;
+      same = same w.events ∙ ap (λ (u : State). syn_kept u room id s) h.same;
+      told = h.told;
+      sound = sound_seen w (set w.lasts room w.segments)
+          (set w.syns room (Some (record { flow = id; number = onward s.sequence 1 }))) w.segments
+          w.events long h.sound;
       free = free ∙ h.free ∙ sym long;
       room = table ∙ h.room ∙ sym long;
     }
@@ -47,7 +72,7 @@ counted O live c c' w h same free table =
       live = h.live;
       same = same w.events ∙ ap (λ (u : State). record u { segments = u.segments + 1 }) h.same;
       told = h.told;
-      sound = sound_seen w w.lasts (w.segments + 1) w.events refl h.sound;
+      sound = sound_seen w w.lasts w.syns (w.segments + 1) w.events refl h.sound;
       free = free ∙ h.free;
       room = table ∙ h.room;
     }
@@ -73,6 +98,7 @@ made_is : (w : State) (p : EndpointPair) (rest : List ℕ) (room : ℕ) → w.fr
       free = rest;
       lasts =
           set w.lasts room w.segments;
+      syns = set w.syns room None;
       events = opened room p w.events;
     }) ≡ made_known w p
 unfolding made_known
@@ -85,6 +111,7 @@ made_is w p rest room e =
           insert w.rooms (place_among p w.known) r;
       free = rest;
       lasts = set w.lasts r w.segments;
+      syns = set w.syns r None;
       events = opened r p w.events;
     }) (sym next)
     ∙ ap (λ (rs : List ℕ). record w {
@@ -94,6 +121,7 @@ made_is w p rest room e =
       free = rs;
       lasts =
           set w.lasts (next_room w.free) w.segments;
+      syns = set w.syns (next_room w.free) None;
       events = opened (next_room w.free) p w.events;
     })
     (sym others)
@@ -110,6 +138,7 @@ pub made : (O O' : List Event → Type 0) (live live' : List ℕ) (c c' : Connec
       free = rest;
       lasts =
           set c.stamps.last.items room c.segments;
+      syns = set c.syns.kept.items room None;
     })
     → c'.free.most ≡ c.free.most → c'.table.most ≡ c.table.most
     → IsState O' live' c' (made_known w p)
@@ -132,12 +161,13 @@ made O O' live live' c c' w p rest room h observed living free new state most ta
             free = rest;
             lasts =
                 set u.lasts room u.segments;
+            syns = set u.syns room None;
             events = opened room p w.events;
           }) h.same;
-      told = λ id. h.told id ∙ ap (λ (xs : List ℕ). nat_lt 0 (times id xs))
-          (sym (opened_lives room p w.events));
-      sound = known_sound w p rest room (set w.lasts room w.segments) (opened room p w.events)
-          h.sound had unknown long;
+      told = λ id e. subst (λ (xs : List ℕ). 0 < times id xs) (sym (opened_lives room p w.events))
+          (h.told id e);
+      sound = known_sound w p rest room (set w.lasts room w.segments) (set w.syns room None)
+          (opened room p w.events) h.sound had unknown long;
       free = most ∙ h.free ∙ sym long;
       room = table ∙ h.room ∙ sym long;
     })
@@ -145,28 +175,31 @@ made O O' live live' c c' w p rest room h observed living free new state most ta
 -- ---- Which connections are known.
 
 abbrev pub others_of : Connections → List Event → State
-others_of c es = record (state_of c es) { known = []; rooms = []; free = []; lasts = [] }
+others_of c es =
+    record (state_of c es) { known = []; rooms = []; free = []; lasts = []; syns = [] }
 
 -- only which connections are known has changed, and when
 pub entered : (c c' : Connections) (es : List Event) →
     ((e : List Event) → others_of c' e ≡ others_of c e) →
-    (known : List EndpointPair) (rooms free lasts : List ℕ)
+    (known : List EndpointPair) (rooms free lasts : List ℕ) (syns : List (Option KeptSyn))
     → c'.table.keys.items ≡ known → c'.table.rooms.items ≡ rooms → c'.free.free.items ≡ free →
-    c'.stamps.last.items ≡ lasts
+    c'.stamps.last.items ≡ lasts → c'.syns.kept.items ≡ syns
     → state_of c' es ≡ record (state_of c es) {
       known = known;
       rooms = rooms;
       free = free;
       lasts =
           lasts;
+      syns = syns;
     }
-entered c c' es others known rooms free lasts k r f l =
+entered c c' es others known rooms free lasts syns k r f l y =
     ap (λ (u : State). record u {
       known = c'.table.keys.items;
       rooms = c'.table.rooms.items;
       free =
           c'.free.free.items;
       lasts = c'.stamps.last.items;
+      syns = c'.syns.kept.items;
     }) (others es)
     ∙ ap (λ (ps : List EndpointPair). record (state_of c es) {
       known = ps;
@@ -174,6 +207,7 @@ entered c c' es others known rooms free lasts k r f l =
           c'.table.rooms.items;
       free = c'.free.free.items;
       lasts = c'.stamps.last.items;
+      syns = c'.syns.kept.items;
     }) k
     ∙ ap (λ (rs : List ℕ). record (state_of c es) {
       known = known;
@@ -181,6 +215,7 @@ entered c c' es others known rooms free lasts k r f l =
       free =
           c'.free.free.items;
       lasts = c'.stamps.last.items;
+      syns = c'.syns.kept.items;
     }) r
     ∙ ap (λ (rs : List ℕ). record (state_of c es) {
       known = known;
@@ -188,13 +223,22 @@ entered c c' es others known rooms free lasts k r f l =
       free = rs;
       lasts =
           c'.stamps.last.items;
+      syns = c'.syns.kept.items;
     }) f
     ∙ ap (λ (ns : List ℕ). record (state_of c es) {
       known = known;
       rooms = rooms;
       free = free;
       lasts = ns;
+      syns = c'.syns.kept.items;
     }) l
+    ∙ ap (λ (ss : List (Option KeptSyn)). record (state_of c es) {
+      known = known;
+      rooms = rooms;
+      free = free;
+      lasts = lasts;
+      syns = ss;
+    }) y
 
 -- the ids and flows that are told, by what they are
 pub told_as : (P : List Event → Type 0) (es : List Event) (a b a' b' : ℕ) (x y x' y' : Endpoints) →

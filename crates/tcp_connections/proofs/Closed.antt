@@ -10,9 +10,8 @@ use Rattle.tcp_waiting.specs.Payload.{Payload}
 use Rattle.tcp_streams.specs.Lives.{lives, lives_from, behind, begun, without, most_ids, AreIds}
 use Rattle.tcp_streams.proofs.Ids.{none_ids}
 use Rattle.tcp_connections.specs.Connections.{State, flow_at, live_of, all_closed}
-use Rattle.tcp_connections.specs.State.{times}
+use Rattle.tcp_connections.specs.State.{AreTold, times}
 use Rattle.tcp_connections.proofs.Closing.{all_close}
-use Rattle.tcp_connections.proofs.Ending.{AreTold}
 use Rattle.tcp_connections.proofs.Following.{some_same, due_in, Follow, closes_follow}
 use Rattle.tcp_connections.proofs.Living.{behind_ids, lives_ids, times_none, times_gone, times_without, begun_own, begun_beside}
 
@@ -124,6 +123,7 @@ all_closed_follow payloads w h flow =
     let none : lives v.events ≡ [] = all_close (length (lives w.events)) w (record {
       ids = λ id s e. (h.own id s e).0;
       told = follow_told payloads w h;
+      few = h.few;
     }) (omega arith) in
     subst (AllFollow payloads flow None v.events) (nothing_due (due_in (flow_at v flow))
     (due_told payloads v flow t ∙ ap (λ (xs : List ℕ). nat_lt 0 (times flow xs)) none))

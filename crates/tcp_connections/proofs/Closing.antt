@@ -1,49 +1,114 @@
 -- Where all live streams have closed, none lives.
-use Rattle.std.proofs.Common.{◌≡◌, ℕ, zero, suc, ◌+◌, ◌-◌, ◌<◌, ◌≤◌, true, List, [], ◌∷◌, ◌++◌, length, set, get_or, Option, Some, None, is_some, refl, sym, ◌∙◌, ap, subst, arith, inl, inr, true≢false, get_or-set_same, get_or-set_other}
+use Rattle.std.proofs.Common.{◌≡◌, ℕ, zero, suc, ◌+◌, ◌-◌, ◌<◌, ◌≤◌, true, List, [], ◌∷◌, ◌++◌, length, set, get_or, Option, Some, None, is_some, refl, sym, ◌∙◌, ap, subst, arith, inl, inr, true≢false, get_or-set_same, get_or-set_other, length-set}
 use Rattle.std.specs.Prelude.{Result, Ok, Err, OnOk}
-use Rattle.std.proofs.lemmas.Bool.{cases_eq, cases_lt, cond-true, lt-ltb}
+use Rattle.std.proofs.lemmas.Bool.{cases_Bool, cases_eq, cases_lt, cond-true, lt-ltb}
 use Rattle.tcp_flow.specs.declared.flow.CloseCause.{CloseCause}
 use Rattle.tcp_flow.specs.declared.flow.FlowState.{FlowState}
 use Rattle.tcp_flow.specs.declared.flow.ListenerFault.{ListenerFault}
-use Rattle.tcp_flow.specs.Flow.{Flow, Event, Closes, closed, with_event}
+use Rattle.tcp_flow.specs.Flow.{Flow, Event, Closes, Reader, closed, gap, with_event}
 use Rattle.tcp_flow.specs.State.{state}
-use Rattle.tcp_streams.specs.Lives.{lives, behind, without}
+use Rattle.tcp_streams.specs.Lives.{lives, behind, without, most_ids}
 use Rattle.tcp_streams.proofs.Order.{lives_more}
 use Rattle.tcp_connections.specs.declared.connections.Connections.{Connections}
-use Rattle.tcp_connections.specs.Connections.{State, flow_at, flow_state, live_of, live_at, with_flow, closed_at, end_cause, all_closed}
-use Rattle.tcp_connections.specs.State.{IsSound, IsAt, times}
-use Rattle.tcp_connections.proofs.Cases.{closed_some, closes_none, closes_over, closes_one}
-use Rattle.tcp_connections.proofs.Ending.{AreTold, length_without}
-use Rattle.tcp_connections.proofs.Living.{IsTurn, no_turn, closed_turn}
+use Rattle.tcp_connections.specs.Connections.{State, flow_at, flow_state, live_of, live_at, with_flow, gapped, is_holding, gaps_from, closed_at, end_cause, all_closed}
+use Rattle.tcp_connections.specs.State.{IsSound, IsAt, AreTold, times}
+use Rattle.tcp_connections.proofs.Cases.{gapped_none, gapped_some, gaps_none, gaps_over, gaps_gap, gaps_next, closed_some, closes_none, closes_over, closes_one}
+use Rattle.tcp_connections.proofs.Ending.{length_without}
+use Rattle.tcp_connections.proofs.Living.{IsTurn, no_turn, closed_turn, gap_turn}
 use Rattle.tcp_connections.proofs.Sound.{some_same, some_within}
 use Rattle.tcp_connections.proofs.States.{told_flow}
 use Rattle.tcp_connections.proofs.Times.{times_at}
 
--- each flow has its id, and the streams of flows that live are those that are told
+-- each flow has its id, of which there are not too many, and the streams of flows that live are
+-- those that are told
 pub record IsClosing (w : State) : Type 0 where
   pub ids : (id : ℕ) (s : FlowState) → flow_at w id ≡ Some s → s.id ≡ id
   pub told : AreTold w
+  pub few : length w.flows ≤ most_ids
+
+pub starts_closing : (w : State) → IsSound w → AreTold w → IsClosing w
+starts_closing w sound told = record {
+  ids = sound.ids;
+  told = told;
+  few = omega (arith, sound.flows, sound.most);
+}
 
 -- one that lives closes
 record HasOneLess (w v : State) : Type 0 where
   pub closing : IsClosing v
   pub less : length (lives v.events) + 1 ≡ length (lives w.events)
 
+-- a flow is another
+flow_closing : (w : State) (id : ℕ) (g : Flow) → IsClosing w → id < length w.flows →
+    IsTurn true id w.events g → IsClosing (with_flow w id g)
+unfolding with_flow live_of
+flow_closing w id g h within turn =
+    let o : Option FlowState = Some (flow_state g) in
+    let here : get_or (set w.flows id o) id None ≡ o = get_or-set_same w.flows id o None within in
+    record {
+      ids =
+          λ j t d.
+          elim (cases_eq j id) [
+            | inl y ↦
+                (let same : flow_state g ≡ t = some_same (flow_state g) t (sym here
+                ∙ ap (λ (k : ℕ). get_or (set w.flows id o) k None) (sym y) ∙ d) in
+                sym (ap (λ (u : FlowState). u.id) same) ∙ turn.same ∙ sym y)
+            | inr n ↦ h.ids j t (sym (get_or-set_other w.flows id j o None n) ∙ d)
+          ];
+      told = told_flow true w id o g.events h.told within turn.own turn.beside;
+      few = omega (arith, h.few, length-set w.flows id o);
+    }
+
+-- what a flow has done so far is nothing yet
+turn_before : (w : State) (id : ℕ) (s : FlowState) → IsClosing w → flow_at w id ≡ Some s
+    → IsTurn true id w.events (state s w.held w.events)
+unfolding live_of
+turn_before w id s h e = no_turn {exact = true} id (state s w.held w.events) (h.ids id s e)
+    (sym (ap (λ (o : Option FlowState). is_some (live_of o)) e) ∙ h.told id)
+
+gapped_closing : (F : Reader) (w : State) (id : ℕ) → IsClosing w → IsClosing (gapped F w id)
+gapped_closing F w id h = by (flow_at w id) refl
+  where
+    by : (o : Option FlowState) → flow_at w id ≡ o → IsClosing (gapped F w id)
+    by None e = subst IsClosing (sym (gapped_none F w id e)) h
+    by (Some s) e =
+        let within : id < length w.flows = some_within w.flows id s e in
+        subst IsClosing (sym (gapped_some F w id s e))
+        (flow_closing w id (gap F (state s w.held w.events)) h within
+        (gap_turn F id w.events (state s w.held w.events) (omega (arith, within, h.few))
+        (turn_before w id s h e)))
+
+pub gaps_closing : (F : Reader) (count rank : ℕ) (w : State) → IsClosing w →
+    IsClosing (gaps_from F count rank w)
+gaps_closing F zero rank w h = subst IsClosing (sym (gaps_none F 0 rank w (omega arith))) h
+gaps_closing F (suc count) rank w h =
+    let k : suc count - 1 ≡ count = omega arith in
+    let id : ℕ = get_or (lives w.events) rank 0 in
+    elim (cases_lt rank (length (lives w.events))) [
+      | inr g ↦ subst IsClosing (sym (gaps_over F (suc count) rank w g)) h
+      | inl some ↦
+          elim (cases_Bool (is_holding w.held (flow_at w id))) [
+            | inl e ↦ subst IsClosing
+                (sym (gaps_gap F (suc count) rank w (omega arith) some e
+                ∙ ap (λ (n : ℕ). gaps_from F n rank (gapped F w id)) k))
+                (gaps_closing F count rank (gapped F w id) (gapped_closing F w id h))
+            | inr e ↦ subst IsClosing
+                (sym (gaps_next F (suc count) rank w (omega arith) some e
+                ∙ ap (λ (n : ℕ). gaps_from F n (rank + 1) w) k))
+                (gaps_closing F count (rank + 1) w h)
+          ]
+    ]
+
 -- the flow at the front closes
 front_closes : (w : State) (id : ℕ) (s : FlowState) (cause : CloseCause) → IsClosing w →
     flow_at w id ≡ Some s → is_some s.live ≡ true → 0 < length (lives w.events)
     → get_or (lives w.events) 0 0 ≡ id
     → HasOneLess w (with_flow w id (closed (state s w.held w.events) cause))
-unfolding with_flow closed with_event behind live_of
+unfolding with_flow closed with_event behind
 front_closes w id s cause h e live some front =
     let f : Flow = state s w.held w.events in
     let c : Flow = closed f cause in
     let own : s.id ≡ id = h.ids id s e in
-    let within : id < length w.flows = some_within w.flows id s e in
-    let turn : IsTurn id w.events c = closed_turn id w.events f cause (no_turn id f own
-    (sym (ap (λ (o : Option FlowState). is_some (live_of o)) e) ∙ h.told id)) in
-    let o : Option FlowState = Some (flow_state c) in
-    let here : get_or (set w.flows id o) id None ≡ o = get_or-set_same w.flows id o None within in
     let events : c.events ≡ w.events ++ Closes s.id cause ∷ [] =
     ap (λ (g : Flow). g.events) (cond-true (is_some s.live) (record {
       id = f.id;
@@ -56,19 +121,8 @@ front_closes w id s cause h e live some front =
     let less : lives c.events ≡ without s.id (lives w.events) =
     ap lives events ∙ lives_more [] w.events (Closes s.id cause) in
     record {
-      closing =
-          record {
-            ids =
-                λ j t d.
-                elim (cases_eq j id) [
-                  | inl y ↦
-                      (let same : flow_state c ≡ t = some_same (flow_state c) t (sym here
-                      ∙ ap (λ (k : ℕ). get_or (set w.flows id o) k None) (sym y) ∙ d) in
-                      sym (ap (λ (u : FlowState). u.id) same) ∙ turn.same ∙ sym y)
-                  | inr n ↦ h.ids j t (sym (get_or-set_other w.flows id j o None n) ∙ d)
-                ];
-            told = told_flow w id o c.events h.told within turn.own turn.beside;
-          };
+      closing = flow_closing w id c h (some_within w.flows id s e)
+          (closed_turn id w.events f cause (turn_before w id s h e));
       less = omega (
         arith,
         ap {B = ℕ} length less,
@@ -123,8 +177,8 @@ all_close (suc count) w h l =
 
 -- the code is at the end of a capture
 pub none_at_end : {X : Type 0} (r : Result X ListenerFault) (O : List Event → Type 0)
-    (live : List ℕ) (c : Connections) (w : State) → IsSound w → AreTold w
+    (live : List ℕ) (c : Connections) (w : State) → IsClosing w
     → OnOk r (IsAt O live c (all_closed (length (lives w.events)) w)) → OnOk r (live ≡ [])
-none_at_end (Ok x) O live c w sound told h = h.live ∙ all_close (length (lives w.events)) w
-    (record { ids = sound.ids; told = told }) (omega arith)
-none_at_end (Err x) O live c w sound told h = tt
+none_at_end (Ok x) O live c w closing h =
+    h.live ∙ all_close (length (lives w.events)) w closing (omega arith)
+none_at_end (Err x) O live c w closing h = tt

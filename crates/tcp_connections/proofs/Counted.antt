@@ -9,8 +9,8 @@ use Rattle.tcp_streams.specs.declared.pair.EndpointPair.{EndpointPair}
 use Rattle.tcp_streams.specs.declared.pair.Side.{Side}
 use Rattle.tcp_streams.specs.Lives.{lives, elder_side}
 use Rattle.tcp_streams.specs.Pairs.{pair_of, opposite, flow_id}
-use Rattle.tcp_connections.specs.Connections.{State, room_at, flow_forgotten, forgotten, eldest, with_room, next_room, made_known, place_of, live_at, is_anew, is_first, first_number, began, fin_taken, acknowledgement_taken, payload_taken, reset_taken, unknown_taken, known_taken, step}
-use Rattle.tcp_connections.proofs.Cases.{room_there, room_made, step_unknown, step_anew, step_known}
+use Rattle.tcp_connections.specs.Connections.{State, room_at, flow_forgotten, forgotten, eldest, with_room, next_room, made_known, place_of, flow_of_side, syn_at, syn_kept, is_kept, is_anew, is_reset, is_first, first_number, began, fin_taken, acknowledgement_taken, payload_taken, reset_taken, unknown_taken, known_taken, step}
+use Rattle.tcp_connections.proofs.Cases.{room_there, room_made, step_unknown, step_kept, step_anew, step_known}
 use Rattle.tcp_connections.proofs.Forgotten.{forgot_either}
 use Rattle.tcp_connections.proofs.Kept.{began_kept, acknowledgement_kept, payload_kept, fin_kept}
 
@@ -61,7 +61,8 @@ unknown_segments F w s =
 reset_segments : (w : State) (place : ℕ) (side : Side) (s : Segment) →
     (reset_taken w place side s).segments ≡ w.segments
 unfolding reset_taken
-reset_segments w place side s = either w.segments s.reset (forgotten w place side Reset) w
+reset_segments w place side s =
+    either w.segments (is_reset (flow_of_side w place side) s) (forgotten w place side Reset) w
     (forgotten_segments w place side Reset) refl
 
 known_segments : (F : Reader) (w : State) (place : ℕ) (s : Segment) →
@@ -78,6 +79,11 @@ known_segments F w place s =
     ∙ (payload_kept F heard id s).segments
     ∙ (acknowledgement_kept F seen (flow_id room (opposite side)) s).segments
 
+kept_segments : (w : State) (room id : ℕ) (s : Segment) →
+    (syn_kept w room id s).segments ≡ w.segments
+unfolding syn_kept
+kept_segments w room id s = refl
+
 pub step_segments : (F : Reader) (w : State) (s : Segment) → (step F w s).segments ≡ w.segments + 1
 step_segments F w s = by (place_of (pair_of s.flow).0 w.known) refl
   where
@@ -88,10 +94,16 @@ step_segments F w s = by (place_of (pair_of s.flow).0 w.known) refl
     by (Some place) e =
         let v : State = record w { segments = w.segments + 1 } in
         let side : Side = (pair_of s.flow).1 in
-        elim (cases_Bool (is_anew (live_at w (flow_id (room_at w place) side)) s)) [
-          | inl a ↦ ap (λ (u : State). u.segments) (step_anew F w s place e a)
-              ∙ unknown_segments F (forgotten v place side Syn) s
-              ∙ forgotten_segments v place side Syn
-          | inr a ↦ ap (λ (u : State). u.segments) (step_known F w s place e a)
-              ∙ known_segments F v place s
+        let id : ℕ = flow_id (room_at w place) side in
+        elim (cases_Bool (is_kept (flow_of_side w place side) s)) [
+          | inl k ↦ ap (λ (u : State). u.segments) (step_kept F w s place e k)
+              ∙ kept_segments v (room_at w place) id s
+          | inr k ↦
+              elim (cases_Bool (is_anew (syn_at w (room_at w place)) id s)) [
+                | inl a ↦ ap (λ (u : State). u.segments) (step_anew F w s place e k a)
+                    ∙ unknown_segments F (forgotten v place side Syn) s
+                    ∙ forgotten_segments v place side Syn
+                | inr a ↦ ap (λ (u : State). u.segments) (step_known F w s place e k a)
+                    ∙ known_segments F v place s
+              ]
         ]

@@ -9,7 +9,7 @@ use Rattle.tcp_flow.specs.declared.flow.CloseCause.TheVariants.{Fault, Gap}
 use Rattle.tcp_flow.specs.declared.flow.FlowState.{FlowState}
 use Rattle.tcp_waiting.specs.Numbers.{onward}
 use Rattle.tcp_waiting.specs.Payload.{Payload, payload, first, count_of}
-use Rattle.tcp_flow.specs.Flow.{Flow, Begins, Delivers, Closes, Reader, left, with_event, delivered, begun as flow_begun, taken, header_at, at, closed, gap, first_of, held_by_others}
+use Rattle.tcp_flow.specs.Flow.{Flow, Begins, Delivers, Closes, Reader, left, with_event, delivered, begun as flow_begun, taken, stream_at, at, closed, gap, first_of, held_by_others}
 use Rattle.tcp_flow.specs.State.{state}
 use Rattle.tcp_flow.proofs.Preserving.{Keeps, gone_on_keeps}
 use Rattle.tcp_flow.proofs.Room.{gap_fewer}
@@ -220,10 +220,10 @@ unfolding taken
 taken_tail F id others g p o t =
     let q : Payload = left g.next (is_some g.live) p in
     let d : Flow = delivered F g q in
-    let b : Flow = flow_begun F g q (header_at q.octets) in
+    let b : Flow = flow_begun F g q (stream_at q.octets) in
     either (IsTail id others) (nat_eq (length q.octets) 0) g (cond (is_some g.live) d b) t
     (either (IsTail id others) (is_some g.live) d b (delivered_tail F id others g q o t)
-    (begun_tail F id others g q (header_at q.octets) o t))
+    (begun_tail F id others g q (stream_at q.octets) o t))
 
 tail_keeps : (F : Reader) (id : ℕ) (others : List ℕ) → IsOther id others →
     Keeps F (IsTail id others)
@@ -266,9 +266,6 @@ pub record SoFar (left rank : ℕ) (w : State) : Type 0 where
   pub reach : rank ≤ length (lives w.events)
   pub enough : length w.held + length (lives w.events) ≤ left + rank
   pub before : (r : ℕ) → r < rank → count_of (get_or (lives w.events) r 0) w.held ≡ 0
-
-abbrev pub AreTold : State → Type 0
-AreTold w = (id : ℕ) → is_some (live_at w id) ≡ nat_lt 0 (times id (lives w.events))
 
 none_held : (id next : ℕ) (ps : List Payload) → is_some (first id next ps) ≡ false →
     count_of id ps ≡ 0
@@ -406,7 +403,8 @@ empty_by (p ∷ ps) h = absurd (let own : nat_eq p.flow p.flow ≡ true = eq-eqb
     omega (arith, h p.flow, one))
 
 -- where all flows whose streams live hold nothing, nothing is held
-pub all_so_far : (left rank : ℕ) (w : State) → IsSound w → AreTold w →
+pub all_so_far : (left rank : ℕ) (w : State) → IsSound w →
+    ((id : ℕ) → is_some (live_at w id) ≡ true → 0 < times id (lives w.events)) →
     length (lives w.events) ≤ rank → SoFar left rank w → w.held ≡ []
 unfolding live_of
 all_so_far left rank w h told over so = empty_by w.held (λ id. by id (flow_at w id) refl)
@@ -418,8 +416,7 @@ all_so_far left rank w h told over so = empty_by w.held (λ id. by id (flow_at w
           | inl e ↦
               (let live : is_some (live_at w id) ≡ true =
               ap (λ (o : Option FlowState). is_some (live_of o)) a ∙ holds_live w id s h a e in
-              let i = times_index id (lives w.events)
-              (ltb-true 0 (times id (lives w.events)) (sym (told id) ∙ live)) in
+              let i = times_index id (lives w.events) (told id live) in
               subst (λ (n : ℕ). count_of n w.held ≡ 0) i.1.1
               (so.before i.0 (omega (arith, i.1.0, over))))
           | inr e ↦ subst (λ (n : ℕ). count_of n w.held ≡ 0) (h.ids id s a)

@@ -6,6 +6,7 @@ use Rattle.std.specs.Option.{option_map}
 use Rattle.std.proofs.lemmas.Bool.{cases_Bool, cond-true, cond-false}
 use Rattle.std.proofs.lemmas.List.{length-replicate}
 use Rattle.tcp_segment.specs.Segments.{Segment}
+use Rattle.tcp_waiting.specs.Numbers.{onward}
 use Rattle.tcp_waiting.specs.Payload.{Payload}
 use Rattle.tcp_flow.specs.declared.flow.CloseCause.TheVariants.{Syn}
 use Rattle.tcp_flow.specs.Flow.{Event, OfCapture, CaptureEvent, Reader}
@@ -15,11 +16,12 @@ use Rattle.tcp_streams.specs.declared.pair.EndpointPair.{EndpointPair}
 use Rattle.tcp_streams.specs.declared.pair.Side.{Side}
 use Rattle.tcp_streams.specs.Lives.{lives}
 use Rattle.tcp_streams.specs.Pairs.{compare_pairs, pair_of, opposite, flow_id, flow_from}
-use Rattle.tcp_connections.specs.Connections.{State, none_known, flow_at, began, live_at, place_of, room_at, forgotten, with_room, next_room, made_known, first_number, is_first, is_anew, fin_taken, unknown_taken, acknowledgement_taken, payload_taken, known_taken, step, after, with_capture_event, gaps_from, ended}
+use Rattle.tcp_connections.specs.Connections.{State, none_known, flow_at, began, syn_at, syn_kept, flow_of_side, place_of, room_at, forgotten, with_room, next_room, made_known, first_number, is_first, is_kept, is_anew, fin_taken, unknown_taken, acknowledgement_taken, payload_taken, known_taken, step, after, with_capture_event, gaps_from, ended}
+use Rattle.tcp_connections.specs.declared.syns.KeptSyn.{KeptSyn}
 use Rattle.tcp_connections.specs.Gapless.{IsOfSegment, AreGapless, AreWhole}
 use Rattle.tcp_connections.specs.Owned.{AreOwned}
 use Rattle.tcp_connections.specs.State.{times}
-use Rattle.tcp_connections.proofs.Cases.{step_unknown, step_anew, step_known}
+use Rattle.tcp_connections.proofs.Cases.{step_unknown, step_kept, step_anew, step_known}
 use Rattle.tcp_connections.proofs.Closed.{all_closed_follow}
 use Rattle.tcp_connections.proofs.Following.{some_same, due_in, Follow, gaps_follow}
 use Rattle.tcp_connections.proofs.Forgotten.{forgotten_known}
@@ -70,12 +72,12 @@ unknown_at segments F w s among new h =
     either (At segments) (is_first w.ports s) (fin_taken F began_there id s) w
     (fin_at segments F began_there id s b) h
 
-seen_at : (segments : List Segment) (w : State) (lasts : List ℕ) (count : ℕ) →
-    length lasts ≡ length w.lasts → At segments w →
-    At segments (record w { lasts = lasts; segments = count })
-seen_at segments w lasts count e h =
+seen_at : (segments : List Segment) (w : State) (lasts : List ℕ) (syns : List (Option KeptSyn))
+    (count : ℕ) → length lasts ≡ length w.lasts → At segments w →
+    At segments (record w { lasts = lasts; syns = syns; segments = count })
+seen_at segments w lasts syns count e h =
     record {
-      sound = sound_seen w lasts count w.events e h.sound;
+      sound = sound_seen w lasts syns count w.events e h.sound;
       payloads = h.payloads;
       came = h.came;
       follow = record {
@@ -92,6 +94,13 @@ seen_at segments w lasts count e h =
       };
     }
 
+syn_kept_at : (segments : List Segment) (w : State) (room id : ℕ) (s : Segment) → At segments w →
+    At segments (syn_kept w room id s)
+unfolding syn_kept
+syn_kept_at segments w room id s h = seen_at segments w (set w.lasts room w.segments)
+    (set w.syns room (Some (record { flow = id; number = onward s.sequence 1 }))) w.segments
+    (length-set w.lasts room w.segments) h
+
 known_at : (segments : List Segment) (F : Reader) (w : State) (place : ℕ) (s : Segment) →
     IsIn segments s → place_of (pair_of s.flow).0 w.known ≡ Some place → place < length w.known →
     At segments w → At segments (known_taken F w place s)
@@ -106,7 +115,7 @@ known_at segments F w place s among is l h =
     let paid : State = payload_taken F heard id s in
     let kept = acknowledgement_kept F seen opposite_id s in
     let at_heard : At segments heard = acknowledgement_at segments F seen opposite_id s
-    (seen_at segments w (set w.lasts room w.segments) w.segments
+    (seen_at segments w (set w.lasts room w.segments) w.syns w.segments
     (length-set w.lasts room w.segments) h) in
     let within : id < length heard.flows =
     omega (arith, id_within w room side h.sound (room_below w place h.sound l), kept.flows) in
@@ -159,7 +168,7 @@ step_at_in segments F w s among h = by (place_of (pair_of s.flow).0 w.known) ref
     v = record w { segments = w.segments + 1 }
 
     counted : At segments v
-    counted = seen_at segments w w.lasts (w.segments + 1) refl h
+    counted = seen_at segments w w.lasts w.syns (w.segments + 1) refl h
 
     by : (o : Option ℕ) → place_of (pair_of s.flow).0 w.known ≡ o → At segments (step F w s)
     by None e = subst (At segments) (sym (step_unknown F w s e))
@@ -167,15 +176,22 @@ step_at_in segments F w s among h = by (place_of (pair_of s.flow).0 w.known) ref
     by (Some place) e =
         let side : Side = (pair_of s.flow).1 in
         let within : place < length w.known = place_within (pair_of s.flow).0 w.known place e in
-        elim (cases_Bool (is_anew (live_at w (flow_id (room_at w place) side)) s)) [
-          | inl a ↦
-              subst (At segments) (sym (step_anew F w s place e a))
-              (unknown_at segments F (forgotten v place side Syn) s among
-              (ap (place_of (pair_of s.flow).0) (forgotten_known v place side Syn)
-              ∙ forgotten_unknown (pair_of s.flow).0 w.known place h.sound.order e)
-              (forgotten_at segments v place side Syn within counted))
-          | inr a ↦ subst (At segments) (sym (step_known F w s place e a))
-              (known_at segments F v place s among e within counted)
+        let room : ℕ = room_at w place in
+        let id : ℕ = flow_id room side in
+        elim (cases_Bool (is_kept (flow_of_side w place side) s)) [
+          | inl k ↦ subst (At segments) (sym (step_kept F w s place e k))
+              (syn_kept_at segments v room id s counted)
+          | inr k ↦
+              elim (cases_Bool (is_anew (syn_at w room) id s)) [
+                | inl a ↦
+                    subst (At segments) (sym (step_anew F w s place e k a))
+                    (unknown_at segments F (forgotten v place side Syn) s among
+                    (ap (place_of (pair_of s.flow).0) (forgotten_known v place side Syn)
+                    ∙ forgotten_unknown (pair_of s.flow).0 w.known place h.sound.order e)
+                    (forgotten_at segments v place side Syn within counted))
+                | inr a ↦ subst (At segments) (sym (step_known F w s place e k a))
+                    (known_at segments F v place s among e within counted)
+              ]
         ]
 
 slice_last : {X : Type 0} (xs : List X) (y : X) → slice_get (xs ++ y ∷ []) (length xs) ≡ Some y
@@ -228,7 +244,7 @@ pub told_at : (segments : List Segment) (w : State) (event : CaptureEvent) → A
 told_at segments w event h =
     let events : List Event = w.events ++ OfCapture event ∷ [] in
     record {
-      sound = sound_seen w w.lasts w.segments events refl h.sound;
+      sound = sound_seen w w.lasts w.syns w.segments events refl h.sound;
       payloads = h.payloads;
       came = h.came;
       follow =

@@ -1,21 +1,22 @@
 -- By what a connection is forgotten.
-use Rattle.std.proofs.Common.{◌≡◌, ℕ, zero, suc, ◌+◌, ◌<◌, ◌≤◌, Bool, true, false, cond, not, nat_eq, ◌&&◌, List, [], ◌∷◌, ◌++◌, length, set, get_or, Option, Some, None, is_some, is_eq, unwrap_or, refl, sym, ◌∙◌, ap, arith, inl, inr, true≢false}
+use Rattle.std.proofs.Common.{◌≡◌, ℕ, zero, suc, ◌+◌, ◌<◌, ◌≤◌, Bool, true, false, cond, ◌&&◌, List, [], ◌∷◌, ◌++◌, length, set, get_or, Option, Some, None, is_some, is_eq, unwrap_or, ◌||◌, ◌⊎◌, refl, sym, ◌∙◌, ap, arith, inl, inr, true≢false}
 use Rattle.std.specs.List.{insert, remove}
 use Rattle.std.specs.Option.{option_map}
 use Rattle.std.proofs.lemmas.Bool.{cases_Bool, cases_lt, cond-true, cond-false}
 use Rattle.std.proofs.lemmas.List.Edits.{length-remove}
 use Rattle.tcp_segment.specs.Segments.{Segment}
 use Rattle.tcp_flow.specs.declared.flow.CloseCause.TheVariants.{Reset, Syn, Room}
-use Rattle.tcp_waiting.specs.Numbers.{onward}
-use Rattle.tcp_flow.specs.Flow.{Reader}
+use Rattle.tcp_flow.specs.declared.flow.FlowState.{FlowState}
+use Rattle.tcp_flow.specs.Flow.{Reader, is_near}
 use Rattle.tcp_streams.specs.declared.pair.EndpointPair.{EndpointPair}
 use Rattle.tcp_streams.specs.declared.pair.Side.{Side}
 use Rattle.tcp_streams.specs.Lives.{lives, elder_side}
 use Rattle.tcp_streams.specs.Pairs.{compare_pairs, pair_of, opposite, flow_id}
-use Rattle.tcp_connections.specs.Connections.{State, none_known, place_of, place_among, live_at, room_at, forgotten, with_room, next_room, made_known, began, first_number, is_first, is_anew, fin_taken, payload_taken, acknowledgement_taken, unknown_taken, known_taken, step, after}
-use Rattle.tcp_connections.specs.Forgetting.{MakesRoom, MakesWay, IsForgottenBy}
+use Rattle.tcp_connections.specs.declared.syns.KeptSyn.{KeptSyn}
+use Rattle.tcp_connections.specs.Connections.{State, none_known, place_of, place_among, room_at, forgotten, with_room, next_room, made_known, began, first_number, is_first, is_kept, is_anew, is_reset, is_near_due, is_answer, is_following, flow_of_side, syn_at, syn_kept, before_reset, fin_taken, payload_taken, acknowledgement_taken, unknown_taken, known_taken, step, after}
+use Rattle.tcp_connections.specs.Forgetting.{MakesRoom, MakesWay, BeginsAnew, IsForgottenBy}
 use Rattle.tcp_connections.specs.State.{IsSound}
-use Rattle.tcp_connections.proofs.Cases.{no_reset, a_reset, unknown_nothing, unknown_first, room_there, step_unknown, step_anew, step_known}
+use Rattle.tcp_connections.proofs.Cases.{no_reset, a_reset, unknown_nothing, unknown_first, room_there, step_unknown, step_kept, step_anew, step_known}
 use Rattle.tcp_connections.proofs.Eldest.{eldest_makes_room}
 use Rattle.tcp_connections.proofs.Forgotten.{forgotten_known, forgotten_lasts}
 use Rattle.tcp_connections.proofs.Gapless.{place_within, start_at, after_at}
@@ -164,11 +165,28 @@ own_gone : (q p : EndpointPair) (ps : List EndpointPair) (place : ℕ) → place
 own_gone q p ps place l found k e =
     sym (at_own q p ps place found) ∙ at_place p ps place l k e
 
+-- what a RST that counts says of its flow
+reset_of : (o : Option FlowState) (s : Segment) → is_reset o s ≡ true →
+    (f : FlowState) × ((o ≡ Some f) × ((s.reset ≡ true) × (is_near f.next s.sequence ≡ true)))
+unfolding is_near_due
+reset_of None s a = absurd (true≢false (sym a ∙ and_false s.reset))
+  where
+    and_false : (b : Bool) → b && false ≡ false
+    and_false true = refl
+    and_false false = refl
+reset_of (Some f) s a =
+    let both = and_true s.reset (is_near f.next s.sequence) a in (f, (refl, both))
+  where
+    and_true : (b c : Bool) → b && c ≡ true → (b ≡ true) × (c ≡ true)
+    and_true true c e = (refl, e)
+    and_true false c e = absurd (true≢false (sym e))
+
 -- of a connection that is known
 known_gone : (F : Reader) (w : State) (place : ℕ) (s : Segment) (p : EndpointPair) →
     place < length w.known → place_of (pair_of s.flow).0 w.known ≡ Some place
     → is_some (place_of p w.known) ≡ true → place_of p (known_taken F w place s).known ≡ None
-    → ((pair_of s.flow).0 ≡ p) × (s.reset ≡ true)
+    → ((pair_of s.flow).0 ≡ p)
+    × (is_reset (flow_of_side (before_reset F w place s) place (pair_of s.flow).1) s ≡ true)
 unfolding known_taken
 known_gone F w place s p l found k e =
     let side : Side = (pair_of s.flow).1 in
@@ -181,7 +199,7 @@ known_gone F w place s p l found k e =
     let known : ended.known ≡ w.known =
     (fin_kept F paid id s).known ∙ (payload_kept F heard id s).known
     ∙ (acknowledgement_kept F seen (flow_id room (opposite side)) s).known in
-    elim (cases_Bool s.reset) [
+    elim (cases_Bool (is_reset (flow_of_side ended place side) s)) [
       | inr r ↦ absurd (both (place_of p w.known) k (sym (ap (place_of p) known)
           ∙ sym (ap (λ (u : State). place_of p u.known) (no_reset ended place side s r)) ∙ e))
       | inl r ↦
@@ -192,14 +210,28 @@ known_gone F w place s p l found k e =
           (own_gone (pair_of s.flow).0 p w.known place l found k gone, r))
     ]
 
-syn_of : (live : Option ℕ) (s : Segment) → is_anew live s ≡ true → s.syn ≡ true
-syn_of live s a =
-    elim (cases_Bool s.syn) [
-      | inl e ↦ e
-      | inr e ↦ absurd (true≢false (sym a ∙ ap (λ (b : Bool).
-          b && not (is_some s.acknowledgement)
-          && not (elim live [ None ↦ false | Some n ↦ nat_eq n (onward s.sequence 1) ])) e))
-    ]
+-- what a segment that begins its connection anew says of the SYN that is kept
+anew_of : (w : State) (s : Segment) (place : ℕ) →
+    is_anew (syn_at w (room_at w place)) (flow_id (room_at w place) (pair_of s.flow).1) s ≡ true →
+    BeginsAnew w s place
+unfolding is_anew
+anew_of w s place a = by (syn_at w (room_at w place)) refl
+  where
+    id : ℕ
+    id = flow_id (room_at w place) (pair_of s.flow).1
+
+    or_true : (b c : Bool) → b || c ≡ true → (b ≡ true) ⊎ (c ≡ true)
+    or_true true c e = inl refl
+    or_true false c e = inr e
+
+    by : (o : Option KeptSyn) → syn_at w (room_at w place) ≡ o → BeginsAnew w s place
+    by None e = absurd (true≢false (sym a ∙ ap (λ (o : Option KeptSyn). is_anew o id s) e))
+    by (Some k) e = record {
+      syn = k;
+      kept = e;
+      is = or_true (is_answer k id s) (is_following k id s)
+          (sym (ap (λ (o : Option KeptSyn). is_anew o id s) e) ∙ a);
+    }
 
 -- of one that begins anew
 anew_gone : (F : Reader) (w : State) (place : ℕ) (side : Side) (s : Segment) (p : EndpointPair) →
@@ -227,21 +259,26 @@ anew_gone F w place side s p h l found k e =
     none_of None d = refl
     none_of (Some n) d = absurd (true≢false d)
 
+kept_known : (p : EndpointPair) (u : State) (room id : ℕ) (s : Segment) →
+    place_of p (syn_kept u room id s).known ≡ None → place_of p u.known ≡ None
+unfolding syn_kept
+kept_known p u room id s e = e
+
 pub step_gone : (F : Reader) (w : State) (s : Segment) (p : EndpointPair) → IsSound w →
     is_some (place_of p w.known) ≡ true → place_of p (step F w s).known ≡ None →
-    IsForgottenBy w s p
+    IsForgottenBy F w s p
 step_gone F w s p h k e = by (place_of (pair_of s.flow).0 w.known) refl
   where
     v : State
     v = record w { segments = w.segments + 1 }
 
     sound : IsSound v
-    sound = sound_seen w w.lasts (w.segments + 1) w.events refl h
+    sound = sound_seen w w.lasts w.syns (w.segments + 1) w.events refl h
 
     after_step : (u : State) → step F w s ≡ u → place_of p u.known ≡ None
     after_step u d = sym (ap (λ (x : State). place_of p x.known) d) ∙ e
 
-    by : (o : Option ℕ) → place_of (pair_of s.flow).0 w.known ≡ o → IsForgottenBy w s p
+    by : (o : Option ℕ) → place_of (pair_of s.flow).0 w.known ≡ o → IsForgottenBy F w s p
     by None d =
         let way : MakesWay v s p = unknown_gone F v s p h.some d k
         (after_step (unknown_taken F v s) (step_unknown F w s d)) in
@@ -260,17 +297,41 @@ step_gone F w s p h k e = by (place_of (pair_of s.flow).0 w.known) refl
     by (Some place) d =
         let side : Side = (pair_of s.flow).1 in
         let within : place < length w.known = place_within (pair_of s.flow).0 w.known place d in
-        elim (cases_Bool (is_anew (live_at w (flow_id (room_at w place) side)) s)) [
-          | inl a ↦ inl (
-            anew_gone F v place side s p sound within d k
-                (after_step (unknown_taken F (forgotten v place side Syn) s)
-                (step_anew F w s place d a)),
-            inl (syn_of (live_at w (flow_id (room_at w place) side)) s a),
-          )
-          | inr a ↦
-              (let own = known_gone F v place s p within d k
-              (after_step (known_taken F v place s) (step_known F w s place d a)) in
-              inl (own.0, inr own.1))
+        let room : ℕ = room_at w place in
+        let id : ℕ = flow_id room side in
+        elim (cases_Bool (is_kept (flow_of_side w place side) s)) [
+          | inl n ↦ absurd (both (place_of p w.known) k
+              (kept_known p v room id s (after_step (syn_kept v room id s)
+              (step_kept F w s place d n))))
+          | inr n ↦
+              elim (cases_Bool (is_anew (syn_at w room) id s)) [
+                | inl a ↦
+                    (let own = anew_gone F v place side s p sound within d k
+                    (after_step (unknown_taken F (forgotten v place side Syn) s)
+                    (step_anew F w s place d n a)) in
+                    inl (record {
+                      own = own;
+                      place = place;
+                      at = ap (λ (q : EndpointPair). place_of q w.known) (sym own) ∙ d;
+                      is = inl (anew_of w s place a);
+                    }))
+                | inr a ↦
+                    (let gone = known_gone F v place s p within d k
+                    (after_step (known_taken F v place s) (step_known F w s place d n a)) in
+                    let r = reset_of (flow_of_side (before_reset F v place s) place side) s gone.1
+                    in
+                    inl (record {
+                      own = gone.0;
+                      place = place;
+                      at = ap (λ (q : EndpointPair). place_of q w.known) (sym gone.0) ∙ d;
+                      is = inr (record {
+                        flow = r.0;
+                        is = r.1.0;
+                        reset = r.1.1.0;
+                        near = r.1.1.1;
+                      });
+                    }))
+              ]
         ]
 
 after_last : (F : Reader) (w : State) (ss : List Segment) (s : Segment) →
@@ -283,7 +344,7 @@ pub after_gone : (F : Reader) (ports : List ℕ) (blocks most : ℕ) (segments :
     (s : Segment) (p : EndpointPair) → 1 ≤ most → most ≤ 65536
     → is_some (place_of p (after F (none_known ports blocks most []) segments).known) ≡ true
     → place_of p (after F (none_known ports blocks most []) (segments ++ s ∷ [])).known ≡ None
-    → IsForgottenBy (after F (none_known ports blocks most []) segments) s p
+    → IsForgottenBy F (after F (none_known ports blocks most []) segments) s p
 after_gone F ports blocks most segments s p some few k e =
     let w : State = after F (none_known ports blocks most []) segments in
     step_gone F w s p

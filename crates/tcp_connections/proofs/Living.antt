@@ -6,7 +6,7 @@ use Rattle.tcp_flow.specs.declared.flow.CloseCause.{CloseCause}
 use Rattle.tcp_flow.specs.declared.flow.CloseCause.TheVariants.{Fault}
 use Rattle.tcp_waiting.specs.Numbers.{onward, age}
 use Rattle.tcp_waiting.specs.Payload.{Payload, payload, has_as_much}
-use Rattle.tcp_flow.specs.Flow.{Flow, Event, Opens, Begins, Delivers, Closes, OfCapture, Reader, Setting, Arrival, Octets, End, Acknowledged, left, with_event, delivered, begun as flow_begun, taken, header_at, at, closed, holding, gone_on, within_bounds, payload_came, fin_came, gap, fresh, first_payload, step}
+use Rattle.tcp_flow.specs.Flow.{Flow, Event, Opens, Begins, Delivers, Closes, OfCapture, Reader, Setting, Arrival, Octets, End, Acknowledged, left, with_event, delivered, begun as flow_begun, taken, stream_at, at, closed, holding, gone_on, within_bounds, payload_came, fin_came, gap, fresh, first_payload, step}
 use Rattle.tcp_flow.proofs.Preserving.{Keeps, gone_on_keeps, relieved_keeps, missed_keeps, gap_keeps}
 use Rattle.tcp_streams.specs.Lives.{lives, lives_from, behind, begun, without, most_ids, AreIds}
 use Rattle.tcp_streams.proofs.Ids.{none_ids, begun_ids, without_ids, none_left}
@@ -80,19 +80,33 @@ begun_beside id j xs apart =
       | inr e ↦ ap (times j) (cond-false (nat_lt id most_ids) (without id xs ++ id ∷ []) xs e)
     ]
 
--- what a flow of this id has done since: its stream is told where it lives and only there, and
--- those of others stay
-pub record IsTurn (id : ℕ) (es : List Event) (g : Flow) : Type 0 where
+-- a stream that lives is told so often; where `exact`, one that is told lives too
+abbrev pub IsTold : Bool → Bool → ℕ → Type 0
+IsTold true live n = live ≡ nat_lt 0 n
+IsTold false live n = live ≡ true → 0 < n
+
+pub told_on : (exact : Bool) (n : ℕ) → 0 < n → IsTold exact true n
+told_on true n l = sym (lt-ltb 0 n l)
+told_on false n l = λ e. l
+
+pub told_off : (exact : Bool) (n : ℕ) → n ≡ 0 → IsTold exact false n
+told_off true n e = sym (ap (nat_lt 0) e)
+told_off false n e = λ x. absurd (true≢false (sym x))
+
+-- what a flow of this id has done since: its stream is told where it lives, and those of others
+-- stay
+pub record IsTurn (exact : Bool) (id : ℕ) (es : List Event) (g : Flow) : Type 0 where
   pub same : g.id ≡ id
-  pub own : is_some g.live ≡ nat_lt 0 (times id (lives g.events))
+  pub own : IsTold exact (is_some g.live) (times id (lives g.events))
   pub beside : (j : ℕ) → (j ≡ id → ⊥) → times j (lives g.events) ≡ times j (lives es)
 
 either : {X : Type 0} (P : X → Type 0) (b : Bool) (x y : X) → P x → P y → P (cond b x y)
 either P true x y p q = p
 either P false x y p q = q
 
-closing_turn : (id : ℕ) (es : List Event) (g : Flow) (cause : CloseCause) → IsTurn id es g
-    → IsTurn id es (record {
+closing_turn : {exact : Bool} (id : ℕ) (es : List Event) (g : Flow) (cause : CloseCause) →
+    IsTurn exact id es g
+    → IsTurn exact id es (record {
       id = g.id;
       next = g.next;
       live = None;
@@ -101,21 +115,22 @@ closing_turn : (id : ℕ) (es : List Event) (g : Flow) (cause : CloseCause) → 
       events = g.events ++ Closes g.id cause ∷ [];
     })
 unfolding behind
-closing_turn id es g cause t =
+closing_turn {exact} id es g cause t =
     record {
       same = t.same;
-      own = sym (ap (nat_lt 0) (ap (times id) (lives_more [] g.events (Closes g.id cause)
+      own = told_off exact (times id (lives (g.events ++ Closes g.id cause ∷ [])))
+          (ap (times id) (lives_more [] g.events (Closes g.id cause)
           ∙ ap (λ (n : ℕ). without n (lives g.events)) t.same)
-          ∙ times_gone id (lives g.events) (lives_ids g.events).1));
+          ∙ times_gone id (lives g.events) (lives_ids g.events).1);
       beside = λ j n. ap (times j) (lives_more [] g.events (Closes g.id cause))
           ∙ times_without g.id j (lives g.events) (λ o. n (o ∙ t.same)) ∙ t.beside j n;
     }
 
-pub closed_turn : (id : ℕ) (es : List Event) (g : Flow) (cause : CloseCause) → IsTurn id es g →
-    IsTurn id es (closed g cause)
+pub closed_turn : {exact : Bool} (id : ℕ) (es : List Event) (g : Flow) (cause : CloseCause) →
+    IsTurn exact id es g → IsTurn exact id es (closed g cause)
 unfolding closed with_event
-closed_turn id es g cause t =
-    either (IsTurn id es) (is_some g.live)
+closed_turn {exact} id es g cause t =
+    either (IsTurn exact id es) (is_some g.live)
     (record {
       id = g.id;
       next = g.next;
@@ -127,10 +142,11 @@ closed_turn id es g cause t =
     }) g
     (closing_turn id es g cause t) t
 
-delivered_turn : (F : Reader) (id : ℕ) (es : List Event) (g : Flow) (p : Payload) → IsTurn id es g →
-    IsTurn id es (delivered F g p)
+delivered_turn : {exact : Bool} (F : Reader) (id : ℕ) (es : List Event) (g : Flow) (p : Payload) →
+    IsTurn exact id es g →
+    IsTurn exact id es (delivered F g p)
 unfolding delivered with_event behind
-delivered_turn F id es g p t =
+delivered_turn {exact} F id es g p t =
     let more = lives_more [] g.events (Delivers g.id p.octets) in
     let d : Flow = record {
       id = g.id;
@@ -140,13 +156,13 @@ delivered_turn F id es g p t =
       held = g.held;
       events = g.events ++ Delivers g.id p.octets ∷ [];
     } in
-    let u : IsTurn id es d =
+    let u : IsTurn exact id es d =
     record {
       same = t.same;
-      own = t.own ∙ ap (λ (xs : List ℕ). nat_lt 0 (times id xs)) (sym more);
+      own = subst (λ (xs : List ℕ). IsTold exact (is_some g.live) (times id xs)) (sym more) t.own;
       beside = λ j n. ap (times j) more ∙ t.beside j n;
     } in
-    either (IsTurn id es) (F d.events) (record {
+    either (IsTurn exact id es) (F d.events) (record {
       id = d.id;
       next = d.next;
       live = None;
@@ -156,11 +172,11 @@ delivered_turn F id es g p t =
     }) d
     (closing_turn id es d Fault u) u
 
-begun_turn : (F : Reader) (id : ℕ) (es : List Event) (g : Flow) (q : Payload) (r : Option ℕ) →
-    id < most_ids → IsTurn id es g → IsTurn id es (flow_begun F g q r)
+begun_turn : {exact : Bool} (F : Reader) (id : ℕ) (es : List Event) (g : Flow) (q : Payload)
+    (r : Option ℕ) → id < most_ids → IsTurn exact id es g → IsTurn exact id es (flow_begun F g q r)
 unfolding flow_begun with_event behind
-begun_turn F id es g q None l t = t
-begun_turn F id es g q (Some i) l t =
+begun_turn {exact} F id es g q None l t = t
+begun_turn {exact} F id es g q (Some i) l t =
     let n : ℕ = onward q.number i in
     let more = lives_more [] g.events (Begins g.id n) in
     delivered_turn F id es (record {
@@ -174,26 +190,29 @@ begun_turn F id es g q (Some i) l t =
     }) (payload q.flow n (drop i q.octets))
     (record {
       same = t.same;
-      own = sym (ap (λ (xs : List ℕ). nat_lt 0 (times id xs)) (more
-          ∙ ap (λ (k : ℕ). begun k (lives g.events)) t.same)
-          ∙ lt-ltb 0 (times id (begun id (lives g.events))) (begun_own id (lives g.events) l));
+      own = told_on exact (times id (lives (g.events ++ Begins g.id n ∷ [])))
+          (subst (λ (xs : List ℕ). 0 < times id xs)
+          (sym (more ∙ ap (λ (k : ℕ). begun k (lives g.events)) t.same))
+          (begun_own id (lives g.events) l));
       beside = λ j k. ap (times j) more ∙ begun_beside g.id j (lives g.events) (λ o. k (o ∙ t.same))
           ∙ t.beside j k;
     })
 
-taken_turn : (F : Reader) (id : ℕ) (es : List Event) (g : Flow) (p : Payload) → id < most_ids →
-    IsTurn id es g → IsTurn id es (taken F g p)
+taken_turn : {exact : Bool} (F : Reader) (id : ℕ) (es : List Event) (g : Flow) (p : Payload) →
+    id < most_ids →
+    IsTurn exact id es g → IsTurn exact id es (taken F g p)
 unfolding taken
-taken_turn F id es g p l t =
+taken_turn {exact} F id es g p l t =
     let q : Payload = left g.next (is_some g.live) p in
     let d : Flow = delivered F g q in
-    let b : Flow = flow_begun F g q (header_at q.octets) in
-    either (IsTurn id es) (nat_eq (length q.octets) 0) g (cond (is_some g.live) d b) t
-    (either (IsTurn id es) (is_some g.live) d b (delivered_turn F id es g q t)
-    (begun_turn F id es g q (header_at q.octets) l t))
+    let b : Flow = flow_begun F g q (stream_at q.octets) in
+    either (IsTurn exact id es) (nat_eq (length q.octets) 0) g (cond (is_some g.live) d b) t
+    (either (IsTurn exact id es) (is_some g.live) d b (delivered_turn F id es g q t)
+    (begun_turn F id es g q (stream_at q.octets) l t))
 
-pub turn_keeps : (F : Reader) (id : ℕ) (es : List Event) → id < most_ids → Keeps F (IsTurn id es)
-turn_keeps F id es l =
+pub turn_keeps : {exact : Bool} (F : Reader) (id : ℕ) (es : List Event) → id < most_ids →
+    Keeps F (IsTurn exact id es)
+turn_keeps {exact} F id es l =
     record {
       takes = λ f i e d t. taken_turn F id es (record f { held = remove f.held i }) (at f i) l
           (record { same = t.same; own = t.own; beside = t.beside });
@@ -201,51 +220,54 @@ turn_keeps F id es l =
       fins = λ f n t. record { same = t.same; own = t.own; beside = t.beside };
     }
 
-came_turn : (A : Setting) (id : ℕ) (es : List Event) (f : Flow) (p : Payload) → id < most_ids →
-    IsTurn id es f → IsTurn id es (payload_came A f p)
+came_turn : {exact : Bool} (A : Setting) (id : ℕ) (es : List Event) (f : Flow) (p : Payload) →
+    id < most_ids →
+    IsTurn exact id es f → IsTurn exact id es (payload_came A f p)
 unfolding payload_came holding
-came_turn A id es f p l t =
+came_turn {exact} A id es f p l t =
     let q : Payload = left f.next (is_some f.live) p in
-    let k : Keeps A.faulted (IsTurn id es) = turn_keeps A.faulted id es l in
+    let k : Keeps A.faulted (IsTurn exact id es) = turn_keeps A.faulted id es l in
     let h : Flow = record f { held = f.held ++ q ∷ [] } in
-    either (IsTurn id es) (nat_eq (length q.octets) 0
+    either (IsTurn exact id es) (nat_eq (length q.octets) 0
     || has_as_much f.id q.number (length q.octets) f.held) f
     (within_bounds A (length f.held + 1) (gone_on A.faulted h)) t
-    (relieved_keeps A (IsTurn id es) k (length f.held + 1) (gone_on A.faulted h)
-    (gone_on_keeps A.faulted (IsTurn id es) k h
+    (relieved_keeps A (IsTurn exact id es) k (length f.held + 1) (gone_on A.faulted h)
+    (gone_on_keeps A.faulted (IsTurn exact id es) k h
     (record { same = t.same; own = t.own; beside = t.beside })))
 
-fin_turn : (F : Reader) (id : ℕ) (es : List Event) (f : Flow) (n : ℕ) → id < most_ids →
-    IsTurn id es f → IsTurn id es (fin_came F f n)
+fin_turn : {exact : Bool} (F : Reader) (id : ℕ) (es : List Event) (f : Flow) (n : ℕ) →
+    id < most_ids →
+    IsTurn exact id es f → IsTurn exact id es (fin_came F f n)
 unfolding fin_came
-fin_turn F id es f n l t =
-    let k : Keeps F (IsTurn id es) = turn_keeps F id es l in
-    either (IsTurn id es) (is_some f.live && nat_eq (age f.next n) 0)
+fin_turn {exact} F id es f n l t =
+    let k : Keeps F (IsTurn exact id es) = turn_keeps F id es l in
+    either (IsTurn exact id es) (is_some f.live && nat_eq (age f.next n) 0)
     (gone_on F (record f { fin = Some n })) f
-    (gone_on_keeps F (IsTurn id es) k (record f { fin = Some n })
+    (gone_on_keeps F (IsTurn exact id es) k (record f { fin = Some n })
     (record { same = t.same; own = t.own; beside = t.beside })) t
 
-pub step_turn : (A : Setting) (id : ℕ) (es : List Event) (f : Flow) (a : Arrival) → id < most_ids →
-    IsTurn id es f → IsTurn id es (step A f a)
+pub step_turn : {exact : Bool} (A : Setting) (id : ℕ) (es : List Event) (f : Flow) (a : Arrival) →
+    id < most_ids →
+    IsTurn exact id es f → IsTurn exact id es (step A f a)
 unfolding step
-step_turn A id es f (Octets n octets) l t = came_turn A id es f (payload f.id n octets) l t
-step_turn A id es f (End n) l t = fin_turn A.faulted id es f n l t
-step_turn A id es f (Acknowledged n) l t =
-    missed_keeps A.faulted (IsTurn id es) (turn_keeps A.faulted id es l) (length f.held) n f t
+step_turn {exact} A id es f (Octets n octets) l t = came_turn A id es f (payload f.id n octets) l t
+step_turn {exact} A id es f (End n) l t = fin_turn A.faulted id es f n l t
+step_turn {exact} A id es f (Acknowledged n) l t =
+    missed_keeps A.faulted (IsTurn exact id es) (turn_keeps A.faulted id es l) (length f.held) n f t
 
-pub gap_turn : (F : Reader) (id : ℕ) (es : List Event) (f : Flow) → id < most_ids → IsTurn id es f →
-    IsTurn id es (gap F f)
-gap_turn F id es f l t = gap_keeps F (IsTurn id es) (turn_keeps F id es l) f t
+pub gap_turn : {exact : Bool} (F : Reader) (id : ℕ) (es : List Event) (f : Flow) →
+    id < most_ids → IsTurn exact id es f →
+    IsTurn exact id es (gap F f)
+gap_turn {exact} F id es f l t = gap_keeps F (IsTurn exact id es) (turn_keeps F id es l) f t
 
 pub first_turn : (A : Setting) (id n : ℕ) (octets : List ℕ) (held : List Payload)
-    (es : List Event) → id < most_ids → false ≡ nat_lt 0 (times id (lives es)) →
-    IsTurn id es (first_payload A id n octets held es)
+    (es : List Event) → id < most_ids → IsTurn false id es (first_payload A id n octets held es)
 unfolding first_payload
-first_turn A id n octets held es l none =
+first_turn A id n octets held es l =
     came_turn A id es (fresh id n held es) (payload id n octets) l
-    (record { same = refl; own = none; beside = λ j k. refl })
+    (record { same = refl; own = λ e. absurd (true≢false (sym e)); beside = λ j k. refl })
 
 -- what a flow has done so far is nothing yet
-pub no_turn : (id : ℕ) (f : Flow) → f.id ≡ id →
-    is_some f.live ≡ nat_lt 0 (times id (lives f.events)) → IsTurn id f.events f
-no_turn id f same own = record { same = same; own = own; beside = λ j n. refl }
+pub no_turn : {exact : Bool} (id : ℕ) (f : Flow) → f.id ≡ id →
+    IsTold exact (is_some f.live) (times id (lives f.events)) → IsTurn exact id f.events f
+no_turn {exact} id f same own = record { same = same; own = own; beside = λ j n. refl }

@@ -10,7 +10,7 @@ use Rattle.tcp_flow.specs.declared.flow.CloseCause.TheVariants.{Fault}
 use Rattle.tcp_waiting.specs.Numbers.{onward, age, is_to_come}
 use Rattle.tcp_waiting.specs.Payload.{Payload, payload, window, has_as_much}
 use Rattle.tcp_waiting.proofs.Firsts.{first_within, first_own}
-use Rattle.tcp_flow.specs.Flow.{Flow, Event, Begins, Delivers, Closes, Reader, Setting, Arrival, Octets, End, Acknowledged, left, with_event, delivered, begun as flow_begun, taken, header_at, first_of, is_due, at, closed, holding, gone_on, within_bounds, payload_came, fin_came, gap, step}
+use Rattle.tcp_flow.specs.Flow.{Flow, Event, Begins, Delivers, Closes, Reader, Setting, Arrival, Octets, End, Acknowledged, left, with_event, delivered, begun as flow_begun, taken, stream_at, first_of, is_due, at, closed, holding, gone_on, within_bounds, payload_came, fin_came, gap, step}
 use Rattle.tcp_flow.proofs.Preserving.{Keeps, gone_on_keeps, relieved_keeps, missed_keeps, gap_keeps}
 use Rattle.tcp_flow.proofs.Truth.{reached}
 use Rattle.tcp_connections.specs.Owned.{IsPartOf, Standing, Unopened, Idle, Live, is_of, behind, MayCome, standing, AllMayCome}
@@ -258,7 +258,7 @@ module _ (segments : List Segment) (owners : ℕ → Option Endpoints) (id : ℕ
       let has : IsPartOf segments o q.number q.octets =
       part_left segments o f.next (is_some f.live) p part in
       let d : Flow = delivered F f q in
-      let b : Flow = flow_begun F f q (header_at q.octets) in
+      let b : Flow = flow_begun F f q (stream_at q.octets) in
       let all : IsOwn segments owners id o (cond (is_some f.live) d b) =
       elim (cases_Bool (is_some f.live)) [
         | inl e ↦
@@ -267,7 +267,7 @@ module _ (segments : List Segment) (owners : ℕ → Option Endpoints) (id : ℕ
             (delivered_own F f q f.next t.same t.held (live_stands f e t)
             (subst (λ (n : ℕ). IsPartOf segments o n q.octets) due has) due e))
         | inr e ↦ subst (IsOwn segments owners id o) (sym (cond-false (is_some f.live) d b e))
-            (begun_own F f q (header_at q.octets) t e has)
+            (begun_own F f q (stream_at q.octets) t e has)
       ] in
       either (IsOwn segments owners id o) (nat_eq (length q.octets) 0) f (cond (is_some f.live) d b)
       t all

@@ -21,7 +21,7 @@ use Rattle.tcp_streams.specs.declared.pair.Side.{Side}
 use Rattle.tcp_streams.specs.declared.pair.Side.TheVariants.{FromLesser, FromGreater}
 use Rattle.tcp_streams.specs.Lives.{lives, elder_side}
 use Rattle.tcp_streams.specs.Pairs.{opposite, flow_id, flow_from}
-use Rattle.tcp_connections.specs.Connections.{State, flow_at, arrived, began, flow_forgotten, place_of, room_at, forgotten, eldest, with_room, next_room, rest_of_rooms, made_known, first_number, number_behind, is_first, fin_taken, acknowledgement_taken, payload_taken, reset_taken}
+use Rattle.tcp_connections.specs.Connections.{State, flow_at, arrived, began, flow_forgotten, place_of, room_at, forgotten, eldest, with_room, next_room, rest_of_rooms, made_known, first_number, number_behind, is_first, fin_taken, acknowledgement_taken, payload_taken, is_reset, flow_of_side, reset_taken}
 use Rattle.tcp_connections.specs.Gapless.{IsOfSegment}
 use Rattle.tcp_connections.specs.Owned.{IsPartOf}
 use Rattle.tcp_connections.specs.State.{IsSound, times}
@@ -301,7 +301,8 @@ forgotten_at segments w place side cause l h =
 pub reset_at : (segments : List Segment) (w : State) (place : ℕ) (side : Side) (s : Segment) →
     place < length w.known → At segments w → At segments (reset_taken w place side s)
 unfolding reset_taken
-reset_at segments w place side s l h = either (At segments) s.reset (forgotten w place side Reset) w
+reset_at segments w place side s l h =
+    either (At segments) (is_reset (flow_of_side w place side) s) (forgotten w place side Reset) w
     (forgotten_at segments w place side Reset l h) h
 
 pub with_room_at : (segments : List Segment) (w : State) → At segments w → At segments (with_room w)
@@ -366,8 +367,8 @@ made_at segments w p l new h =
     let lasts : List ℕ = set w.lasts room w.segments in
     let none = h.sound.freed room (next_free w h.sound l) in
     record {
-      sound = known_sound w p (rest_of_rooms w.free) room lasts (opened room p w.events) h.sound had
-          new (length-set w.lasts room w.segments);
+      sound = known_sound w p (rest_of_rooms w.free) room lasts (set w.syns room None)
+          (opened room p w.events) h.sound had new (length-set w.lasts room w.segments);
       payloads = h.payloads;
       came = h.came;
       follow =

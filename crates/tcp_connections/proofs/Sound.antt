@@ -12,6 +12,7 @@ use Rattle.tcp_flow.proofs.Others.{settled_beside, others_blocks, others_twice}
 use Rattle.tcp_streams.specs.declared.pair.EndpointPair.{EndpointPair}
 use Rattle.tcp_streams.specs.Pairs.{compare_pairs}
 use Rattle.tcp_connections.specs.Connections.{State, flow_at, flow_state, with_flow, place_of, place_among}
+use Rattle.tcp_connections.specs.declared.syns.KeptSyn.{KeptSyn}
 use Rattle.tcp_connections.specs.State.{IsSound, times}
 use Rattle.tcp_connections.proofs.Search.{sorted_insert, sorted_remove}
 use Rattle.tcp_connections.proofs.Times.{times_insert, times_remove, times_last, times_at}
@@ -192,11 +193,11 @@ forgot_sound w id events h l =
           ];
     }
 
--- what has happened, when, and how many segments came, is no part of it
-pub sound_seen : (w : State) (lasts : List ℕ) (segments : ℕ) (events : List Event) →
-    length lasts ≡ length w.lasts → IsSound w →
-    IsSound (record w { lasts = lasts; segments = segments; events = events })
-sound_seen w lasts segments events e h =
+-- what has happened, when, which SYN is kept, and how many segments came, is no part of it
+pub sound_seen : (w : State) (lasts : List ℕ) (syns : List (Option KeptSyn)) (segments : ℕ)
+    (events : List Event) → length lasts ≡ length w.lasts → IsSound w →
+    IsSound (record w { lasts = lasts; syns = syns; segments = segments; events = events })
+sound_seen w lasts syns segments events e h =
     record {
       some = rw e h.some;
       most = rw e h.most;
@@ -227,7 +228,8 @@ among_most p (x ∷ xs) = most_by (is_lt (compare_pairs x p)) (place_among p xs)
 
 -- a connection is known from now on, in the room that was free
 pub known_sound : (w : State) (p : EndpointPair) (rest : List ℕ) (room : ℕ) (lasts : List ℕ)
-    (events : List Event) → IsSound w → w.free ≡ rest ++ room ∷ [] → place_of p w.known ≡ None →
+    (syns : List (Option KeptSyn)) (events : List Event) → IsSound w →
+    w.free ≡ rest ++ room ∷ [] → place_of p w.known ≡ None →
     length lasts ≡ length w.lasts
     → IsSound (record w {
       known = insert w.known (place_among p w.known) p;
@@ -235,9 +237,10 @@ pub known_sound : (w : State) (p : EndpointPair) (rest : List ℕ) (room : ℕ) 
           insert w.rooms (place_among p w.known) room;
       free = rest;
       lasts = lasts;
+      syns = syns;
       events = events;
     })
-known_sound w p rest room lasts events h free new e =
+known_sound w p rest room lasts syns events h free new e =
     let place : ℕ = place_among p w.known in
     let most : place ≤ length w.known = among_most p w.known in
     let pairs : length (insert w.known place p) ≡ length w.known + 1 =

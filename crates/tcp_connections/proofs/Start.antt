@@ -7,6 +7,7 @@ use Rattle.tcp_flow.specs.declared.flow.FlowState.{FlowState}
 use Rattle.tcp_flow.specs.Flow.{Event}
 use Rattle.tcp_rooms.specs.Rooms.{rooms_below}
 use Rattle.tcp_streams.specs.declared.pair.EndpointPair.{EndpointPair}
+use Rattle.tcp_connections.specs.declared.syns.KeptSyn.{KeptSyn}
 use Rattle.tcp_connections.specs.Connections.{none_known}
 use Rattle.tcp_connections.specs.State.{IsSound, times}
 use Rattle.tcp_connections.proofs.Sound.{some_none}
@@ -37,10 +38,11 @@ none_sound ports blocks most events some few =
     }
 
 pub start_sound : (ports : List ℕ) (blocks most segments : ℕ) (known : List EndpointPair)
-    (rooms free lasts : List ℕ) (flows : List (Option FlowState)) (held : List Payload)
-    (events : List Event)
+    (rooms free lasts : List ℕ) (syns : List (Option KeptSyn)) (flows : List (Option FlowState))
+    (held : List Payload) (events : List Event)
     → known ≡ [] → rooms ≡ [] → free ≡ rooms_below most → lasts ≡ replicate most 0 →
-    flows ≡ replicate (2 * most) None → held ≡ [] → segments ≡ 0 → 1 ≤ most → most ≤ 65536
+    syns ≡ replicate most None → flows ≡ replicate (2 * most) None → held ≡ [] → segments ≡ 0 →
+    1 ≤ most → most ≤ 65536
     → IsSound (record {
       ports = ports;
       blocks = blocks;
@@ -48,10 +50,11 @@ pub start_sound : (ports : List ℕ) (blocks most segments : ℕ) (known : List 
       rooms = rooms;
       free = free;
       lasts = lasts;
+      syns = syns;
       flows = flows;
       held = held;
       events = events;
       segments = segments;
     })
-start_sound ports blocks most segments known rooms free lasts flows held events k r f l w h s some
-    few = rw (k, r, f, l, w, h, s) (none_sound ports blocks most events some few)
+start_sound ports blocks most segments known rooms free lasts syns flows held events k r f l y w h s
+    some few = rw (k, r, f, l, y, w, h, s) (none_sound ports blocks most events some few)

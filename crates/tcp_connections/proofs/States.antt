@@ -1,5 +1,5 @@
 -- The code has a state: what a step of one flow, and each other change, leaves.
-use Rattle.std.proofs.Common.{◌≡◌, ℕ, zero, suc, false, cond, nat_lt, ◌+◌, ◌*◌, ◌<◌, ◌≤◌, List, [], ◌∷◌, ◌++◌, length, set, get_or, Option, Some, None, is_some, refl, sym, ◌∙◌, ap, subst, arith, inl, inr, get_or-set_same, get_or-set_other}
+use Rattle.std.proofs.Common.{◌≡◌, ℕ, zero, suc, Bool, true, false, cond, ◌+◌, ◌*◌, ◌<◌, ◌≤◌, List, [], ◌∷◌, ◌++◌, length, set, get_or, Option, Some, None, is_some, refl, sym, ◌∙◌, ap, subst, arith, inl, inr, true≢false, get_or-set_same, get_or-set_other}
 use Rattle.std.proofs.lemmas.Bool.{cases_eq}
 use Rattle.std.proofs.lemmas.List.{length-replicate}
 use Rattle.std.specs.List.{remove}
@@ -13,11 +13,11 @@ use Rattle.tcp_flow.specs.Laws.{IsSettled}
 use Rattle.tcp_flow.specs.State.{state, IsState as IsFlow}
 use Rattle.tcp_connections.specs.declared.connections.Connections.{Connections}
 use Rattle.tcp_streams.specs.declared.pair.Side.{Side}
-use Rattle.tcp_streams.specs.Lives.{lives, lives_from, behind, most_ids}
+use Rattle.tcp_streams.specs.Lives.{lives, behind, most_ids}
 use Rattle.tcp_streams.proofs.Order.{lives_more}
 use Rattle.tcp_connections.specs.Connections.{State, none_known, flow_at, live_at, live_of, with_flow, with_capture_event, room_at, flow_forgotten, forgotten, goes_before, eldest}
 use Rattle.tcp_connections.specs.State.{IsSound, IsState, IsAt, state_of, times}
-use Rattle.tcp_connections.proofs.Living.{IsTurn, no_turn}
+use Rattle.tcp_connections.proofs.Living.{IsTold, IsTurn, no_turn}
 use Rattle.tcp_connections.proofs.Forgotten.{both_forgotten, forgotten_sound}
 use Rattle.tcp_connections.proofs.Times.{none_there}
 use Rattle.tcp_connections.proofs.Sound.{IsApart, with_flow_sound, forgot_sound, sound_seen}
@@ -31,8 +31,8 @@ by_state P O live c w h k =
       observed = h.observed;
       live = h.live;
       same = refl;
-      told = subst (λ (v : State). (id : ℕ) →
-          is_some (live_at v id) ≡ nat_lt 0 (times id (lives v.events))) (sym h.same) h.told;
+      told = subst (λ (v : State). (id : ℕ) → is_some (live_at v id) ≡ true →
+          0 < times id (lives v.events)) (sym h.same) h.told;
       sound = subst IsSound (sym h.same) h.sound;
       free = h.free ∙ sym (ap (λ (v : State). length v.lasts) h.same);
       room = h.room ∙ sym (ap (λ (v : State). length v.lasts) h.same);
@@ -53,8 +53,8 @@ segments_of (Err x) O live c w n e h = tt
 -- no event is part of what is so of a state
 pub sound_any : (c : Connections) (es fs : List Event) → IsSound (state_of c es) →
     IsSound (state_of c fs)
-sound_any c es fs h = sound_seen (state_of c es) (state_of c es).lasts (state_of c es).segments fs
-    refl h
+sound_any c es fs h = sound_seen (state_of c es) (state_of c es).lasts (state_of c es).syns
+    (state_of c es).segments fs refl h
 
 -- what is no flow's
 abbrev pub rest_of : Connections → List Event → State
@@ -98,42 +98,38 @@ beside_own id own held held' e h = subst (λ (n : ℕ). held_by_others n held' �
     e h
 
 -- the streams that live are told, where a flow is another, and so is what has happened
-pub told_flow : (w : State) (id : ℕ) (o : Option FlowState) (events : List Event) →
-    ((j : ℕ) → is_some (live_at w j) ≡ nat_lt 0 (times j (lives w.events))) → id < length w.flows
-    → is_some (live_of o) ≡ nat_lt 0 (times id (lives events)) →
+pub told_flow : (exact : Bool) (w : State) (id : ℕ) (o : Option FlowState) (events : List Event) →
+    ((j : ℕ) → IsTold exact (is_some (live_at w j)) (times j (lives w.events)))
+    → id < length w.flows → IsTold exact (is_some (live_of o)) (times id (lives events)) →
     ((j : ℕ) → (j ≡ id → ⊥) → times j (lives events) ≡ times j (lives w.events))
-    → (j : ℕ) → is_some (live_of (get_or (set w.flows id o) j None))
-    ≡ nat_lt 0 (times j (lives events))
-told_flow w id o events told l own beside j =
+    → (j : ℕ) → IsTold exact (is_some (live_of (get_or (set w.flows id o) j None)))
+    (times j (lives events))
+told_flow exact w id o events told l own beside j =
     elim (cases_eq j id) [
       | inl y ↦
           (let at : get_or (set w.flows id o) j None ≡ o =
           ap (λ (k : ℕ). get_or (set w.flows id o) k None) y
           ∙ get_or-set_same w.flows id o None l in
-          ap (λ (p : Option FlowState). is_some (live_of p)) at ∙ own
-          ∙ ap (λ (k : ℕ). nat_lt 0 (times k (lives events))) (sym y))
+          subst (λ (p : Option FlowState). IsTold exact (is_some (live_of p))
+          (times j (lives events))) (sym at)
+          (subst (λ (k : ℕ). IsTold exact (is_some (live_of o)) (times k (lives events))) (sym y)
+          own))
       | inr n ↦
           (let at : get_or (set w.flows id o) j None ≡ flow_at w j =
           get_or-set_other w.flows id j o None n in
-          ap (λ (p : Option FlowState). is_some (live_of p)) at ∙ told j
-          ∙ ap (nat_lt 0) (sym (beside j n)))
+          subst (λ (p : Option FlowState). IsTold exact (is_some (live_of p))
+          (times j (lives events))) (sym at)
+          (subst (λ (n : ℕ). IsTold exact (is_some (live_at w j)) n) (sym (beside j n)) (told j)))
     ]
 
 -- a flow that the code has, before it does anything
 pub turn_start : (O : List Event → Type 0) (live : List ℕ) (c : Connections) (es : List Event)
     (id : ℕ) (s : FlowState) → IsState O live c (state_of c es) →
     flow_at (state_of c es) id ≡ Some s
-    → IsTurn id es (state s c.pool.held es)
+    → IsTurn false id es (state s c.pool.held es)
 unfolding live_of
 turn_start O live c es id s h e = no_turn id (state s c.pool.held es) (h.sound.ids id s e)
-    (sym (ap (λ (o : Option FlowState). is_some (live_of o)) e) ∙ h.told id)
-
--- of a flow that hasn't begun none lives
-pub none_told : (w : State) (id : ℕ) → flow_at w id ≡ None
-    → is_some (live_at w id) ≡ nat_lt 0 (times id (lives w.events)) →
-    false ≡ nat_lt 0 (times id (lives w.events))
-unfolding live_of
-none_told w id e told = sym (ap (λ (o : Option FlowState). is_some (live_of o)) e) ∙ told
+    (λ l. h.told id (ap (λ (o : Option FlowState). is_some (live_of o)) e ∙ l))
 
 pub small_id : (w : State) (id : ℕ) → IsSound w → id < length w.flows → id < most_ids
 small_id w id h l = omega (arith, h.flows, h.most, l)
@@ -145,7 +141,7 @@ pub flow_done : (O O' : List Event → Type 0) (live live' : List ℕ) (c c' : C
     → IsFlow (λ e. O' e × (live' ≡ lives e)) s' c'.pool.held f
     → s'.id ≡ id → held_by_others id c'.pool.held ≡ held_by_others id c.pool.held →
     blocks_of c'.pool.held ≤ c.pool.blocks → IsSettled (state s' c'.pool.held []) →
-    IsApart (state_of c es) id → IsTurn id es f
+    IsApart (state_of c es) id → IsTurn false id es f
     → ((e : List Event) → rest_of c' e ≡ rest_of c e) →
     c'.flows.items ≡ set c.flows.items id (Some s') → c'.pool.blocks ≡ c.pool.blocks
     → c'.free.most ≡ c.free.most → c'.table.most ≡ c.table.most
@@ -159,8 +155,8 @@ flow_done O O' live live' c c' es id s' f h l n own beside blocks settled apart 
       live = n.observed.1;
       same = changed c c' f.events rest (set c.flows.items id (Some s')) c'.pool.held flows pool
           refl;
-      told = told_flow (state_of c es) id (Some s') f.events h.told l
-          (ap (λ (g : Flow). is_some g.live) n.same ∙ turn.own) turn.beside;
+      told = told_flow false (state_of c es) id (Some s') f.events h.told l
+          (λ e. turn.own (sym (ap (λ (g : Flow). is_some g.live) n.same) ∙ e)) turn.beside;
       sound = with_flow_sound (state_of c es) id (state s' c'.pool.held f.events) h.sound l own
           beside blocks settled apart;
       free = free ∙ h.free;
@@ -172,7 +168,7 @@ pub forgot_done : (O O' : List Event → Type 0) (live live' : List ℕ) (c c' :
     (es : List Event) (id : ℕ) (s' : FlowState) (f : Flow)
     → IsState O live c (state_of c es) → id < length c.flows.items
     → IsFlow (λ e. O' e × (live' ≡ lives e)) s' c.pool.held f
-    → IsTurn id es f → is_some f.live ≡ false
+    → IsTurn false id es f
     → ((e : List Event) → rest_of c' e ≡ rest_of c e) → c'.flows.items ≡ set c.flows.items id None →
     c'.pool.blocks ≡ c.pool.blocks → c'.pool.held ≡ held_by_others id c.pool.held
     → c'.free.most ≡ c.free.most → c'.table.most ≡ c.table.most
@@ -183,13 +179,14 @@ pub forgot_done : (O O' : List Event → Type 0) (live live' : List ℕ) (c c' :
       events = f.events;
     })
 unfolding live_of
-forgot_done O O' live live' c c' es id s' f h l n turn dead rest flows pool held free room =
+forgot_done O O' live live' c c' es id s' f h l n turn rest flows pool held free room =
     record {
       observed = n.observed.0;
       live = n.observed.1;
       same = changed c c' f.events rest (set c.flows.items id None) (held_by_others id c.pool.held)
           flows pool held;
-      told = told_flow (state_of c es) id None f.events h.told l (sym dead ∙ turn.own)
+      told = told_flow false (state_of c es) id None f.events h.told l (λ e. absurd (true≢false
+          (sym e)))
           turn.beside;
       sound = forgot_sound (state_of c es) id f.events h.sound l;
       free = free ∙ h.free;
@@ -301,41 +298,27 @@ close_done O' live' c c' es id s' f n rest flows pool held =
 
 -- ---- No connection is known so far.
 
--- no stream lives behind these events, nor is one held
-abbrev NoneLives : List ℕ → List Event → Type 0
-NoneLives live [] = live ≡ []
-NoneLives live (e ∷ es) = (live ≡ []) × (lives (e ∷ es) ≡ [])
-
-none_lives : (live : List ℕ) (events : List Event) → NoneLives live events →
-    (live ≡ []) × (lives events ≡ [])
-unfolding lives_from
-none_lives live [] h = (h, refl)
-none_lives live (e ∷ es) h = h
-
-none_live : (ports : List ℕ) (blocks most : ℕ) (events : List Event) (id : ℕ) → lives events ≡ []
-    → is_some (live_at (none_known ports blocks most events) id)
-    ≡ nat_lt 0 (times id (lives events))
-unfolding live_of times
+none_live : (ports : List ℕ) (blocks most : ℕ) (events : List Event) (id : ℕ) →
+    is_some (live_at (none_known ports blocks most events) id) ≡ true → 0 < times id (lives events)
+unfolding live_of
 none_live ports blocks most events id e =
-    ap (λ (o : Option FlowState). is_some (live_of o)) (none_there (2 * most) id)
-    ∙ sym (ap (λ (xs : List ℕ). nat_lt 0 (times id xs)) e)
+    absurd (true≢false (sym e ∙ ap (λ (o : Option FlowState). is_some (live_of o))
+    (none_there (2 * most) id)))
 
 -- what `new` makes, beside a listener that has observed these events
 pub starts : (O : List Event → Type 0) (live : List ℕ) (c : Connections) (ports : List ℕ)
-    (blocks most : ℕ) (events : List Event) → O events → NoneLives live events
+    (blocks most : ℕ) (events : List Event) → O events → live ≡ lives events
     → state_of c events ≡ none_known ports blocks most events → IsSound (state_of c []) →
     c.free.most ≡ most → c.table.most ≡ most → IsState O live c (state_of c events)
 starts O live c ports blocks most events o lived same sound free room =
     let many : length (state_of c events).lasts ≡ most =
     ap (λ (w : State). length w.lasts) same ∙ length-replicate most 0 in
-    let none = none_lives live events lived in
     record {
       observed = o;
-      live = none.0 ∙ sym none.1;
+      live = lived;
       same = refl;
-      told = subst (λ (w : State). (id : ℕ) →
-          is_some (live_at w id) ≡ nat_lt 0 (times id (lives w.events))) (sym same)
-          (λ id. none_live ports blocks most events id none.1);
+      told = subst (λ (w : State). (id : ℕ) → is_some (live_at w id) ≡ true →
+          0 < times id (lives w.events)) (sym same) (none_live ports blocks most events);
       sound = sound_any c [] events sound;
       free = free ∙ sym many;
       room = room ∙ sym many;
@@ -355,8 +338,8 @@ told_capture O O' live c w event h o =
       observed = o;
       live = h.live ∙ sym (lives_more [] w.events (OfCapture event));
       same = same;
-      told = λ id. h.told id ∙ ap (λ (xs : List ℕ). nat_lt 0 (times id xs))
-          (sym (lives_more [] w.events (OfCapture event)));
+      told = λ id e. subst (λ (xs : List ℕ). 0 < times id xs)
+          (sym (lives_more [] w.events (OfCapture event))) (h.told id e);
       sound = subst IsSound same (sound_any c w.events events (subst IsSound (sym h.same) h.sound));
       free = h.free;
       room = h.room;

@@ -11,8 +11,9 @@ use Rattle.tcp_waiting.specs.Payload.{Payload, first}
 use Rattle.tcp_flow.specs.declared.flow.CloseCause.{CloseCause}
 use Rattle.tcp_flow.specs.declared.flow.CloseCause.TheVariants.{Reset, Syn, Room, Gap, End as CaptureEnd}
 use Rattle.tcp_flow.specs.declared.flow.FlowState.{FlowState}
-use Rattle.tcp_flow.specs.Flow.{Flow, Event, CaptureEvent, Opens, OfCapture, Reader, Arrival, Octets, End, Acknowledged, setting, header_at, closed, gap, step as flow_step, first_payload, held_by_others}
+use Rattle.tcp_flow.specs.Flow.{Flow, Event, CaptureEvent, Opens, OfCapture, Reader, Arrival, Octets, End, Acknowledged, setting, is_near, stream_at, closed, gap, step as flow_step, first_payload, held_by_others}
 use Rattle.tcp_flow.specs.State.{state}
+use Rattle.tcp_connections.specs.declared.syns.KeptSyn.{KeptSyn}
 use Rattle.tcp_rooms.specs.Rooms.{rooms_below}
 use Rattle.tcp_streams.specs.declared.pair.EndpointPair.{EndpointPair}
 use Rattle.tcp_streams.specs.declared.pair.Side.{Side}
@@ -22,8 +23,8 @@ use Rattle.tcp_streams.specs.Lives.{lives, elder_side}
 
 -- the ports that are chosen and the blocks of the pool; the pairs that are known, in their order,
 -- and the room of each; the rooms that are free, the next one last; of each room the number of its
--- last segment; of each id the flow, from its first stream on; what is held, what has happened, and
--- how many segments came
+-- last segment, and the SYN that is kept; of each id the flow, from its first stream on; what is
+-- held, what has happened, and how many segments came
 pub record State : Type 0 where
   pub ports : List ℕ
   pub blocks : ℕ
@@ -31,6 +32,7 @@ pub record State : Type 0 where
   pub rooms : List ℕ
   pub free : List ℕ
   pub lasts : List ℕ
+  pub syns : List (Option KeptSyn)
   pub flows : List (Option FlowState)
   pub held : List Payload
   pub events : List Event
@@ -45,6 +47,7 @@ none_known ports blocks most events = record {
   rooms = [];
   free = rooms_below most;
   lasts = replicate most 0;
+  syns = replicate most None;
   flows = replicate (2 * most) None;
   held = [];
   events = events;
@@ -192,6 +195,7 @@ made_known w p =
       rooms = insert w.rooms place room;
       free = rest_of_rooms w.free;
       lasts = set w.lasts room w.segments;
+      syns = set w.syns room None;
       events = (w.events ++ Opens (flow_id room FromLesser) (flow_from p FromLesser) ∷ [])
           ++ Opens (flow_id room FromGreater) (flow_from p FromGreater) ∷ [];
     }
@@ -214,13 +218,57 @@ is_chosen ports flow =
 
 -- whether a segment's payload may begin the first stream of its flow
 abbrev pub is_first : List ℕ → Segment → Bool
-is_first ports s = not s.reset && is_chosen ports s.flow && is_some (header_at s.payload)
+is_first ports s = not s.reset && is_chosen ports s.flow && is_some (stream_at s.payload)
 
--- whether a segment begins its connection anew: a SYN without ACK, but not that of the live stream
-abbrev pub is_anew : Option ℕ → Segment → Bool
-is_anew live s =
-    s.syn && not (is_some s.acknowledgement)
-    && not (elim live [ None ↦ false | Some number ↦ nat_eq number (onward s.sequence 1) ])
+-- ---- A SYN of a known connection.
+
+-- whether a number is near the one that is due in a flow, of which something began
+unfoldable pub is_near_due : Option FlowState → ℕ → Bool
+is_near_due None number = false
+is_near_due (Some f) number = is_near f.next number
+
+-- whether a number is the flow's own: near the one that is due, or its live stream's first
+abbrev pub is_own : Option FlowState → ℕ → Bool
+is_own flow number =
+    is_near_due flow number
+    || elim (live_of flow) [ None ↦ false | Some first ↦ nat_eq first number ]
+
+-- whether a segment of a flow is a SYN that is kept: it has no ACK, and the number behind it isn't
+-- the flow's own
+abbrev pub is_kept : Option FlowState → Segment → Bool
+is_kept flow s =
+    s.syn && not (is_some s.acknowledgement) && not (is_own flow (onward s.sequence 1))
+
+-- it is kept, in place of an older one, and the segment does nothing more
+unfoldable pub syn_kept : State → ℕ → ℕ → Segment → State
+syn_kept w room id s =
+    record w {
+      lasts = set w.lasts room w.segments;
+      syns = set w.syns room (Some (record { flow = id; number = onward s.sequence 1 }));
+    }
+
+-- the SYN that a room's connection keeps
+abbrev pub syn_at : State → ℕ → Option KeptSyn
+syn_at w room = get_or w.syns room None
+
+-- whether a segment of an id answers a SYN: SYN and ACK of the opposite flow, which acknowledges it
+abbrev pub is_answer : KeptSyn → ℕ → Segment → Bool
+is_answer k id s =
+    not (nat_eq k.flow id) && s.syn
+    && elim s.acknowledgement [ None ↦ false | Some number ↦ nat_eq number k.number ]
+
+-- whether it follows it: the payload behind it, in its flow
+abbrev pub is_following : KeptSyn → ℕ → Segment → Bool
+is_following k id s =
+    nat_eq k.flow id && nat_eq s.sequence k.number && nat_lt 0 (length s.payload) && not s.syn
+    && not s.reset
+
+-- whether a segment begins its connection anew: it answers the SYN that is kept, or follows it
+unfoldable pub is_anew : Option KeptSyn → ℕ → Segment → Bool
+is_anew None id s = false
+is_anew (Some k) id s = is_answer k id s || is_following k id s
+
+-- ---- What comes of a segment.
 
 -- a FIN
 unfoldable pub fin_taken : Reader → State → ℕ → Segment → State
@@ -247,19 +295,32 @@ payload_taken F w id s =
       | Some f ↦ cond s.reset w (arrived F w id (Octets (first_number s) s.payload))
     ]
 
+-- whether a segment of a flow is a RST that counts: its number is near the one that is due
+abbrev pub is_reset : Option FlowState → Segment → Bool
+is_reset flow s = s.reset && is_near_due flow s.sequence
+
+-- the flow of one side of the connection at a place
+abbrev pub flow_of_side : State → ℕ → Side → Option FlowState
+flow_of_side w place side = flow_at w (flow_id (room_at w place) side)
+
 -- a RST
 unfoldable pub reset_taken : State → ℕ → Side → Segment → State
-reset_taken w place side s = cond s.reset (forgotten w place side Reset) w
+reset_taken w place side s =
+    cond (is_reset (flow_of_side w place side) s) (forgotten w place side Reset) w
 
--- a segment of a known connection
-unfoldable pub known_taken : Reader → State → ℕ → Segment → State
-known_taken F w place s =
+-- a segment of a known connection, up to its RST
+abbrev pub before_reset : Reader → State → ℕ → Segment → State
+before_reset F w place s =
     let side : Side = (pair_of s.flow).1 in
     let room : ℕ = room_at w place in
     let id : ℕ = flow_id room side in
     let seen : State = record w { lasts = set w.lasts room w.segments } in
     let heard : State = acknowledgement_taken F seen (flow_id room (opposite side)) s in
-    reset_taken (fin_taken F (payload_taken F heard id s) id s) place side s
+    fin_taken F (payload_taken F heard id s) id s
+
+-- a segment of a known connection
+unfoldable pub known_taken : Reader → State → ℕ → Segment → State
+known_taken F w place s = reset_taken (before_reset F w place s) place (pair_of s.flow).1 s
 
 -- one segment more
 unfoldable pub step : Reader → State → Segment → State
@@ -269,8 +330,10 @@ step F w s =
     elim (place_of (pair_of s.flow).0 v.known) [
       | None ↦ unknown_taken F v s
       | Some place ↦
-          cond (is_anew (live_at v (flow_id (room_at v place) side)) s)
-          (unknown_taken F (forgotten v place side Syn) s) (known_taken F v place s)
+          cond (is_kept (flow_of_side v place side) s)
+          (syn_kept v (room_at v place) (flow_id (room_at v place) side) s)
+          (cond (is_anew (syn_at v (room_at v place)) (flow_id (room_at v place) side) s)
+          (unknown_taken F (forgotten v place side Syn) s) (known_taken F v place s))
     ]
 
 -- all segments, the first first

@@ -1,12 +1,15 @@
 -- Which connections are forgotten: to make room for another, and else only by their own segments
 -- (meaning).
-use Rattle.std.specs.Prelude.{◌≡◌, ◌⊎◌, ℕ, ◌<◌, ◌≤◌, true, length, get_or, None}
+use Rattle.std.specs.Prelude.{◌≡◌, ◌⊎◌, ℕ, ◌+◌, ◌<◌, ◌≤◌, true, length, get_or, Some, None}
 use Rattle.tcp_segment.specs.Segments.{Segment}
 use Rattle.tcp_flow.specs.declared.flow.CloseCause.TheVariants.{Room}
 use Rattle.tcp_streams.specs.Lives.{lives, elder_side}
 use Rattle.tcp_streams.specs.declared.pair.EndpointPair.{EndpointPair}
-use Rattle.tcp_streams.specs.Pairs.{pair_of}
-use Rattle.tcp_connections.specs.Connections.{State, place_of, room_at, is_live, is_first, forgotten, with_room}
+use Rattle.tcp_streams.specs.Pairs.{pair_of, flow_id}
+use Rattle.tcp_flow.specs.declared.flow.FlowState.{FlowState}
+use Rattle.tcp_flow.specs.Flow.{Reader, is_near}
+use Rattle.tcp_connections.specs.declared.syns.KeptSyn.{KeptSyn}
+use Rattle.tcp_connections.specs.Connections.{State, place_of, room_at, is_live, is_first, forgotten, with_room, flow_of_side, syn_at, is_answer, is_following, before_reset}
 
 -- the number of the last segment of the connection at a place
 abbrev pub last_at : State → ℕ → ℕ
@@ -28,8 +31,7 @@ pub record MakesRoom (w : State) : Type 0 where
   pub forgotten :
       with_room w ≡ forgotten w place (elder_side (room_at w place) (lives w.events)) Room
 
--- A connection is forgotten only by a SYN or RST of one of its own flows, or because it is the
--- eldest of as many as may be known, where another becomes known.
+-- it is the eldest of as many as may be known, where another becomes known
 pub record MakesWay (w : State) (s : Segment) (p : EndpointPair) : Type 0 where
   pub begins : is_first w.ports s ≡ true
   pub new : place_of (pair_of s.flow).0 w.known ≡ None
@@ -38,6 +40,30 @@ pub record MakesWay (w : State) (s : Segment) (p : EndpointPair) : Type 0 where
   pub eldest : IsEldest w place
   pub is : get_or w.known place p ≡ p
 
-abbrev pub IsForgottenBy : State → Segment → EndpointPair → Type 0
-IsForgottenBy w s p =
-    (((pair_of s.flow).0 ≡ p) × ((s.syn ≡ true) ⊎ (s.reset ≡ true))) ⊎ MakesWay w s p
+-- a segment of the connection at a place, behind which one more came, counts as a RST: what was due
+-- in its flow, once all else of the segment was taken, is at most W from its number
+pub record IsReset (F : Reader) (w : State) (s : Segment) (place : ℕ) : Type 0 where
+  pub flow : FlowState
+  pub is : flow_of_side (before_reset F (record w { segments = w.segments + 1 }) place s) place
+      (pair_of s.flow).1 ≡ Some flow
+  pub reset : s.reset ≡ true
+  pub near : is_near flow.next s.sequence ≡ true
+
+-- it answers the SYN that the connection keeps, or follows it
+pub record BeginsAnew (w : State) (s : Segment) (place : ℕ) : Type 0 where
+  pub syn : KeptSyn
+  pub kept : syn_at w (room_at w place) ≡ Some syn
+  pub is : (is_answer syn (flow_id (room_at w place) (pair_of s.flow).1) s ≡ true)
+      ⊎ (is_following syn (flow_id (room_at w place) (pair_of s.flow).1) s ≡ true)
+
+-- by a segment of its own
+pub record IsForgottenByOwn (F : Reader) (w : State) (s : Segment) (p : EndpointPair) : Type 0 where
+  pub own : (pair_of s.flow).0 ≡ p
+  pub place : ℕ
+  pub at : place_of p w.known ≡ Some place
+  pub is : BeginsAnew w s place ⊎ IsReset F w s place
+
+-- A connection is forgotten only by a RST of one of its flows with a number near the one that is
+-- due there, by a segment of its own that answers or follows a SYN, or to make room for another.
+abbrev pub IsForgottenBy : Reader → State → Segment → EndpointPair → Type 0
+IsForgottenBy F w s p = IsForgottenByOwn F w s p ⊎ MakesWay w s p

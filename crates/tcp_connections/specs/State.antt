@@ -1,5 +1,5 @@
 -- The code's connections, with what has happened, and what is so of each.
-use Rattle.std.specs.Prelude.{◌≡◌, ℕ, cond, nat_eq, nat_lt, ◌+◌, ◌*◌, ◌<◌, ◌≤◌, List, [], ◌∷◌, length, Some, None, is_some, OnOk, Result}
+use Rattle.std.specs.Prelude.{◌≡◌, ℕ, cond, nat_eq, nat_lt, ◌+◌, ◌*◌, ◌<◌, ◌≤◌, true, List, [], ◌∷◌, length, Some, None, is_some, OnOk, Result}
 use Rattle.std.specs.List.Sorted.{IsStrictlySortedBy}
 use Rattle.tcp_waiting.specs.Payload.{count_of, blocks_of}
 use Rattle.tcp_flow.specs.declared.flow.FlowState.{FlowState}
@@ -46,20 +46,25 @@ state_of c events = record {
   rooms = c.table.rooms.items;
   free = c.free.free.items;
   lasts = c.stamps.last.items;
+  syns = c.syns.kept.items;
   flows = c.flows.items;
   held = c.pool.held;
   events = events;
   segments = c.segments;
 }
 
+-- a flow's stream lives where it is one of those that live, and only there
+abbrev pub AreTold : State → Type 0
+AreTold w = (id : ℕ) → is_some (live_at w id) ≡ nat_lt 0 (times id (lives w.events))
+
 -- the code has a state: the listener has observed all that has happened, and the streams that live
--- are those; a flow's stream lives where it is one of them, and only there
+-- are those; each live stream of a flow is one of them
 pub record IsState (O : List Event → Type 0) (streams : List ℕ) (c : Connections) (w : State)
     : Type 0 where
   pub observed : O w.events
   pub live : streams ≡ lives w.events
   pub same : state_of c w.events ≡ w
-  pub told : (id : ℕ) → is_some (live_at w id) ≡ nat_lt 0 (times id (lives w.events))
+  pub told : (id : ℕ) → is_some (live_at w id) ≡ true → 0 < times id (lives w.events)
   pub sound : IsSound w
   pub free : c.free.most ≡ length w.lasts
   pub room : c.table.most ≡ length w.lasts

@@ -8,7 +8,7 @@ ghost use Rattle.tcp_connections.specs.Connections.{first_number as spec_first_n
 ghost use Rattle.tcp_connections.specs.Connections.{number_behind as spec_number_behind};
 
 use crate::connections::Connections;
-use tcp_flow::{FlowState, Listener, ListenerFault, header_at};
+use tcp_flow::{FlowState, Listener, ListenerFault, stream_at};
 use tcp_segment::{Flow, Segment};
 use tcp_streams::Streams;
 use tcp_waiting::onward;
@@ -126,7 +126,7 @@ impl Connections {
     pub(crate) fn is_first(&self, segment: Segment<'_>) -> bool
         ensures { result ≡ is_first self.now.ports.items (segment_view segment.entry) }
     {
-        !segment.reset && self.is_chosen(segment.flow) && header_at(segment.payload).is_some()
+        !segment.reset && self.is_chosen(segment.flow) && stream_at(segment.payload).is_some()
     }
 
     /// Whether one of a flow's ports is chosen.

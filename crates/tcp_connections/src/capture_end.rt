@@ -10,10 +10,11 @@ impl Connections {
     ghost use Rattle.tcp_streams.specs.Lives.{lives};
     ghost use Rattle.tcp_connections.specs.Connections.{State, is_holding, end_cause, gapped};
     ghost use Rattle.tcp_connections.specs.Connections.{closed_at, gaps_from, all_closed, ended};
-    ghost use Rattle.tcp_connections.specs.State.{IsState, IsAt, HasState, Makes, Ends};
+    ghost use Rattle.tcp_connections.specs.State.{AreTold, IsState, IsAt, HasState, Makes, Ends};
 
     /// The capture ends: while flows hold something, a gap of the one whose live stream has the
-    /// least number, until nothing is held; then the live streams close by their order.
+    /// least number, until nothing is held; then the live streams close by their order. None lives
+    /// then, where those that lived before were streams of flows.
     pub fn end<L: Listener + Drop>(&mut self, to: &mut Streams<L>) -> Result<(), ListenerFault>
         requires state { HasState (L.observed to.old.listener) to.old.live.items self.old }
         ensures does { (w : State)
@@ -21,7 +22,9 @@ impl Connections {
             → OnOk result (IsAt (L.observed to.new.listener) to.new.live.items self.new
             (ended L.faulted w)) }
         ensures held { OnOk result (self.new.pool.held ≡ []) }
-        ensures none { OnOk result (to.new.live.items ≡ []) }
+        ensures none { (w : State)
+            → IsState (L.observed to.old.listener) to.old.live.items self.old w
+            → AreTold w → OnOk result (to.new.live.items ≡ []) }
         ensures cause { OnErr result (L.failed to.new.listener) }
     {
         self.end_gaps(to)?;

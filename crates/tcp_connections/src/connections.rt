@@ -6,8 +6,13 @@ ghost use Rattle.std.specs.Prelude.{IfSome, OnOk, OnErr, None};
 ghost use Rattle.std.specs.Vec.{vec_len};
 ghost use Rattle.tcp_segment.specs.Segments.{segment_view};
 ghost use Rattle.tcp_streams.specs.Pairs.{pair_of as spec_pair_of};
+ghost use Rattle.tcp_connections.specs.Connections.{is_kept as spec_is_kept, is_own as spec_is_own};
+ghost use Rattle.tcp_connections.specs.Connections.{is_near_due as spec_is_near_due};
 ghost use Rattle.tcp_connections.specs.Connections.{is_anew as spec_is_anew};
+ghost use Rattle.tcp_connections.specs.Connections.{is_answer as spec_is_answer};
+ghost use Rattle.tcp_connections.specs.Connections.{is_following as spec_is_following};
 
+use crate::syns::{KeptSyn, KeptSyns};
 use arrayvec::ArrayVec;
 use std::alloc::{AllocError, Global};
 use tcp_flow::{CloseCause, FlowState, Listener, ListenerFault};
@@ -23,6 +28,7 @@ pub struct Connections {
     pub(crate) table: RoomTable<EndpointPair>,
     pub(crate) free: FreeRooms,
     pub(crate) stamps: Stamps,
+    pub(crate) syns: KeptSyns,
     pub(crate) flows: Vec<Option<FlowState>>,
     pub(crate) pool: Pool,
     segments: u64,
@@ -34,7 +40,7 @@ impl Connections {
     ghost use Rattle.tcp_flow.specs.Flow.{Event};
     ghost use Rattle.tcp_connections.specs.Connections.{none_known, live_of, made_known, place_of};
     ghost use Rattle.tcp_connections.specs.Connections.{place_among, next_room, unknown_taken};
-    ghost use Rattle.tcp_connections.specs.Connections.{known_taken, step};
+    ghost use Rattle.tcp_connections.specs.Connections.{known_taken, step, syn_kept};
     ghost use Rattle.tcp_connections.specs.State.{IsSound, HasState, Makes, state_of};
 
     /// No connection is known. At most so many will be at once, 1 to 65,536, and what waits takes at most so many blocks of
@@ -57,6 +63,7 @@ impl Connections {
         let table = RoomTable::new(alloc, most as usize)?;
         let free = FreeRooms::new(alloc, most)?;
         let stamps = Stamps::new(alloc, most as usize)?;
+        let syns = KeptSyns::new(alloc, most as usize)?;
         let flows = vec![in alloc; None; 2 * most as usize]?;
         let pool = Pool::new(alloc, blocks, 2 * most as usize)?;
         Ok(Connections {
@@ -64,6 +71,7 @@ impl Connections {
             table,
             free,
             stamps,
+            syns,
             flows,
             pool,
             segments: 0,
@@ -91,8 +99,13 @@ impl Connections {
         let Some(place) = self.place_of(&pair) else {
             return self.take_unknown(pair, side, segment, to);
         };
-        let id = flow_id(self.table.room(place), side);
-        if self.is_anew(id, segment) {
+        let room = self.table.room(place);
+        let id = flow_id(room, side);
+        if self.is_kept(id, segment) {
+            self.keep_syn(room, id, segment);
+            return Ok(());
+        }
+        if self.is_anew(room, id, segment) {
             self.forget(place, side, CloseCause::Syn, to)?;
             return self.take_unknown(pair, side, segment, to);
         }
@@ -176,6 +189,7 @@ impl Connections {
         };
         self.table.add(place, pair, room);
         self.stamps.note(room, self.segments);
+        self.syns.set(room, None);
         let lesser = flow_id(room, Side::FromLesser);
         let greater = flow_id(room, Side::FromGreater);
         to.opens(lesser, flow_from(pair, Side::FromLesser))?;
@@ -222,6 +236,19 @@ impl Connections {
         None
     }
 
+    /// A SYN of the connection of a room is kept, in place of an older one.
+    fn keep_syn(&mut self, room: u32, flow: u32, segment: Segment<'_>)
+        requires { room < vec_len self.old.stamps.last }
+        ensures kept { (events : List Event) → state_of self.new events
+            ≡ syn_kept (state_of self.old events) room flow (segment_view segment.entry) }
+        ensures free { self.new.free.most ≡ self.old.free.most }
+        ensures room { self.new.table.most ≡ self.old.table.most }
+    {
+        self.stamps.note(room, self.segments);
+        let number = onward(segment.sequence, 1);
+        self.syns.set(room, Some(KeptSyn { flow, number }));
+    }
+
     /// The number that the live stream of a flow began with.
     pub(crate) fn live_at(&self, id: u32) -> Option<u32>
         ensures { result ≡ live_of (get_or self.now.flows.items id None) }
@@ -232,19 +259,63 @@ impl Connections {
         }
     }
 
-    /// Whether a segment begins its connection anew: a SYN without ACK, but not that of the live
-    /// stream of its flow.
+    /// Whether a segment is a SYN that is kept: it has no ACK, and its number isn't the flow's own.
     #[inline]
-    fn is_anew(&self, id: u32, segment: Segment<'_>) -> bool
-        ensures { result ≡ spec_is_anew (live_of (get_or self.now.flows.items id None))
+    fn is_kept(&self, id: u32, segment: Segment<'_>) -> bool
+        ensures { result ≡ spec_is_kept (get_or self.now.flows.items id None)
             (segment_view segment.entry) }
     {
-        if !segment.syn || segment.acknowledgement.is_some() {
-            return false;
-        }
-        match self.live_at(id) {
-            Some(number) => number != onward(segment.sequence, 1),
-            None => true,
+        segment.syn
+            && segment.acknowledgement.is_none()
+            && !self.is_own(id, onward(segment.sequence, 1))
+    }
+
+    /// Whether a number is a flow's own: near the one that is due, or its live stream's first.
+    fn is_own(&self, id: u32, number: u32) -> bool
+        ensures { result ≡ spec_is_own (get_or self.now.flows.items id None) number }
+    {
+        self.is_near_due(id, number) || self.live_at(id) == Some(number)
+    }
+
+    /// Whether a number is at most 1,048,576 from the one that is due in a flow, of which something
+    /// began.
+    pub(crate) fn is_near_due(&self, id: u32, number: u32) -> bool
+        ensures { result ≡ spec_is_near_due (get_or self.now.flows.items id None) number }
+    {
+        match self.flow(id) {
+            Some(flow) => flow.is_near(number),
+            None => false,
         }
     }
+
+    /// Whether a segment begins the connection of a room anew: it answers the SYN that is kept, or
+    /// follows it.
+    #[inline]
+    fn is_anew(&self, room: u32, id: u32, segment: Segment<'_>) -> bool
+        ensures { result ≡ spec_is_anew (get_or self.now.syns.kept.items room None) id
+            (segment_view segment.entry) }
+    {
+        match self.syns.at(room) {
+            Some(syn) => is_answer(syn, id, segment) || is_following(syn, id, segment),
+            None => false,
+        }
+    }
+}
+
+/// Whether a segment of an id is SYN and ACK of the opposite flow, which acknowledges a SYN.
+fn is_answer(syn: KeptSyn, id: u32, segment: Segment<'_>) -> bool
+    ensures { result ≡ spec_is_answer syn id (segment_view segment.entry) }
+{
+    syn.flow != id && segment.syn && segment.acknowledgement == Some(syn.number)
+}
+
+/// Whether a segment of an id has the payload behind a SYN of its flow.
+fn is_following(syn: KeptSyn, id: u32, segment: Segment<'_>) -> bool
+    ensures { result ≡ spec_is_following syn id (segment_view segment.entry) }
+{
+    syn.flow == id
+        && segment.sequence == syn.number
+        && !segment.payload.is_empty()
+        && !segment.syn
+        && !segment.reset
 }

@@ -15,7 +15,7 @@ impl Connections {
     ghost use Rattle.tcp_connections.specs.Connections.{flow_forgotten, forgotten, with_room};
     ghost use Rattle.tcp_connections.specs.State.{IsSound, HasState, Makes, state_of};
 
-    /// A RST comes, where the segment is one: the connection is forgotten.
+    /// A RST comes, where the segment is one that counts: the connection is forgotten.
     pub(crate) fn reset<L: Listener + Drop>(
         &mut self,
         place: usize,
@@ -31,6 +31,10 @@ impl Connections {
         ensures cause { OnErr result (L.failed to.new.listener) }
     {
         if !segment.reset {
+            return Ok(());
+        }
+        let id = flow_id(self.table.room(place), side);
+        if !self.is_near_due(id, segment.sequence) {
             return Ok(());
         }
         self.forget(place, side, CloseCause::Reset, to)

@@ -28,8 +28,9 @@ pub fn capture_event_is_told<L: Listener + Drop>()
         → HasState (L.observed behind) live c }
 {}
 
-/// A connection that is known is forgotten by a segment only where it is a SYN or RST of one of the connection's own flows, or
-/// the first payload of another, where as many are known as may be and this is the one that makes room.
+/// A connection that is known is forgotten by a segment only where it is a RST of one of the connection's own flows, at most
+/// 1,048,576 from the number that is due there, or of the connection's own and answers or follows a SYN that was kept, or the
+/// first payload of another, where as many are known as may be and this is the one that makes room.
 pub fn nothing_else_forgets()
     ensures { (faulted : Reader) (ports : List ℕ) (blocks most : ℕ) (segments : List Segment)
         (s : Segment) (p : EndpointPair) → 1 ≤ most → most ≤ 65536
@@ -37,7 +38,7 @@ pub fn nothing_else_forgets()
         ≡ true
         → place_of p (after faulted (none_known ports blocks most []) (segments ++ s ∷ [])).known
         ≡ None
-        → IsForgottenBy (after faulted (none_known ports blocks most []) segments) s p }
+        → IsForgottenBy faulted (after faulted (none_known ports blocks most []) segments) s p }
 {}
 
 /// Where as many connections are known as may be, the one that makes room for another has no live stream, if there is one

@@ -7,6 +7,7 @@ mod capture_end;
 mod connections;
 mod forgetting;
 mod laws;
+mod syns;
 
 pub use connections::Connections;
 pub use laws::{

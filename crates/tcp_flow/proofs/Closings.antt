@@ -6,7 +6,7 @@ use Rattle.tcp_flow.specs.declared.flow.CloseCause.{CloseCause}
 use Rattle.tcp_flow.specs.declared.flow.CloseCause.TheVariants.{Fault}
 use Rattle.tcp_waiting.specs.Numbers.{onward}
 use Rattle.tcp_waiting.specs.Payload.{Payload, payload, has_as_much}
-use Rattle.tcp_flow.specs.Flow.{Flow, Event, Begins, Delivers, Closes, Reader, Setting, left, with_event, delivered, begun, taken, header_at, at as held_at, closed, holding, gone_on, within_bounds, payload_came}
+use Rattle.tcp_flow.specs.Flow.{Flow, Event, Begins, Delivers, Closes, Reader, Setting, left, with_event, delivered, begun, taken, stream_at, at as held_at, closed, holding, gone_on, within_bounds, payload_came}
 use Rattle.tcp_flow.specs.Order.{octets_in, octets_of, closes_in, closes_of}
 use Rattle.tcp_flow.proofs.Preserving.{Keeps, gone_on_keeps, relieved_keeps}
 
@@ -83,11 +83,11 @@ unfolding taken
 taken_more F n id g p l =
     let q : Payload = left g.next (is_some g.live) p in
     let d : Flow = delivered F g q in
-    let b : Flow = begun F g q (header_at q.octets) in
+    let b : Flow = begun F g q (stream_at q.octets) in
     either (λ (h : Flow). n < closes_of id h.events) (nat_eq (length q.octets) 0) g
     (cond (is_some g.live) d b) l
     (either (λ (h : Flow). n < closes_of id h.events) (is_some g.live) d b
-    (delivered_more F n id g q l) (begun_more F n id g q (header_at q.octets) l))
+    (delivered_more F n id g q l) (begun_more F n id g q (stream_at q.octets) l))
 
 pub closed_more : (n id : ℕ) (g : Flow) (cause : CloseCause) → n < closes_of id g.events →
     n < closes_of id (closed g cause).events

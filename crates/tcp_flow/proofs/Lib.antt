@@ -1,3 +1,4 @@
+pub mod Chains
 pub mod Closings
 pub mod Content
 pub mod ContentRuns

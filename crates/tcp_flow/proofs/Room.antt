@@ -9,7 +9,7 @@ use Rattle.tcp_flow.specs.declared.flow.CloseCause.TheVariants.{Gap, Fault}
 use Rattle.std.specs.Option.{option_map}
 use Rattle.tcp_waiting.specs.Numbers.{ahead, age, is_to_come, onward, rank}
 use Rattle.tcp_waiting.specs.Payload.{Payload, payload, window, earlier, first, blocks_of, is_far, has_as_much}
-use Rattle.tcp_flow.specs.Flow.{Flow, Event, Begins, Delivers, Closes, Reader, Setting, left, with_event, delivered, begun, taken, header_at, first_of, at, drained_at_most, drained, closed, gone_on, gap, is_too_much, within_bounds, acknowledgement_came, holding, payload_came, fin_came}
+use Rattle.tcp_flow.specs.Flow.{Flow, Event, Begins, Delivers, Closes, Reader, Setting, left, with_event, delivered, begun, taken, stream_at, first_of, at, drained_at_most, drained, closed, gone_on, gap, is_too_much, within_bounds, acknowledgement_came, holding, payload_came, fin_came}
 use Rattle.tcp_waiting.proofs.Firsts.{first_within, first_own}
 use Rattle.tcp_flow.proofs.Steps.{length_remove, flowing_takes, due_now}
 use Rattle.tcp_flow.proofs.Preserving.{gap_keeps, Keeps, flowing_by, rest_keeps, gone_on_keeps, relieved_keeps, missed_keeps}
@@ -66,10 +66,10 @@ unfolding taken
 taken_stays F f p =
     let q : Payload = left f.next (is_some f.live) p in
     stays_either f (nat_eq (length q.octets) 0) f
-    (cond (is_some f.live) (delivered F f q) (begun F f q (header_at q.octets)))
+    (cond (is_some f.live) (delivered F f q) (begun F f q (stream_at q.octets)))
     (record { held = refl; id = refl })
-    (stays_either f (is_some f.live) (delivered F f q) (begun F f q (header_at q.octets))
-    (delivered_stays F f q) (begun_stays F f q (header_at q.octets)))
+    (stays_either f (is_some f.live) (delivered F f q) (begun F f q (stream_at q.octets))
+    (delivered_stays F f q) (begun_stays F f q (stream_at q.octets)))
 
 closed_stays : (f : Flow) (cause : CloseCause) → Stays f (closed f cause)
 unfolding closed with_event

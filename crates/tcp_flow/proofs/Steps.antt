@@ -5,7 +5,7 @@ use Rattle.std.proofs.lemmas.Bool.{cond-true, cond-false, and_left, and_right, a
 use Rattle.tcp_waiting.specs.Numbers.{is_to_come}
 use Rattle.tcp_waiting.proofs.Firsts.{first_within, first_own}
 use Rattle.tcp_waiting.specs.Payload.{Payload, payload, first, has_as_much}
-use Rattle.tcp_flow.specs.Flow.{Flow, Reader, left, delivered, begun, taken, header_at, first_of, is_due, at, drained_at_most, Setting, is_too_much, within_bounds, gap, acknowledgement_came, payload_came, gone_on, holding}
+use Rattle.tcp_flow.specs.Flow.{Flow, Reader, left, delivered, begun, taken, stream_at, first_of, is_due, at, drained_at_most, Setting, is_too_much, within_bounds, gap, acknowledgement_came, payload_came, gone_on, holding}
 
 pub taken_none : (F : Reader) (f : Flow) (p q : Payload) → q ≡ left f.next (is_some f.live) p →
     nat_eq (length q.octets) 0 ≡ true → taken F f p ≡ f
@@ -16,14 +16,14 @@ pub taken_live : (F : Reader) (f : Flow) (p q : Payload) → q ≡ left f.next (
     nat_eq (length q.octets) 0 ≡ false → (is_some f.live) ≡ true → taken F f p ≡ delivered F f q
 unfolding taken
 taken_live F f p q e z l = rw (← e, z) (cond-true (is_some f.live) (delivered F f q)
-    (begun F f q (header_at q.octets)) l)
+    (begun F f q (stream_at q.octets)) l)
 
 pub taken_dead : (F : Reader) (f : Flow) (p q : Payload) → q ≡ left f.next (is_some f.live) p →
     nat_eq (length q.octets) 0 ≡ false → (is_some f.live) ≡ false →
-    taken F f p ≡ begun F f q (header_at q.octets)
+    taken F f p ≡ begun F f q (stream_at q.octets)
 unfolding taken
 taken_dead F f p q e z l = rw (← e, z) (cond-false (is_some f.live) (delivered F f q)
-    (begun F f q (header_at q.octets)) l)
+    (begun F f q (stream_at q.octets)) l)
 
 -- a payload is taken while it is due
 pub flowing_none : (F : Reader) (count : ℕ) (f : Flow) → first_of f ≡ None →

@@ -5,7 +5,7 @@ use Rattle.tcp_flow.specs.declared.flow.CloseCause.{CloseCause}
 use Rattle.tcp_flow.specs.declared.flow.CloseCause.TheVariants.{Fault}
 use Rattle.tcp_waiting.specs.Numbers.{onward, age}
 use Rattle.tcp_waiting.specs.Payload.{Payload, payload, has_as_much}
-use Rattle.tcp_flow.specs.Flow.{Flow, Event, Begins, Delivers, Closes, flow_of, Reader, Setting, Arrival, Octets, End, Acknowledged, left, with_event, delivered, begun, taken, header_at, at, closed, holding, gone_on, within_bounds, payload_came, fin_came, gap, step}
+use Rattle.tcp_flow.specs.Flow.{Flow, Event, Begins, Delivers, Closes, flow_of, Reader, Setting, Arrival, Octets, End, Acknowledged, left, with_event, delivered, begun, taken, stream_at, at, closed, holding, gone_on, within_bounds, payload_came, fin_came, gap, step}
 use Rattle.tcp_flow.proofs.Preserving.{Keeps, cond_keeps, gone_on_keeps, relieved_keeps, missed_keeps, gap_keeps}
 
 -- it is so of all that has happened, behind a flow of this id
@@ -100,10 +100,10 @@ module _ (Q : List Event → Type 0) (id : ℕ) (more : IsKept Q id) where
   taken_told F f p t =
       let q : Payload = left f.next (is_some f.live) p in
       let d : Flow = delivered F f q in
-      let b : Flow = begun F f q (header_at q.octets) in
+      let b : Flow = begun F f q (stream_at q.octets) in
       cond_keeps (Told Q id) (nat_eq (length q.octets) 0) f (cond (is_some f.live) d b) t
       (cond_keeps (Told Q id) (is_some f.live) d b (delivered_told F f q t)
-      (begun_told F f q (header_at q.octets) t))
+      (begun_told F f q (stream_at q.octets) t))
 
   told_keeps : (F : Reader) → Keeps F (Told Q id)
   told_keeps F =

@@ -6,7 +6,7 @@ use Rattle.std.proofs.lemmas.List.{drop-drop, get_or-append_right, get_or_append
 use Rattle.tcp_flow.specs.declared.flow.CloseCause.TheVariants.{Fault}
 use Rattle.tcp_waiting.specs.Numbers.{ahead, onward, age, is_to_come}
 use Rattle.tcp_waiting.specs.Payload.{Payload, payload, window, has_as_much}
-use Rattle.tcp_flow.specs.Flow.{gap, Flow, Event, Begins, Delivers, Closes, Reader, Setting, left, with_event, delivered, begun, taken, header_at, first_of, is_due, at, closed, payload_came, holding, within_bounds, gone_on, fin_came, acknowledgement_came}
+use Rattle.tcp_flow.specs.Flow.{gap, Flow, Event, Begins, Delivers, Closes, Reader, Setting, left, with_event, delivered, begun, taken, stream_at, first_of, is_due, at, closed, payload_came, holding, within_bounds, gone_on, fin_came, acknowledgement_came}
 use Rattle.tcp_flow.specs.Laws.{IsPartOf, OwnMayFollow, MayFollow, AllFollow, AllArePartsOf, due_of, IsGapless}
 use Rattle.tcp_waiting.proofs.Firsts.{first_within, first_own}
 use Rattle.tcp_flow.proofs.Preserving.{gap_keeps, Keeps, relieved_keeps, gone_on_keeps, missed_keeps}
@@ -174,7 +174,7 @@ taken_true F payloads f p t has reach =
     let left : IsPartOf payloads f.id q.number q.octets =
     left_has payloads f.id f.next (is_some f.live) p has in
     let d : Flow = delivered F f q in
-    let b : Flow = begun F f q (header_at q.octets) in
+    let b : Flow = begun F f q (stream_at q.octets) in
     let live : IsGapless payloads (cond (is_some f.live) d b) =
     elim (cases_Bool (is_some f.live)) [
       | inl e ↦
@@ -186,7 +186,7 @@ taken_true F payloads f p t has reach =
           (delivered_true F payloads f q f.next t.held runs
           (subst (λ (n : ℕ). IsPartOf payloads f.id n q.octets) due left) due e))
       | inr e ↦ when_false (IsGapless payloads) (is_some f.live) d b e
-          (begun_true F payloads f q (header_at q.octets) t e left)
+          (begun_true F payloads f q (stream_at q.octets) t e left)
     ] in
     either (IsGapless payloads) (nat_eq (length q.octets) 0) f (cond (is_some f.live) d b) t live
 

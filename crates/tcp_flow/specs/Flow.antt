@@ -1,12 +1,12 @@
 -- One flow of a TCP connection, from its first stream on: what it holds, and what happens.
-use Rattle.std.specs.Prelude.{ℕ, zero, suc, ◌+◌, Bool, true, false, cond, nat_lt, nat_le, nat_eq, ◌&&◌, ◌||◌, not, List, [], ◌∷◌, ◌++◌, length, drop, Option, Some, None, get_or, is_some}
+use Rattle.std.specs.Prelude.{ℕ, zero, suc, ◌+◌, ◌*◌, ◌%◌, Bool, true, false, cond, nat_lt, nat_le, nat_eq, ◌&&◌, ◌||◌, not, List, [], ◌∷◌, ◌++◌, length, drop, Option, Some, None, get_or, is_some}
 use Rattle.std.specs.Option.{option_map}
 use Rattle.std.specs.List.{remove}
 use Rattle.tcp_flow.specs.declared.flow.CloseCause.{CloseCause}
 use Rattle.tcp_flow.specs.declared.flow.CloseCause.TheVariants.{Fin, Gap, Fault}
 use Rattle.tcp_segment.specs.declared.endpoint.Flow as endpoints
 use Rattle.tcp_waiting.specs.Payload.{Payload, payload, window, first, blocks_of, is_far, has_as_much}
-use Rattle.tcp_waiting.specs.Numbers.{onward, age, is_to_come}
+use Rattle.tcp_waiting.specs.Numbers.{ahead, onward, age, is_to_come}
 
 -- what happens in a capture beside its flows: a packet arrives, at a time in nanoseconds since
 -- 1970-01-01 UTC where it has one;
@@ -57,6 +57,11 @@ pub record Flow : Type 0 where
   pub held : List Payload
   pub events : List Event
 
+-- whether a number is at most W in front of the one that is due, or behind it, as the window of a
+-- receiver reaches (RFC 5961, Sections 3.2 and 4.2)
+abbrev pub is_near : ℕ → ℕ → Bool
+is_near next number = nat_le (ahead next number) window || nat_le (ahead number next) window
+
 -- whether `GIOP` 01 and 00, 01 or 02 stand first
 abbrev pub is_header : List ℕ → Bool
 is_header xs =
@@ -68,6 +73,53 @@ is_header xs =
 unfoldable pub header_at : List ℕ → Option ℕ
 header_at [] = None
 header_at (x ∷ xs) = cond (is_header (x ∷ xs)) (Some 0) (option_map suc (header_at xs))
+
+-- four octets as a number, the heaviest first
+abbrev pub weighed : ℕ → ℕ → ℕ → ℕ → ℕ
+weighed a b c d = ((a * 256 + b) * 256 + c) * 256 + d
+
+-- the size in a header of 12 octets, in its byte order (GIOP Message Header)
+abbrev pub size_in : List ℕ → ℕ
+size_in xs =
+    cond (nat_eq (get_or xs 6 0 % 2) 1)
+    (weighed (get_or xs 11 0) (get_or xs 10 0) (get_or xs 9 0) (get_or xs 8 0))
+    (weighed (get_or xs 8 0) (get_or xs 9 0) (get_or xs 10 0) (get_or xs 11 0))
+
+-- where the message ends that stands first, if all of it is there
+abbrev pub message_end : List ℕ → Option ℕ
+message_end xs =
+    cond (nat_lt (length xs) 12) None
+    (cond (nat_lt (length xs) (12 + size_in xs)) None (Some (12 + size_in xs)))
+
+-- whether the six octets stand first, as far as the octets go
+abbrev pub is_front : List ℕ → Bool
+is_front xs =
+    nat_eq (get_or xs 0 71) 71 && nat_eq (get_or xs 1 73) 73 && nat_eq (get_or xs 2 79) 79
+    && nat_eq (get_or xs 3 80) 80 && nat_eq (get_or xs 4 1) 1 && nat_le (get_or xs 5 0) 2
+
+-- whether messages stand one behind another up to the end, the last perhaps cut, and one of them is
+-- whole, as one in front was or not: at most so many
+unfoldable pub chain_from : ℕ → Bool → List ℕ → Bool
+chain_from zero whole xs = whole
+chain_from (suc count) whole xs =
+    cond (nat_eq (length xs) 0) whole
+    (cond (is_front xs) (elim (message_end xs) [
+      | None ↦ whole
+      | Some end ↦ chain_from count true (drop end xs)
+    ]) false)
+
+-- whether messages stand up to the end, one of them whole
+abbrev pub is_chain : List ℕ → Bool
+is_chain xs = chain_from (length xs) false xs
+
+-- where a stream begins in octets that are looked through: where the six octets stand first, at the
+-- front, or from where messages stand up to the end
+unfoldable pub stream_at : List ℕ → Option ℕ
+stream_at xs =
+    elim (header_at xs) [
+      | None ↦ None
+      | Some place ↦ cond (nat_eq place 0 || is_chain (drop place xs)) (Some place) None
+    ]
 
 -- what is left of a payload: what is before `next` falls away, but it is whole where no stream is
 -- live and it begins more than W before
@@ -98,7 +150,7 @@ unfoldable pub taken : Reader → Flow → Payload → Flow
 taken F f p =
     let q : Payload = left f.next (is_some f.live) p in
     cond (nat_eq (length q.octets) 0) f
-    (cond (is_some f.live) (delivered F f q) (begun F f q (header_at q.octets)))
+    (cond (is_some f.live) (delivered F f q) (begun F f q (stream_at q.octets)))
 
 unfoldable pub first_of : Flow → Option ℕ
 first_of f = first f.id f.next f.held

@@ -3,7 +3,8 @@
 
 ghost use Rattle.std.specs.Prelude.{◌≡◌, ◌≤◌, List, OnOk, OnErr, is_some, length};
 
-use crate::flow::{CloseCause, FlowState, Listener, ListenerFault, header_at};
+use crate::flow::{CloseCause, FlowState, Listener, ListenerFault};
+use crate::looking::stream_at;
 use tcp_waiting::{Pool, WINDOW, age, is_to_come, onward};
 
 impl FlowState {
@@ -69,7 +70,7 @@ impl FlowState {
         if self.is_live() {
             return self.deliver(number, octets, to);
         }
-        if let Some(at) = header_at(octets) {
+        if let Some(at) = stream_at(octets) {
             let number = onward(number, at);
             to.begins(self.id, number)?;
             self.live = Some(number);

@@ -6,7 +6,7 @@ ghost use Rattle.std.specs.Prelude.{IfOk, IfSome, OnErr, OnOk};
 ghost use Rattle.tcp_flow.specs.Flow.{is_header as spec_is_header, header_at as spec_header_at};
 
 use tcp_segment::Flow as Endpoints;
-use tcp_waiting::Pool;
+use tcp_waiting::{Pool, WINDOW, ahead};
 
 /// Why a stream closed.
 #[derive(Clone, Copy, Debug, Drop, PartialEq, Eq)]
@@ -83,7 +83,7 @@ pub struct FlowState {
 impl FlowState {
     ghost use Rattle.std.specs.Prelude.{is_some};
     ghost use Rattle.tcp_waiting.specs.Payload.{Payload, first};
-    ghost use Rattle.tcp_flow.specs.Flow.{Event, fresh};
+    ghost use Rattle.tcp_flow.specs.Flow.{Event, fresh, is_near};
     ghost use Rattle.tcp_flow.specs.State.{state};
 
     /// A flow of which nothing came: a number is due.
@@ -111,6 +111,13 @@ impl FlowState {
         ensures { result ≡ self.now.live }
     {
         self.live
+    }
+
+    /// Whether a number is at most 1,048,576 in front of the one that is due, or behind it.
+    pub fn is_near(&self, number: u32) -> bool
+        ensures { result ≡ is_near self.now.next number }
+    {
+        ahead(self.next, number) as usize <= WINDOW || ahead(number, self.next) as usize <= WINDOW
     }
 
     /// Whether a FIN to come is kept.
@@ -142,7 +149,7 @@ fn is_header(octets: &[u8]) -> bool
 }
 
 /// Where a GIOP header stands first: `GIOP` 01 and 00, 01 or 02.
-pub fn header_at(octets: &[u8]) -> Option<usize>
+pub(crate) fn header_at(octets: &[u8]) -> Option<usize>
     ensures at { result ≡ spec_header_at octets.now }
     ensures within { IfSome result (λ i. i < length octets.now) }
 {

@@ -8,6 +8,8 @@ mod delivering;
 mod flow;
 mod gaps;
 mod laws;
+mod looking;
 
-pub use flow::{CloseCause, FlowState, Listener, ListenerFault, header_at};
+pub use flow::{CloseCause, FlowState, Listener, ListenerFault};
 pub use laws::order_makes_no_difference;
+pub use looking::stream_at;

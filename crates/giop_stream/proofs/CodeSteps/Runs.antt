@@ -10,7 +10,7 @@ use Rattle.giop_message.specs.Messages.{message, stage_of}
 use Rattle.giop_message.specs.ReaderOfTable.{message_reader, is_over}
 use Rattle.giop_message.specs.DueOctets.{TakesFront}
 use Rattle.giop_message.specs.HeaderEnds.{HeaderEnd}
-use Rattle.giop_message.specs.MessageState.{due, due_text, Follows, FaultedAt}
+use Rattle.giop_message.specs.MessageState.{due_text, Follows, FaultedAt}
 use Rattle.giop_message.proofs.MessageLaws.{octet_over, text_both, text_none, text_over, text_ended, over_where_faulted, told_more, follows_goes}
 use Rattle.giop_entry_table.specs.EntryTable.{with_value}
 use Rattle.giop_stream.specs.declared.slots.Slot.{Slot as Contents}

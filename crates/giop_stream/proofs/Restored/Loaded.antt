@@ -243,7 +243,7 @@ module _ (C : Table) (l : Answers) (at count : ℕ) (octets : List ℕ) (w : Mes
       go [] many spelled range = some many
       go (e ∷ es) many spelled range = search (arith, flat_map)
 
-  none_by : (slots : Slots) → slots.owner ≡ owners.Current None → count ≡ 0 →
+  none_by : (slots : Slots) → slots.owner ≡ owners.Open None → count ≡ 0 →
       (kept : List OpenEntry) (held : List Held)
       (current : Option Message) (entries : List Entry) →
       AreEntriesOf C l at count octets kept held current w xs entries →
@@ -259,7 +259,7 @@ module _ (C : Table) (l : Answers) (at count : ℕ) (octets : List ℕ) (w : Mes
 
   pub all_none : (slots : Slots) (held : List Held) →
       AreLeft C l at count octets held w xs →
-      count ≡ 0 → slots.owner ≡ owners.Current None → HasAdded C l slots slots held
+      count ≡ 0 → slots.owner ≡ owners.Open None → HasAdded C l slots slots held
       × IsCurrentOwner C l slots.owner w xs
   all_none slots held left none bare =
       none_by slots bare none left.kept held left.current left.entries left.are
@@ -348,12 +348,12 @@ module _ (C : Table) (l : Answers) (at count : ℕ) (w : MessageKey) (xs : Optio
     (same_most : mid.slots.most ≡ before.slots.most)
     (none : count - 1 ≡ 0 → (result ≡ true) × (after ≡ mid))
     (again : (hs : List Held) → AreLeft C l at (count - 1) rest hs w xs →
-    length mid.slots.entries + length hs ≤ mid.slots.most → mid.owner ≡ owners.Current None →
+    length mid.slots.entries + length hs ≤ mid.slots.most → mid.owner ≡ owners.Open None →
     IsAll C l result mid after hs w xs) where
   all_again : (held : List Held) →
       HasAddedFirst C l at count before mid rest held w xs →
       length before.slots.entries + length held ≤ before.slots.most →
-      before.owner ≡ owners.Current None → IsAll C l result before after held w xs
+      before.owner ≡ owners.Open None → IsAll C l result before after held w xs
   all_again held (inl f) room bare =
       let few = room_here (length before.slots.entries) before.slots.most held f.here f.others room
       f.held_are in
@@ -374,11 +374,11 @@ abbrev pub Completes : Table → Answers → ℕ → ℕ → List ℕ → Messag
 Completes C l at count octets w xs before mid left rest =
     (result : Bool) (after : Slots) → (left ≡ 0 → (result ≡ true) × (after ≡ mid)) →
     ((hs : List Held) → AreLeft C l at left rest hs w xs →
-    length mid.slots.entries + length hs ≤ mid.slots.most → mid.owner ≡ owners.Current None →
+    length mid.slots.entries + length hs ≤ mid.slots.most → mid.owner ≡ owners.Open None →
     IsAll C l result mid after hs w xs) →
     (held : List Held) → AreLeft C l at count octets held w xs →
     length before.slots.entries + length held ≤ before.slots.most →
-    before.owner ≡ owners.Current None →
+    before.owner ≡ owners.Open None →
     IsAll C l result before after held w xs
 
 module _ (C : Table) (l : Answers) (at count : ℕ) (octets : List ℕ) (w : MessageKey)
@@ -391,7 +391,7 @@ module _ (C : Table) (l : Answers) (at count : ℕ) (octets : List ℕ) (w : Mes
     pub one_more : (next : Slots) (behind : List ℕ) → (left ≡ 0 → ⊥) →
         next.slots.most ≡ mid.slots.most →
         ((hs : List Held) → AreLeft C l at left rest hs w xs →
-        length mid.slots.entries + length hs ≤ mid.slots.most → mid.owner ≡ owners.Current None →
+        length mid.slots.entries + length hs ≤ mid.slots.most → mid.owner ≡ owners.Open None →
         HasAddedFirst C l at left mid next behind hs w xs) →
         Completes C l at count octets w xs before next (left - 1) behind
     one_more next behind some same_most first result after none again =
@@ -402,7 +402,7 @@ module _ (C : Table) (l : Answers) (at count : ℕ) (octets : List ℕ) (w : Mes
     pub no_more : left ≡ 0 → (held : List Held) →
         AreLeft C l at count octets held w xs →
         length before.slots.entries + length held ≤ before.slots.most →
-        before.owner ≡ owners.Current None → IsAll C l true before mid held w xs
+        before.owner ≡ owners.Open None → IsAll C l true before mid held w xs
     no_more none =
         before_here true mid (λ z. (refl, refl))
         (λ hs are room bare. let made = all_none C l at left rest w xs mid hs are none bare in
@@ -410,11 +410,11 @@ module _ (C : Table) (l : Answers) (at count : ℕ) (octets : List ℕ) (w : Mes
 
     pub not_one : (left ≡ 0 → ⊥) → ((hs : List Held) →
         AreLeft C l at left rest hs w xs →
-        length mid.slots.entries + length hs ≤ mid.slots.most → mid.owner ≡ owners.Current None →
+        length mid.slots.entries + length hs ≤ mid.slots.most → mid.owner ≡ owners.Open None →
         ⊥) →
         (held : List Held) → AreLeft C l at count octets held w xs →
         length before.slots.entries + length held ≤ before.slots.most →
-        before.owner ≡ owners.Current None → ⊥
+        before.owner ≡ owners.Open None → ⊥
     not_one some fails held are room bare =
         let all : IsAll C l false before mid held w xs =
         before_here false mid (λ z. absurd (some z))

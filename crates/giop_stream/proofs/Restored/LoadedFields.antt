@@ -67,7 +67,7 @@ module _ (C : Table) (l : Answers) (c : Tracked) where
 
 -- where the owner is open there is no current message
 alone : (of : PayloadOwner) (k : ℕ) → index_of of ≡ Some k → current_of of ≡ None
-alone (owners.Current message) k e = absurd cc
+alone (owners.Current message is_over) k e = absurd cc
 alone (owners.Open i) k e = refl
 
 -- ---- after the fixed part the records are left to read, and there is room for them

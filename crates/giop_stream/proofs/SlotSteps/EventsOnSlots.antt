@@ -14,7 +14,6 @@ use Rattle.giop_stream.specs.declared.slots.PayloadOwner.TheVariants as owners
 use Rattle.giop_sig.specs.Table.{Table}
 use Rattle.giop_message.specs.Signatures.{Answers}
 use Rattle.giop_message.specs.ReaderOfTable.{message_reader}
-use Rattle.giop_message.specs.MessageState.{Follows}
 use Rattle.giop_print.specs.Output.{OutLog}
 use Rattle.giop_stream.specs.Events.{MessageKey, Open, EventKind, Takes, Opens, Faults, Cancelled, Closes, octet, changed, Rising}
 use Rattle.giop_stream.specs.Lines.{lines_of_event, up_to_last_line}
@@ -255,14 +254,6 @@ module _ (C : Table) (l : Answers) where
       absurd (n (no_more_slots C l s.slots.entries (slots_of c.known c.still_open) k
       (record { open_as = p.slot; octets = c.known p.slot.opener.number }) h.slots
       (slots_get c k p.slot p.here)))
-
-  pub begin_keeps : (s : Slots) (m : Message) (c : Tracked) (owner_of_next : Option MessageKey)
-      (w : MessageKey) (number : ℕ) (header : List ℕ)
-      → SlotsRepresent C l s c owner_of_next → Follows C l number header m [] → w.number ≡ number →
-      w.header ≡ header
-      → c.known w.number ≡ Some [] → Each (λ o. o.opener.number ≡ w.number → ⊥) c.still_open
-      → SlotsRepresent C l (record { slots = s.slots; owner = owners.Current (Some m) }) c (Some w)
-  begin_keeps s m c owner_of_next w number header h e n f known apart = search (arith)
 
   -- an event without a line and without an octet
   opens_then : (at : ℕ) (w : MessageKey) (i : ℕ) (o : Option (List ℕ)) →

@@ -108,8 +108,8 @@ module _ (C : Table) (l : Answers) where
       PayloadBelongs C l (index_of of) (current_of of) c who
       → flat_map unfinished_line (left_current c who) ≡ current_text (current_of of)
   unfolding left_current current_text
-  current_left (owners.Current message) c None h = rw h refl
-  current_left (owners.Current message) c (Some w) h = search (arith, not_open, kept_left)
+  current_left (owners.Current message is_over) c None h = rw h refl
+  current_left (owners.Current message is_over) c (Some w) h = search (arith, not_open, kept_left)
   current_left (owners.Open None) c None h = refl
   current_left (owners.Open None) c (Some w) h = search (arith, not_open, kept_left)
   current_left (owners.Open (Some k)) c None h = absurd h

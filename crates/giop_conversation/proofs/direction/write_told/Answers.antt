@@ -10,13 +10,13 @@ returns-in-Ok-clause-text g c =
     let s = c.args.exchange.now in
     writes_both c.write_reply.result (tagging_log c.args.out.now)
     (tagging_log c.write_time.new.out) (tagging_log c.write_reply.new.out)
-    (time_due c.args.begun c.args.time)
-    (answers_due s.answered c.args.time ++ raises_due s.raised) c.in-Ok.ensures.text
+    (time_due c.args.begun c.args.arrival)
+    (answers_due s.answered c.args.arrival.time ++ raises_due s.raised) c.in-Ok.ensures.text
     (rw c.in-Ok.ensures.kept at c.write_reply.ensures)
 
 pub returns-in-Err-clause-text : goal.returns-in-Err-clause-text
 returns-in-Err-clause-text g c =
     let s = c.args.exchange.now in
     front-append (tagging_log c.args.out.now) (tagging_log c.write_time.new.out)
-    (time_due c.args.begun c.args.time)
-    (answers_due s.answered c.args.time ++ raises_due s.raised) c.in-Err.ensures.text
+    (time_due c.args.begun c.args.arrival)
+    (answers_due s.answered c.args.arrival.time ++ raises_due s.raised) c.in-Err.ensures.text

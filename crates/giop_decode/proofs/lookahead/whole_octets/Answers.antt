@@ -1,5 +1,5 @@
 use Rattle.std.proofs.Common.{◌+◌, ◌∙◌, ap}
-use Rattle.giop_decode.proofs.Whole.{stands_whole}
+use Rattle.giop_decode.proofs.Padding.{stands_whole}
 use Rattle.giop_decode.proofs.lookahead.whole_octets.Goals as goal
 
 pub returns-clause-stands : goal.returns-clause-stands

@@ -5,7 +5,7 @@ use Rattle.giop_entry_table.proofs.search.passed_over.Given as goal
 -- no block that was passed over has the id
 abbrev pub invariant-loop-at : goal.invariant-loop-at
 invariant-loop-at l = (l.at ≤ length l.keys)
-    × (position_from (λ k. k == l.key) 0 l.keys
+    × (position_from (λ k. k == l.key) l.fn.from (drop l.fn.from l.keys)
     ≡ position_from (λ k. k == l.key) l.at (drop l.at l.keys))
 
 abbrev pub decreases-loop-at : goal.decreases-loop-at

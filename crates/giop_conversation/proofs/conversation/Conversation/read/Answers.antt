@@ -8,7 +8,7 @@ use Rattle.giop_conversation.proofs.conversation.Conversation.read.Goals as goal
 pub returns-in-Even-clause-text : goal.returns-in-Even-clause-text
 returns-in-Even-clause-text g c = λ S k w holds ready.
     let octets = c.args.octets.now in
-    let time = c.args.time in
+    let arrival = c.args.arrival in
     let d = c.face.new.self.even in
     let t = c.face.new.self.exchange in
     let h : HoldsSide S d k.even = rw c.face.ensures.even holds.even in
@@ -16,19 +16,19 @@ returns-in-Even-clause-text g c = λ S k w holds ready.
     let calls : HasCalls Even t k = rw c.in-Even.is at (c.face.ensures.kept k holds.calls) in
     let here : c.face.new.self.parity ≡ Even = c.face.ensures.value ∙ c.in-Even.is in
     let go = c.answers_go_on.ensures S.table k.even.answers S.messages k.even.octets octets
-    (calls_in S Even time k) in
+    (calls_in S Even arrival k) in
     let a = go.0 in
-    let on = goes_on_by S k Even octets time d t a h calls
+    let on = goes_on_by S k Even octets arrival d t a h calls
     (c.answers_agree.ensures.held d.engine k.even.answers a k.even.octets) go.1 go.2 in
-    rw c.in-Even.is (reads_by c.read.result S k Even octets time w _ c.read.new.out d t a h calls on
-    here
+    rw c.in-Even.is (reads_by c.read.result S k Even octets arrival w _ c.read.new.out d t a h
+    calls on here
     c.read.ensures.same c.read.ensures.stream c.read.ensures.flow opposite
     (c.read.ensures.text a k.even.octets w on.holds ready on.agrees))
 
 pub returns-in-Odd-clause-text : goal.returns-in-Odd-clause-text
 returns-in-Odd-clause-text g c = λ S k w holds ready.
     let octets = c.args.octets.now in
-    let time = c.args.time in
+    let arrival = c.args.arrival in
     let d = c.face.new.self.odd in
     let t = c.face.new.self.exchange in
     let h : HoldsSide S d k.odd = rw c.face.ensures.odd holds.odd in
@@ -36,11 +36,11 @@ returns-in-Odd-clause-text g c = λ S k w holds ready.
     let calls : HasCalls Odd t k = rw c.in-Odd.is at (c.face.ensures.kept k holds.calls) in
     let here : c.face.new.self.parity ≡ Odd = c.face.ensures.value ∙ c.in-Odd.is in
     let go = c.answers_go_on.ensures S.table k.odd.answers S.messages k.odd.octets octets
-    (calls_in S Odd time k) in
+    (calls_in S Odd arrival k) in
     let a = go.0 in
-    let on = goes_on_by S k Odd octets time d t a h calls
+    let on = goes_on_by S k Odd octets arrival d t a h calls
     (c.answers_agree.ensures.held d.engine k.odd.answers a k.odd.octets) go.1 go.2 in
-    rw c.in-Odd.is (reads_by c.read-in-Odd.result S k Odd octets time w _ c.read-in-Odd.new.out d t
-    a h calls on here
+    rw c.in-Odd.is (reads_by c.read-in-Odd.result S k Odd octets arrival w _ c.read-in-Odd.new.out
+    d t a h calls on here
     c.read-in-Odd.ensures.same c.read-in-Odd.ensures.stream c.read-in-Odd.ensures.flow opposite
     (c.read-in-Odd.ensures.text a k.odd.octets w on.holds ready on.agrees))

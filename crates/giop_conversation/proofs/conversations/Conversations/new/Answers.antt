@@ -43,7 +43,7 @@ returns-clause-told g c = λ written known.
         connections = subst (λ n. AreHeld S c.loop-room.rooms.items
             (replicate n (new_connection S))) all c.loop-room.invariant.held;
         ready = new_ready c.new-2.result _ _ written c.new-2.ensures known;
-        time_is = refl;
+        arrival_is = refl;
         streams_are = refl;
         messages_are = refl;
         faults_are = refl;

@@ -14,7 +14,7 @@ use Rattle.giop_conversation.specs.Stamped.{stamped, exchanged}
 use Rattle.giop_conversation.specs.StreamReads.{AgreeWith, HasStood, reading_in}
 use Rattle.giop_conversation.proofs.LineEnds.{stamped_ends}
 use Rattle.giop_conversation.proofs.StampedLemmas.{IsTaken}
-use Rattle.giop_conversation.proofs.StreamReadLemmas.{read_none, read_on, front_on, agree_on, table_on, time_on, taken_on, below_tag, stands_at_end, reading_starts}
+use Rattle.giop_conversation.proofs.StreamReadLemmas.{read_none, read_on, front_on, agree_on, table_on, arrival_on, taken_on, below_tag, stands_at_end, reading_starts}
 use Rattle.giop_conversation.proofs.direction.Direction.read.Goals as goal
 
 pub loop-size-preserved : goal.loop-size-preserved
@@ -30,13 +30,13 @@ loop-size-preserved g c =
           let more = does.read (p ++ take at octets) (c.loop-size.invariant.read p read) in
           rw (take-add at n octets, ← append_assoc p (take at octets) (take n (drop at octets)))
           more;
-      text = λ a p holds agrees table time unanswered unraised.
+      text = λ a p holds agrees table arrival unanswered unraised.
           read_on c.args.self.now.engine c.loop-size.self.engine c.read_piece.new.self.engine a p
           octets at n c.read_in.new.self c.loop-size.exchange
           c.read_piece.new.exchange c.set_tag.new.self c.loop-size.out c.read_piece.new.out
-          c.args.time c.loop-size.invariant.same
-          (c.loop-size.invariant.text a p holds agrees table time unanswered unraised) agrees table
-          time
+          c.args.arrival c.loop-size.invariant.same
+          (c.loop-size.invariant.text a p holds agrees table arrival unanswered unraised) agrees
+          table arrival
           (record { answered = unanswered; raised = unraised }) (does.text a (p ++ take at octets));
       same = record {
         table = does.same.table ∙ c.loop-size.invariant.same.table;
@@ -51,9 +51,9 @@ pub loop-size-init : goal.loop-size-init
 loop-size-init g c =
     let e = c.args.self.now.engine in
     let s = c.read_in.new.self in
-    let starts : s ≡ reading_in e c.args.self.now.stream c.args.time c.args.exchange.now =
-    reading_starts e c.args.self.now.stream c.args.time c.args.exchange.now c.set_catalogue.new.self
-    s c.self.inside.catalogue.now c.self.inside.stream
+    let starts : s ≡ reading_in e c.args.self.now.stream c.args.arrival c.args.exchange.now =
+    reading_starts e c.args.self.now.stream c.args.arrival c.args.exchange.now
+    c.set_catalogue.new.self s c.self.inside.catalogue.now c.self.inside.stream
     c.set_catalogue.ensures c.read_in.ensures (rw (← c.self.view_is) c.self.invariant.0.same)
     (rw (← c.self.view_is) refl) in
     record {
@@ -61,7 +61,7 @@ loop-size-init g c =
       known = subst (λ (C : Table). AreKnown C (answer_of s))
           (ap (λ (x : Exchanged). x.table) starts) (c.answers_are_known.ensures s);
       read = λ p read. rw (append-nil p) read;
-      text = λ a p holds agrees table time unanswered unraised.
+      text = λ a p holds agrees table arrival unanswered unraised.
           read_none e a p c.args.octets.now s c.set_tag.new.self holds;
       same = record { table = refl; most = refl };
       sound = refl;
@@ -80,22 +80,22 @@ returns-in_err-size-clause-text g c = λ a p w holds ready agrees.
     let s' = c.loop-size.exchange in
     let same = c.loop-size.invariant.same in
     let due = stream_tag c.args.self.now.stream in
-    let starts : s ≡ reading_in e c.args.self.now.stream c.args.time c.args.exchange.now =
-    reading_starts e c.args.self.now.stream c.args.time c.args.exchange.now c.set_catalogue.new.self
-    s c.self.inside.catalogue.now c.self.inside.stream
+    let starts : s ≡ reading_in e c.args.self.now.stream c.args.arrival c.args.exchange.now =
+    reading_starts e c.args.self.now.stream c.args.arrival c.args.exchange.now
+    c.set_catalogue.new.self s c.self.inside.catalogue.now c.self.inside.stream
     c.set_catalogue.ensures c.read_in.ensures (rw (← c.self.view_is) c.self.invariant.0.same)
     (rw (← c.self.view_is) refl) in
     let agree : AgreeWith e a s p octets =
     subst (λ (x : Exchanged). AgreeWith e a x p octets) (sym starts) agrees in
     let table = ap (λ (x : Exchanged). x.table) starts in
-    let time = ap (λ (x : Exchanged). x.time) starts in
+    let arrival = ap (λ (x : Exchanged). x.arrival) starts in
     let none : IsTaken s = record {
       answered = ap (λ (x : Exchanged). x.answered) starts;
       raised =
           ap (λ (x : Exchanged). x.raised) starts;
     } in
-    let so_far = c.loop-size.invariant.text a p holds agree table time none.answered none.raised in
-    let more = rw (rest_from at octets) at c.in_err-size.ensures in
+    let so_far = c.loop-size.invariant.text a p holds agree table arrival none.answered none.raised
+    in let more = rw (rest_from at octets) at c.in_err-size.ensures in
     let front : WroteFront (tagging_log c.set_tag.new.self) (tagging_log c.read_piece.new.out)
     (stamped R s p octets) =
     front_on e e' a p octets at s s' c.set_tag.new.self c.loop-size.out c.read_piece.new.out same
@@ -103,7 +103,7 @@ returns-in_err-size-clause-text g c = λ a p w holds ready agrees.
     (more.text a (p ++ take at octets) so_far.holds
     (agree_on e e' a p octets at s s' same table so_far.told agree)
     (table_on e e' a p octets at s s' same table so_far.told)
-    (time_on R p (take at octets) s s' c.args.time time so_far.told)
+    (arrival_on R p (take at octets) s s' c.args.arrival arrival so_far.told)
     (taken_on R p (take at octets) s s' none so_far.told).answered
     (taken_on R p (take at octets) s s' none so_far.told).raised) in
     let failed : Result ℕ ℕ = Err 0 in
@@ -143,15 +143,15 @@ returns-then-at-octets-clause-text g c = λ a p w holds ready agrees.
     let s = c.read_in.new.self in
     let out = c.read_piece.new.out in
     let due = stream_tag c.args.self.now.stream in
-    let starts : s ≡ reading_in e c.args.self.now.stream c.args.time c.args.exchange.now =
-    reading_starts e c.args.self.now.stream c.args.time c.args.exchange.now c.set_catalogue.new.self
-    s c.self.inside.catalogue.now c.self.inside.stream
+    let starts : s ≡ reading_in e c.args.self.now.stream c.args.arrival c.args.exchange.now =
+    reading_starts e c.args.self.now.stream c.args.arrival c.args.exchange.now
+    c.set_catalogue.new.self s c.self.inside.catalogue.now c.self.inside.stream
     c.set_catalogue.ensures c.read_in.ensures (rw (← c.self.view_is) c.self.invariant.0.same)
     (rw (← c.self.view_is) refl) in
     let agree : AgreeWith e a s p octets =
     subst (λ (x : Exchanged). AgreeWith e a x p octets) (sym starts) agrees in
     let table = ap (λ (x : Exchanged). x.table) starts in
-    let time = ap (λ (x : Exchanged). x.time) starts in
+    let arrival = ap (λ (x : Exchanged). x.arrival) starts in
     let none : IsTaken s = record {
       answered = ap (λ (x : Exchanged). x.answered) starts;
       raised =
@@ -159,9 +159,9 @@ returns-then-at-octets-clause-text g c = λ a p w holds ready agrees.
     } in
     let all =
     read_on e c.loop-size.self.engine e' a p octets at n s c.loop-size.exchange
-    c.read_piece.new.exchange c.set_tag.new.self c.loop-size.out out c.args.time
-    c.loop-size.invariant.same (c.loop-size.invariant.text a p holds agree table time none.answered
-    none.raised) agree table time none
+    c.read_piece.new.exchange c.set_tag.new.self c.loop-size.out out c.args.arrival
+    c.loop-size.invariant.same (c.loop-size.invariant.text a p holds agree table arrival
+    none.answered none.raised) agree table arrival none
     (does.text a (p ++ take at octets)) in
     subst (λ (x : Exchanged). HasStood e' a (p ++ octets) out
     (w ++ with_tags due (stamped R x p octets)) c.read_piece.new.exchange

@@ -18,7 +18,7 @@ invariant-loop-size g l =
       text : (a : Answers) (p : List ℕ) → HoldsBy l.initial.self.engine a p →
           AgreeWith l.initial.self.engine a l.initial.exchange p l.octets →
           l.initial.exchange.table ≡ l.initial.self.engine.table →
-          l.initial.exchange.time ≡ l.time →
+          l.initial.exchange.arrival ≡ l.arrival →
           l.initial.exchange.answered ≡ None → l.initial.exchange.raised ≡ None →
           HasReadTo l.initial.self.engine l.self.engine a p l.octets l.at l.initial.exchange
           l.exchange l.initial.out l.out;

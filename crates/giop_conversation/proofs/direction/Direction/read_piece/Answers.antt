@@ -36,7 +36,7 @@ returns-in_err-write_due-clause-text g c = λ a p holds agrees table now unanswe
     front_lines (rules_with e a) s p octets n (tagging_log c.args.out.now)
     (tagging_log c.write_due.new.out)
     (piece_written e.table a e.most s p octets n table none undue c.in_ok-fed.ensures.within failed
-    c.feed.new.exchange c.in_ok-fed.fed.begun c.args.time (tagging_log c.args.out.now)
+    c.feed.new.exchange c.in_ok-fed.fed.begun c.args.arrival (tagging_log c.args.out.now)
     (tagging_log c.feed.new.out) (tagging_log c.write_due.new.out) now wrote come.1 begun
     c.in_err-write_due.ensures.text))
 
@@ -57,7 +57,7 @@ returns-clause-text g c = λ a p holds agrees table now unanswered unraised.
     record {
       holds = come.0;
       wrote = piece_written e.table a e.most s p octets n table none undue
-          c.in_ok-fed.ensures.within done c.feed.new.exchange c.in_ok-fed.fed.begun c.args.time
+          c.in_ok-fed.ensures.within done c.feed.new.exchange c.in_ok-fed.fed.begun c.args.arrival
           (tagging_log c.args.out.now) (tagging_log c.feed.new.out)
           (tagging_log c.write_due.new.out) now wrote come.1 begun c.in_ok-write_due.ensures.text;
       told = piece_calls e.table a e.most s p octets n table none undue c.in_ok-fed.ensures.within

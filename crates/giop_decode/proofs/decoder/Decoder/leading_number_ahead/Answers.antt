@@ -1,5 +1,5 @@
-use Rattle.std.proofs.Common.{◌≡◌, Some, ◌∙◌, ap, refl, subst}
-use Rattle.giop_decode.specs.Transitions.{StandsWhole}
+use Rattle.std.proofs.Common.{◌≡◌, true, [], Some, ◌∙◌, ap, refl, subst}
+use Rattle.giop_decode.specs.Transitions.{NumberStands}
 use Rattle.giop_decode.specs.declared.leaf.Leaf.TheVariants as innermost
 use Rattle.giop_decode.proofs.Advancing.{stands_at}
 use Rattle.giop_decode.proofs.Counting.{coding_small}
@@ -47,10 +47,11 @@ returns-in-Some c =
     let e : d.leaf ≡ Some (innermost.Number c.in-Some-Number.of) = some ∙ ap Some number in
     let head = (stands_at C d c.requires.fits (innermost.Number c.in-Some-Number.of) e).fits.kind in
     let v = c.take_value.ensures in
+    let empty : d.carry ≡ [] = c.if-not-is_empty.ensures.0 refl in
     comes_head C d c.in-Some-Number.of c.args.octets.now c.in-Some.count c.requires.fits e
-    (c.if-not-is_empty.ensures.0 refl) c.args.coded.0 c.args.coded.1 c.requires.coded
-    c.in-Some.whole.now c.take_value.result
-    (subst (λ w. StandsWhole w c.args.coded.1 c.args.octets.now c.in-Some.count c.in-Some.whole.now)
-    (c.width.ensures.width head) c.in-Some.ensures.stands)
+    c.args.coded.0 c.args.coded.1 c.requires.coded
+    d.carry c.in-Some.whole.now c.take_value.result empty
+    (rw empty (subst (λ w. NumberStands w c.args.coded.1 [] c.args.octets.now c.in-Some.count true
+    c.in-Some.whole.now) (c.width.ensures.width head) c.in-Some.ensures.stands))
     c.requires.ahead v.transition_fits v.has_output v.output_fits_string v.string_goes_on
     v.transitions

@@ -9,8 +9,8 @@ whole_number-requires-clause-small c =
     let d = c.args.self.now in
     rw c.requires.coded at (coding_small d.order d.at d.outer.items c.requires.fits.at)
 
-pub returns-in-Some-clause-ahead : goal.returns-in-Some-clause-ahead
-returns-in-Some-clause-ahead c =
+pub returns-in-Some : goal.returns-in-Some
+returns-in-Some c =
     let some : c.args.self.now.leaf ≡ Some c.in-Some-Number.field-0 = c.in-Some-Number.is in
     let number : c.in-Some-Number.field-0 ≡ innermost.Number c.in-Some-Number.of =
     rw some at c.in-Some-Number.field-0-is in
@@ -19,14 +19,5 @@ returns-in-Some-clause-ahead c =
     let d = c.args.self.now in
     comes_number c.args.catalogue.now d c.in-Some-Number.of c.args.octets.now c.in-Some.count
     c.requires.fits e
-    (c.if-not-is_empty.ensures.0 refl) c.args.coded.0 c.args.coded.1 c.requires.coded
-    c.in-Some.number c.in-Some.ensures.whole c.requires.ahead
-
-pub returns-in-Some-clause-plain : goal.returns-in-Some-clause-plain
-returns-in-Some-clause-plain c = record {
-  prim = c.in-Some.ensures.plain.0;
-  number =
-      c.in-Some.number;
-  is = c.in-Some.ensures.plain.1;
-  says = refl;
-}
+    c.args.coded.0 c.args.coded.1 c.requires.coded c.in-Some.number
+    (c.if-not-is_empty.ensures.0 refl) c.in-Some.ensures c.requires.ahead

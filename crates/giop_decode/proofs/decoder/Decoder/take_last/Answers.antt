@@ -21,9 +21,8 @@ pass-progress-requires-clause-around g c =
       transition = transitions.Ended;
       output =
           outputs.Number a.number;
-    }) [] c.requires.fits
+    }) [] c.requires.fits (at_last d c.further-self.result d.outer)
     (taken_together C d a c.requires.fits c.requires.ahead)
-    (at_last d c.further-self.result d.outer)
     (part_at_last C d a c.requires.fits c.requires.ahead c.further-self.result
     c.further-self.ensures)
 
@@ -45,8 +44,8 @@ returns g c =
     let octets = a.octets.now in
     let f = c.requires.fits in
     let h = c.requires.ahead in
-    passed_some C d octets a.of a.count step [] f (taken_together C d a f h)
-    (at_last d c.further-self.result d.outer)
+    passed_some C d octets a.of a.count step [] f (at_last d c.further-self.result d.outer)
+    (taken_together C d a f h)
     (part_at_last C d a f h c.further-self.result c.further-self.ensures)
     c.pass-progress.new.self c.pass-progress.result c.pass-progress.ensures
     _ _ (part_says C d a f h (Wrote (g.O.Out.log c.args.out.now)

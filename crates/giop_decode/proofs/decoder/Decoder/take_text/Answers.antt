@@ -11,7 +11,7 @@ emit-requires-clause-around g c =
     let f = c.requires.fits in
     let there = (d.at + (text.head - 1)) % 8 in
     let a = around_whole c.args.catalogue.now d c.args.octets.now text.of text.head _ h.none f
-    h.leads (at_last d there d.outer)
+    (at_last d there d.outer) h.leads
     (free_at_last d text.head there (sym f.inside ∙ h.outside) refl) in
     record {
       known = a.known;

@@ -18,5 +18,5 @@ returns-clause-enters c answers number header s at before first e =
         ← at.at,
         ← c.order_of-order.ensures,
         ← c.root-root.ensures,
-      ) c.start-decoder.ensures.reads;
+      ) c.restart.ensures.reads;
     }

@@ -10,13 +10,13 @@ use Rattle.giop_message.specs.Signatures.{signatures_of}
 use Rattle.giop_message.proofs.Starting.{fit_some}
 use Rattle.giop_message.proofs.message.Message.begin_body.Goals as goal
 
-pub begin_behind-requires-clause-some : goal.begin_behind-requires-clause-some
-begin_behind-requires-clause-some c = fit_some (tree c.args.catalogue.now c.fixed-of.result.0)
+pub begin-requires-clause-some : goal.begin-requires-clause-some
+begin-requires-clause-some c = fit_some (tree c.args.catalogue.now c.fixed-of.result.0)
     c.fixed-of.ensures.fit
 
-pub begin_behind-requires-in-SystemException-clause-some :
-    goal.begin_behind-requires-in-SystemException-clause-some
-begin_behind-requires-in-SystemException-clause-some c =
+pub begin-requires-in-SystemException-clause-some :
+    goal.begin-requires-in-SystemException-clause-some
+begin-requires-in-SystemException-clause-some c =
     fit_some (tree c.args.catalogue.now c.fixed-of-in-SystemException.result.0)
     c.fixed-of-in-SystemException.ensures.fit
 
@@ -36,7 +36,7 @@ pub returns-in-Exception-clause-arrives : goal.returns-in-Exception-clause-arriv
 unfolding body signatures_of
 returns-in-Exception-clause-arrives c answers number header s at before e =
     let S = signatures_of c.args.catalogue.now (answers number) in
-    c.begin_behind.ensures.enters answers number header s at before tt
+    c.begin.ensures.enters answers number header s at before tt
     (subst (λ T. message S header s ≡ with_front before
     (section_and_rest S header sections.Exception nothing_noted
     (read (plain (order header)) [] T (12 + length s) [])))
@@ -46,7 +46,7 @@ pub returns-in-SystemException-clause-arrives : goal.returns-in-SystemException-
 unfolding body signatures_of
 returns-in-SystemException-clause-arrives c answers number header s at before e =
     let S = signatures_of c.args.catalogue.now (answers number) in
-    c.begin_behind-in-SystemException.ensures.enters answers number header s at before tt
+    c.begin-in-SystemException.ensures.enters answers number header s at before tt
     (subst (λ T. message S header s ≡ with_front before
     (section_and_rest S header sections.SystemException nothing_noted
     (read (plain (order header)) [] T (12 + length s) [])))

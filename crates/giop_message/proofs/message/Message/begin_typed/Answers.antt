@@ -5,8 +5,8 @@ use Rattle.giop_message.specs.Messages.{with_front, typed}
 use Rattle.giop_message.proofs.Starting.{empty_rests, some_not_empty}
 use Rattle.giop_message.proofs.message.Message.begin_typed.Goals as goal
 
-pub begin_behind-requires-clause-some : goal.begin_behind-requires-clause-some
-begin_behind-requires-clause-some c = some_not_empty (tree c.args.catalogue.now c.args.of.0)
+pub begin-requires-clause-some : goal.begin-requires-clause-some
+begin-requires-clause-some c = some_not_empty (tree c.args.catalogue.now c.args.of.0)
     (sym c.is_empty.ensures ∙ c.if-is_empty.false)
 
 pub returns-then-is_empty-clause-fits : goal.returns-then-is_empty-clause-fits
@@ -23,4 +23,4 @@ returns-then-is_empty-clause-arrives c answers number header s at before e =
 pub returns-else-is_empty-clause-arrives : goal.returns-else-is_empty-clause-arrives
 unfolding typed
 returns-else-is_empty-clause-arrives c answers number header s at before e =
-    c.begin_behind.ensures.enters answers number header s at before tt e
+    c.begin.ensures.enters answers number header s at before tt e

@@ -14,9 +14,9 @@ returns-then-is_padded-clause-arrives g c answers number header s section r ende
     let answer = g.Q.Correspondent.answer (g.Q.Correspondent.state c.args.correspondent.now) in
     let S = signatures_of C (answers number) in
     let h = noted_of (is_header_root (root_of section)) r in
-    let here = subst (λ p. Ended p section r) c.in-Typed.is ended in
-    let keeps_noted = subst (λ x. KeepsNoted (root_of x) c.in-Typed.decoder r) (sym here.0) here.1
-    in
+    let d = c.args.self.now.decoder in
+    let here = subst (λ p. Ended d p section r) c.in-Typed.is ended in
+    let keeps_noted = subst (λ x. KeepsNoted (root_of x) d r) (sym here.0) here.1 in
     let some : is_padded header section (12 + length s) ≡ true =
     rw (← at.same_header, ← at.at, ← here.0) (sym c.is_padded.ensures ∙ c.if-is_padded.true) in
     let wants = rw (at.same_header, here.0) at
@@ -37,9 +37,9 @@ returns-else-is_padded-clause-arrives g c answers number header s section r ende
     let answer = g.Q.Correspondent.answer (g.Q.Correspondent.state c.args.correspondent.now) in
     let S = signatures_of C (answers number) in
     let h = noted_of (is_header_root (root_of section)) r in
-    let here = subst (λ p. Ended p section r) c.in-Typed.is ended in
-    let keeps_noted = subst (λ x. KeepsNoted (root_of x) c.in-Typed.decoder r) (sym here.0) here.1
-    in
+    let d = c.args.self.now.decoder in
+    let here = subst (λ p. Ended d p section r) c.in-Typed.is ended in
+    let keeps_noted = subst (λ x. KeepsNoted (root_of x) d r) (sym here.0) here.1 in
     let none : is_padded header section (12 + length s) ≡ false =
     rw (← at.same_header, ← at.at, ← here.0) (sym c.is_padded.ensures ∙ c.if-is_padded.false) in
     let wants = rw (at.same_header, here.0) at

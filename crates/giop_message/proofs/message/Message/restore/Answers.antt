@@ -17,7 +17,8 @@ returns-in_default-clause-again c m fits stored =
     let octets = c.octets_at-octets.ensures _ [] long (sym (append-nil _)) in
     let on = goes_on c.args.catalogue.now m _ _ _ _ _ _ fits stored
     c.eight_at-at.ensures c.octet_at.ensures octets c.restore.ensures.again in
-    absurd (there (λ p. GoesOn c.args.catalogue.now m.part p) _ on c.in_default.not-Some)
+    absurd (there (λ p. GoesOn c.args.catalogue.now m.decoder m.part p.1 p.0) _ on
+    c.in_default.not-Some)
 
 pub returns-then-not-same-clause-again : goal.returns-then-not-same-clause-again
 returns-then-not-same-clause-again c m fits stored =
@@ -26,12 +27,13 @@ returns-then-not-same-clause-again c m fits stored =
     let octets = c.octets_at-octets.ensures _ [] long (sym (append-nil _)) in
     let own = c.octets_at-own.ensures _ _ (of_own _ c.told-fixed) (both _) in
     let id = c.optional_at.ensures _ _ stored.own.id fields.id in
-    let on = goes_on c.args.catalogue.now m _ _ _ _ _ (Some c.in-Some.part) fits stored
+    let on = goes_on c.args.catalogue.now m _ _ _ _ _
+    (Some (c.in-Some.part, c.in-Some.decoder)) fits stored
     c.eight_at-at.ensures c.octet_at.ensures octets c.in-Some.ensures.again in
     let is = same_own _ m
     (c.eight_at-at.ensures m.at _ stored.own.at fields.at)
     (c.in-Some.ensures.octet ∙ c.octet_at.ensures _ _ fields.part)
-    (ap (kept_id c.in-Some.part) id ∙ kept_again _ m.part c.in-Some.part m.id on) in
+    (ap (kept_id c.in-Some.part) id ∙ kept_again _ _ _ m.part c.in-Some.part m.id on) in
     let same = c.same.ensures.1 (c.own_octets.ensures.is ∙ is ∙ sym stored.own.is ∙ sym own) in
     absurd (not_both c.if-not-same.true same)
 
@@ -49,7 +51,8 @@ returns-clause-stored c =
         at = c.own_octets.ensures.at;
         id = c.own_octets.ensures.id;
       };
-      part = subst (λ (xs : List ℕ). PartStored c.in-Some.part xs frames) octets stored;
+      part = subst (λ (xs : List ℕ). PartStored c.in-Some.decoder c.in-Some.part xs frames) octets
+          stored;
     }
 
 pub returns-clause-follows : goal.returns-clause-follows
@@ -58,12 +61,14 @@ returns-clause-follows c m fits same_number same_header stored answers number he
     let long = behind_own _ c.told-fixed in
     let octets = c.octets_at-octets.ensures _ [] long (sym (append-nil _)) in
     let id = c.optional_at.ensures _ _ stored.own.id fields.id in
-    let on = goes_on c.args.catalogue.now m _ _ _ _ _ (Some c.in-Some.part) fits stored
+    let on = goes_on c.args.catalogue.now m _ _ _ _ _
+    (Some (c.in-Some.part, c.in-Some.decoder)) fits stored
     c.eight_at-at.ensures c.octet_at.ensures octets c.in-Some.ensures.again in
     record {
       same_number = sym same_number ∙ f.same_number;
       same_header = sym same_header ∙ f.same_header;
-      id = id_on _ m.part c.in-Some.part m.id _ _ on id f.id;
+      id = id_on _ _ _ m.part c.in-Some.part m.id _ _ on id f.id;
       at = c.eight_at-at.ensures m.at _ stored.own.at fields.at ∙ f.at;
-      stands = stands_on _ answers number header s m.part c.in-Some.part on f.stands;
+      stands = stands_on _ answers number header s m.decoder c.in-Some.decoder m.part
+          c.in-Some.part on f.stands;
     }

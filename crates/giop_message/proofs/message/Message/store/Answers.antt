@@ -23,7 +23,7 @@ returns-clause-stored c C fits =
     let stored = c.store-count.ensures.stored C m.at fits in
     record {
       own = subst (λ (xs : List ℕ). IsOwnOf xs m) (sym front) c.own_octets-own.ensures;
-      part = subst (λ (xs : List ℕ). PartStored m.part xs frames) (sym behind) stored;
+      part = subst (λ (xs : List ℕ). PartStored m.decoder m.part xs frames) (sym behind) stored;
     }
 
 pub returns-clause-depth : goal.returns-clause-depth

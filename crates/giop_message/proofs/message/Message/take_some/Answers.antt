@@ -1,11 +1,25 @@
-use Rattle.std.proofs.Common.{◌≡◌, arith, ◌+◌, ◌∷◌, [], ◌++◌, length, take, get_or, refl, sym, ap, ◌∙◌}
+use Rattle.std.proofs.Common.{◌≡◌, arith, ◌+◌, ◌∷◌, [], ◌++◌, length, take, get_or, refl, sym, ap, subst, ◌∙◌}
 use Rattle.giop_print.proofs.Writing.{writes_failed, wrote-append, wrote-nil}
+use Rattle.giop_decode.specs.declared.decoder.Decoder.{Decoder}
+use Rattle.giop_decode.specs.DecoderState.{KeepsNoted}
+use Rattle.giop_decode.specs.ReadResult.{Read}
+use Rattle.giop_message.specs.declared.part.Part.{Part}
+use Rattle.giop_message.specs.declared.part.Part.TheVariants as parts
+use Rattle.giop_message.specs.declared.part.Section.{Section}
+use Rattle.giop_message.specs.Messages.{root_of}
+use Rattle.giop_message.specs.MessageSteps.{Ended}
 use Rattle.giop_message.specs.HeaderEnds.{header_ends, after_ends}
 use Rattle.giop_message.proofs.Followings.{same_fields}
 use Rattle.giop_message.proofs.Rests.{no_text, rest_text, rest_follows}
 use Rattle.giop_message.proofs.HeaderEndLaws.{header_ends_none}
 use Rattle.giop_message.proofs.SectionRuns.{if_err, first_alone, standing, took, by_reads, ReadWith, broken_front, took_front, failed_front, rest_front, text_more, text_done, text_named, text_wrong, keeps_noted_header, went_on, went_done, went_wrong, none_ends, answered_here, told_here, padding_none, rest_none}
 use Rattle.giop_message.proofs.message.Message.take_some.Goals as goal
+
+-- a section that has ended is still the part
+ended_in : (d : Decoder) (section : Section) (r : Read) {part : Part} → part ≡ parts.Typed section →
+    KeepsNoted (root_of section) d r → Ended d part section r
+ended_in d section r is keeps_noted =
+    subst (λ p. Ended d p section r) (sym is) (refl, keeps_noted)
 
 pub returns-in_err-taken-in-Typed-clause-writes : goal.returns-in_err-taken-in-Typed-clause-writes
 returns-in_err-taken-in-Typed-clause-writes g c answers number header s f =
@@ -27,7 +41,8 @@ returns-in-More-clause-took g c answers number header s f agrees =
     let ran = c.in_ok-taken-in-Typed.ensures in
     let k = took t c.args.octets.now c.in_ok-taken-in-Typed.taken ran.within
     (ran.some c.requires.some) (by_reads t ran.takes) c.in-More.is in
-    went_on k (λ fault. fault) _ (record { number = refl; header = refl; at = refl }) refl refl
+    went_on k (λ fault. fault) _ (record { number = refl; header = refl; at = refl }) refl
+    c.in-Typed.is refl
 
 pub returns-in_err-call-in-Named-clause-writes : goal.returns-in_err-call-in-Named-clause-writes
 returns-in_err-call-in-Named-clause-writes g c answers number header s f =
@@ -58,7 +73,8 @@ returns-in_ok-call-in-Named-clause-took g c answers number header s f agrees =
     let ran = c.in_ok-taken-in-Typed.ensures in
     let k = took t c.args.octets.now c.in_ok-taken-in-Typed.taken ran.within
     (ran.some c.requires.some) (by_reads t ran.takes) c.in-Named.is in
-    went_on k (λ fault. fault) _ (record { number = refl; header = refl; at = refl }) refl refl
+    went_on k (λ fault. fault) _ (record { number = refl; header = refl; at = refl }) refl
+    c.in-Typed.is refl
 
 pub returns-in-Done-clause-writes : goal.returns-in-Done-clause-writes
 returns-in-Done-clause-writes g c answers number header s f =
@@ -78,11 +94,14 @@ returns-in-Done-clause-took g c answers number header s f agrees =
     let xs = take c.in_ok-taken-in-Typed.taken c.args.octets.now in
     went_done k _ _ (record { number = refl; header = refl; at = refl }) refl
     (e.arrives answers number header (s ++ xs) c.in-Typed.field-0 (ReadWith t xs)
-    (refl, k.takes.keeps_noted)
+    (ended_in c.take_run.new.self c.in-Typed.field-0 (ReadWith t xs) c.in-Typed.is
+    k.takes.keeps_noted)
     (answered_here g.Q.Correspondent.answer g.Q.Correspondent.notified
     (g.Q.Correspondent.state c.args.correspondent.now) answers k agrees))
     (record { number = e.number; header = e.header; at = e.at })
-    (e.id c.in-Typed.field-0 (ReadWith t xs) (refl, k.takes.keeps_noted)) e.past
+    (e.id c.in-Typed.field-0 (ReadWith t xs)
+    (ended_in c.take_run.new.self c.in-Typed.field-0 (ReadWith t xs) c.in-Typed.is
+    k.takes.keeps_noted)) e.past
 
 pub returns-in_err-fault_line-in-Fault-clause-writes :
     goal.returns-in_err-fault_line-in-Fault-clause-writes
@@ -119,7 +138,7 @@ returns-in_ok-fault_line-in-Fault-clause-took g c answers number header s f agre
 pub returns-in-Padding-clause-writes : goal.returns-in-Padding-clause-writes
 returns-in-Padding-clause-writes g c answers number header s f =
     let octet = get_or c.args.octets.now 0 0 in
-    let here = same_fields f refl refl refl refl (sym c.in-Padding.is) in
+    let here = same_fields f refl refl refl refl (sym c.in-Padding.is) refl in
     let none = c.take_padding.ensures.told answers number header s octet here in
     record {
       n = 1;
@@ -136,7 +155,7 @@ returns-in-Padding-clause-writes g c answers number header s f =
 
 pub returns-in-Padding-clause-took : goal.returns-in-Padding-clause-took
 returns-in-Padding-clause-took g c answers number header s f agrees =
-    let here = same_fields f refl refl refl refl (sym c.in-Padding.is) in
+    let here = same_fields f refl refl refl refl (sym c.in-Padding.is) refl in
     rw (first_alone c.args.octets.now c.requires.some)
     (c.take_padding.ensures.follows answers number header s (get_or c.args.octets.now 0 0) here)
 
@@ -201,7 +220,9 @@ returns-in-Done-clause-told g c answers number header s f =
     let xs = take c.in_ok-taken-in-Typed.taken c.args.octets.now in
     told_here g.Q.Correspondent.answer g.Q.Correspondent.notified
     (g.Q.Correspondent.state c.args.correspondent.now) _ k
-    (c.leave.ensures.told c.in-Typed.field-0 (ReadWith t xs) (refl, k.takes.keeps_noted))
+    (c.leave.ensures.told c.in-Typed.field-0 (ReadWith t xs)
+    (ended_in c.take_run.new.self c.in-Typed.field-0 (ReadWith t xs) c.in-Typed.is
+    k.takes.keeps_noted))
 
 pub returns-in_ok-fault_line-in-Fault-clause-told :
     goal.returns-in_ok-fault_line-in-Fault-clause-told

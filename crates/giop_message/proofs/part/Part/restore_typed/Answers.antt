@@ -37,17 +37,18 @@ small n sections.Body few e = omega (arith, e)
 
 again : (C : Table) (section : Section) (e : Decoder) (octets frames : List ℕ) →
     ((d : Decoder) → decoder.Fits C d → decoders.Stored d octets frames → ReadsOn C d e) →
-    (at : ℕ) (p : Part) → FitsPart C at p → part_octet p ≡ section_octet section →
-    PartStored p octets frames → GoesOn C p (parts.Typed section e)
-again C section e octets frames reads at (parts.Typed own d) fits octet stored =
+    (at : ℕ) (d : Decoder) (p : Part) → FitsPart C at d p →
+    part_octet p ≡ section_octet section → PartStored d p octets frames →
+    GoesOn C d p e (parts.Typed section)
+again C section e octets frames reads at d (parts.Typed own) fits octet stored =
     (same own section octet, reads d fits stored)
-again C section e octets frames reads at (parts.Padding body_type_id) fits octet stored =
+again C section e octets frames reads at d (parts.Padding body_type_id) fits octet stored =
     absurd (small 0 section (omega arith) octet)
-again C section e octets frames reads at (parts.Rest r) fits octet stored =
+again C section e octets frames reads at d (parts.Rest r) fits octet stored =
     absurd (small 1 section (omega arith) octet)
 
 pub returns-clause-again : goal.returns-clause-again
-returns-clause-again c at p fits octet stored =
+returns-clause-again c at d p fits octet stored =
     again c.args.catalogue.now c.args.section c.in-Some.decoder c.args.octets.now c.args.frames.now
-    (λ d fits stored. record { reads = c.in-Some.ensures.reads d fits stored }) at p fits octet
-    stored
+    (λ d fits stored. record { reads = c.in-Some.ensures.reads d fits stored }) at d p fits
+    octet stored

@@ -7,11 +7,12 @@ use Rattle.giop_stream.proofs.SlotSteps.EventsOnSlots.{still_faulted, still_alte
 use Rattle.giop_stream.proofs.SlotSteps.SlotLists.{none_behind, value_ready}
 use Rattle.giop_stream.proofs.slots.Slots.fault_message.Goals as goal
 
-pub returns-in-Current-clause-does : goal.returns-in-Current-clause-does
-returns-in-Current-clause-does g c =
+pub returns-else-is_over-clause-does : goal.returns-else-is_over-clause-does
+returns-else-is_over-clause-does g c =
     λ C l c' w h n rising.
     own_effects C l c.fault_message.result _ _ c.args.self.now _ c.in-Current.message
-    c.fault_message.new.message c' w _ _ (refl, refl) (rw c.in-Current.is (refl, refl)) h
+    c.fault_message.new.message c' w _ _ (refl, rw c.if-is_over.false refl)
+    (rw (c.in-Current.is, c.if-is_over.false) (refl, refl)) h
     (still_alters C l c.args.place c' w _ (still_faulted c.args.fault))
     (λ k. c.fault_message.ensures.does C l w (c'.known w.number) k n)
 
@@ -40,11 +41,14 @@ returns-in-None-clause-does g c =
     no_slot_says C l c.args.self.now c' (Some w) c.in-Open-Some.k index
     (none_behind _ _ c.in-None.ensures.value) h
 
-pub returns-in-Current-clause-room : goal.returns-in-Current-clause-room
-returns-in-Current-clause-room g c = record {
+pub returns-else-is_over-clause-room : goal.returns-else-is_over-clause-room
+returns-else-is_over-clause-room g c = record {
   most = refl;
   ready = λ C n h.
-      record { current_ready = c.fault_message.ensures.ready C n; each_ready = h.each_ready };
+      record {
+        current_ready = rw c.if-is_over.false (c.fault_message.ensures.ready C n);
+        each_ready = h.each_ready;
+      };
 }
 
 pub returns-in-Some-clause-room : goal.returns-in-Some-clause-room
@@ -56,3 +60,12 @@ returns-in-Some-clause-room g c = record {
         (c.fault_message-in-Some.ensures.ready C n) h.each_ready;
   };
 }
+
+pub returns-then-is_over-clause-does : goal.returns-then-is_over-clause-does
+returns-then-is_over-clause-does g c =
+    λ C l c' w h n rising.
+    own_effects C l _ _ _ c.args.self.now _ None None c' w _ _
+    (refl, rw c.if-is_over.true refl)
+    (rw (c.in-Current.is, c.if-is_over.true) (refl, refl)) h
+    (still_alters C l c.args.place c' w _ (still_faulted c.args.fault))
+    (λ k. rw (over_part C l w (c'.known w.number) _ k) (does_nothing _ _ refl tt))

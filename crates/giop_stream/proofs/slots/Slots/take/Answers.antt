@@ -11,8 +11,8 @@ use Rattle.giop_stream.proofs.CodeSteps.OwnerRuns.{over_takes}
 use Rattle.giop_stream.proofs.CodeSteps.HeaderEndSteps.{own_ends, slot_ends, none_ends, if_ok_weaker}
 use Rattle.giop_stream.proofs.slots.Slots.take.Goals as goal
 
-pub returns-in-Current-clause-does : goal.returns-in-Current-clause-does
-returns-in-Current-clause-does g c =
+pub returns-else-is_over-clause-does : goal.returns-else-is_over-clause-does
+returns-else-is_over-clause-does g c =
     λ a c' owner_of_next h rising.
     own_takes c.args.catalogue.now a (λ (r : ℕ × Bool). r.0) (λ (r : ℕ × Bool). one_if r.1)
     c.take_octets.result _ _
@@ -21,8 +21,10 @@ returns-in-Current-clause-does g c =
     (g.Q.Correspondent.state c.args.correspondent.now) a (ends c.args.octets.now))
     (StaysUndue g.Q.Correspondent.due g.Q.Correspondent.notified c.args.catalogue.now
     (g.Q.Correspondent.state c.args.correspondent.now))
-    _ c.in-Current.message c.take_octets.new.message (refl, refl)
-    (rw c.in-Current.is (refl, refl)) (λ w o k agrees. c.take_octets.ensures.does a w o k agrees)
+    _ c.in-Current.message c.take_octets.new.message
+    (refl, rw c.if-is_over.false refl)
+    (rw (c.in-Current.is, c.if-is_over.false) (refl, refl))
+    (λ w o k agrees. c.take_octets.ensures.does a w o k agrees)
 
 pub returns-in-Open-None-clause-does : goal.returns-in-Open-None-clause-does
 returns-in-Open-None-clause-does g c =
@@ -85,8 +87,8 @@ returns-in-Open-None-clause-ready g c =
           all_later c.args.catalogue.now _ _ _ (omega arith) c.requires.ready.each_ready;
     }
 
-pub returns-in-Current-clause-told : goal.returns-in-Current-clause-told
-returns-in-Current-clause-told g c = if_ok_weaker c.take_octets.result
+pub returns-else-is_over-clause-told : goal.returns-else-is_over-clause-told
+returns-else-is_over-clause-told g c = if_ok_weaker c.take_octets.result
     (λ r told a c' owner_of_next h.
     own_ends (λ ends. AgreesAtEnds g.Q.Correspondent.answer g.Q.Correspondent.notified
     c.args.catalogue.now (g.Q.Correspondent.state c.args.correspondent.now) a
@@ -94,7 +96,7 @@ returns-in-Current-clause-told g c = if_ok_weaker c.take_octets.result
     ≡ after_ends g.Q.Correspondent.notified c.args.catalogue.now
     (g.Q.Correspondent.state c.args.correspondent.now) (ends (take r.0 c.args.octets.now)))
     c.args.catalogue.now a c.args.self.now c' owner_of_next h c.in-Current.message
-    (rw c.in-Current.is (refl, refl)) (λ w o k agrees. told a w o k agrees))
+    (rw (c.in-Current.is, c.if-is_over.false) (refl, refl)) (λ w o k agrees. told a w o k agrees))
     c.take_octets.ensures.told
 
 pub returns-in-Some-clause-told : goal.returns-in-Some-clause-told
@@ -128,3 +130,46 @@ returns-in-Open-None-clause-told g c =
     (rw c.in-Open-None.is (c.in-Open-None.field-0-is, refl))
     (λ w o k. none_ends (λ ends. st ≡ after_ends g.Q.Correspondent.notified c.args.catalogue.now st
     (ends (take (length octets) octets))) c.args.catalogue.now a w o k refl)
+
+pub returns-then-is_over-clause-does : goal.returns-then-is_over-clause-does
+returns-then-is_over-clause-does g c =
+    λ a c' owner_of_next h rising.
+    own_takes c.args.catalogue.now a (λ (r : ℕ × Bool). r.0) (λ (r : ℕ × Bool). one_if r.1) _ _ _
+    c.args.self.now c' owner_of_next c.args.before c.args.octets.now h
+    (λ ends. AgreesAtEnds g.Q.Correspondent.answer g.Q.Correspondent.notified c.args.catalogue.now
+    (g.Q.Correspondent.state c.args.correspondent.now) a (ends c.args.octets.now))
+    (StaysUndue g.Q.Correspondent.due g.Q.Correspondent.notified c.args.catalogue.now
+    (g.Q.Correspondent.state c.args.correspondent.now))
+    _ None None (refl, rw c.if-is_over.true refl)
+    (rw (c.in-Current.is, c.if-is_over.true) (refl, refl))
+    (λ w o k agrees. over_takes c.args.catalogue.now a w c.args.before c.args.octets.now o k
+    (StaysUndue g.Q.Correspondent.due g.Q.Correspondent.notified c.args.catalogue.now _) _
+    (λ xs calm. calm))
+
+pub returns-then-is_over-clause-told : goal.returns-then-is_over-clause-told
+returns-then-is_over-clause-told g c =
+    λ a c' owner_of_next h agrees.
+    let st = g.Q.Correspondent.state c.args.correspondent.now in
+    let octets = c.args.octets.now in
+    own_ends (λ ends. st ≡ after_ends g.Q.Correspondent.notified c.args.catalogue.now st
+    (ends (take (length octets) octets)))
+    c.args.catalogue.now a c.args.self.now c' owner_of_next h None
+    (rw (c.in-Current.is, c.if-is_over.true) (refl, refl))
+    (λ w o k. none_ends (λ ends. st ≡ after_ends g.Q.Correspondent.notified c.args.catalogue.now st
+    (ends (take (length octets) octets))) c.args.catalogue.now a w o k refl)
+
+pub returns-then-is_over-clause-ready : goal.returns-then-is_over-clause-ready
+returns-then-is_over-clause-ready g c =
+    record {
+      current_ready = rw c.if-is_over.true tt;
+      each_ready =
+          all_later c.args.catalogue.now _ _ _ (omega arith) c.requires.ready.each_ready;
+    }
+
+pub returns-else-is_over-clause-ready : goal.returns-else-is_over-clause-ready
+returns-else-is_over-clause-ready g c =
+    if_ok_weaker c.take_octets.result (λ r m. record {
+      current_ready = rw c.if-is_over.false m;
+      each_ready =
+          all_later c.args.catalogue.now _ _ _ (omega arith) c.requires.ready.each_ready;
+    }) c.take_octets.ensures.ready

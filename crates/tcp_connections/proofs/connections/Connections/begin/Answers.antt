@@ -6,7 +6,7 @@ use Rattle.tcp_connections.specs.Connections.{State, began, first_number}
 use Rattle.tcp_connections.specs.State.{state_of}
 use Rattle.tcp_connections.proofs.Sound.{apart_taken}
 use Rattle.tcp_connections.proofs.Living.{first_turn}
-use Rattle.tcp_connections.proofs.States.{makes_by, moved, flow_done, none_told, sound_of, small_id}
+use Rattle.tcp_connections.proofs.States.{makes_by, moved, flow_done, sound_of, small_id}
 use Rattle.tcp_connections.proofs.connections.Connections.begin.Goals as goal
 
 pub begin-requires-clause-none : goal.begin-requires-clause-none
@@ -38,6 +38,5 @@ returns-clause-does g c w h =
     (c.in_ok-flow.ensures.beside es (h0.observed, h0.live))
     fewer (c.in_ok-flow.ensures.settled es (h0.observed, h0.live))
     (apart_taken S c.args.id h0.sound c.requires.taken)
-    (first_turn _ c.args.id _ _ _ es (small_id S c.args.id h0.sound within)
-    (none_told S c.args.id c.requires.vacant (h0.told c.args.id))) (λ es. refl) refl
+    (first_turn _ c.args.id _ _ _ es (small_id S c.args.id h0.sound within)) (λ es. refl) refl
     c.begin.ensures.blocks refl refl)) w h

@@ -1,7 +1,6 @@
 use Rattle.std.proofs.Common.{◌≡◌, Some, refl, sym, ap, ◌∙◌}
 use Rattle.tcp_flow.specs.Flow.{held_by_others}
 use Rattle.tcp_flow.specs.State.{state}
-use Rattle.tcp_flow.proofs.Room.{closed_dead}
 use Rattle.tcp_connections.specs.Connections.{flow_at, flow_forgotten}
 use Rattle.tcp_connections.specs.State.{state_of}
 use Rattle.tcp_connections.proofs.Cases.{forgot_none, forgot_some}
@@ -29,6 +28,6 @@ returns-clause-does g c w h =
     (record { observed = (h0.observed, h0.live); same = refl }))
     (closed_turn c.args.id es (state c.in-Some.flow S.held es) c.args.cause
     (turn_start _ _ _ es c.args.id c.in-Some.flow h0 e))
-    (closed_dead (state c.in-Some.flow S.held es) c.args.cause) (λ es. refl) refl
+    (λ es. refl) refl
     c.forget.ensures.blocks
     (c.forget.ensures.held ∙ ap (λ n. held_by_others n S.held) own) refl refl)) w h

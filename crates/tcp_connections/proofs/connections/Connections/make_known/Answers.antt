@@ -47,6 +47,7 @@ returns-clause-does g c w h =
       free = c.take.new.self;
       stamps =
           c.note.new.self;
+      syns = c.set.new.self;
     }) w pair c.take.new.self.free.items room h told.0 told.1
     (c.take.ensures.some room c.in-Some.is) c.requires.new
     (λ es. entered c.args.self.now (record c.args.self.now {
@@ -54,12 +55,13 @@ returns-clause-does g c w h =
       free =
           c.take.new.self;
       stamps = c.note.new.self;
-    }) es (λ es. refl) _ _ _ _
+      syns = c.set.new.self;
+    }) es (λ es. refl) _ _ _ _ _
     (c.add.ensures.keys ∙ ap (λ n. insert c.args.self.now.table.keys.items n pair)
     c.place_for-place.ensures.place)
     (c.add.ensures.rooms ∙ ap (λ n. insert c.args.self.now.table.rooms.items n room)
     c.place_for-place.ensures.place)
-    refl c.note.ensures.last)
+    refl c.note.ensures.last c.set.ensures)
     c.take.ensures.most c.add.ensures.most
 
 pub returns-clause-room : goal.returns-clause-room

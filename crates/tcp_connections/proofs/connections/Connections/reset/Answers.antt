@@ -1,14 +1,54 @@
+use Rattle.std.proofs.Common.{◌≡◌, ◌&&◌, Bool, true, false, [], Option, get_or, sym, ap, ◌∙◌, arith}
 use Rattle.tcp_segment.specs.Segments.{segment_view}
+use Rattle.tcp_flow.specs.declared.flow.FlowState.{FlowState}
+use Rattle.tcp_streams.specs.Pairs.{flow_id}
+use Rattle.tcp_connections.specs.Connections.{State, flow_at, flow_of_side, is_near_due, is_reset, room_at}
+use Rattle.tcp_connections.specs.State.{state_of}
 use Rattle.tcp_connections.proofs.Cases.{no_reset, a_reset}
-use Rattle.tcp_connections.proofs.States.{moved, moved_ok}
+use Rattle.tcp_connections.proofs.Sound.{room_below}
+use Rattle.tcp_connections.proofs.States.{sound_of, moved, moved_ok}
 use Rattle.tcp_connections.proofs.connections.Connections.reset.Goals as goal
+
+pub flow_id-id-requires : goal.flow_id-id-requires
+flow_id-id-requires g c =
+    let sound = sound_of _ _ _ _ c.requires.state.1 in
+    let b = room_below (state_of c.args.self.now []) c.args.place sound
+    (omega (arith, c.requires.place, c.args.self.now.table.keys.ok.0)) in
+    omega (arith, b, c.room.ensures, sound.most)
 
 pub returns-then-not-segment-clause-does : goal.returns-then-not-segment-clause-does
 returns-then-not-segment-clause-does g c w h =
     moved _ _ _ _ _ (no_reset w c.args.place c.args.side (segment_view c.args.segment)
-    c.if-not-segment.true) h
+    (ap (λ (b : Bool). b && is_near_due (flow_of_side w c.args.place c.args.side)
+    c.args.segment.sequence) c.if-not-segment.true)) h
+
+pub returns-then-not-is_near_due-clause-does : goal.returns-then-not-is_near_due-clause-does
+returns-then-not-is_near_due-clause-does g c w h =
+    let S = segment_view c.args.segment in
+    let at = c.room.ensures ∙ ap (λ (u : State). get_or u.rooms c.args.place 0) h.same in
+    let id : c.flow_id-id.result ≡ flow_id (room_at w c.args.place) c.args.side =
+    c.flow_id-id.ensures.id ∙ ap (λ r. flow_id r c.args.side) at in
+    let flow = ap (λ (u : State). flow_at u c.flow_id-id.result) h.same ∙ ap (flow_at w) id in
+    let near : is_near_due (flow_of_side w c.args.place c.args.side) S.sequence ≡ false =
+    ap (λ (o : Option FlowState). is_near_due o S.sequence) (sym flow)
+    ∙ sym c.is_near_due.ensures ∙ c.if-not-is_near_due.true in
+    let counts : is_reset (flow_of_side w c.args.place c.args.side) S ≡ false =
+    ap (λ (b : Bool). b && is_near_due (flow_of_side w c.args.place c.args.side) S.sequence)
+    c.if-not-segment.false ∙ near in
+    moved _ _ _ _ _ (no_reset w c.args.place c.args.side S counts) h
 
 pub returns-clause-does : goal.returns-clause-does
-returns-clause-does g c w h = moved_ok c.forget.result _ _ _ _ _
-    (a_reset w c.args.place c.args.side (segment_view c.args.segment) c.if-not-segment.false)
+returns-clause-does g c w h =
+    let S = segment_view c.args.segment in
+    let at = c.room.ensures ∙ ap (λ (u : State). get_or u.rooms c.args.place 0) h.same in
+    let id : c.flow_id-id.result ≡ flow_id (room_at w c.args.place) c.args.side =
+    c.flow_id-id.ensures.id ∙ ap (λ r. flow_id r c.args.side) at in
+    let flow = ap (λ (u : State). flow_at u c.flow_id-id.result) h.same ∙ ap (flow_at w) id in
+    let near : is_near_due (flow_of_side w c.args.place c.args.side) S.sequence ≡ true =
+    ap (λ (o : Option FlowState). is_near_due o S.sequence) (sym flow)
+    ∙ sym c.is_near_due.ensures ∙ c.if-not-is_near_due.false in
+    let counts : is_reset (flow_of_side w c.args.place c.args.side) S ≡ true =
+    ap (λ (b : Bool). b && is_near_due (flow_of_side w c.args.place c.args.side) S.sequence)
+    c.if-not-segment.false ∙ near in
+    moved_ok c.forget.result _ _ _ _ _ (a_reset w c.args.place c.args.side S counts)
     (c.forget.ensures.does w h)

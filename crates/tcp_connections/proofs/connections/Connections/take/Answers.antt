@@ -2,15 +2,15 @@ use Rattle.std.proofs.Common.{◌≡◌, ◌+◌, ℕ, [], true, false, Some, No
 use Rattle.tcp_segment.specs.Segments.{segment_view}
 use Rattle.tcp_flow.specs.declared.flow.CloseCause.TheVariants.{Syn}
 use Rattle.tcp_streams.specs.Pairs.{pair_of, flow_id}
-use Rattle.tcp_connections.specs.Connections.{State, place_of, room_at, live_at, is_anew, forgotten, unknown_taken}
+use Rattle.tcp_connections.specs.Connections.{State, place_of, flow_at, flow_of_side, syn_at, room_at, is_kept, is_anew, forgotten, unknown_taken, syn_kept, step}
 use Rattle.tcp_connections.specs.State.{state_of}
-use Rattle.tcp_connections.proofs.Cases.{step_unknown, step_anew, step_known}
-use Rattle.tcp_connections.proofs.Changes.{counted}
+use Rattle.tcp_connections.proofs.Cases.{step_unknown, step_kept, step_anew, step_known}
+use Rattle.tcp_connections.proofs.Changes.{counted, syn_noted}
 use Rattle.tcp_connections.proofs.Counted.{step_segments}
 use Rattle.tcp_connections.proofs.Forgotten.{forgotten_known}
 use Rattle.tcp_connections.proofs.Search.{forgotten_unknown}
 use Rattle.tcp_connections.proofs.Sound.{room_below}
-use Rattle.tcp_connections.proofs.States.{sound_of, known_of, moved_ok, segments_of}
+use Rattle.tcp_connections.proofs.States.{sound_of, known_of, moved, moved_ok, segments_of}
 use Rattle.tcp_connections.proofs.connections.Connections.take.Goals as goal
 
 pub take_unknown-requires-clause-state : goal.take_unknown-requires-clause-state
@@ -60,7 +60,50 @@ flow_id-id-requires g c =
     let sound = sound_of _ _ _ _ c.requires.state.1 in
     let b = room_below (state_of c.args.self.now []) c.in-Some.place sound
     (omega (arith, c.in-Some.ensures.within, c.args.self.now.table.keys.ok.0)) in
-    omega (arith, b, c.room.ensures, sound.most)
+    omega (arith, b, c.room-room.ensures, sound.most)
+
+pub keep_syn-requires : goal.keep_syn-requires
+keep_syn-requires g c =
+    let sound = sound_of _ _ _ _ c.requires.state.1 in
+    let b = room_below (state_of c.args.self.now []) c.in-Some.place sound
+    (omega (arith, c.in-Some.ensures.within, c.args.self.now.table.keys.ok.0)) in
+    omega (arith, b, c.room-room.ensures, c.args.self.now.stamps.last.ok.0)
+
+pub returns-then-is_kept-clause-does : goal.returns-then-is_kept-clause-does
+returns-then-is_kept-clause-does g c w h =
+    let F = g.L.Listener.faulted in
+    let V = segment_view c.args.segment in
+    let pair = c.pair_of-side.result.0 in
+    let known = known_of _ _ _ _ h in
+    let place = c.in-Some.place in
+    let some : place_of (pair_of V.flow).0 w.known ≡ Some place =
+    ap (λ q. place_of q.0 w.known) (sym c.pair_of-side.ensures) ∙ ap (place_of pair) (sym known)
+    ∙ sym c.place_of.ensures.place ∙ c.in-Some.is in
+    let at = c.room-room.ensures ∙ ap (λ (u : State). get_or u.rooms place 0) h.same in
+    let id : c.flow_id-id.result ≡ flow_id (room_at w place) (pair_of V.flow).1 =
+    c.flow_id-id.ensures.id ∙ ap (λ (r : ℕ). flow_id r c.pair_of-side.result.1) at
+    ∙ ap (λ q. flow_id (room_at w place) q.1) c.pair_of-side.ensures in
+    let flow = ap (λ (u : State). flow_at u c.flow_id-id.result) h.same ∙ ap (flow_at w) id in
+    let kept : is_kept (flow_of_side w place (pair_of V.flow).1) V ≡ true =
+    ap (λ o. is_kept o V) (sym flow) ∙ sym c.is_kept.ensures ∙ c.if-is_kept.true in
+    let v : State = record w { segments = w.segments + 1 } in
+    moved (g.L.Listener.observed c.args.to.now.listener) c.args.to.now.live.items
+    c.keep_syn.new.self (step F w V) (syn_kept v c.room-room.result c.flow_id-id.result V)
+    (step_kept F w V place some kept
+    ∙ ap (λ (r : ℕ). syn_kept v r (flow_id (room_at w place) (pair_of V.flow).1) V) (sym at)
+    ∙ ap (λ (i : ℕ). syn_kept v c.room-room.result i V) (sym id))
+    (syn_noted (g.L.Listener.observed c.args.to.now.listener) c.args.to.now.live.items
+    (record c.args.self.now { segments = c.args.self.now.segments + 1 }) c.keep_syn.new.self v
+    c.room-room.result c.flow_id-id.result V
+    (counted (g.L.Listener.observed c.args.to.now.listener)
+    c.args.to.now.live.items c.args.self.now
+    (record c.args.self.now { segments = c.args.self.now.segments + 1 }) w h (λ e. refl) refl refl)
+    c.keep_syn.ensures.kept c.keep_syn.ensures.free c.keep_syn.ensures.room)
+
+pub returns-then-is_kept-clause-count : goal.returns-then-is_kept-clause-count
+unfolding syn_kept
+returns-then-is_kept-clause-count g c =
+    ap (λ (u : State). u.segments) (c.keep_syn.ensures.kept [])
 
 pub forget-requires-clause-state : goal.forget-requires-clause-state
 forget-requires-clause-state g c = (
@@ -109,17 +152,21 @@ returns-then-is_anew-clause-does g c w h =
     let some : place_of (pair_of V.flow).0 w.known ≡ Some place =
     ap (λ q. place_of q.0 w.known) (sym c.pair_of-side.ensures) ∙ ap (place_of pair) (sym known)
     ∙ sym c.place_of.ensures.place ∙ c.in-Some.is in
-    let at = c.room.ensures ∙ ap (λ (u : State). get_or u.rooms place 0) h.same in
+    let at = c.room-room.ensures ∙ ap (λ (u : State). get_or u.rooms place 0) h.same in
     let id : c.flow_id-id.result ≡ flow_id (room_at w place) (pair_of V.flow).1 =
     c.flow_id-id.ensures.id ∙ ap (λ (r : ℕ). flow_id r c.pair_of-side.result.1) at
     ∙ ap (λ q. flow_id (room_at w place) q.1) c.pair_of-side.ensures in
-    let live : live_at w (flow_id (room_at w place) (pair_of V.flow).1)
-    ≡ live_at (state_of c.args.self.now w.events) c.flow_id-id.result =
-    sym (ap (λ (u : State). live_at u c.flow_id-id.result) h.same ∙ ap (live_at w) id) in
-    let anew : is_anew (live_at w (flow_id (room_at w place) (pair_of V.flow).1)) V ≡ true =
-    ap (λ l. is_anew l V) live ∙ sym c.is_anew.ensures ∙ c.if-is_anew.true in
+    let flow = ap (λ (u : State). flow_at u c.flow_id-id.result) h.same ∙ ap (flow_at w) id in
+    let syn = ap (λ (u : State). syn_at u c.room-room.result) h.same ∙ ap (syn_at w) at in
+    let not_kept : is_kept (flow_of_side w place (pair_of V.flow).1) V ≡ false =
+    ap (λ o. is_kept o V) (sym flow) ∙ sym c.is_kept.ensures ∙ c.if-is_kept.false in
+    let anew : is_anew (syn_at w (room_at w place)) (flow_id (room_at w place)
+    (pair_of V.flow).1) V ≡ true =
+    ap (λ o. is_anew o (flow_id (room_at w place) (pair_of V.flow).1) V) (sym syn)
+    ∙ ap (λ i. is_anew (syn_at (state_of c.args.self.now w.events) c.room-room.result) i V) (sym id)
+    ∙ sym c.is_anew.ensures ∙ c.if-is_anew.true in
     moved_ok c.take_unknown-then-is_anew.result _ _ _ _ _
-    (step_anew F w V place some anew ∙ ap (λ q.
+    (step_anew F w V place some not_kept anew ∙ ap (λ q.
     unknown_taken F (forgotten (record w { segments = w.segments + 1 }) place q.1 Syn) V)
     (sym c.pair_of-side.ensures))
     (c.take_unknown-then-is_anew.ensures.does _
@@ -140,19 +187,23 @@ returns-then-is_anew-clause-count g c =
     let some : place_of (pair_of V.flow).0 w.known ≡ Some place =
     ap (λ q. place_of q.0 w.known) (sym c.pair_of-side.ensures) ∙ ap (place_of pair) (sym known)
     ∙ sym c.place_of.ensures.place ∙ c.in-Some.is in
-    let at = c.room.ensures ∙ ap (λ (u : State). get_or u.rooms place 0) h.same in
+    let at = c.room-room.ensures ∙ ap (λ (u : State). get_or u.rooms place 0) h.same in
     let id : c.flow_id-id.result ≡ flow_id (room_at w place) (pair_of V.flow).1 =
     c.flow_id-id.ensures.id ∙ ap (λ (r : ℕ). flow_id r c.pair_of-side.result.1) at
     ∙ ap (λ q. flow_id (room_at w place) q.1) c.pair_of-side.ensures in
-    let live : live_at w (flow_id (room_at w place) (pair_of V.flow).1)
-    ≡ live_at (state_of c.args.self.now w.events) c.flow_id-id.result =
-    sym (ap (λ (u : State). live_at u c.flow_id-id.result) h.same ∙ ap (live_at w) id) in
-    let anew : is_anew (live_at w (flow_id (room_at w place) (pair_of V.flow).1)) V ≡ true =
-    ap (λ l. is_anew l V) live ∙ sym c.is_anew.ensures ∙ c.if-is_anew.true in
+    let flow = ap (λ (u : State). flow_at u c.flow_id-id.result) h.same ∙ ap (flow_at w) id in
+    let syn = ap (λ (u : State). syn_at u c.room-room.result) h.same ∙ ap (syn_at w) at in
+    let not_kept : is_kept (flow_of_side w place (pair_of V.flow).1) V ≡ false =
+    ap (λ o. is_kept o V) (sym flow) ∙ sym c.is_kept.ensures ∙ c.if-is_kept.false in
+    let anew : is_anew (syn_at w (room_at w place)) (flow_id (room_at w place)
+    (pair_of V.flow).1) V ≡ true =
+    ap (λ o. is_anew o (flow_id (room_at w place) (pair_of V.flow).1) V) (sym syn)
+    ∙ ap (λ i. is_anew (syn_at (state_of c.args.self.now w.events) c.room-room.result) i V) (sym id)
+    ∙ sym c.is_anew.ensures ∙ c.if-is_anew.true in
     segments_of c.take_unknown-then-is_anew.result _ _ _ _ _
     (step_segments F w V ∙ ap (λ n. n + 1) (sym (ap (λ (u : State). u.segments) h.same)))
     (moved_ok c.take_unknown-then-is_anew.result _ _ _ _ _
-    (step_anew F w V place some anew ∙ ap (λ q.
+    (step_anew F w V place some not_kept anew ∙ ap (λ q.
     unknown_taken F (forgotten (record w { segments = w.segments + 1 }) place q.1 Syn) V)
     (sym c.pair_of-side.ensures))
     (c.take_unknown-then-is_anew.ensures.does _
@@ -179,16 +230,20 @@ returns-clause-does g c w h =
     let some : place_of (pair_of V.flow).0 w.known ≡ Some place =
     ap (λ q. place_of q.0 w.known) (sym c.pair_of-side.ensures) ∙ ap (place_of pair) (sym known)
     ∙ sym c.place_of.ensures.place ∙ c.in-Some.is in
-    let at = c.room.ensures ∙ ap (λ (u : State). get_or u.rooms place 0) h.same in
+    let at = c.room-room.ensures ∙ ap (λ (u : State). get_or u.rooms place 0) h.same in
     let id : c.flow_id-id.result ≡ flow_id (room_at w place) (pair_of V.flow).1 =
     c.flow_id-id.ensures.id ∙ ap (λ (r : ℕ). flow_id r c.pair_of-side.result.1) at
     ∙ ap (λ q. flow_id (room_at w place) q.1) c.pair_of-side.ensures in
-    let live : live_at w (flow_id (room_at w place) (pair_of V.flow).1)
-    ≡ live_at (state_of c.args.self.now w.events) c.flow_id-id.result =
-    sym (ap (λ (u : State). live_at u c.flow_id-id.result) h.same ∙ ap (live_at w) id) in
-    let known : is_anew (live_at w (flow_id (room_at w place) (pair_of V.flow).1)) V ≡ false =
-    ap (λ l. is_anew l V) live ∙ sym c.is_anew.ensures ∙ c.if-is_anew.false in
-    moved_ok c.take_known.result _ _ _ _ _ (step_known F w V place some known)
+    let flow = ap (λ (u : State). flow_at u c.flow_id-id.result) h.same ∙ ap (flow_at w) id in
+    let syn = ap (λ (u : State). syn_at u c.room-room.result) h.same ∙ ap (syn_at w) at in
+    let not_kept : is_kept (flow_of_side w place (pair_of V.flow).1) V ≡ false =
+    ap (λ o. is_kept o V) (sym flow) ∙ sym c.is_kept.ensures ∙ c.if-is_kept.false in
+    let known : is_anew (syn_at w (room_at w place)) (flow_id (room_at w place)
+    (pair_of V.flow).1) V ≡ false =
+    ap (λ o. is_anew o (flow_id (room_at w place) (pair_of V.flow).1) V) (sym syn)
+    ∙ ap (λ i. is_anew (syn_at (state_of c.args.self.now w.events) c.room-room.result) i V) (sym id)
+    ∙ sym c.is_anew.ensures ∙ c.if-is_anew.false in
+    moved_ok c.take_known.result _ _ _ _ _ (step_known F w V place some not_kept known)
     (c.take_known.ensures.does _ (counted (g.L.Listener.observed c.args.to.now.listener)
     c.args.to.now.live.items c.args.self.now
     (record c.args.self.now { segments = c.args.self.now.segments + 1 }) w h (λ e. refl) refl
@@ -206,18 +261,22 @@ returns-clause-count g c =
     let some : place_of (pair_of V.flow).0 w.known ≡ Some place =
     ap (λ q. place_of q.0 w.known) (sym c.pair_of-side.ensures) ∙ ap (place_of pair) (sym known)
     ∙ sym c.place_of.ensures.place ∙ c.in-Some.is in
-    let at = c.room.ensures ∙ ap (λ (u : State). get_or u.rooms place 0) h.same in
+    let at = c.room-room.ensures ∙ ap (λ (u : State). get_or u.rooms place 0) h.same in
     let id : c.flow_id-id.result ≡ flow_id (room_at w place) (pair_of V.flow).1 =
     c.flow_id-id.ensures.id ∙ ap (λ (r : ℕ). flow_id r c.pair_of-side.result.1) at
     ∙ ap (λ q. flow_id (room_at w place) q.1) c.pair_of-side.ensures in
-    let live : live_at w (flow_id (room_at w place) (pair_of V.flow).1)
-    ≡ live_at (state_of c.args.self.now w.events) c.flow_id-id.result =
-    sym (ap (λ (u : State). live_at u c.flow_id-id.result) h.same ∙ ap (live_at w) id) in
-    let known : is_anew (live_at w (flow_id (room_at w place) (pair_of V.flow).1)) V ≡ false =
-    ap (λ l. is_anew l V) live ∙ sym c.is_anew.ensures ∙ c.if-is_anew.false in
+    let flow = ap (λ (u : State). flow_at u c.flow_id-id.result) h.same ∙ ap (flow_at w) id in
+    let syn = ap (λ (u : State). syn_at u c.room-room.result) h.same ∙ ap (syn_at w) at in
+    let not_kept : is_kept (flow_of_side w place (pair_of V.flow).1) V ≡ false =
+    ap (λ o. is_kept o V) (sym flow) ∙ sym c.is_kept.ensures ∙ c.if-is_kept.false in
+    let known : is_anew (syn_at w (room_at w place)) (flow_id (room_at w place)
+    (pair_of V.flow).1) V ≡ false =
+    ap (λ o. is_anew o (flow_id (room_at w place) (pair_of V.flow).1) V) (sym syn)
+    ∙ ap (λ i. is_anew (syn_at (state_of c.args.self.now w.events) c.room-room.result) i V) (sym id)
+    ∙ sym c.is_anew.ensures ∙ c.if-is_anew.false in
     segments_of c.take_known.result _ _ _ _ _
     (step_segments F w V ∙ ap (λ n. n + 1) (sym (ap (λ (u : State). u.segments) h.same)))
-    (moved_ok c.take_known.result _ _ _ _ _ (step_known F w V place some known)
+    (moved_ok c.take_known.result _ _ _ _ _ (step_known F w V place some not_kept known)
     (c.take_known.ensures.does _ (counted (g.L.Listener.observed c.args.to.now.listener)
     c.args.to.now.live.items c.args.self.now
     (record c.args.self.now { segments = c.args.self.now.segments + 1 }) w h (λ e. refl) refl

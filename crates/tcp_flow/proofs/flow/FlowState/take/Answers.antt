@@ -46,7 +46,7 @@ returns-in-Some-clause-does g c held f h =
     in
     on_ok_equal c.deliver-in-Some.result _ _ held _ _
     (sym (e ∙ rw (
-      sym c.header_at.ensures.at ∙ c.in-Some.is,
+      sym c.stream_at.ensures.at ∙ c.in-Some.is,
       whole_tail c.left-number.result.1.now c.in-Some.at,
       c.onward-number.ensures,
     ) refl))
@@ -64,5 +64,5 @@ returns-clause-does g c held f h =
     let e = taken_dead F (state c.args.self.now held events) p q c.left-number.ensures.left
     (sym c.is_empty.ensures ∙ c.if-is_empty.false) (sym c.is_live.ensures ∙ c.if-is_live.false)
     in
-    subst G (sym (e ∙ rw (sym c.header_at.ensures.at ∙ c.in_default.is) refl))
+    subst G (sym (e ∙ rw (sym c.stream_at.ensures.at ∙ c.in_default.is) refl))
     (record { observed = o; same = refl }))

@@ -1,0 +1,30 @@
+use Rattle.std.proofs.Common.{◌%◌, length, ap, ◌∙◌, arith}
+use Rattle.std.proofs.lemmas.List.{length-set}
+use Rattle.giop_entry_table.proofs.ListLemmas.{read-at}
+use Rattle.giop_entry_table.proofs.IdLemmas.{some_counted, indexed_remove}
+use Rattle.giop_entry_table.proofs.ids.Ids.remove.Goals as goal
+
+pub overflow_sub-index_mut : goal.overflow_sub-index_mut
+overflow_sub-index_mut c =
+    let ids = c.args.self.now in
+    let r = c.remainder-remainder in
+    let is = r.ensures.value ∙ ap (λ k. k % length ids.counts.items)
+    (read-at _ _ _ c.requires c.index.ensures) in
+    omega (
+      arith,
+      read-at _ _ _ r.ensures.within c.index_mut.ensures.value,
+      some_counted _ _ _ _ _ ids.indexed c.args.place r.result c.requires is r.ensures.within,
+    )
+
+pub invariant_of-self : goal.invariant_of-self
+invariant_of-self c =
+    let ids = c.args.self.now in
+    let r = c.remainder-remainder in
+    let is = r.ensures.value ∙ ap (λ k. k % length ids.counts.items)
+    (read-at _ _ _ c.requires c.index.ensures) in
+    let count = read-at _ _ _ r.ensures.within c.index_mut.ensures.value in
+    rw (length-set ids.counts.items r.result _, count, c.remove.ensures.items) (record {
+      some = ids.some;
+      indexed = indexed_remove _ _ _ _ _ ids.indexed c.args.place r.result _ c.requires is
+          r.ensures.within c.saturating_add-self.ensures;
+    })

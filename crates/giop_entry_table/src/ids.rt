@@ -1,0 +1,108 @@
+//! Ids in the order of being added. One is found by a look from a place on that is kept for its remainder.
+
+ghost use Rattle.std.specs.Prelude.{◌≡◌, ◌+◌, ◌%◌, ◌<◌, ◌≤◌, ◌==◌, [], ◌∷◌, ◌++◌, ℕ, get_or, length, vec_capacity, IfSome, IfOk};
+ghost use Rattle.std.specs.List.{remove, position_from};
+ghost use Rattle.giop_entry_table.specs.Ids.{AreIndexed, IsBefore};
+
+use crate::search::place_of;
+use std::alloc::{AllocError, Global};
+
+/// Ids in the order of being added. All of its memory is allocated when it is made.
+#[derive(Drop)]
+pub(crate) struct Ids {
+    pub(crate) keys: Vec<u32>,
+    // Of each remainder, how many ids have it.
+    counts: Vec<usize>,
+    // Of each remainder a number. Less the removals, it is at most the place of each id that has the remainder.
+    firsts: Vec<usize>,
+    // How many ids were removed.
+    removals: usize,
+    ghost some: { 0 < length counts.items },
+    ghost indexed: { AreIndexed (length counts.items) keys.items counts.items
+        firsts.items removals },
+}
+
+impl Ids {
+    /// No ids, with memory for so many.
+    pub(crate) fn with_capacity(alloc: Global, most: usize) -> Result<Ids, AllocError>
+        ensures items { IfOk result (λ r. r.keys.items ≡ []) }
+        ensures capacity { IfOk result (λ r. most ≤ vec_capacity r.keys) }
+    {
+        // The divisor is odd, so that ids that rise by a power of two have different remainders.
+        let divisor = most.saturating_mul(2).saturating_add(1);
+        Ok(Ids {
+            keys: Vec::with_capacity(alloc, most)?,
+            counts: vec![in alloc; 0; divisor]?,
+            firsts: vec![in alloc; 0; divisor]?,
+            removals: 0,
+        })
+    }
+
+    /// The remainder of an id.
+    fn remainder(&self, key: u32) -> usize
+        ensures value { result ≡ key % length self.now.counts.items }
+        ensures within { result < length self.now.counts.items }
+    {
+        key as usize % self.counts.len()
+    }
+
+    /// A number that, less the removals, is at most the place of each id that has this remainder, and at most how many
+    /// ids there are.
+    fn first(&self, remainder: usize) -> usize
+        requires { remainder < length self.now.counts.items }
+        ensures before { IsBefore self.now.keys.items (length self.now.counts.items)
+            self.now.removals remainder result }
+        ensures within { result ≤ length self.now.keys.items + self.now.removals }
+    {
+        if self.counts[remainder] == 0 {
+            self.keys.len().saturating_add(self.removals)
+        } else {
+            self.firsts[remainder]
+        }
+    }
+
+    /// The first place of an id.
+    pub(crate) fn find(&self, key: u32) -> Option<usize>
+        ensures value { result ≡ position_from (λ k. k == key) 0 self.now.keys.items }
+        ensures within { IfSome result (λ place. place < length self.now.keys.items) }
+    {
+        let first = self.first(self.remainder(key));
+        let from = first.saturating_sub(self.removals).min(self.keys.len());
+        place_of(self.keys.as_slice(), from, key)
+    }
+
+    /// Adds an id after the others. There must be room.
+    pub(crate) fn push_reserved(&mut self, key: u32)
+        requires { length self.old.keys.items < vec_capacity self.old.keys }
+        ensures items { self.new.keys.items ≡ self.old.keys.items ++ key ∷ [] }
+        ensures capacity { vec_capacity self.new.keys ≡ vec_capacity self.old.keys }
+    {
+        let remainder = self.remainder(key);
+        self.firsts[remainder] = self.first(remainder);
+        self.counts[remainder] += 1;
+        self.keys.push_reserved(key);
+    }
+
+    /// Removes the id at this place, which there must be; those after it move up.
+    pub(crate) fn remove(&mut self, place: usize)
+        requires { place < length self.old.keys.items }
+        ensures items { self.new.keys.items ≡ remove self.old.keys.items place }
+        ensures capacity { vec_capacity self.new.keys ≡ vec_capacity self.old.keys }
+    {
+        let remainder = self.remainder(self.keys[place]);
+        self.counts[remainder] -= 1;
+        self.removals = self.removals.saturating_add(1);
+        self.keys.remove(place);
+    }
+
+    /// Drops all ids, and keeps the memory.
+    pub(crate) fn clear(&mut self)
+        ensures items { self.new.keys.items ≡ [] }
+        ensures capacity { vec_capacity self.new.keys ≡ vec_capacity self.old.keys }
+    {
+        self.keys.clear();
+        self.counts.fill(0);
+        self.firsts.fill(0);
+        self.removals = 0;
+    }
+}

@@ -1,0 +1,50 @@
+use Rattle.std.proofs.Common.{◌≡◌, [], None, Some, refl, sym, ◌∙◌}
+use Rattle.giop_sig.specs.HeaderTypes.{header_type}
+use Rattle.giop_sig.specs.Trees.{tree}
+use Rattle.giop_message.specs.Headers.{minor, kind}
+use Rattle.giop_message.specs.Signatures.{signatures_of}
+use Rattle.giop_message.specs.ReaderOfTable.{first_request_id}
+use Rattle.giop_message.proofs.Starting.{fit_some, none_told, none_rests, front_rests, header_first}
+use Rattle.giop_message.proofs.message.Message.restart.Goals as goal
+
+pub begin-requires-clause-some : goal.begin-requires-clause-some
+begin-requires-clause-some c = fit_some (tree c.args.catalogue.now c.in-Some.of.0)
+    c.in-Some.ensures.fit
+
+pub returns-in-Some-clause-follows : goal.returns-in-Some-clause-follows
+unfolding signatures_of
+returns-in-Some-clause-follows c answers =
+    let e = c.begin.ensures in
+    let found : header_type (minor c.args.header) (kind c.args.header)
+    ≡ Some (tree c.args.catalogue.now c.in-Some.of.0) =
+    rw (← c.minor_of.ensures, ← c.kind_of.ensures) (sym c.in-Some.ensures.tree) in
+    record {
+      same_number = e.number;
+      same_header = e.header;
+      id = e.id ∙ rw e.within refl;
+      at = e.at;
+      stands = e.enters answers c.args.number c.args.header []
+          (record { same_number = refl; same_header = refl; at = refl }) [] (found, refl, refl)
+          (header_first (signatures_of c.args.catalogue.now (answers c.args.number)) c.args.header
+          (tree c.args.catalogue.now c.in-Some.of.0) found);
+    }
+
+pub returns-in-None-clause-follows : goal.returns-in-None-clause-follows
+unfolding signatures_of first_request_id
+returns-in-None-clause-follows c answers =
+    let e = c.begin_rest.ensures in
+    let S = signatures_of c.args.catalogue.now (answers c.args.number) in
+    let none : header_type (minor c.args.header) (kind c.args.header) ≡ None =
+    rw (← c.minor_of.ensures, ← c.kind_of.ensures) (sym c.in-None.ensures.tree) in
+    record {
+      same_number = e.number;
+      same_header = e.header;
+      id = e.id ∙ rw (e.past, none_told S c.args.header) refl;
+      at = e.at;
+      stands = e.arrives c.args.catalogue.now answers c.args.number c.args.header []
+          (record { same_number = refl; same_header = refl; at = refl }) []
+          (none_rests S c.args.header none ∙ sym (front_rests [] 12));
+    }
+
+pub returns-in-None-clause-fits : goal.returns-in-None-clause-fits
+returns-in-None-clause-fits c = c.begin_rest.ensures.fits c.args.catalogue.now

@@ -1,0 +1,125 @@
+//! Why a file can't be read, and what a text looks like that is refused as a signature file: what `giopcap` says behind a fault
+//! (docs/FORMATS.md, The program giopcap).
+
+ghost use Rattle.std.specs.Prelude.{◌≡◌};
+ghost use Rattle.giop_run.specs.Looks.{HasReason, begins, begins_capture, begins_idl, looks_of, look_words, reason_words};
+
+use giop_tokens::left_of;
+use std::io::ErrorKind;
+
+/// Why a file can't be read.
+#[derive(Clone, Copy, Debug, Drop, PartialEq, Eq)]
+pub enum Reason {
+    /// There is no file of the name.
+    NoSuchFile,
+    /// The file may not be read.
+    NoPermission,
+    /// The name is that of a folder.
+    Folder,
+    /// Any other.
+    Other,
+}
+
+impl Reason {
+    /// The reason that an error of this kind gives.
+    pub fn of(kind: ErrorKind) -> Reason
+        ensures { HasReason kind result }
+    {
+        if kind == ErrorKind::NotFound {
+            Reason::NoSuchFile
+        } else if kind == ErrorKind::PermissionDenied {
+            Reason::NoPermission
+        } else if kind == ErrorKind::IsADirectory {
+            Reason::Folder
+        } else {
+            Reason::Other
+        }
+    }
+
+    /// The words for it, which stand behind `cannot read`.
+    pub fn words(&self) -> &'static str
+        ensures { result.now ≡ reason_words self.now }
+    {
+        match self {
+            Reason::NoSuchFile => ": no such file",
+            Reason::NoPermission => ": no permission",
+            Reason::Folder => ": a folder",
+            Reason::Other => "",
+        }
+    }
+}
+
+/// What a text looks like that is refused as a signature file.
+#[derive(Clone, Copy, Debug, Drop, PartialEq, Eq)]
+pub enum Look {
+    /// It begins as a capture does.
+    Capture,
+    /// It begins as IDL does.
+    Idl,
+    /// Any other.
+    Other,
+}
+
+impl Look {
+    /// What this text looks like.
+    #[tactic(auto, unfolding(crate::specs::Looks::looks_of))]
+    pub fn of(text: &[u8]) -> Look
+        ensures { result ≡ looks_of text.now }
+    {
+        if begins_capture(text) {
+            return Look::Capture;
+        }
+        let before = text.len().saturating_sub(left_of(text));
+        if begins_idl(&text[before..]) {
+            Look::Idl
+        } else {
+            Look::Other
+        }
+    }
+
+    /// The words for it, which stand behind the refusal.
+    pub fn words(&self) -> &'static str
+        ensures { result.now ≡ look_words self.now }
+    {
+        match self {
+            Look::Capture => ": a capture",
+            Look::Idl => ": IDL: omniidl -bgiopdump_signatures",
+            Look::Other => "",
+        }
+    }
+}
+
+/// Whether a text begins with these octets.
+#[tactic(auto, unfolding(crate::specs::Looks::begins))]
+fn begins(text: &[u8], octets: &[u8]) -> bool
+    ensures { result ≡ begins octets.now text.now }
+{
+    text.starts_with(octets)
+}
+
+/// Whether a text begins as a pcap file of either order and unit does, or as a pcapng file.
+fn begins_capture(text: &[u8]) -> bool
+    ensures { result ≡ begins_capture text.now }
+{
+    begins(text, &[0xa1, 0xb2, 0xc3, 0xd4])
+        || begins(text, &[0xd4, 0xc3, 0xb2, 0xa1])
+        || begins(text, &[0xa1, 0xb2, 0x3c, 0x4d])
+        || begins(text, &[0x4d, 0x3c, 0xb2, 0xa1])
+        || begins(text, &[0x0a, 0x0d, 0x0d, 0x0a])
+}
+
+/// Whether a text begins with what is IDL's and in no signature file.
+fn begins_idl(text: &[u8]) -> bool
+    ensures { result ≡ begins_idl text.now }
+{
+    begins(text, b"#")
+        || begins(text, b"/*")
+        || begins(text, b"module")
+        || begins(text, b"interface")
+        || begins(text, b"typedef")
+        || begins(text, b"const")
+        || begins(text, b"abstract")
+        || begins(text, b"local")
+        || begins(text, b"valuetype")
+        || begins(text, b"native")
+}

@@ -1,0 +1,122 @@
+//! What is said behind a fault (docs/FORMATS.md, The program giopcap), and a writer whose reader has gone.
+
+use giop_run::{Look, ProgramFault, Reason, Watched};
+use giop_sig::{SigFault, SigFaultKind};
+use std::io;
+use std::io::{ErrorKind, Write};
+use std::process::Abort;
+use std::test::Fail;
+
+/// Kinds of errors, and what is said behind `cannot read`.
+const REASONS: [(ErrorKind, &str); 5] = [
+    (ErrorKind::NotFound, ": no such file"),
+    (ErrorKind::PermissionDenied, ": no permission"),
+    (ErrorKind::IsADirectory, ": a folder"),
+    (ErrorKind::NotADirectory, ""),
+    (ErrorKind::Other, ""),
+];
+
+/// Texts that are no signature files, and what is said behind their refusal.
+const LOOKS: [(&[u8], &str); 22] = [
+    (b"", ""),
+    (b"signatures 1;", ""),
+    (b"struct Point { long x; };", ""),
+    (b"GIOP\x01\x00", ""),
+    (b"\xa1\xb2\xc3", ""),
+    (b"\xa1\xb2\xc3\xd4", ": a capture"),
+    (b"\xd4\xc3\xb2\xa1\x02\x00", ": a capture"),
+    (b"\xa1\xb2\x3c\x4d\x00\x02", ": a capture"),
+    (b"\x4d\x3c\xb2\xa1\x02\x00", ": a capture"),
+    (b"\n\r\r\n\x1c\x00", ": a capture"),
+    (b" \xa1\xb2\xc3\xd4", ""),
+    (b"#include <CosNaming.idl>", IDL),
+    (b"// Orders.\n\n#pragma prefix \"shop\"", IDL),
+    (b" /* Orders. */", IDL),
+    (b"// Orders.\nmodule Shop {", IDL),
+    (b"interface Orders;", IDL),
+    (b"typedef long Id;", IDL),
+    (b"const long MOST = 3;", IDL),
+    (b"abstract interface Orders;", IDL),
+    (b"local interface Orders;", IDL),
+    (b"valuetype Order;", IDL),
+    (b"native Cookie;", IDL),
+];
+
+const IDL: &str = ": IDL: omniidl -bgiopdump_signatures";
+
+/// Checks the text of a fault, its words, and its status.
+fn says(
+    rt: &(impl Abort + AllocGlobal),
+    fault: ProgramFault,
+    want: &str,
+    words: &str,
+    status: u8,
+) -> Result<(), Fail> {
+    let text = format!(in rt.alloc(); "{fault}")?;
+    assert!(rt;
+        text.as_str() == want && fault.words() == words,
+        "{want}{words}"
+    );
+    assert_eq!(rt; fault.status(), status, "{want}");
+    Ok(())
+}
+
+#[test]
+fn a_file_that_cannot_be_read_has_its_reason(rt: HostRuntime) -> Result<(), Fail> {
+    for (kind, words) in REASONS {
+        let why = Reason::of(kind);
+        says(
+            &rt,
+            ProgramFault::Unreadable { name: "a\n", why },
+            "a\\x0a: cannot read",
+            words,
+            4,
+        )?;
+    }
+    Ok(())
+}
+
+#[test]
+fn what_is_no_signature_file_is_named(rt: HostRuntime) -> Result<(), Fail> {
+    let fault = SigFault {
+        line: 7,
+        kind: SigFaultKind::Token,
+    };
+    for (text, words) in LOOKS {
+        let look = Look::of(text);
+        let refused = ProgramFault::Signatures {
+            name: "a.idl",
+            fault,
+            look,
+        };
+        says(&rt, refused, "a.idl:7: token", words, 3)?;
+    }
+    Ok(())
+}
+
+/// A writer whose writes fail in this way.
+#[derive(Drop)]
+struct Failing(ErrorKind);
+
+impl Write for Failing {
+    fn write(&mut self, _octets: &[u8]) -> io::Result<usize> {
+        Err(io::Error::from(self.0))
+    }
+
+    fn flush(&mut self) -> io::Result<()> {
+        Ok(())
+    }
+}
+
+#[test]
+fn a_reader_that_has_gone_is_noted(rt: HostRuntime) {
+    for (kind, is_gone) in [
+        (ErrorKind::BrokenPipe, true),
+        (ErrorKind::StorageFull, false),
+    ] {
+        let mut writer = Watched::new(Failing(kind));
+        assert!(rt; !writer.reader_is_gone);
+        assert!(rt; writer.write(b"a line").is_err());
+        assert_eq!(rt; writer.reader_is_gone, is_gone);
+    }
+}

@@ -1,0 +1,128 @@
+//! The program's arguments: what is counted, how it is written, and the file with the lines.
+
+use clap::{Arg, ArgAction, ArgMatches, Command, Error};
+use giop_run::marked;
+use giop_stat_counts::{By, Settings, Window, is_time};
+use std::alloc::{AllocError, Global};
+
+const ABOUT: &str =
+    "Counts the calls in the lines of a dump, by operation and by client and server, with their times";
+
+const BY_HELP: &str =
+    "Count operations by this value of the request too, as body.command; or by client, server or object";
+
+const FROM_HELP: &str = "Count messages from this time on, as 2026-11-23T08:13:25.58 or 08:13:25";
+
+const TO_HELP: &str = "Count messages up to this time";
+
+const CONNECTIONS_HELP: &str = "Print the table of connections too";
+
+const JSON_HELP: &str = "Print one JSON object";
+
+const FILE_HELP: &str = "The lines; standard input where it is missing";
+
+const EXAMPLES: &str = "\
+The operations with the most time, of a capture:
+
+    giopcap orders.pcap | giop-stat
+
+FORMATS.md has every column (docs/ of the sources, /usr/share/doc/giopdump/docs of the package).";
+
+/// What the arguments ask for.
+#[derive(Clone, Copy, Debug, Drop)]
+pub(crate) struct Arguments<'a> {
+    /// What is counted, and how it is written.
+    pub(crate) settings: Settings<'a>,
+    /// The file with the lines; None for standard input. No name has a special meaning.
+    pub(crate) file: Option<&'a str>,
+}
+
+/// Why the words can't be read.
+#[derive(Drop)]
+pub(crate) enum Refusal<'a> {
+    /// What clap says; or the help.
+    Words(Error),
+    /// No value is known by this word.
+    By(&'a str),
+    /// This is no time.
+    Time(&'a str),
+}
+
+impl<'a> From<Error> for Refusal<'a> {
+    fn from(error: Error) -> Refusal<'a> {
+        Refusal::Words(error)
+    }
+}
+
+fn flag<'a>(alloc: Global, name: &'a str, help: &'a str) -> Arg<'a> {
+    Arg::new(alloc, name)
+        .long(name)
+        .action(ArgAction::SetTrue)
+        .help(help)
+}
+
+fn option<'a>(alloc: Global, name: &'a str, value: &'a str, help: &'a str) -> Arg<'a> {
+    Arg::new(alloc, name)
+        .long(name)
+        .value_name(value)
+        .help(help)
+}
+
+/// The command as `clap` reads it, with its help.
+fn command<'a>(alloc: Global) -> Result<Command<'a>, AllocError> {
+    Command::new(alloc, "giop-stat")
+        .version("1.0.0")
+        .about(ABOUT)
+        .after_help(EXAMPLES)
+        .arg(option(alloc, "by", "KEY", BY_HELP))?
+        .arg(option(alloc, "from", "TIME", FROM_HELP))?
+        .arg(option(alloc, "to", "TIME", TO_HELP))?
+        .arg(flag(alloc, "connections", CONNECTIONS_HELP))?
+        .arg(flag(alloc, "json", JSON_HELP))?
+        .arg(Arg::new(alloc, "FILE").help(FILE_HELP))
+}
+
+impl<'a> Arguments<'a> {
+    /// Reads the words, the first of which is the program's name. An `Err` is also for `--help` and `--version`.
+    pub(crate) fn read(alloc: Global, words: &'a [String]) -> Result<Arguments<'a>, Refusal<'a>> {
+        let matches = matches_of(alloc, words)?;
+        Ok(Arguments {
+            settings: settings_of(&matches)?,
+            file: matches.get_str("FILE"),
+        })
+    }
+}
+
+fn matches_of<'a>(alloc: Global, words: &'a [String]) -> Result<ArgMatches<'a>, Error> {
+    // What is wrong with the words is said of marked ones.
+    command(alloc)?.try_get_matches_from(marked(alloc, words)?.as_slice())?;
+    command(alloc)?.try_get_matches_from(words)
+}
+
+fn settings_of<'a>(matches: &ArgMatches<'a>) -> Result<Settings<'a>, Refusal<'a>> {
+    let by = match matches.get_str("by") {
+        None => None,
+        Some(word) => match By::of(word) {
+            None => return Err(Refusal::By(word)),
+            by => by,
+        },
+    };
+    let window = Window {
+        first: time_of(matches.get_str("from"))?,
+        last: time_of(matches.get_str("to"))?,
+    };
+    Ok(Settings {
+        by,
+        window,
+        is_json: matches.get_flag("json"),
+        has_connections: matches.get_flag("connections"),
+    })
+}
+
+/// A time of the command line, if one is given.
+fn time_of(word: Option<&str>) -> Result<Option<&str>, Refusal<'_>> {
+    match word {
+        Some(word) if !is_time(word) => Err(Refusal::Time(word)),
+        word => Ok(word),
+    }
+}

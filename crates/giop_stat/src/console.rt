@@ -1,0 +1,68 @@
+//! The program: its words, its steps, and its status.
+
+ghost use Rattle.std.specs.Prelude.{◌≤◌};
+
+use crate::arguments::{Arguments, Refusal};
+use giop_run::{ProgramFault, ShownName, failed, refused, words};
+use giop_stat_counts::Stat;
+use giop_views::viewed;
+
+/// The program's name, which stands in front of what it says on standard error.
+const PROGRAM: &str = "giop-stat";
+
+/// The status where the arguments can't be read.
+const USAGE: u8 = 2;
+
+/// Runs the program, and returns its status.
+pub(crate) fn program(rt: &HostRuntime) -> u8
+    ensures { result ≤ 5 }
+{
+    let words = match words(rt) {
+        Ok(words) => words,
+        Err(fault) => return failed(rt, PROGRAM, &fault),
+    };
+    match Arguments::read(rt.alloc(), words.as_slice()) {
+        Err(Refusal::Words(error)) => refused(rt, PROGRAM, &error),
+        Err(Refusal::By(word)) => refused_by(rt, word),
+        Err(Refusal::Time(word)) => refused_time(rt, word),
+        Ok(asked) => view(rt, asked),
+    }
+}
+
+/// Says that a word names no value; returns the program's status.
+fn refused_by(rt: &HostRuntime, word: &str) -> u8
+    ensures { result ≤ 5 }
+{
+    let _ = eprintln!(rt;
+        "{PROGRAM}: '{}' is no path as body.command, and none of client, server and object",
+        ShownName(word)
+    );
+    USAGE
+}
+
+/// Says that a word is no time; returns the program's status.
+fn refused_time(rt: &HostRuntime, word: &str) -> u8
+    ensures { result ≤ 5 }
+{
+    let _ = eprintln!(rt;
+        "{PROGRAM}: '{}' is no time as 2026-11-23T08:13:25.58 or 08:13:25",
+        ShownName(word)
+    );
+    USAGE
+}
+
+/// The steps after the words; returns the program's status.
+fn view(rt: &HostRuntime, asked: Arguments<'_>) -> u8
+    ensures { result ≤ 5 }
+{
+    let Ok(mut stat) = Stat::new(rt.alloc(), asked.settings) else {
+        return failed(rt, PROGRAM, &ProgramFault::OutOfMemory);
+    };
+    match viewed(rt, PROGRAM, asked.file, &mut stat) {
+        Err(status) => status,
+        Ok(report) => {
+            report.say_unknown(rt, PROGRAM, asked.file);
+            report.status(rt, PROGRAM)
+        }
+    }
+}

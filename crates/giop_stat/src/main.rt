@@ -1,0 +1,12 @@
+//! Counts the calls in the lines of a dump: lines in, tables or one JSON object on standard output.
+#![tactic(auto)]
+
+mod arguments;
+mod console;
+
+use std::process::ExitCode;
+
+fn main(rt: HostRuntime) -> ExitCode {
+    let status = console::program(&rt);
+    ExitCode::from(status)
+}

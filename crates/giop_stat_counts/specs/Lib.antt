@@ -1,0 +1,4 @@
+pub mod Buckets
+pub mod Counts
+pub mod Seconds
+pub mod Windows

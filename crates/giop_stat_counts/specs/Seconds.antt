@@ -1,0 +1,11 @@
+-- Seconds as text (docs/FORMATS.md, Counts).
+
+use Rattle.std.specs.Prelude.{ℕ, ◌+◌, ◌/◌, ◌%◌, List, ◌++◌, drop, codes, decimal}
+
+-- the decimal digits of a number after the first one
+abbrev pub places : ℕ → List ℕ
+places number = drop 1 (decimal number)
+
+-- a number of the parts that one has so many of, a power of ten, with a point before as many digits as that has zeros
+abbrev pub fraction : ℕ → ℕ → List ℕ
+fraction number parts = decimal (number / parts) ++ (codes "." ++ places (parts + number % parts))

@@ -1,0 +1,32 @@
+-- Which messages are counted, by their times (docs/FORMATS.md, Counts).
+
+use Rattle.std.specs.Prelude.{ℕ, Bool, true, false, not, ◌&&◌, ◌==◌, List, [], ◌∷◌, length, slice_index, drop, take, nat_lt, min, if◌then◌else◌}
+
+-- a time with its day has a T after it
+abbrev pub has_day : List ℕ → Bool
+has_day time = nat_lt 10 (length time) && slice_index time 10 == 84
+
+-- what of a time is compared with another: no day where the other has none
+abbrev pub compared : List ℕ → List ℕ → List ℕ
+compared time other = if has_day other then time else drop (min (length time) 11) time
+
+-- the order of texts, octet by octet
+abbrev pub comes_before : List ℕ → List ℕ → Bool
+comes_before a [] = false
+comes_before [] (y ∷ ys) = true
+comes_before (x ∷ xs) (y ∷ ys) = if x == y then comes_before xs ys else nat_lt x y
+
+-- an empty time isn't known
+abbrev pub is_known : List ℕ → Bool
+is_known time = nat_lt 0 (length time)
+
+abbrev pub is_from : List ℕ → List ℕ → Bool
+is_from time first = is_known time && not (comes_before (compared time first) first)
+
+-- the octets that a time begins with, as many as another has
+abbrev pub front_of : List ℕ → List ℕ → List ℕ
+front_of time other = take (min (length time) (length other)) time
+
+-- not after the last time, or it begins with that
+abbrev pub is_up_to : List ℕ → List ℕ → Bool
+is_up_to time last = is_known time && not (comes_before last (front_of (compared time last) last))

@@ -1,0 +1,95 @@
+//! Buckets of times: those of a bucket have the same first six binary digits, and as many after them.
+
+ghost use Rattle.std.specs.Prelude.{◌≡◌, ℕ, ◌+◌, ◌*◌, ◌^◌, ◌/◌, ◌<◌, ◌≤◌, ◌⊎◌, length, take, sum};
+ghost use Rattle.giop_stat_counts.specs.Buckets.{IsBucketOf, IsMiddleOf};
+
+/// How many buckets there are: 64 of a number each, 32 for each further binary digit up to the 44th, one of all numbers below
+/// 0, which is the first, and one of all others, which is the last.
+pub(crate) const BUCKETS: usize = 1_282;
+
+/// The bucket of all numbers below 0.
+pub(crate) const BELOW: usize = 0;
+
+/// The bucket of all numbers from 2^44 on.
+pub(crate) const ABOVE: usize = BUCKETS - 1;
+
+/// The bucket of a number of nanoseconds.
+pub(crate) fn bucket(time: i128) -> usize
+    ensures { result < 1282 }
+{
+    match u64::try_from(time) {
+        Ok(time) => bucket_from_zero(time),
+        Err(_) if time < 0 => BELOW,
+        Err(_) => ABOVE,
+    }
+}
+
+/// The bucket of a number from 0.
+fn bucket_from_zero(time: u64) -> usize
+    ensures within { result < 1282 }
+    ensures below { time < 2 ^ 44 → IsBucketOf time result }
+    ensures above { 2 ^ 44 ≤ time → result ≡ 1281 }
+{
+    if time >= 1 << 44 {
+        return ABOVE;
+    }
+    let mut digits = time;
+    for after in 0..38 {
+        if digits < 64 {
+            return 1 + 32 * after + digits as usize;
+        }
+        digits /= 2;
+    }
+    1 + 32 * 38 + digits as usize
+}
+
+/// The middle of a bucket that is neither the first nor the last.
+pub(crate) fn middle(bucket: usize) -> u64
+    requires { (0 < bucket) × (bucket < 1281) }
+    ensures { IsMiddleOf bucket result }
+{
+    let (after, digits) = parts_of(bucket as u64 - 1);
+    let width = width_of(after);
+    digits * width + width / 2
+}
+
+/// How many numbers have the same first binary digits, if so many follow.
+fn width_of(after: u64) -> u64
+    requires { after ≤ 38 }
+    ensures value { result ≡ 2 ^ after }
+    ensures most { result ≤ 2 ^ 38 }
+{
+    1 << after
+}
+
+/// How many binary digits follow the first of the numbers of a bucket, whose number is one more than this, and these first ones.
+fn parts_of(place: u64) -> (u64, u64)
+    requires { place < 1280 }
+    ensures place { place ≡ 32 * result.0 + result.1 }
+    ensures after { result.0 ≤ 38 }
+    ensures digits { result.1 < 64 }
+    ensures first { (result.0 ≡ 0) ⊎ (32 ≤ result.1) }
+{
+    if place < 64 {
+        return (0, place);
+    }
+    let after = place / 32 - 1;
+    (after, place - 32 * after)
+}
+
+/// Which of some buckets has the number that so many are up to, itself counted; their count if none has.
+pub(crate) fn bucket_at(counts: &[u64], due: u64) -> usize
+    requires { 0 < due }
+    ensures within { result ≤ length counts.now }
+    ensures before { sum (take result counts.now) < due }
+    ensures reached { result < length counts.now → due ≤ sum (take (result + 1) counts.now) }
+{
+    let mut left = due;
+    for i in 0..counts.len() {
+        if left <= counts[i] {
+            return i;
+        }
+        left -= counts[i];
+    }
+    counts.len()
+}

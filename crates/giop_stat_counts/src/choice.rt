@@ -1,0 +1,77 @@
+//! What a user chooses.
+
+use crate::window::Window;
+
+/// What calls are counted by beside their operation.
+#[derive(Clone, Copy, Debug, Drop, PartialEq, Eq)]
+pub enum By<'a> {
+    /// The client's address.
+    Client,
+    /// The server's address and port.
+    Server,
+    /// The object key.
+    Object,
+    /// The value at this path of the request.
+    Path(&'a str),
+}
+
+impl<'a> By<'a> {
+    /// What a word of the command line says, which is a path below `header` or `body` or one of three words.
+    pub fn of(word: &'a str) -> Option<By<'a>> {
+        match word {
+            "client" => Some(By::Client),
+            "server" => Some(By::Server),
+            "object" => Some(By::Object),
+            path => {
+                if is_path_below(path.as_bytes()) {
+                    Some(By::Path(path))
+                } else {
+                    None
+                }
+            }
+        }
+    }
+
+    /// The title of its column.
+    pub(crate) fn title(self) -> &'a str {
+        match self {
+            By::Client => "client",
+            By::Server => "server",
+            By::Object => "object",
+            By::Path(path) => path,
+        }
+    }
+}
+
+/// Whether a text is a path of a value below `header` or `body`.
+fn is_path_below(path: &[u8]) -> bool {
+    let rest = match path {
+        [b'h', b'e', b'a', b'd', b'e', b'r', rest @ ..] => rest,
+        [b'b', b'o', b'd', b'y', rest @ ..] => rest,
+        _ => return false,
+    };
+    if rest.is_empty() {
+        return false;
+    }
+    let mut rest = rest;
+    for _ in 0..path.len() {
+        match giop_lines::first_part(rest) {
+            Some((_, next)) => rest = next,
+            None => return rest.is_empty(),
+        }
+    }
+    rest.is_empty()
+}
+
+/// What a user chooses.
+#[derive(Clone, Copy, Debug, Drop)]
+pub struct Settings<'a> {
+    /// What calls are counted by beside their operation, if by anything.
+    pub by: Option<By<'a>>,
+    /// When the messages that are counted began.
+    pub window: Window<'a>,
+    /// Whether one JSON object is written.
+    pub is_json: bool,
+    /// Whether the table of connections is written as text; as JSON it always is.
+    pub has_connections: bool,
+}

@@ -1,0 +1,44 @@
+//! The orders in which rows and repository ids are written.
+
+use crate::row::Row;
+use crate::table::Table;
+use std::alloc::{AllocError, Global};
+use std::cmp::Ordering;
+
+/// The rows of a table: first those with the most time, of these those with the most calls, and of these those with the most
+/// octets; else by their names.
+pub(crate) fn sorted<'a>(
+    alloc: Global,
+    table: &'a Table,
+) -> Result<Vec<(&'a str, &'a Row)>, AllocError> {
+    let mut rows = Vec::new(alloc);
+    for (names, row) in table.rows().iter() {
+        rows.push((names.as_str(), row))?;
+    }
+    rows.sort_by(|a, b| compare_rows(*a, *b))?;
+    Ok(rows)
+}
+
+fn compare_rows(a: (&str, &Row), b: (&str, &Row)) -> Ordering {
+    b.1.times
+        .total()
+        .cmp(&a.1.times.total())
+        .then(b.1.calls.cmp(&a.1.calls))
+        .then(b.1.octets.cmp(&a.1.octets))
+        .then(a.0.cmp(b.0))
+}
+
+/// The repository ids of a row: first those that came most often, else by their names.
+pub(crate) fn sorted_ids<'a>(
+    alloc: Global,
+    row: &'a Row,
+) -> Result<Vec<(&'a [u8], u64)>, AllocError> {
+    let mut ids = Vec::new(alloc);
+    let known = row.ids();
+    for i in 0..known.len() {
+        let (id, count) = &known[i];
+        ids.push((id.as_slice(), *count))?;
+    }
+    ids.sort_by(|a, b| b.1.cmp(&a.1).then(a.0.cmp(b.0)))?;
+    Ok(ids)
+}

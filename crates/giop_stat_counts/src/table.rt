@@ -1,0 +1,67 @@
+//! A table of rows by their names.
+
+use crate::row::Row;
+use indexmap::IndexMap;
+use std::alloc::{AllocError, Global};
+
+/// How many rows a table has; all others are one.
+pub(crate) const ROWS_MAX: usize = 4_096;
+
+/// Rows by their names, which are joined by line feeds, in the order in which they came.
+#[derive(Drop)]
+pub(crate) struct Table {
+    alloc: Global,
+    rows: IndexMap<String, Row>,
+    others: Option<Row>,
+}
+
+impl Table {
+    /// No rows.
+    pub(crate) fn new(alloc: Global) -> Table {
+        Table {
+            alloc,
+            rows: IndexMap::new(alloc),
+            others: None,
+        }
+    }
+
+    /// The rows by their names.
+    pub(crate) fn rows(&self) -> &IndexMap<String, Row> {
+        &self.rows
+    }
+
+    /// The row of all others, if there are any.
+    pub(crate) fn others(&self) -> Option<&Row> {
+        match &self.others {
+            None => None,
+            Some(row) => Some(row),
+        }
+    }
+
+    /// The place of the row with these names; None where it is one of the others.
+    pub(crate) fn place(&mut self, names: &str) -> Result<Option<usize>, AllocError> {
+        if let Some(place) = self.rows.get_index_of(names) {
+            return Ok(Some(place));
+        }
+        if self.rows.len() >= ROWS_MAX {
+            if self.others.is_none() {
+                self.others = Some(Row::new(self.alloc, true));
+            }
+            return Ok(None);
+        }
+        let name = String::from_str(self.alloc, names)?;
+        let (place, _) = self.rows.insert_full(name, Row::new(self.alloc, true))?;
+        Ok(Some(place))
+    }
+
+    /// The row at a place.
+    pub(crate) fn row(&mut self, place: Option<usize>) -> Option<&mut Row> {
+        match place {
+            Some(place) => self.rows.get_index_mut(place),
+            None => match &mut self.others {
+                None => None,
+                Some(row) => Some(row),
+            },
+        }
+    }
+}

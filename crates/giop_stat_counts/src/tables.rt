@@ -1,0 +1,145 @@
+//! The tables, and the rows in which a message counts.
+
+use crate::choice::By;
+use crate::message::Message;
+use crate::row::{Row, plus};
+use crate::streams::{Stream, text_of};
+use crate::table::Table;
+use crate::talks::Talks;
+use std::alloc::{AllocError, Global};
+
+/// What stands for the operation of messages that have none. No operation has a space.
+const NONE: &str = "no operation";
+
+/// What stands for an endpoint that isn't known.
+const UNKNOWN: &str = "-";
+
+/// The tables of operations, of clients with servers, and of connections.
+#[derive(Drop)]
+pub(crate) struct Tables {
+    pub(crate) operations: Table,
+    pub(crate) pairs: Table,
+    pub(crate) talks: Talks,
+    names: String,
+}
+
+impl Tables {
+    /// No rows.
+    pub(crate) fn new(alloc: Global) -> Result<Tables, AllocError> {
+        Ok(Tables {
+            operations: Table::new(alloc),
+            pairs: Table::new(alloc),
+            talks: Talks::new(alloc)?,
+            names: String::new(alloc),
+        })
+    }
+
+    /// The place among the operations of a message that is no reply to a call.
+    pub(crate) fn place(
+        &mut self,
+        by: Option<By<'_>>,
+        stream: &Stream,
+        message: &Message,
+    ) -> Result<Option<usize>, AllocError> {
+        let operation = if message.operation.is_empty() {
+            NONE
+        } else {
+            text_of(&message.operation)
+        };
+        self.names.clear();
+        self.names.push_str(text_of(&message.interface))?;
+        self.names.push('\n')?;
+        self.names.push_str(operation)?;
+        if let Some(by) = by {
+            let (client, server) = stream.ends();
+            self.names.push('\n')?;
+            self.names.push_str(match by {
+                By::Client => known(address_of(text_of(client))),
+                By::Server => known(text_of(server)),
+                By::Object | By::Path(_) => text_of(&message.value),
+            })?;
+        }
+        self.operations.place(&self.names)
+    }
+
+    /// The place of what no message tells.
+    fn place_of_none(&mut self, by: Option<By<'_>>) -> Result<Option<usize>, AllocError> {
+        self.names.clear();
+        self.names.push('\n')?;
+        self.names.push_str(NONE)?;
+        if by.is_some() {
+            self.names.push('\n')?;
+        }
+        self.operations.place(&self.names)
+    }
+
+    /// The place among the pairs of the ends of a stream.
+    fn place_of_ends(&mut self, stream: &Stream) -> Result<Option<usize>, AllocError> {
+        let (client, server) = stream.ends();
+        self.names.clear();
+        self.names.push_str(known(address_of(text_of(client))))?;
+        self.names.push('\n')?;
+        self.names.push_str(known(text_of(server)))?;
+        self.pairs.place(&self.names)
+    }
+
+    /// Counts a message in the operation at this place, in its pair and in its connection.
+    pub(crate) fn add(
+        &mut self,
+        place: Option<usize>,
+        stream: &Stream,
+        message: &Message,
+        is_captured: bool,
+    ) -> Result<(), AllocError> {
+        let pair = self.place_of_ends(stream)?;
+        add_to(self.operations.row(place), message, is_captured)?;
+        add_to(self.pairs.row(pair), message, is_captured)?;
+        add_to(self.talks.row(stream.connection), message, is_captured)
+    }
+
+    /// Counts a fault of a stream, or a gap.
+    pub(crate) fn add_loss(
+        &mut self,
+        by: Option<By<'_>>,
+        stream: &Stream,
+        is_gap: bool,
+    ) -> Result<(), AllocError> {
+        let place = self.place_of_none(by)?;
+        let pair = self.place_of_ends(stream)?;
+        add_loss_to(self.operations.row(place), is_gap);
+        add_loss_to(self.pairs.row(pair), is_gap);
+        add_loss_to(self.talks.row(stream.connection), is_gap);
+        Ok(())
+    }
+}
+
+fn add_to(row: Option<&mut Row>, message: &Message, is_captured: bool) -> Result<(), AllocError> {
+    match row {
+        None => Ok(()),
+        Some(row) => row.add(message, is_captured),
+    }
+}
+
+fn add_loss_to(row: Option<&mut Row>, is_gap: bool) {
+    if let Some(row) = row {
+        row.gaps = plus(row.gaps, is_gap);
+        row.faults = plus(row.faults, !is_gap);
+    }
+}
+
+/// A name, or what stands for none.
+fn known(name: &str) -> &str {
+    if name.is_empty() { UNKNOWN } else { name }
+}
+
+/// The address of an endpoint, without the brackets around one of IPv6.
+pub(crate) fn address_of(end: &str) -> &str {
+    let address = match end.rsplit_once(':') {
+        None => end,
+        Some((address, _)) => address,
+    };
+    match address.strip_prefix('[') {
+        None => address,
+        Some(address) => address.strip_suffix(']').unwrap_or(address),
+    }
+}

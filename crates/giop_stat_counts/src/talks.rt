@@ -1,0 +1,251 @@
+//! The connections that are counted apart.
+
+ghost use Rattle.std.specs.Prelude.{◌<◌};
+
+use crate::message::{Kind, replace};
+use crate::row::Row;
+use crate::streams::Stream;
+use crate::table::ROWS_MAX;
+use giop_view_parts::Of;
+use lru::LruCache;
+use std::alloc::{AllocError, Global};
+use std::collections::VecDeque;
+
+/// The row of a connection. What is empty isn't known.
+#[derive(Drop)]
+pub(crate) struct Talk {
+    /// The number of its first stream.
+    pub(crate) number: u64,
+    // The sender and the receiver of its first stream, and the words that the last stream of each closed with.
+    ends: [Vec<u8>; 2],
+    closed: [Vec<u8>; 2],
+    // Whether the receiver of its first stream is the client.
+    is_turned: bool,
+    /// When its first stream began.
+    pub(crate) opened: Vec<u8>,
+    /// The last time of a message.
+    pub(crate) last: Vec<u8>,
+    /// How many streams it has.
+    pub(crate) streams: u64,
+    is_over: bool,
+    is_ended: bool,
+    pub(crate) row: Row,
+}
+
+impl Talk {
+    fn new(alloc: Global, number: u64, stream: &Stream) -> Result<Talk, AllocError> {
+        Ok(Talk {
+            number,
+            ends: [
+                Vec::from_slice(alloc, &stream.source)?,
+                Vec::from_slice(alloc, &stream.target)?,
+            ],
+            closed: [Vec::new(alloc), Vec::new(alloc)],
+            is_turned: false,
+            opened: Vec::from_slice(alloc, &stream.time)?,
+            last: Vec::new(alloc),
+            streams: 0,
+            is_over: false,
+            is_ended: false,
+            row: Row::new(alloc, false),
+        })
+    }
+
+    /// Which of its two ends sends a stream.
+    fn side_of(&self, stream: &Stream) -> usize
+        ensures { result < 2 }
+    {
+        let [first, _] = &self.ends;
+        if first.as_slice() == stream.source.as_slice() {
+            0
+        } else {
+            1
+        }
+    }
+
+    /// The endpoint of the client, or that of the server.
+    pub(crate) fn end(&self, is_server: bool) -> &[u8] {
+        let [first, second] = &self.ends;
+        if self.is_turned == is_server {
+            first
+        } else {
+            second
+        }
+    }
+
+    /// The word that the last stream of the client closed with, or that of the server.
+    pub(crate) fn word(&self, is_server: bool) -> &[u8] {
+        let [first, second] = &self.closed;
+        if self.is_turned == is_server {
+            first
+        } else {
+            second
+        }
+    }
+
+    /// Notes the word that a stream closed with; no word where one began.
+    fn note_word(&mut self, stream: &Stream, word: &[u8]) -> Result<(), AllocError> {
+        let side = self.side_of(stream);
+        replace(&mut self.closed[side], word)
+    }
+
+    /// Notes who sends a message, and its time.
+    fn note(&mut self, stream: &Stream, kind: Kind, time: &[u8]) -> Result<(), AllocError> {
+        if kind.is_of_server().is_some() {
+            let is_from_second = self.side_of(stream) == 1;
+            self.is_turned = is_from_second != stream.is_of_server;
+        }
+        if time > self.last.as_slice() {
+            replace(&mut self.last, time)?;
+        }
+        Ok(())
+    }
+}
+
+/// The rows of connections, in the order in which they began.
+#[derive(Drop)]
+pub(crate) struct Talks {
+    alloc: Global,
+    rows: LruCache<u64, Talk>,
+    // Those that ended, in the order in which they did.
+    ended: VecDeque<u64>,
+    others: Option<Row>,
+    begun: u64,
+}
+
+impl Talks {
+    pub(crate) fn new(alloc: Global) -> Result<Talks, AllocError> {
+        Ok(Talks {
+            alloc,
+            rows: LruCache::unbounded(alloc)?,
+            ended: VecDeque::new(alloc),
+            others: None,
+            begun: 0,
+        })
+    }
+
+    /// The rows, the last first.
+    pub(crate) fn rows(&self) -> &LruCache<u64, Talk> {
+        &self.rows
+    }
+
+    /// The row of all others, if there are any.
+    pub(crate) fn others(&self) -> Option<&Row> {
+        match &self.others {
+            None => None,
+            Some(row) => Some(row),
+        }
+    }
+
+    /// The row of a connection.
+    pub(crate) fn row(&mut self, of: Option<Of>) -> Option<&mut Row> {
+        let of = of?;
+        match self.rows.peek_mut(&of.id) {
+            Some(talk) => Some(&mut talk.row),
+            None => match &mut self.others {
+                None => None,
+                Some(row) => Some(row),
+            },
+        }
+    }
+
+    /// Counts a stream that begins; its connection has a row if this is the first one.
+    pub(crate) fn begin(&mut self, stream: &Stream) -> Result<(), AllocError> {
+        let Some(of) = stream.connection else {
+            return Ok(());
+        };
+        if of.id > self.begun {
+            self.begun = of.id;
+            if self.rows.len() >= ROWS_MAX {
+                self.drop_one()?;
+            }
+            let talk = Talk::new(self.alloc, of.number, stream)?;
+            self.rows.put(of.id, talk)?;
+        }
+        if let Some(talk) = self.rows.peek_mut(&of.id) {
+            talk.streams = talk.streams.saturating_add(1);
+            talk.note_word(stream, b"")?;
+        }
+        Ok(())
+    }
+
+    /// Counts the row that ended first as one of the others, or else the first.
+    fn drop_one(&mut self) -> Result<(), AllocError> {
+        let mut gone = None;
+        for _ in 0..self.ended.len() {
+            let Some(id) = self.ended.pop_front() else {
+                break;
+            };
+            gone = self.rows.pop(&id);
+            if gone.is_some() {
+                break;
+            }
+        }
+        if gone.is_none() {
+            gone = match self.rows.pop_lru() {
+                None => None,
+                Some((_, talk)) => Some(talk),
+            };
+        }
+        let Some(talk) = gone else {
+            return Ok(());
+        };
+        let mut others = match self.others.take() {
+            Some(others) => others,
+            None => Row::new(self.alloc, false),
+        };
+        let joined = others.join(&talk.row);
+        self.others = Some(others);
+        joined
+    }
+
+    /// Notes who sends a message of a stream, and its time.
+    pub(crate) fn note(
+        &mut self,
+        stream: &Stream,
+        kind: Kind,
+        time: &[u8],
+    ) -> Result<(), AllocError> {
+        let Some(of) = stream.connection else {
+            return Ok(());
+        };
+        match self.rows.peek_mut(&of.id) {
+            None => Ok(()),
+            Some(talk) => talk.note(stream, kind, time),
+        }
+    }
+
+    /// Notes the word that a stream closed with, and whether its connection is over.
+    pub(crate) fn close(
+        &mut self,
+        stream: &Stream,
+        word: &[u8],
+        is_over: bool,
+    ) -> Result<(), AllocError> {
+        let Some(of) = stream.connection else {
+            return Ok(());
+        };
+        match self.rows.peek_mut(&of.id) {
+            None => Ok(()),
+            Some(talk) => {
+                talk.is_over |= is_over;
+                talk.note_word(stream, word)
+            }
+        }
+    }
+
+    /// Notes that a stream is over, with which its connection may have ended.
+    pub(crate) fn end(&mut self, of: Option<Of>) -> Result<(), AllocError> {
+        let Some(of) = of else {
+            return Ok(());
+        };
+        if let Some(talk) = self.rows.peek_mut(&of.id)
+            && talk.is_over
+            && !talk.is_ended
+        {
+            talk.is_ended = true;
+            self.ended.push_back(of.id)?;
+        }
+        Ok(())
+    }
+}

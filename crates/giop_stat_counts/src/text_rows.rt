@@ -1,0 +1,187 @@
+//! The tables as text.
+
+use crate::capture::Capture;
+use crate::choice::Settings;
+use crate::columns::Sheet;
+use crate::json_rows::{counts, named_times};
+use crate::row::{OTHERS, Row};
+use crate::seconds::put_short_seconds;
+use crate::sorted::{sorted, sorted_ids};
+use crate::table::Table;
+use crate::tables::Tables;
+use std::alloc::{AllocError, Global};
+
+/// How many exceptions are named below a row.
+const NAMED: usize = 3;
+
+/// The titles of the columns of a connection's names.
+const TALK: [&str; 8] = [
+    "connection",
+    "client",
+    "server",
+    "opened",
+    "last",
+    "client_closed",
+    "server_closed",
+    "streams",
+];
+
+/// The tables one after the other, and the lines of the capture, with an empty line between them.
+pub(crate) fn text_of_tables(
+    alloc: Global,
+    settings: Settings<'_>,
+    tables: &Tables,
+    capture: &Capture,
+) -> Result<Vec<u8>, AllocError> {
+    let mut text = Vec::new(alloc);
+    match settings.by {
+        None => put_table(
+            alloc,
+            &mut text,
+            &tables.operations,
+            &["interface", "operation"],
+        )?,
+        Some(by) => {
+            let titles = ["interface", "operation", by.title()];
+            put_table(alloc, &mut text, &tables.operations, &titles)?;
+        }
+    }
+    put_table(alloc, &mut text, &tables.pairs, &["client", "server"])?;
+    if settings.has_connections {
+        put_talks(alloc, &mut text, tables)?;
+    }
+    if !capture.is_empty() {
+        put_border(&mut text)?;
+        capture.put_lines(&mut text)?;
+    }
+    Ok(text)
+}
+
+/// Appends an empty line, if something stands before it.
+fn put_border(text: &mut Vec<u8>) -> Result<(), AllocError> {
+    if text.is_empty() {
+        return Ok(());
+    }
+    text.extend_from_slice(b"\n")
+}
+
+/// Appends a table with names under these titles.
+fn put_table(
+    alloc: Global,
+    text: &mut Vec<u8>,
+    table: &Table,
+    titles: &[&str],
+) -> Result<(), AllocError> {
+    let mut sheet = Sheet::new(alloc);
+    put_titles(alloc, &mut sheet, titles)?;
+    for (names, row) in sorted(alloc, table)? {
+        sheet.line()?;
+        for name in names.split('\n') {
+            sheet.cell(Vec::from_slice(alloc, name.as_bytes())?, true)?;
+        }
+        put_row(alloc, &mut sheet, row)?;
+    }
+    put_others(alloc, &mut sheet, table.others(), titles.len())?;
+    put_sheet(text, &sheet)
+}
+
+/// Appends the table of connections.
+fn put_talks(alloc: Global, text: &mut Vec<u8>, tables: &Tables) -> Result<(), AllocError> {
+    let mut talks = Vec::new(alloc);
+    for (_, talk) in tables.talks.rows().iter() {
+        talks.push(talk)?;
+    }
+    let mut sheet = Sheet::new(alloc);
+    put_titles(alloc, &mut sheet, &TALK)?;
+    for talk in talks.iter().rev() {
+        sheet.line()?;
+        put_number(alloc, &mut sheet, talk.number)?;
+        for name in [
+            talk.end(false),
+            talk.end(true),
+            &talk.opened,
+            &talk.last,
+            talk.word(false),
+            talk.word(true),
+        ] {
+            sheet.cell(Vec::from_slice(alloc, name)?, true)?;
+        }
+        put_number(alloc, &mut sheet, talk.streams)?;
+        put_row(alloc, &mut sheet, &talk.row)?;
+    }
+    put_others(alloc, &mut sheet, tables.talks.others(), TALK.len())?;
+    put_sheet(text, &sheet)
+}
+
+/// Appends a sheet after an empty line.
+fn put_sheet(text: &mut Vec<u8>, sheet: &Sheet) -> Result<(), AllocError> {
+    if sheet.is_empty() {
+        return Ok(());
+    }
+    put_border(text)?;
+    sheet.put(text)
+}
+
+/// Adds the line of titles.
+fn put_titles(alloc: Global, sheet: &mut Sheet, titles: &[&str]) -> Result<(), AllocError> {
+    let row = Row::new(alloc, true);
+    sheet.line()?;
+    for title in titles {
+        sheet.cell(Vec::from_slice(alloc, title.as_bytes())?, true)?;
+    }
+    for (title, _) in counts(&row) {
+        sheet.cell(Vec::from_slice(alloc, title.as_bytes())?, false)?;
+    }
+    for (title, _) in named_times(&row.times) {
+        sheet.cell(Vec::from_slice(alloc, title.as_bytes())?, false)?;
+    }
+    sheet.cell(Vec::from_slice(alloc, b"octets")?, false)
+}
+
+/// Adds the line of all others, if there are any.
+fn put_others(
+    alloc: Global,
+    sheet: &mut Sheet,
+    row: Option<&Row>,
+    names: usize,
+) -> Result<(), AllocError> {
+    let Some(row) = row else {
+        return Ok(());
+    };
+    sheet.line()?;
+    for _ in 0..names {
+        sheet.cell(Vec::from_slice(alloc, OTHERS.as_bytes())?, true)?;
+    }
+    put_row(alloc, sheet, row)
+}
+
+/// Adds the cells of a row after its names, and its commonest exceptions below.
+fn put_row(alloc: Global, sheet: &mut Sheet, row: &Row) -> Result<(), AllocError> {
+    for (_, count) in counts(row) {
+        put_number(alloc, sheet, count)?;
+    }
+    for (_, time) in named_times(&row.times) {
+        let mut cell = Vec::new(alloc);
+        match time {
+            Some(time) if !row.times.is_empty() => put_short_seconds(&mut cell, time)?,
+            _ => cell.push(b'-')?,
+        }
+        sheet.cell(cell, false)?;
+    }
+    put_number(alloc, sheet, row.octets)?;
+    let ids = sorted_ids(alloc, row)?;
+    for (id, count) in ids.iter().take(NAMED) {
+        sheet.below(b"    ")?;
+        sheet.below(itoa::Buffer::new().format(*count).as_bytes())?;
+        sheet.below(b" ")?;
+        sheet.below(id)?;
+        sheet.below(b"\n")?;
+    }
+    Ok(())
+}
+
+/// Adds a cell with a number.
+fn put_number(alloc: Global, sheet: &mut Sheet, number: u64) -> Result<(), AllocError> {
+    let cell = Vec::from_slice(alloc, itoa::Buffer::new().format(number).as_bytes())?;
+    sheet.cell(cell, false)
+}

@@ -1,0 +1,129 @@
+//! Times in nanoseconds: how many are in each bucket, the least, the greatest and their sum.
+
+ghost use Rattle.std.specs.Prelude.{◌≡◌, ◌+◌, ◌*◌, ◌/◌, ◌≤◌};
+
+use crate::buckets::{ABOVE, BELOW, BUCKETS, bucket, bucket_at, middle};
+use std::alloc::{AllocError, Global};
+
+/// Times that were counted.
+#[derive(Drop)]
+pub(crate) struct Times {
+    alloc: Global,
+    count: u64,
+    least: i128,
+    most: i128,
+    total: i128,
+    // How many are in each bucket; empty until a time comes, and where no percentile is asked for.
+    buckets: Vec<u64>,
+    has_buckets: bool,
+}
+
+impl Times {
+    /// No times.
+    pub(crate) fn new(alloc: Global, has_buckets: bool) -> Times {
+        Times {
+            alloc,
+            count: 0,
+            least: 0,
+            most: 0,
+            total: 0,
+            buckets: Vec::new(alloc),
+            has_buckets,
+        }
+    }
+
+    /// Whether there are none.
+    pub(crate) fn is_empty(&self) -> bool {
+        self.count == 0
+    }
+
+    pub(crate) fn least(&self) -> i128 {
+        self.least
+    }
+
+    pub(crate) fn most(&self) -> i128 {
+        self.most
+    }
+
+    pub(crate) fn total(&self) -> i128 {
+        self.total
+    }
+
+    /// Counts a time.
+    pub(crate) fn add(&mut self, time: i128) -> Result<(), AllocError> {
+        if self.has_buckets {
+            self.add_to_bucket(bucket(time))?;
+        }
+        let (least, most) = if self.count == 0 {
+            (time, time)
+        } else {
+            (self.least.min(time), self.most.max(time))
+        };
+        self.least = least;
+        self.most = most;
+        self.count = self.count.saturating_add(1);
+        self.total = self.total.saturating_add(time);
+        Ok(())
+    }
+
+    fn add_to_bucket(&mut self, bucket: usize) -> Result<(), AllocError> {
+        if self.buckets.is_empty() {
+            self.buckets = vec![in self.alloc; 0; BUCKETS]?;
+        }
+        if let Some(count) = self.buckets.get_mut(bucket) {
+            *count = count.saturating_add(1);
+        }
+        Ok(())
+    }
+
+    /// Counts all times of a row without buckets.
+    pub(crate) fn join(&mut self, others: &Times) {
+        if others.count == 0 {
+            return;
+        }
+        let (least, most) = if self.count == 0 {
+            (others.least, others.most)
+        } else {
+            (self.least.min(others.least), self.most.max(others.most))
+        };
+        self.least = least;
+        self.most = most;
+        self.count = self.count.saturating_add(others.count);
+        self.total = self.total.saturating_add(others.total);
+    }
+
+    /// The time that so many of 100 don't exceed: the middle of its bucket, or the least or the greatest where it is that; None
+    /// without buckets.
+    pub(crate) fn at(&self, percent: u64) -> Option<i128>
+        requires { percent ≤ 100 }
+    {
+        if !self.has_buckets {
+            return None;
+        }
+        let due = rank(self.count, percent);
+        if due <= 1 {
+            return Some(self.least);
+        }
+        if due >= self.count {
+            return Some(self.most);
+        }
+        Some(match bucket_at(&self.buckets, due) {
+            BELOW => self.least,
+            found if found >= ABOVE => self.most,
+            found => within(i128::from(middle(found)), self.least, self.most),
+        })
+    }
+}
+
+/// How many of some things so many of 100 are, rounded up.
+fn rank(count: u64, percent: u64) -> u64
+    requires { percent ≤ 100 }
+    ensures { result ≡ (count * percent + 99) / 100 }
+{
+    ((u128::from(count) * u128::from(percent) + 99) / 100) as u64
+}
+
+/// A number, or the nearer of the ends of a range where it is outside.
+fn within(number: i128, least: i128, most: i128) -> i128 {
+    number.max(least).min(most)
+}

@@ -1,0 +1,116 @@
+//! Which messages are counted, by their times.
+
+ghost use Rattle.std.specs.Prelude.{◌≡◌};
+ghost use Rattle.giop_stat_counts.specs.Windows.{has_day, compared, comes_before, is_from, is_up_to};
+
+/// Whether a word is a time: with its day, as `2026-11-23T08:13:25.58`, or of any day, as `08:13:25` or `08`. A `Z` may follow.
+pub fn is_time(word: &str) -> bool {
+    let word = word.as_bytes();
+    let word = match word {
+        [time @ .., b'Z'] => time,
+        time => time,
+    };
+    if word.len() > 10 && has_day(word) {
+        return fits(&word[..11], b"0000-00-00T") && is_time_of_day(&word[11..]);
+    }
+    is_time_of_day(word)
+}
+
+/// Whether a text is hours, or these with minutes, seconds, and one to nine digits of a second.
+fn is_time_of_day(text: &[u8]) -> bool {
+    match text.len() {
+        2 => fits(text, b"00"),
+        5 => fits(text, b"00:00"),
+        8 => fits(text, b"00:00:00"),
+        10..=18 => fits(&text[..9], b"00:00:00.") && text[9..].iter().all(|b| b.is_ascii_digit()),
+        _ => false,
+    }
+}
+
+/// Whether a text is like another, with any digit in the place of each `0`.
+fn fits(text: &[u8], form: &[u8]) -> bool {
+    text.len() == form.len()
+        && text.iter().zip(form).all(|(b, like)| {
+            if *like == b'0' {
+                b.is_ascii_digit()
+            } else {
+                *b == *like
+            }
+        })
+}
+
+/// The times from which and up to which messages are counted.
+#[derive(Clone, Copy, Debug, Drop)]
+pub struct Window<'a> {
+    /// The first time; None where all are counted up to the last.
+    pub first: Option<&'a str>,
+    /// The last time with all that begin with it; None where all are counted from the first on.
+    pub last: Option<&'a str>,
+}
+
+impl Window<'_> {
+    /// Whether a message of this time is counted. One whose time isn't known, which is empty then, is counted where no time is
+    /// given.
+    pub(crate) fn has(&self, time: &[u8]) -> bool {
+        let is_late_enough = match self.first {
+            None => true,
+            Some(first) => is_from(time, without_zone(first.as_bytes())),
+        };
+        let is_early_enough = match self.last {
+            None => true,
+            Some(last) => is_up_to(time, without_zone(last.as_bytes())),
+        };
+        is_late_enough && is_early_enough
+    }
+}
+
+/// A time without the `Z` that it may end with.
+fn without_zone(time: &[u8]) -> &[u8] {
+    match time {
+        [time @ .., b'Z'] => time,
+        time => time,
+    }
+}
+
+/// Whether a time has its day.
+fn has_day(time: &[u8]) -> bool
+    ensures { result ≡ has_day time.now }
+{
+    time.len() > 10 && time[10] == b'T'
+}
+
+/// The part of a time that is compared with another: without its day where the other has none.
+fn compared<'a>(time: &'a [u8], other: &[u8]) -> &'a [u8]
+    ensures { result.now ≡ compared time.now other.now }
+{
+    if has_day(other) {
+        return time;
+    }
+    &time[time.len().min(11)..]
+}
+
+/// Whether a text comes before another, octet by octet.
+fn comes_before(a: &[u8], b: &[u8]) -> bool
+    ensures { result ≡ comes_before a.now b.now }
+{
+    match (a.split_first(), b.split_first()) {
+        (_, None) => false,
+        (None, Some(_)) => true,
+        (Some((x, xs)), Some((y, ys))) => { if x == y { comes_before(xs, ys) } else { x < y } }
+    }
+}
+
+/// Whether a time is known and not before another.
+fn is_from(time: &[u8], first: &[u8]) -> bool
+    ensures { result ≡ is_from time.now first.now }
+{
+    !time.is_empty() && !comes_before(compared(time, first), first)
+}
+
+/// Whether a time is known and not after another, or begins with it.
+fn is_up_to(time: &[u8], last: &[u8]) -> bool
+    ensures { result ≡ is_up_to time.now last.now }
+{
+    let start = compared(time, last);
+    !time.is_empty() && !comes_before(last, &start[..start.len().min(last.len())])
+}

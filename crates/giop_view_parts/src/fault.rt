@@ -1,0 +1,28 @@
+//! Why a view of lines can't go on.
+
+use giop_print::OutFault;
+use std::alloc::AllocError;
+use thiserror::Error;
+
+/// Why a view of lines can't go on.
+#[derive(Clone, Copy, Debug, Drop, PartialEq, Eq, Error)]
+pub enum ViewFault {
+    /// There wasn't enough memory.
+    #[error("out of memory")]
+    OutOfMemory,
+    /// The out failed.
+    #[error("write failed")]
+    Out,
+}
+
+impl From<AllocError> for ViewFault {
+    fn from(_fault: AllocError) -> ViewFault {
+        ViewFault::OutOfMemory
+    }
+}
+
+impl From<OutFault> for ViewFault {
+    fn from(_fault: OutFault) -> ViewFault {
+        ViewFault::Out
+    }
+}

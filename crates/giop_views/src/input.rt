@@ -1,0 +1,67 @@
+//! The lines of a source, one after the other.
+
+ghost use Rattle.std.specs.Prelude.{◌≤◌, length};
+
+use giop_lines::LINE_MAX;
+use giop_run::{Source, SourceFault};
+use memchr::memchr;
+use std::alloc::{AllocError, Global};
+
+/// How many octets are read at once.
+const READ: usize = 65_536;
+
+/// Octets that were read, of which the first are lines that were taken.
+#[derive(Drop)]
+pub struct Input {
+    room: Vec<u8>,
+    start: usize,
+    end: usize,
+    number: u64,
+    ghost ordered: { start ≤ end },
+    ghost within: { end ≤ length room.items },
+}
+
+impl Input {
+    /// Nothing was read.
+    pub fn new(alloc: Global) -> Result<Input, AllocError> {
+        Ok(Input {
+            room: vec![in alloc; 0; LINE_MAX + 1 + READ]?,
+            start: 0,
+            end: 0,
+            number: 0,
+        })
+    }
+
+    /// The number of the last line that was given, from 1.
+    pub fn number(&self) -> u64 {
+        self.number
+    }
+
+    /// Reads once. Answers whether octets came.
+    pub fn read<S: Source>(&mut self, source: &mut S) -> Result<bool, SourceFault> {
+        let left = self.end - self.start;
+        self.room.copy_within(self.start..self.end, 0);
+        self.start = 0;
+        self.end = left;
+        let room = &mut self.room[left..];
+        let most = room.len().min(READ);
+        let given = source.read(&mut room[..most])?;
+        self.end = left + given;
+        Ok(given > 0)
+    }
+
+    /// The next line that was read whole, without its LF; else what is longer than any line; None where more has to be read.
+    #[inline]
+    pub fn next(&mut self) -> Option<&[u8]> {
+        let left = &self.room[self.start..self.end];
+        let count = match memchr(b'\n', left) {
+            Some(count) => count,
+            None if left.len() > LINE_MAX => left.len(),
+            None => return None,
+        };
+        let start = self.start;
+        self.number = self.number.saturating_add(1);
+        self.start = self.end.min(start + count + 1);
+        Some(&self.room[start..start + count])
+    }
+}

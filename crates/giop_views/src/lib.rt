@@ -1,0 +1,10 @@
+//! What the programs that read the lines of a dump do around their steps (docs/FORMATS.md, Views).
+#![tactic(auto)]
+
+mod console;
+mod input;
+mod run;
+mod watching;
+
+pub use console::viewed;
+pub use run::Report;

@@ -1,0 +1,74 @@
+//! The lines of a source through a view to an out.
+
+use crate::input::Input;
+use giop_lines::read;
+use giop_run::{Flush, Source};
+use giop_view_parts::{View, ViewFault};
+use std::alloc::Global;
+
+/// How a run ended.
+#[derive(Clone, Copy, Debug, Drop, PartialEq, Eq)]
+pub struct Report {
+    /// The number of the line that no dump has, if one came.
+    pub(crate) unknown: Option<u64>,
+    /// Whether the source failed.
+    pub(crate) is_unread: bool,
+}
+
+/// Hands the lines of a source to a view, and what that writes is flushed before each read. At a line that no dump has, and
+/// where the source fails, the view ends as at the end of the dump.
+pub(crate) fn run<S: Source, O: Flush, V: View>(
+    alloc: Global,
+    source: &mut S,
+    out: &mut O,
+    view: &mut V,
+) -> Result<Report, ViewFault> {
+    let mut input = Input::new(alloc)?;
+    let mut report = Report {
+        unknown: None,
+        is_unread: false,
+    };
+    for _ in 0..u64::MAX {
+        flush(out)?;
+        match input.read(source) {
+            Ok(true) => {}
+            Ok(false) => break,
+            Err(_) => {
+                report.is_unread = true;
+                break;
+            }
+        }
+        if !take_lines(&mut input, out, view)? {
+            report.unknown = Some(input.number());
+            break;
+        }
+    }
+    view.finish(out)?;
+    flush(out)?;
+    Ok(report)
+}
+
+fn flush<O: Flush>(out: &mut O) -> Result<(), ViewFault> {
+    match out.flush() {
+        Ok(()) => Ok(()),
+        Err(_) => Err(ViewFault::Out),
+    }
+}
+
+/// Takes the lines that were read. Answers whether each is one of a dump.
+fn take_lines<O: Flush, V: View>(
+    input: &mut Input,
+    out: &mut O,
+    view: &mut V,
+) -> Result<bool, ViewFault> {
+    for _ in 0..u64::MAX {
+        let Some(text) = input.next() else {
+            break;
+        };
+        let Some(line) = read(text) else {
+            return Ok(false);
+        };
+        view.take(out, line)?;
+    }
+    Ok(true)
+}

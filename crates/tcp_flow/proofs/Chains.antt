@@ -1,0 +1,89 @@
+-- Messages that stand one behind another up to the end, one after the other.
+use Rattle.std.proofs.Common.{◌≡◌, ℕ, zero, suc, ◌-◌, ◌<◌, ◌≤◌, Bool, true, false, cond, nat_eq, ◌||◌, List, [], ◌∷◌, length, drop, Option, Some, None, refl, ◌∙◌, ap, arith, true≢false}
+use Rattle.std.proofs.lemmas.Bool.{eq-eqb, eqb-true, ne_eqb}
+use Rattle.tcp_flow.specs.Flow.{header_at, message_end, is_front, chain_from, is_chain, stream_at}
+
+pub some_octets : (xs : List ℕ) → nat_eq (length xs) 0 ≡ false → 0 < length xs
+some_octets [] e = absurd (true≢false e)
+some_octets (x ∷ xs) e = omega arith
+
+pub no_octets : (xs : List ℕ) → nat_eq (length xs) 0 ≡ true → length xs ≡ 0
+no_octets xs e = eqb-true (length xs) 0 e
+
+-- what stands first, by whether anything does, whether it begins a message, and where that ends
+abbrev first_of_chain : ℕ → Bool → List ℕ → Bool → Bool → Option ℕ → Bool
+first_of_chain count whole xs none front end =
+    cond none whole
+    (cond front (elim end [ None ↦ whole | Some n ↦ chain_from count true (drop n xs) ]) false)
+
+-- behind the last message
+pub chain_over : (count : ℕ) (whole : Bool) (xs : List ℕ) → length xs ≡ 0 →
+    chain_from count whole xs ≡ whole
+unfolding chain_from
+chain_over zero whole xs e = refl
+chain_over (suc n) whole xs e = ap (λ (b : Bool).
+    first_of_chain n whole xs b (is_front xs) (message_end xs)) (eq-eqb (length xs) 0 e)
+
+-- what begins no message
+pub chain_broken : (count : ℕ) (whole : Bool) (xs : List ℕ) → 0 < length xs → length xs ≤ count →
+    is_front xs ≡ false → chain_from count whole xs ≡ false
+unfolding chain_from
+chain_broken zero whole xs s l f = absurd (omega (arith, s, l))
+chain_broken (suc n) whole xs s l f =
+    ap (λ (b : Bool). first_of_chain n whole xs b (is_front xs) (message_end xs))
+    (ne_eqb (length xs) 0 (λ o. absurd (omega (arith, s, o))))
+    ∙ ap (λ (b : Bool). first_of_chain n whole xs false b (message_end xs)) f
+
+-- a message that is cut
+pub chain_cut : (count : ℕ) (whole : Bool) (xs : List ℕ) → 0 < length xs → length xs ≤ count →
+    is_front xs ≡ true → message_end xs ≡ None → chain_from count whole xs ≡ whole
+unfolding chain_from
+chain_cut zero whole xs s l f e = absurd (omega (arith, s, l))
+chain_cut (suc n) whole xs s l f e =
+    ap (λ (b : Bool). first_of_chain n whole xs b (is_front xs) (message_end xs))
+    (ne_eqb (length xs) 0 (λ o. absurd (omega (arith, s, o))))
+    ∙ ap (λ (b : Bool). first_of_chain n whole xs false b (message_end xs)) f
+    ∙ ap (λ (o : Option ℕ). first_of_chain n whole xs false true o) e
+
+-- a whole one
+pub chain_on : (count : ℕ) (whole : Bool) (xs : List ℕ) (end : ℕ) → 0 < length xs →
+    length xs ≤ count → is_front xs ≡ true → message_end xs ≡ Some end →
+    chain_from count whole xs ≡ chain_from (count - 1) true (drop end xs)
+unfolding chain_from
+chain_on zero whole xs end s l f e = absurd (omega (arith, s, l))
+chain_on (suc n) whole xs end s l f e =
+    let k : n ≡ suc n - 1 = omega arith in
+    ap (λ (b : Bool). first_of_chain n whole xs b (is_front xs) (message_end xs))
+    (ne_eqb (length xs) 0 (λ o. absurd (omega (arith, s, o))))
+    ∙ ap (λ (b : Bool). first_of_chain n whole xs false b (message_end xs)) f
+    ∙ ap (λ (o : Option ℕ). first_of_chain n whole xs false true o) e
+    ∙ ap (λ (m : ℕ). chain_from m true (drop end xs)) k
+
+-- ---- Where a stream begins.
+
+abbrev stream_of : List ℕ → Option ℕ → Option ℕ
+stream_of xs o =
+    elim o [
+      | None ↦ None
+      | Some place ↦ cond (nat_eq place 0 || is_chain (drop place xs)) (Some place) None
+    ]
+
+pub stream_none : (xs : List ℕ) → header_at xs ≡ None → stream_at xs ≡ None
+unfolding stream_at
+stream_none xs e = ap (stream_of xs) e
+
+pub stream_front : (xs : List ℕ) (place : ℕ) → header_at xs ≡ Some place → place ≡ 0 →
+    stream_at xs ≡ Some place
+unfolding stream_at
+stream_front xs place e z =
+    ap (stream_of xs) e
+    ∙ ap (λ (b : Bool). cond (b || is_chain (drop place xs)) (Some place) None) (eq-eqb place 0 z)
+
+pub stream_later : (xs : List ℕ) (place : ℕ) (chain : Bool) → header_at xs ≡ Some place →
+    nat_eq place 0 ≡ false → is_chain (drop place xs) ≡ chain →
+    stream_at xs ≡ cond chain (Some place) None
+unfolding stream_at
+stream_later xs place chain e n is =
+    ap (stream_of xs) e
+    ∙ ap (λ (b : Bool). cond (b || is_chain (drop place xs)) (Some place) None) n
+    ∙ ap (λ (b : Bool). cond b (Some place) None) is

@@ -1,0 +1,109 @@
+//! Where a stream begins in octets that are looked through: at the front, or from where messages
+//! stand one behind another up to the end.
+
+ghost use Rattle.std.specs.Prelude.{◌≡◌, ◌≤◌, ◌<◌, ◌^◌, length, get_or, IfSome};
+ghost use Rattle.tcp_flow.specs.Flow.{weighed as spec_weighed, size_in as spec_size_in};
+ghost use Rattle.tcp_flow.specs.Flow.{message_end as spec_message_end, is_front as spec_is_front};
+ghost use Rattle.tcp_flow.specs.Flow.{is_chain as spec_is_chain, stream_at as spec_stream_at};
+
+use crate::flow::header_at;
+
+/// The octets of a message's header, up to its size.
+const HEADER: usize = 12;
+
+/// Where a stream begins in octets that are looked through. Only the first place at which `GIOP` 01
+/// and 00, 01 or 02 stand counts: the front, or one from which messages stand up to the end, at
+/// least one of them whole.
+pub fn stream_at(octets: &[u8]) -> Option<usize>
+    ensures at { result ≡ spec_stream_at octets.now }
+    ensures within { IfSome result (λ place. place < length octets.now) }
+{
+    let Some(place) = header_at(octets) else {
+        return None;
+    };
+    if place == 0 {
+        return Some(place);
+    }
+    if is_chain(&octets[place..]) {
+        return Some(place);
+    }
+    None
+}
+
+/// Whether messages stand one behind another up to the end, at least one of them whole.
+fn is_chain(octets: &[u8]) -> bool
+    ensures { result ≡ spec_is_chain octets.now }
+{
+    let mut rest = octets;
+    let mut whole = false;
+    while !rest.is_empty() {
+        if !is_front(rest) {
+            return false;
+        }
+        let Some(end) = message_end(rest) else {
+            return whole;
+        };
+        rest = &rest[end..];
+        whole = true;
+    }
+    whole
+}
+
+/// Whether `GIOP` 01 and 00, 01 or 02 stand first, as far as the octets go.
+fn is_front(octets: &[u8]) -> bool
+    ensures { result ≡ spec_is_front octets.now }
+{
+    octet_or(octets, 0, b'G') == b'G'
+        && octet_or(octets, 1, b'I') == b'I'
+        && octet_or(octets, 2, b'O') == b'O'
+        && octet_or(octets, 3, b'P') == b'P'
+        && octet_or(octets, 4, 1) == 1
+        && octet_or(octets, 5, 0) <= 2
+}
+
+/// The octet at a place, or another where there is none.
+fn octet_or(octets: &[u8], place: usize, other: u8) -> u8
+    ensures { result ≡ get_or octets.now place other }
+{
+    if place < octets.len() {
+        octets[place]
+    } else {
+        other
+    }
+}
+
+/// Where the message ends that stands first, if all of it is there.
+fn message_end(octets: &[u8]) -> Option<usize>
+    ensures end { result ≡ spec_message_end octets.now }
+    ensures within { IfSome result (λ end. (0 < end) × (end ≤ length octets.now)) }
+{
+    if octets.len() < HEADER {
+        return None;
+    }
+    let end = HEADER + size_in(octets);
+    if octets.len() < end {
+        return None;
+    }
+    Some(end)
+}
+
+/// The size in a header, in its byte order: bit 0 of its 7th octet (GIOP Message Header).
+fn size_in(octets: &[u8]) -> usize
+    requires { 12 ≤ length octets.now }
+    ensures is { result ≡ spec_size_in octets.now }
+    ensures bound { result < 2 ^ 32 }
+{
+    if octets[6] % 2 == 1 {
+        weighed(octets[11], octets[10], octets[9], octets[8])
+    } else {
+        weighed(octets[8], octets[9], octets[10], octets[11])
+    }
+}
+
+/// Four octets as a number, the heaviest first.
+fn weighed(a: u8, b: u8, c: u8, d: u8) -> usize
+    ensures is { result ≡ spec_weighed a b c d }
+    ensures bound { result < 2 ^ 32 }
+{
+    ((a as usize * 256 + b as usize) * 256 + c as usize) * 256 + d as usize
+}

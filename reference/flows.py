@@ -1,0 +1,312 @@
+"""Which streams the flows of a capture have (docs/FORMATS.md, When a stream begins, When a stream closes)."""
+
+from __future__ import annotations
+
+from dataclasses import dataclass, field
+from typing import Dict, FrozenSet, List, NamedTuple, Optional, Tuple
+
+from .encoding import HEADER
+from .packets import Endpoint, Flow, Segment
+from .stream import header_fault, size_of
+
+WINDOW = 1_048_576
+BLOCK = 1024
+
+
+@dataclass
+class Limits:
+    """The chosen ports, every one where there is none; how many connections are known at once; the blocks of the pool."""
+
+    ports: FrozenSet[int] = frozenset()
+    connections: int = 256
+    blocks: int = 16384
+
+
+@dataclass
+class Stream:
+    """A stream: the flow and the packet in which it began, its octets, each delivery by its packet and the octets up to
+    its last, and the word and the packet with which it closed."""
+
+    number: int
+    flow: Flow
+    connection: int
+    packet: int
+    octets: bytearray = field(default_factory=bytearray)
+    deliveries: List[Tuple[int, int, int]] = field(default_factory=list)
+    closed: Tuple[str, int, int] = ("", 0, 0)
+
+
+class Held(NamedTuple):
+    """A payload that came too early."""
+
+    number: int
+    octets: bytes
+
+
+class FlowState:
+    """One flow of a known connection, from its first payload with a stream on."""
+
+    def __init__(self, flow: Flow, due: int, capture: Capture, connection: Connection) -> None:
+        self._flow = flow
+        self._due = due
+        self._capture = capture
+        self._connection = connection
+        self._fin: Optional[int] = None
+        self._next_message = 0  # of the live stream: after how many of its octets its next message begins
+        self._began = 0
+        self.live: Optional[Stream] = None
+        self.held: List[Held] = []
+
+    def ahead(self, number: int) -> int:
+        """How far a number is after the one that is due: negative for one before it."""
+        return (number - self._due + 2**31) % 2**32 - 2**31
+
+    def is_near(self, number: int) -> bool:
+        """Whether a number is within the window of the one that is due, before or after it."""
+        return -WINDOW <= self.ahead(number) <= WINDOW
+
+    def is_own(self, number: int) -> bool:
+        """Whether a number is the flow's own: near the one that is due, or its live stream's first."""
+        return self.is_near(number) or self.live is not None and number == self._began
+
+    def blocks(self) -> int:
+        return sum(-(-len(held.octets) // BLOCK) for held in self.held)
+
+    def _left(self, held: Held) -> Held:
+        """What is left of a payload without what came before."""
+        before = -self.ahead(held.number)
+        if before <= 0 or self.live is None and before > WINDOW:
+            return held
+        return Held(self._due, held.octets[before:])
+
+    def payload_came(self, number: int, octets: bytes) -> None:
+        left = self._left(Held(number, octets))
+        if not left.octets or any(
+            held.number == left.number and len(held.octets) >= len(left.octets) for held in self.held
+        ):
+            return
+        self.held.append(left)
+        self.go_on()
+        while self.held and (self._is_far() or self._capture.blocks() > self._capture.limits.blocks):
+            self.gap()
+
+    def _is_far(self) -> bool:
+        return any(self.ahead(held.number) + len(held.octets) > WINDOW for held in self.held)
+
+    def fin_came(self, number: int) -> None:
+        if self.live and self.ahead(number) >= 0:
+            self._fin = number
+            self.go_on()
+
+    def acknowledged(self, number: int) -> None:
+        while self.held and self.ahead(number) > 0:
+            self.gap()
+
+    def gap(self) -> None:
+        self.close("gap")
+        self.go_on()
+
+    def go_on(self) -> None:
+        """Takes what is due of what is held, and the FIN where that is reached."""
+        self._take_held()
+        if self.live and self._fin is not None and self.ahead(self._fin) <= 0:
+            self.close("fin")
+            self._fin = None
+            self._take_held()
+        if not self.live:
+            self._fin = None
+
+    def _take_held(self) -> None:
+        while self.held:
+            place = min(range(len(self.held)), key=lambda at: (self.ahead(self.held[at].number), at))
+            if self.live and self.ahead(self.held[place].number) > 0:
+                return
+            left = self._left(self.held.pop(place))
+            if left.octets:
+                self._take(left)
+
+    def _take(self, held: Held) -> None:
+        """Delivers octets, or those from a header on to a stream that begins."""
+        begin = 0
+        if self.live is None:
+            found = stream_at(held.octets)
+            if found is None:
+                return
+            begin = found
+            self._began = (held.number + begin) % 2**32
+            self._next_message = 0
+            self.live = self._capture.begun(self._flow, self._connection)
+        self._capture.delivered(self.live, held.octets[begin:])
+        self._due = (held.number + len(held.octets)) % 2**32
+        while header := bytes(self.live.octets[self._next_message : self._next_message + HEADER]):
+            if header_fault(header):
+                self.close("fault")
+                return
+            if len(header) < HEADER:
+                return
+            self._next_message += HEADER + size_of(header)
+
+    def close(self, word: str) -> None:
+        if self.live:
+            self._capture.closed(self.live, word)
+            self.live = None
+
+    def end(self) -> None:
+        """The end of the capture."""
+        self.close("end" if self._fin is None else "gap")
+
+
+FRONTS = tuple(b"GIOP\1" + bytes([minor]) for minor in range(3))  # the six octets of a header
+
+
+def stream_at(octets: bytes) -> Optional[int]:
+    """Where a stream begins in a payload: at its front, or where messages stand up to its end, at the first place of the
+    six octets."""
+    place = min((place for place in map(octets.find, FRONTS) if place >= 0), default=None)
+    return place if place is None or place == 0 or is_chain(octets[place:]) else None
+
+
+def is_chain(octets: bytes) -> bool:
+    """Whether messages stand there up to the end, at least one of them whole."""
+    at, whole = 0, 0
+    while at < len(octets):
+        header = octets[at : at + HEADER]
+        if not any(front[: len(header)] == header[:6] for front in FRONTS):
+            return False
+        if len(header) < HEADER:
+            break
+        at += HEADER + size_of(header)
+        whole += at <= len(octets)
+    return whole > 0
+
+
+class Connection:
+    """A known connection."""
+
+    def __init__(self, number: int) -> None:
+        self.number = number
+        self.flows: Dict[Flow, FlowState] = {}
+        self.last = 0  # the number of its last segment
+        self._syn: Optional[Segment] = None  # one that was neither answered nor followed yet
+
+    def keeps(self, segment: Segment) -> bool:
+        """Whether a segment is a SYN that is kept from now on, and does nothing else."""
+        state = self.flows.get(segment.flow)
+        if not segment.is_syn or segment.acknowledged is not None or state and state.is_own(segment.number):
+            return False
+        self._syn = segment
+        return True
+
+    def begins_anew(self, segment: Segment) -> bool:
+        """Whether a segment answers the SYN that is kept, or follows it."""
+        syn = self._syn
+        if syn is None:
+            return False
+        if segment.flow != syn.flow:
+            return segment.is_syn and segment.acknowledged == syn.number
+        is_plain = not segment.is_syn and not segment.is_reset
+        return is_plain and len(segment.payload) > 0 and segment.number == syn.number
+
+    def live(self) -> List[Stream]:
+        return [state.live for state in self.flows.values() if state.live]
+
+
+class Capture:
+    """The connections of a capture."""
+
+    def __init__(self, limits: Limits) -> None:
+        self.limits = limits
+        self.streams: List[Stream] = []
+        self.packet = -1  # the packet that is read
+        self._known: Dict[FrozenSet[Endpoint], Connection] = {}
+        self._connections = 0
+        self._segments = 0
+        self._happened = 0
+
+    def happened(self) -> int:
+        """The number of what happens now, in the order of the capture."""
+        self._happened += 1
+        return self._happened
+
+    def begun(self, flow: Flow, connection: Connection) -> Stream:
+        self.happened()
+        self.streams.append(Stream(len(self.streams) + 1, flow, connection.number, self.packet))
+        self.streams[-1].deliveries.append((self._happened, self.packet, 0))
+        return self.streams[-1]
+
+    def delivered(self, stream: Stream, octets: bytes) -> None:
+        stream.octets += octets
+        stream.deliveries.append((self.happened(), self.packet, len(stream.octets)))
+
+    def closed(self, stream: Stream, word: str) -> None:
+        stream.closed = (word, self.happened(), self.packet)
+
+    def _states(self) -> List[FlowState]:
+        return [state for connection in self._known.values() for state in connection.flows.values()]
+
+    def blocks(self) -> int:
+        """The blocks that are in use of the pool."""
+        return sum(state.blocks() for state in self._states())
+
+    def take(self, segment: Segment) -> None:
+        """What a segment does."""
+        self._segments += 1
+        ends = frozenset(segment.flow)
+        connection = self._known.get(ends)
+        if connection and connection.keeps(segment):
+            connection.last = self._segments
+            return
+        if connection and connection.begins_anew(segment):
+            self._forget(ends, segment.flow, "syn")
+            connection = None
+        if connection is None:
+            if not self._may_begin(segment):
+                return
+            connection = self._made_known(ends)
+        connection.last = self._segments
+        opposite = connection.flows.get(segment.flow.opposite())
+        if opposite and segment.acknowledged is not None:
+            opposite.acknowledged(segment.acknowledged)
+        state = connection.flows.get(segment.flow)
+        if state is None and self._may_begin(segment):
+            state = FlowState(segment.flow, segment.number, self, connection)
+            connection.flows[segment.flow] = state
+        if state and not segment.is_reset:
+            state.payload_came(segment.number, segment.payload)
+        if state and segment.is_fin:
+            state.fin_came(segment.end())
+        if state and segment.is_reset and state.is_near(segment.sequence):
+            self._forget(ends, segment.flow, "reset")
+
+    def _may_begin(self, segment: Segment) -> bool:
+        """Whether a segment has the first stream of its flow."""
+        is_chosen = not self.limits.ports or bool(self.limits.ports & set(segment.flow.ports()))
+        return not segment.is_reset and is_chosen and stream_at(segment.payload) is not None
+
+    def _made_known(self, ends: FrozenSet[Endpoint]) -> Connection:
+        if len(self._known) == self.limits.connections:
+            oldest = min(self._known, key=lambda each: (bool(self._known[each].live()), self._known[each].last))
+            live = self._known[oldest].live()
+            first = min(live, key=lambda stream: stream.number).flow if live else None
+            self._forget(oldest, first, "room")
+        self._connections += 1
+        self._known[ends] = Connection(self._connections)
+        return self._known[ends]
+
+    def _forget(self, ends: FrozenSet[Endpoint], first: Optional[Flow], word: str) -> None:
+        """Forgets a connection, whose stream in this flow closes first."""
+        flows = self._known.pop(ends).flows
+        for flow in sorted(flows, key=lambda flow: flow != first):
+            flows[flow].close(word)
+
+    def end(self) -> None:
+        """The end of the capture: first the gaps, then the streams that live close."""
+        while holding := [state for state in self._states() if state.live and state.held]:
+            min(holding, key=number_of).gap()
+        for state in sorted((state for state in self._states() if state.live), key=number_of):
+            state.end()
+
+
+def number_of(state: FlowState) -> int:
+    """The number of a flow's live stream."""
+    return state.live.number if state.live else 0
