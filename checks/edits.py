@@ -1,7 +1,7 @@
 #!/usr/bin/env python3
 """Tries wrong bodies: all those of a crate in one check of it, each refused by a goal of the function that it changes.
 
-    edits.py [--plan] [--strict] [--lanes N] [CRATE ..]
+    edits.py [--plan] [--strict] [--anew] [--lanes N] [CRATE ..]
 
 It works on the repository in the current folder; with no crate, on each that has a folder wrong/. An edit is a file
 crates/CRATE/wrong/NAME.edit: a line `file: src/FILE.rt`, and then pairs of lines `old: TEXT` and `new: TEXT`, each TEXT a
@@ -19,9 +19,14 @@ by what it says, shows nothing: it is told, and with --strict it is a fault.
 The libraries below a crate are used as `rt ci` leaves them in out/; `rt check` would prove them once more, since it takes
 only what checks have kept. At its end `rt ci` puts back what stood in out/rlib before, so an old library there is used, and
 where an `rt ci` was broken off there is none. Nothing but a temporary copy is changed.
+
+What a check said is kept in the user's cache folder, by a checksum of all that it read: the kit, the copy with its edits, and
+the libraries. A later run tries only the crates of which any of this has changed; with --anew it tries all.
 """
 
 import argparse
+import contextlib
+import hashlib
 import os
 import re
 import shutil
@@ -34,6 +39,9 @@ from pathlib import Path
 
 # What one check takes of memory, with room to spare.
 LANE_BYTES = 3 << 30
+
+# Of how many checks of a crate it is kept what they said.
+MOST_KEPT = 8
 
 
 @dataclass(frozen=True)
@@ -212,43 +220,82 @@ def uses_of(top: Path) -> dict[str, list[str]]:
     return uses
 
 
-def words_of(name: str, top: Path) -> list[str]:
-    """The words by which `rt check` has the crate checked, over the libraries that stand in the repository."""
+def kit_of() -> Path:
+    """The folder of the Rattle kit."""
     said = subprocess.run(["rt", "doc"], check=True, stdin=subprocess.DEVNULL, stdout=subprocess.PIPE, encoding="utf-8")
-    kit = Path(said.stdout.strip()).parent
+    return Path(said.stdout.strip()).parent
+
+
+def library(name: str, top: Path) -> Path:
+    """The folder in which a crate's library stands."""
+    return top / "crates" / name / "out" / "rlib"
+
+
+def below(name: str, top: Path) -> list[str]:
+    """The crates of the repository on which a crate stands. Each has a library."""
     uses = uses_of(top)
-
-    def library(it: str) -> Path:
-        return top / "crates" / it / "out" / "rlib"
-
-    ours = [it for it in uses[name] if it in uses]
-    kits = ["std"] + [it for it in uses[name] if it not in uses]
-    below: list[str] = []
-    left = list(ours)
+    found: list[str] = []
+    left = list(uses[name])
     while left:
         it = left.pop()
-        if it not in below:
-            below.append(it)
-            left += [deeper for deeper in uses[it] if deeper in uses]
-    for it in below:
-        if not (library(it) / f"{it}.rlib").is_dir():
+        if it in uses and it not in found:
+            found.append(it)
+            left += uses[it]
+    for it in found:
+        if not (library(it, top) / f"{it}.rlib").is_dir():
             raise Fault(f"{it} has no library in out/: remove crates/*/out and run `rt ci` first")
+    return found
+
+
+def words_of(name: str, top: Path) -> list[str]:
+    """The words by which `rt check` has the crate checked, over the libraries that stand in the repository."""
+    kit = kit_of()
+    uses = uses_of(top)
+    ours = [it for it in uses[name] if it in uses]
+    kits = ["std"] + [it for it in uses[name] if it not in uses]
     words = [str(kit / "bin" / "rattle"), "check", "--crate-name", name, "src/lib.rt"]
     words += [word for it in kits for word in ("--extern", f"{it}={kit}/rlibs/{it}.rlib")]
     words += ["-L", f"dependency={kit}/rlibs"]
-    words += [word for it in ours for word in ("--extern", f"{it}={library(it)}/{it}.rlib")]
-    words += [word for it in below for word in ("-L", f"dependency={library(it)}")]
+    words += [word for it in ours for word in ("--extern", f"{it}={library(it, top)}/{it}.rlib")]
+    words += [word for it in below(name, top) for word in ("-L", f"dependency={library(it, top)}")]
     words += ["--antt-project", f"{kit}/rattle/logic/antt-project.json", "--logic-built", f"{kit}/logic_built"]
     return words + ["--links", f"{name}=", "--jobs", "1", "--incremental", "out/incremental"]
 
 
-def checked(name: str, edits: list[Edit], top: Path) -> str:
-    """What one check says of a copy of the crate with all its edits."""
+def checksum(name: str, crate: Path, top: Path) -> str:
+    """The sum of all that the check of a copy of a crate reads, and of this script's own text."""
+    kit = kit_of()
+    # A library's `format` has the sums of its other files.
+    files = [kit / "KIT-ID", Path(__file__)]
+    files += [library(it, top) / f"{it}.rlib" / "format" for it in sorted(below(name, top))]
+    found = hashlib.sha256(repr((name, uses_of(top)[name])).encode())
+    for file in files:
+        found.update(repr((file.name, file.read_bytes())).encode())
+    for file in sorted(it for it in crate.rglob("*") if it.is_file()):
+        found.update(repr((str(file.relative_to(crate)), file.read_bytes())).encode())
+    return found.hexdigest()
+
+
+def cache() -> Path:
+    """The folder of what checks said, outside of each checkout."""
+    return Path(os.environ.get("XDG_CACHE_HOME") or Path.home() / ".cache") / "giopdump" / "edits"
+
+
+def is_ended(said: str) -> bool:
+    """Whether a check came to its end."""
+    return re.search(r"(?m)^logic=(?:not-)?proved", said) is not None
+
+
+def checked(name: str, edits: list[Edit], top: Path, anew: bool) -> str:
+    """What one check says of a copy of the crate with all its edits, now or when it was made of the same."""
     with tempfile.TemporaryDirectory(prefix=f"edits-{name}-") as made:
         crate = Path(made) / name
         shutil.copytree(top / "crates" / name, crate, ignore=shutil.ignore_patterns("out", "wrong", "must-fail"))
-        (crate / "out").mkdir()
         apply(edits, crate)
+        kept = cache() / f"{name}-{checksum(name, crate, top)}"
+        if kept.is_file() and not anew:
+            return kept.read_text(encoding="utf-8")
+        (crate / "out").mkdir()
         ran = subprocess.run(
             words_of(name, top),
             cwd=crate,
@@ -259,16 +306,30 @@ def checked(name: str, edits: list[Edit], top: Path) -> str:
             encoding="utf-8",
             errors="replace",
         )
+        if is_ended(ran.stdout):
+            keep(kept, ran.stdout)
         return ran.stdout
 
 
-def tried(name: str, edits: list[Edit], top: Path) -> tuple[list[str], list[str], list[str]]:
+def keep(file: Path, text: str) -> None:
+    """Keeps what the check of a crate said beside the newest others of that crate, or nothing if there is no room for it."""
+    with contextlib.suppress(OSError):
+        file.parent.mkdir(parents=True, exist_ok=True)
+        part = file.with_suffix(f".{os.getpid()}")
+        part.write_text(text, encoding="utf-8")
+        part.replace(file)
+        of_crate = file.parent.glob(file.name.partition("-")[0] + "-*")
+        for old in sorted(of_crate, key=lambda it: it.stat().st_mtime)[:-MOST_KEPT]:
+            old.unlink()
+
+
+def tried(name: str, edits: list[Edit], top: Path, anew: bool) -> tuple[list[str], list[str], list[str]]:
     """What refuses each edit of a crate, a line each; those that only take a name away; and what is wrong."""
     try:
-        said = checked(name, edits, top)
+        said = checked(name, edits, top, anew)
     except Fault as why:
         return [], [], [f"{name}: {why}"]
-    if not re.search(r"(?m)^logic=(?:not-)?proved", said):
+    if not is_ended(said):
         return [], [], [f"{name}: the check did not come to its end:\n{said[-1500:]}"]
     left, gone = failed(said, name)
     told, nameless, faults = [], [], []
@@ -302,6 +363,7 @@ def main() -> int:
     words = argparse.ArgumentParser(description=__doc__, formatter_class=argparse.RawDescriptionHelpFormatter)
     words.add_argument("--plan", action="store_true", help="read the edits and try none")
     words.add_argument("--strict", action="store_true", help="an edit that only takes a name away is a fault")
+    words.add_argument("--anew", action="store_true", help="try also what an earlier run of the same files has tried")
     words.add_argument("--lanes", type=int, default=lanes_of(), help="how many checks run side by side")
     words.add_argument("crates", nargs="*")
     asked = words.parse_args()
@@ -317,7 +379,7 @@ def main() -> int:
             print(f"{name}: {len(edits)} edits")
     else:
         with ThreadPoolExecutor(asked.lanes) as lanes:
-            runs = [lanes.submit(tried, name, edits, top) for name, edits in plans.items() if edits]
+            runs = [lanes.submit(tried, name, edits, top, asked.anew) for name, edits in plans.items() if edits]
             for run in as_completed(runs):
                 told, without, wrong = run.result()
                 print("\n".join(told), flush=True)
