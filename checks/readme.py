@@ -1,6 +1,6 @@
 """Runs the commands in the blocks of README.md and docs/USE.md, in their order and in a copy of the repository: those behind a
 `$` print what stands beside them, the others end well, and a synopsis has the words of the program's help. Looks for the files
-that the pages link to, and for the code of docs/LIBRARY.md in the source that is proved."""
+that the pages link to, and for the code of docs/LIBRARY.md and docs/READING.md in the source that is proved."""
 
 from __future__ import annotations
 
@@ -18,7 +18,11 @@ TOP = Path(__file__).resolve().parent.parent
 WALKS = [TOP / "README.md", TOP / "docs/USE.md"]
 PROGRAMS = ["crates/giopdump/out", "crates/giopcap/out", "scripts"]
 MOST_WORDS = 2000  # of README.md
-LIBRARY = (TOP / "docs/LIBRARY.md", TOP / "crates/giop_stream_tests/src/own_out.rt")
+LIBRARY = (TOP / "docs/LIBRARY.md", ["crates/giop_stream_tests/src/own_out.rt"])
+READING = (
+    TOP / "docs/READING.md",
+    ["crates/*/src/**/*.rt", "crates/*/specs/*.antt", "crates/*/proofs/**/*.antt", "crates/*/wrong/*"],
+)
 NOT_RUN = {".ci/run"}  # which runs this
 
 # What stands in for what can't be had in a check: an interface is a file, rt runs the program that was built, in another
@@ -150,12 +154,22 @@ class Walk:
             self.wrong += 1
 
 
+def anchors(page: Path) -> List[str]:
+    """The anchors of a page's headings."""
+    heads = re.findall(r"(?m)^#+ (.*)$", page.read_text())
+    return [re.sub(r"[^\w -]", "", head.lower()).replace(" ", "-") for head in heads]
+
+
 def broken_links(page: Path) -> List[str]:
-    """The files that a page links to and that aren't there, and the lines that a page links to by a function's name and that
-    don't begin it."""
+    """The files and headings that a page links to and that aren't there, and the lines that a page links to by a function's name
+    and that don't begin it."""
     text = page.read_text()
     targets = re.findall(r"\]\(([^)#:]+)[^)]*\)", text)
     broken = [target for target in targets if not (page.parent / target).exists()]
+    for target, anchor in re.findall(r"\]\(([^)#:]*)#([a-z][^)]*)\)", text):
+        other = page.parent / target if target else page
+        if other.exists() and anchor not in anchors(other):
+            broken.append(f"{target}#{anchor}")
     for name, target, line in re.findall(r"`(?:\w+::)?(\w+)`\]\(([^)#:]+)#L(\d+)\)", text):
         lines = (page.parent / target).read_text().splitlines()
         if f"fn {name}<" not in "".join(lines[int(line) - 1 : int(line)]):
@@ -163,11 +177,11 @@ def broken_links(page: Path) -> List[str]:
     return [f"{page.relative_to(TOP)}: {each}" for each in broken]
 
 
-def is_shown_as_written(page: Path, source: Path) -> bool:
-    """Whether a page has code, each block of which stands in the source."""
-    blocks = re.findall(r"(?s)```rust\n(.*?)```", page.read_text())
-    text = source.read_text()
-    return bool(blocks) and all(block in text for block in blocks)
+def is_shown_as_written(page: Path, sources: List[str]) -> bool:
+    """Whether a page has code, each block of which stands in one of the sources."""
+    blocks = re.findall(r"(?s)```(?:rust)?\n(.*?)```", page.read_text())
+    texts = [path.read_text() for pattern in sources for path in TOP.glob(pattern)]
+    return bool(blocks) and all(any(block in text for text in texts) for block in blocks)
 
 
 def main() -> int:
@@ -183,13 +197,13 @@ def main() -> int:
     broken = [each for page in [TOP / "README.md", *TOP.glob("docs/*.md")] for each in broken_links(page)]
     for each in broken:
         print(f"broken link in {each}")
-    shown = is_shown_as_written(*LIBRARY)
-    if not shown:
-        print("docs/LIBRARY.md: its code isn't that of the source")
+    unlike = [page for page, sources in (LIBRARY, READING) if not is_shown_as_written(page, sources)]
+    for page in unlike:
+        print(f"{page.relative_to(TOP)}: its code isn't that of the source")
     words = len((TOP / "README.md").read_text().split())
     if words > MOST_WORDS:
         print(f"README.md: {words} words")
-    return 1 if wrong or broken or not shown or words > MOST_WORDS else 0
+    return 1 if wrong or broken or unlike or words > MOST_WORDS else 0
 
 
 if __name__ == "__main__":

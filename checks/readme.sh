@@ -1,6 +1,6 @@
 #!/usr/bin/env bash
 # Each command in the blocks of README.md and docs/USE.md runs, and prints what stands beside it; the files that the pages link to
-# are there, and the code of docs/LIBRARY.md is that of the source.
+# are there, and the code of docs/LIBRARY.md and docs/READING.md is that of the source.
 # Installs what these commands use where it is missing.
 set -euo pipefail
 cd "$(dirname "$0")/.."

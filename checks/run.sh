@@ -7,7 +7,7 @@ cd "$(dirname "$0")/.."
 scripts/build || exit 1
 
 passed=0 failed=0 not_run=0
-for script in edits edits_faults words python program idl views package manual readme memory calls checkpoints captures streams generated; do
+for script in edits edits_faults words definitions python program idl views package manual readme memory calls checkpoints captures streams generated; do
     echo "== checks/$script.sh"
     "checks/$script.sh"
     case $? in
