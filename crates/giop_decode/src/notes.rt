@@ -102,7 +102,7 @@ impl Notes {
 
     /// Clears the last name: the length of a string has come.
     #[inline(always)]
-    pub(crate) fn forget(&mut self)
+    fn forget(&mut self)
         ensures notes { (h : Noted) → HoldsNoted self.old h →
             HoldsNoted self.new (without_name_if true h) }
         ensures id { self.new.request_id ≡ self.old.request_id }

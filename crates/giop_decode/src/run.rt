@@ -131,27 +131,26 @@ impl Decoder {
         ensures { TakesSome catalogue.now self.old self.new octets.now
             (O.log out.old) (O.log out.new) result }
     {
-        match self.leaf {
-            Some(Leaf::Number(of)) => {
+        let Some(leaf) = self.leaf else {
+            unreachable!();
+        };
+        match leaf {
+            Leaf::Number(of) => {
                 match self.leading_number_ahead(catalogue, coded, octets) {
                     Some(ahead) => self.take_ahead(catalogue, octets, ahead, out),
                     None => self.take_parted_number(catalogue, coded, of, octets, out),
                 }
             }
-            Some(Leaf::Opening { of, count }) => {
+            Leaf::Opening { of, count } => {
                 let ahead = self.order_ahead(catalogue, of, count, octets);
                 self.take_ahead(catalogue, octets, ahead, out)
             }
-            Some(Leaf::Content { of, total, offset }) => {
+            Leaf::Content { of, total, offset } => {
                 match self.piece_ahead(catalogue, of, total, offset, octets) {
                     Some(ahead) => self.take_ahead(catalogue, octets, ahead, out),
-                    None => {
-                        let leaf = Leaf::Content { of, total, offset };
-                        self.take_parted_piece(catalogue, leaf, octets, out)
-                    }
+                    None => self.take_parted_piece(catalogue, leaf, octets, out),
                 }
             }
-            None => unreachable!(),
         }
     }
 
@@ -236,7 +235,7 @@ impl Decoder {
 
     /// Takes octets ahead that belong together, and writes their line.
     #[inline(always)]
-    pub(crate) fn take_ahead<O: Out>(
+    fn take_ahead<O: Out>(
         &mut self,
         catalogue: &Catalogue,
         octets: &[u8],

@@ -88,17 +88,11 @@ impl Decoder {
         ensures { TakesSome catalogue.now self.old self.new octets.now
             (O.log out.old) (O.log out.new) result }
     {
-        let TextAhead { of, head, content } = text;
-        self.at = further(self.at, head);
-        self.notes.forget();
-        self.leaf = Some(Leaf::Content {
-            of,
-            total: content.len() as u32,
-            offset: 0,
-        });
+        let last = text.head + text.content.len();
+        self.at = further(self.at, last);
         let ahead = Lookahead {
-            of,
-            count: content.len() + 1,
+            of: text.of,
+            count: text.content.len() + 1,
             step: Step {
                 transition: Transition::Ended,
                 output: Output::Piece {
@@ -106,9 +100,9 @@ impl Decoder {
                     more: false,
                 },
             },
-            rest: content,
+            rest: text.content,
         };
-        let (count, progress) = self.take_ahead(catalogue, &octets[head..], ahead, out)?;
-        Ok((head + count, progress))
+        let progress = self.emit(catalogue, ahead, out)?;
+        Ok((last + 1, progress))
     }
 }
