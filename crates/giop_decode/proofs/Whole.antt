@@ -1,10 +1,12 @@
 -- Octets that are taken together do what they do one after another: those of a number, or the rest
 -- of a piece.
-use Rattle.std.proofs.Common.{◌≡◌, ◌≢◌, ℕ, ◌+◌, ◌-◌, ◌%◌, ◌^◌, true, false, ◌<◌, ◌≤◌, inl, inr, take_all, List, [], ◌∷◌, ◌++◌, length, take, get_or, Some, None, refl, sym, ◌∙◌, ap, subst, arith, length-append, append_assoc}
+use Rattle.std.proofs.Common.{◌≡◌, ◌≢◌, ℕ, ◌+◌, ◌-◌, ◌%◌, ◌^◌, Bool, true, false, ◌<◌, ◌≤◌, inl, inr, take_all, List, [], ◌∷◌, ◌++◌, length, take, get_or, Option, Some, None, refl, ne_eqb, sym, ◌∙◌, ap, subst, arith, length-append, append_assoc}
 use Rattle.std.proofs.lemmas.Bool.{cases_lt}
+use Rattle.giop_decode.specs.declared.progress.Kind.{Kind}
 use Rattle.giop_decode.specs.declared.progress.Kind.TheVariants as kinds
 use Rattle.std.proofs.Math.Bool.{and-true, and-false}
-use Rattle.std.proofs.lemmas.List.{length-take-le}
+use Rattle.std.proofs.lemmas.List.{get_or-append-add, get_or-take, length-take-le, take-take}
+use Rattle.std.proofs.Math.Seq.{take-append-add}
 use Rattle.giop_cdr.proofs.NumberLaws.{num_bound}
 use Rattle.giop_cdr.specs.Numbers.{AreOctets, num, interpreted_as}
 use Rattle.giop_cdr.specs.Primitives.{size_of}
@@ -18,27 +20,27 @@ use Rattle.giop_decode.specs.declared.leaf.Step.{Step}
 use Rattle.giop_decode.specs.declared.leaf.Transition.TheVariants as transitions
 use Rattle.giop_decode.specs.declared.leaf.Output.{Output}
 use Rattle.giop_decode.specs.declared.leaf.Output.TheVariants as outputs
-use Rattle.giop_decode.specs.Fits.{ContentFits, HasContent, IsBare}
+use Rattle.giop_decode.specs.Fits.{ContentFits}
 use Rattle.giop_decode.specs.Noted.{Noted, noted, without_name_if, ends_in_string, is_header_root, is_text}
 use Rattle.giop_decode.specs.DecoderState.{Fits, CanStandAt, KeepsNoted, HoldsNoted, read_by_fields}
 use Rattle.giop_decode.specs.DecoderSteps.{IsAround, IsNotRefused, decoder_step, emitted}
-use Rattle.giop_decode.specs.Pieces.{tail}
+use Rattle.giop_decode.specs.Pieces.{ends, tail, unless}
 use Rattle.giop_decode.specs.Reading.{after_leading_number}
 use Rattle.giop_decode.proofs.NameBuffer.{name_kept, none_either}
 use Rattle.giop_decode.specs.NameBuffer.{FitsName, string_offset}
 use Rattle.giop_decode.specs.declared.notes.Notes.{Notes}
 use Rattle.giop_decode.specs.NotingSteps.{transition_offset, StringGoesOn, OutputFitsString, clears_name, transition_in_string}
 use Rattle.giop_decode.specs.Runs.{Adds, AllGathered, IsHeldOf, IsParted, TakenTogether}
-use Rattle.giop_decode.specs.ReadResult.{plain, line, Coding, Line, Opening, PathSegment, Piece, lines_of, with_front}
-use Rattle.giop_decode.specs.ReadingSteps.{after, coding_in, leading_width, leaf_step, path_in}
-use Rattle.giop_decode.specs.Transitions.{HasOutput, HaveOctetsLeft, IsOutput, IsWholeNumber, NumberStands, TransitionGives, TransitionFits, coding_by, leaf_type, open_parts, still_held, ticked_by, IsClean}
+use Rattle.giop_decode.specs.ReadResult.{plain, line, Coding, Done, Line, Opening, PathSegment, Piece, lines_of, with_front}
+use Rattle.giop_decode.specs.ReadingSteps.{after, coding_in, content_step, leading_width, leaf_step, path_in}
+use Rattle.giop_decode.specs.Transitions.{HasOutput, HaveOctetsLeft, IsOutput, IsWholeNumber, NumberStands, TransitionGives, TransitionFits, after_transition, block_of, coding_by, leaf_type, open_parts, still_held, ticked_by, IsClean}
 use Rattle.giop_decode.proofs.Advancing.{lines_after_transition, same_some, stands_at}
 use Rattle.arrayvec.specs.ArrayVec.{ArrayVec}
 use Rattle.giop_decode.specs.declared.frame.Frame.{Frame}
 use Rattle.giop_decode.proofs.Counting.{ahead_fewer, coding_ticked_by, ticked_none}
 use Rattle.giop_decode.proofs.Gathering.{IsCountedBy, IsFurther, none_counted, number_counted, waits_gathered}
 use Rattle.giop_decode.proofs.Noting.{noted_on, leaf_inside}
-use Rattle.giop_decode.proofs.PieceLaws.{content_held, full_whole, octets_last, text_bad, text_last}
+use Rattle.giop_decode.proofs.PieceLaws.{content_held, full_whole, last_whole}
 use Rattle.giop_decode.proofs.Surrounding.{coded_in}
 use Rattle.giop_decode.proofs.PartialBlocks.{held_in}
 use Rattle.giop_sig.specs.declared.types.TypeId.{TypeId}
@@ -46,7 +48,7 @@ use Rattle.giop_sig.specs.Table.{Table, type_id}
 use Rattle.giop_sig.specs.Trees.{tree}
 use Rattle.giop_decode.proofs.Runs.{take_more}
 use Rattle.giop_decode.proofs.TransitionLaws.{number_prim, turns_number}
-use Rattle.giop_sig.specs.Types.{Encapsulation, Octets, Plain, Single, Text, Ty}
+use Rattle.giop_sig.specs.Types.{Plain, Single, Text, Ty}
 
 -- ---- a number of a primitive
 
@@ -74,21 +76,20 @@ module _ (C : Table) (d : Decoder) (of : TypeId) (octets : List ℕ) (count : �
   pub no_piece : d.piece.items ≡ []
   no_piece = search (arith, same_some)
 
-  -- its last octet has come, and nothing is kept of it
-  pub comes_head : (order : Order) (at : ℕ) → coding_by d.order d.at d.outer.items ≡ (order, at) →
-      (kept all : List ℕ) (s : Step) → kept ≡ [] →
-      NumberStands (leading_width (tree C of.0)) at d.carry octets count true all →
+  -- its octets, with which it is whole or isn't, and what is kept of them
+  of_number : (order : Order) (at : ℕ) → coding_by d.order d.at d.outer.items ≡ (order, at) →
+      (whole : Bool) (kept all : List ℕ) (s : Step) →
+      NumberStands (leading_width (tree C of.0)) at d.carry octets count whole all →
       HaveOctetsLeft (ticked_by (length octets - 1) d.outer.items) →
-      TransitionFits (tree C of.0) of.0 s.transition [] [] → HasOutput (tree C of.0) s.output →
+      TransitionFits (tree C of.0) of.0 s.transition kept [] → HasOutput (tree C of.0) s.output →
       OutputFitsString (tree C of.0) false s.transition s.output →
       ((n : ℕ) → StringGoesOn (tree C of.0) None s.transition s.output n) →
       ((coding : Coding) (path : List PathSegment) (here : ℕ) →
-      TransitionGives C (tree C of.0) s.transition s.output [] [] path here
-      (after coding path (tree C of.0) (num order all) here [])) →
+      TransitionGives C (tree C of.0) s.transition s.output kept [] path here
+      (after_leading_number (tree C of.0) (λ xs at rest. after coding path (tree C of.0) (num order xs) at rest)
+      (block_of whole all here))) →
       TakenTogether C d octets of count s [] kept d.piece.items
-  comes_head order at coded kept all s empty stands ahead transition_fits has_output
-      output_fits_string string_goes_on transitions =
-      let T = tree C of.0 in
+  of_number order at coded whole kept all s stands ahead fits has string on gives =
       let nothing_held : still_held s.output d.piece.items ≡ [] =
       ap (still_held s.output) no_piece ∙ still_nothing s.output in
       record {
@@ -103,24 +104,41 @@ module _ (C : Table) (d : Decoder) (of : TypeId) (octets : List ℕ) (count : �
         carry = stands.held;
         piece = d.piece.items;
         adds = (rw coded stands.are_held, refl);
-        transition_fits = rw (empty, nothing_held) transition_fits;
-        has_output = has_output;
-        output_fits_string = output_fits_string;
-        string_goes_on = string_goes_on (length (d.piece.items ++ []));
-        lines = λ coding path here. (transitions coding path (here + 1)).lines;
+        transition_fits = rw nothing_held fits;
+        has_output = has;
+        output_fits_string = string;
+        string_goes_on = on (length (d.piece.items ++ []));
+        lines = λ coding path here. (gives coding path (here + 1)).lines;
         comes = λ coding path here ordered there.
-            let t = transitions coding path (here + 1) in
+            let t = gives coding path (here + 1) in
             let is : coding.order ≡ order = ordered ∙ ap (λ (k : Order × ℕ). k.0) coded in
             let aligned : (here - coding.origin) % 8 ≡ (at + (count - 1)) % 8 =
             there ∙ ap (λ (k : Order × ℕ). (k.1 + (count - 1)) % 8) coded in
-            rw (empty, nothing_held)
-            (ap (after_leading_number T (λ xs at rest.
-            after coding path T (num coding.order xs) at rest))
+            rw nothing_held
+            (ap (after_leading_number (tree C of.0) (λ xs at rest.
+            after coding path (tree C of.0) (num coding.order xs) at rest))
             (stands.last coding.origin here aligned)
-            ∙ (ap (λ o. after coding path T (num o all) (here + 1) []) is
+            ∙ (ap (λ o. after_leading_number (tree C of.0) (λ xs at rest.
+            after coding path (tree C of.0) (num o xs) at rest) (block_of whole all (here + 1))) is
             ∙ rw (still_nothing s.output) at t.comes));
-        says = λ coding path here. rw no_piece (transitions coding path (here + 1)).says;
+        says = λ coding path here. rw no_piece (gives coding path (here + 1)).says;
       }
+
+  -- its last octet has come, and nothing is kept of it
+  pub comes_head : (order : Order) (at : ℕ) → coding_by d.order d.at d.outer.items ≡ (order, at) →
+      (kept all : List ℕ) (s : Step) → kept ≡ [] →
+      NumberStands (leading_width (tree C of.0)) at d.carry octets count true all →
+      HaveOctetsLeft (ticked_by (length octets - 1) d.outer.items) →
+      TransitionFits (tree C of.0) of.0 s.transition [] [] → HasOutput (tree C of.0) s.output →
+      OutputFitsString (tree C of.0) false s.transition s.output →
+      ((n : ℕ) → StringGoesOn (tree C of.0) None s.transition s.output n) →
+      ((coding : Coding) (path : List PathSegment) (here : ℕ) →
+      TransitionGives C (tree C of.0) s.transition s.output [] [] path here
+      (after coding path (tree C of.0) (num order all) here [])) →
+      TakenTogether C d octets of count s [] kept d.piece.items
+  comes_head order at coded kept all s empty stands ahead fits has string on gives =
+      of_number order at coded true kept all s stands ahead (rw empty fits) has string on
+      (λ coding path here. rw empty (gives coding path here))
 
   -- a number of which nothing was held
   pub comes_number : (order : Order) (at : ℕ) → coding_by d.order d.at d.outer.items ≡ (order, at) →
@@ -151,32 +169,8 @@ module _ (C : Table) (d : Decoder) (of : TypeId) (octets : List ℕ) (count : �
         output = outputs.Nothing;
       }) [] all d.piece.items
   number_waits order at coded all stands ahead =
-      let T = tree C of.0 in
-      record {
-        leaf = innermost.Number of;
-        goes_on = e;
-        same = refl;
-        some = stands.some;
-        within = stands.within;
-        ahead = ahead_fewer (count - 1) (length octets - 1) d.outer.items
-            (let within = stands.within in omega (arith, within)) ahead;
-        short = rw no_piece (omega arith);
-        carry = stands.held;
-        piece = d.piece.items;
-        adds = (rw coded stands.are_held, refl);
-        transition_fits = (refl, no_piece);
-        has_output = tt;
-        output_fits_string = refl;
-        string_goes_on = refl;
-        lines = λ coding path here. [];
-        comes = λ coding path here ordered there.
-            let aligned : (here - coding.origin) % 8 ≡ (at + (count - 1)) % 8 =
-            there ∙ ap (λ (k : Order × ℕ). (k.1 + (count - 1)) % 8) coded in
-            ap (after_leading_number T (λ xs at rest.
-            after coding path T (num coding.order xs) at rest))
-            (stands.last coding.origin here aligned);
-        says = λ coding path here. refl;
-      }
+      of_number order at coded false all all _ stands ahead (refl, refl) tt refl (λ n. refl)
+      (λ coding path here. record { lines = []; comes = refl; says = refl })
 
 -- ---- the octet of an encapsulation's byte order
 
@@ -224,25 +218,90 @@ pub tail_small : (T : Ty) → tail T ≤ 1
 tail_small (Text bound) = omega arith
 tail_small T = omega arith
 
+ends_well : (T : Ty) (n : ℕ) (xs : List ℕ) → (0 < tail T → get_or xs n 0 ≡ 0) →
+    ends T n xs ≡ None
+ends_well (Text bound) n xs zero_end = rw (zero_end (omega arith)) refl
+ends_well T n xs zero_end = refl
+
+ends_badly : (T : Ty) (n : ℕ) (xs : List ℕ) → 0 < tail T → (get_or xs n 0 ≡ 0 → ⊥) →
+    ends T n xs ≡ Some kinds.StringEnd
+ends_badly (Text bound) n xs some bad = rw (ne_eqb (get_or xs n 0) 0 bad) refl
+ends_badly T n xs some bad = absurd (omega (arith, some))
+
 module _ (C : Table) (d : Decoder) (of : TypeId) (total offset : ℕ) (octets : List ℕ) (count : ℕ)
     (f : Fits C d)
     (e : d.leaf ≡ Some (innermost.Content of total offset))
     (ahead : HaveOctetsLeft (ticked_by (length octets - 1) d.outer.items)) where
-  content : ContentFits (tree C of.0) (tree C of.0) total offset d.piece.items
+  abbrev T : Ty
+  T = tree C of.0
+
+  abbrev content_leaf : Innermost
+  content_leaf = innermost.Content of total offset
+
+  content : ContentFits T T total offset d.piece.items
   content = search (arith, stands_at)
 
   pub no_carry : d.carry ≡ []
   no_carry = search (arith, same_some)
 
-  -- what is held and the octets ahead: what is held before the last of them, and the last
+  -- what is held before the last of the octets, and that one
+  abbrev held_before : List ℕ
+  held_before = d.piece.items ++ take (count - 1) octets
+
+  abbrev last_octet : ℕ
+  last_octet = get_or octets (count - 1) 0
+
   with_last : 0 < count → count ≤ length octets →
-      (d.piece.items ++ take (count - 1) octets) ++ get_or octets (count - 1) 0 ∷ [] ≡ d.piece.items
-      ++ take count octets
+      held_before ++ last_octet ∷ [] ≡ d.piece.items ++ take count octets
   with_last some within = search (arith, append_assoc, take, get_or, take_more)
 
   held_size : (n : ℕ) → n ≤ length octets →
       length (d.piece.items ++ take n octets) ≡ length d.piece.items + n
   held_size n within = search (arith, length-append, take, length-take-le)
+
+  before_size : count ≤ length octets → length held_before ≡ length d.piece.items + (count - 1)
+  before_size within = held_size (count - 1) (omega (arith, within))
+
+  -- octets of which all but the last leave the piece incomplete, and the last does this
+  of_content : (s : Step) (rest kept : List ℕ) → 0 < count → count ≤ length octets →
+      IsParted C content_leaf d.piece.items (count - 1) → length kept + length rest ≤ 32 →
+      TransitionFits T of.0 s.transition d.carry (still_held s.output kept) →
+      HasOutput T s.output → OutputFitsString T (is_text T) s.transition s.output →
+      StringGoesOn T (string_offset T content_leaf) s.transition s.output (length (kept ++ rest)) →
+      (lines : List PathSegment → ℕ → List Line) →
+      ((path : List PathSegment) (here : ℕ) → content_step T path total offset here held_before last_octet
+      ≡ after_transition C T s.transition d.carry (still_held s.output kept) (lines path here)
+      (here + 1)) →
+      ((path : List PathSegment) (here : ℕ) →
+      IsOutput T path (here + 1) s.output (kept ++ rest) (lines path here)) →
+      TakenTogether C d octets of count s rest d.carry kept
+  of_content s rest kept some within parted short fits has string on lines comes says =
+      let size = before_size within in
+      record {
+        leaf = content_leaf;
+        goes_on = e;
+        same = refl;
+        some = some;
+        within = within;
+        ahead = ahead_fewer (count - 1) (length octets - 1) d.outer.items (omega (arith, within))
+            ahead;
+        short = short;
+        carry = d.carry;
+        piece = held_before;
+        adds = (
+          refl,
+          refl,
+          (λ large. omega (arith, size, parted.0 large)),
+          (λ small. omega (arith, size, parted.1 small)),
+        );
+        transition_fits = fits;
+        has_output = has;
+        output_fits_string = string;
+        string_goes_on = on;
+        lines = λ coding path here. lines path here;
+        comes = λ coding path here order at. comes path here;
+        says = λ coding path here. says path here;
+      }
 
   pub comes_full : 32 < total - offset → count ≡ 32 - length d.piece.items → count ≤ length octets →
       TakenTogether C d octets of count
@@ -253,309 +312,143 @@ module _ (C : Table) (d : Decoder) (of : TypeId) (total offset : ℕ) (octets : 
       })
       (take count octets) d.carry d.piece.items
   comes_full large counted within =
-      let T = tree C of.0 in
       let room : length d.piece.items < 32 = content.room_full large in
       let some : 0 < count = omega (arith, counted, room) in
-      let piece = d.piece.items ++ take (count - 1) octets in
-      let b = get_or octets (count - 1) 0 in
-      let size : length piece ≡ 31 = held_size (count - 1) (omega (arith, within))
-      ∙ omega (arith, counted, room) in
-      record {
-        leaf = innermost.Content of total offset;
-        goes_on = e;
-        same = refl;
-        some = some;
-        within = within;
-        ahead = ahead_fewer (count - 1) (length octets - 1) d.outer.items (omega (arith, within))
-            ahead;
-        short = omega (arith, length-take-le count octets within, counted, room);
-        carry = d.carry;
-        piece = piece;
-        adds = (
-          refl,
-          refl,
-          (λ _. omega (arith, size)),
-          (λ small. absurd (omega (arith, large, small))),
-        );
-        transition_fits = (refl, no_carry);
-        has_output = content.kind;
-        output_fits_string = sym (and-true (is_text T));
-        string_goes_on = (refl, refl, held_size count within ∙ omega (arith, counted, room));
-        lines = λ coding path here. line (here + 1) path
-            (Piece T offset (d.piece.items ++ take count octets) true) ∷ [];
-        comes = λ coding path here order at.
-            rw (← with_last some within) (full_whole T path total offset here piece b large
-            (omega (arith, size)));
-        says = λ coding path here. refl;
-      }
+      let size = before_size within in
+      of_content _ (take count octets) d.piece.items some within
+      ((λ _. omega (arith, counted, room)), (λ small. absurd (omega (arith, large, small))))
+      (omega (arith, length-take-le count octets within, counted, room))
+      (refl, no_carry) content.kind (sym (and-true (is_text T)))
+      (refl, refl, held_size count within ∙ omega (arith, counted, room))
+      (λ path here. line (here + 1) path
+      (Piece T offset (d.piece.items ++ take count octets) true) ∷ [])
+      (λ path here. rw (← with_last some within) (full_whole T path total offset here held_before last_octet large
+      (omega (arith, size, counted, room))))
+      (λ path here. refl)
 
-  pub comes_bare : IsBare (tree C of.0) → total - offset ≤ 32 →
-      count ≡ total - offset - length d.piece.items →
+  -- what the last piece does, by why its content ends wrongly
+  abbrev step_of : Option Kind → Step
+  step_of None = record { transition = transitions.Ended; output = outputs.Piece offset false }
+  step_of (Some kind) = record { transition = transitions.Refused kind; output = outputs.Nothing }
+
+  -- the last piece, with what ends it
+  comes_end : (size : ℕ) (why : Option Kind) → total - offset ≤ 32 →
+      size ≡ total - offset - length d.piece.items → count ≡ size + tail T →
       count ≤ length octets →
-      TakenTogether C d octets of count (record {
-        transition = transitions.Ended;
-        output =
-            outputs.Piece offset false;
-      }) (take count octets) d.carry d.piece.items
-  comes_bare bare small counted within =
-      let T = tree C of.0 in
-      let none = bare_tail T bare in
+      ends T (total - offset) (d.piece.items ++ take count octets) ≡ why →
+      TakenTogether C d octets of count (step_of why) (take size octets) d.carry d.piece.items
+  comes_end size why small sized counted within is =
+      let one = tail_small T in
       let room : length d.piece.items < total - offset + tail T = content.room_last small in
-      let some : 0 < count = omega (arith, counted, room, none) in
-      let piece = d.piece.items ++ take (count - 1) octets in
-      let b = get_or octets (count - 1) 0 in
-      let size : length piece + 1 ≡ total - offset =
-      omega (arith, held_size (count - 1) (omega (arith, within)), counted, some) in
-      record {
-        leaf = innermost.Content of total offset;
-        goes_on = e;
-        same = refl;
-        some = some;
-        within = within;
-        ahead = ahead_fewer (count - 1) (length octets - 1) d.outer.items (omega (arith, within))
-            ahead;
-        short = omega (arith, length-take-le count octets within, counted, small);
-        carry = d.carry;
-        piece = piece;
-        adds = (
-          refl,
-          refl,
-          (λ large. absurd (omega (arith, large, small))),
-          (λ _. omega (arith, size)),
-        );
-        transition_fits = tt;
-        has_output = content.kind;
-        output_fits_string = sym (and-false (is_text T));
-        string_goes_on = (none_either (is_text T) (Some offset), refl);
-        lines = λ coding path here. line (here + 1) path
-            (Piece T offset (d.piece.items ++ take count octets) false) ∷ [];
-        comes = λ coding path here order at.
-            rw (← with_last some within) (octets_last T path total offset here piece b bare small
-            size);
-        says = λ coding path here. refl;
-      }
+      let some : 0 < count = omega (arith, counted, sized, room, one) in
+      let parted : IsParted C content_leaf d.piece.items (count - 1) = (
+        (λ large. absurd (omega (arith, large, small))),
+        (λ _. omega (arith, counted, sized, room, one)),
+      ) in
+      let short : length d.piece.items + length (take size octets) ≤ 32 =
+      omega (
+        arith,
+        length-take-le size octets (omega (arith, within, counted)),
+        sized,
+        small,
+        room,
+        one,
+      ) in
+      let left : total - offset ≡ length d.piece.items + size =
+      omega (arith, sized, room, one) in
+      let all : take (total - offset) (d.piece.items ++ take count octets)
+      ≡ d.piece.items ++ take size octets =
+      ap (λ n. take n (d.piece.items ++ take count octets)) left
+      ∙ (take-append-add d.piece.items (take count octets) size
+      ∙ ap (λ xs. d.piece.items ++ xs) (take-take size count octets (omega (arith, counted)))) in
+      let come : (path : List PathSegment) (here : ℕ) →
+      content_step T path total offset here held_before last_octet ≡ unless T why (here + 1)
+      (Done (line (here + 1) path (Piece T offset (d.piece.items ++ take size octets) false) ∷ [])
+      (here + 1) []) =
+      λ path here. rw (← is, ← all, ← with_last some within) (last_whole T path total offset here
+      held_before last_octet small (omega (arith, before_size within, counted, sized, room, one))) in
+      go why some parted short come
     where
-      bare_tail : (T : Ty) → IsBare T → tail T ≡ 0
-      bare_tail (Octets bound) h = refl
-      bare_tail (Encapsulation E) h = refl
-      bare_tail T h = absurd h
+      go : (why : Option Kind) → 0 < count → IsParted C content_leaf d.piece.items (count - 1) →
+          length d.piece.items + length (take size octets) ≤ 32 →
+          ((path : List PathSegment) (here : ℕ) →
+          content_step T path total offset here held_before last_octet ≡ unless T why (here + 1)
+          (Done (line (here + 1) path (Piece T offset (d.piece.items ++ take size octets) false)
+          ∷ []) (here + 1) [])) →
+          TakenTogether C d octets of count (step_of why) (take size octets) d.carry d.piece.items
+      go None some parted short come =
+          of_content _ (take size octets) d.piece.items some within parted short tt content.kind
+          (sym (and-false (is_text T))) (none_either (is_text T) (Some offset), refl)
+          (λ path here. line (here + 1) path
+          (Piece T offset (d.piece.items ++ take size octets) false) ∷ []) come (λ path here. refl)
+      go (Some kind) some parted short come =
+          of_content _ (take size octets) d.piece.items some within parted short tt tt refl tt
+          (λ path here. []) come (λ path here. refl)
 
-  pub comes_text : (bound : _) (size : ℕ) → tree C of.0 ≡ Text bound → total - offset ≤ 32 →
-      size ≡ total - offset - length d.piece.items → count ≡ size + 1 → count ≤ length octets →
-      get_or octets size 0 ≡ 0 →
-      TakenTogether C d octets of count (record {
-        transition = transitions.Ended;
-        output =
-            outputs.Piece offset false;
-      }) (take size octets) d.carry d.piece.items
-  comes_text bound size is small sized counted within zero_end =
-      let T = tree C of.0 in
-      let one : tail T ≡ 1 = ap tail is in
+  -- the octet that ends a string
+  last_is : (size : ℕ) → total - offset ≤ 32 → size ≡ total - offset - length d.piece.items →
+      size < count → get_or (d.piece.items ++ take count octets) (total - offset) 0
+      ≡ get_or octets size 0
+  last_is size small sized below =
       let room : length d.piece.items < total - offset + tail T = content.room_last small in
-      let n : count - 1 ≡ size = omega (arith, counted) in
-      let piece = d.piece.items ++ take size octets in
-      let b = get_or octets size 0 in
-      let all : length piece ≡ total - offset =
-      omega (arith, held_size size (omega (arith, within, counted)), sized, room, one) in
-      record {
-        leaf = innermost.Content of total offset;
-        goes_on = e;
-        same = refl;
-        some = omega (arith, counted);
-        within = within;
-        ahead = ahead_fewer (count - 1) (length octets - 1) d.outer.items (omega (arith, within))
-            ahead;
-        short = omega (
-          arith,
-          length-take-le size octets (omega (arith, within, counted)),
-          sized,
-          small,
-          room,
-          one,
-        );
-        carry = d.carry;
-        piece = piece;
-        adds = (
-          refl,
-          rw n refl,
-          (λ large. absurd (omega (arith, large, small))),
-          (λ _. omega (arith, all, one)),
-        );
-        transition_fits = tt;
-        has_output = content.kind;
-        output_fits_string = sym (and-false (is_text T));
-        string_goes_on = (none_either (is_text T) (Some offset), refl);
-        lines = λ coding path here. line (here + 1) path (Piece T offset piece false) ∷ [];
-        comes = λ coding path here order at.
-            rw n (text_last T path total offset here piece b bound is small all zero_end);
-        says = λ coding path here. refl;
-      }
+      let left : total - offset ≡ length d.piece.items + size =
+      omega (arith, sized, room, tail_small T) in
+      ap (λ n. get_or (d.piece.items ++ take count octets) n 0) left
+      ∙ (get_or-append-add d.piece.items (take count octets) size 0
+      ∙ get_or-take count octets size 0 below)
 
-  abbrev IsLast : ℕ → Type 0
-  IsLast size = TakenTogether C d octets of count (record {
-    transition = transitions.Ended;
-    output = outputs.Piece offset false;
-  }) (take size octets) d.carry d.piece.items
-
-  -- the last piece, with the zero that ends it where it is a string's
-  pub comes_last : (size behind : ℕ) → behind ≡ tail (tree C of.0) → total - offset ≤ 32 →
+  pub comes_last : (size behind : ℕ) → behind ≡ tail T → total - offset ≤ 32 →
       size ≡ total - offset - length d.piece.items → count ≡ size + behind →
-      count ≤ length octets → (0 < behind → get_or octets size 0 ≡ 0) → IsLast size
-  comes_last size behind is small sized counted within zero_end =
-      go (tree C of.0) refl content.kind
-    where
-      bare : (T : Ty) → tree C of.0 ≡ T → IsBare T → tail T ≡ 0 → IsLast size
-      bare T e k none =
-          let all : count ≡ size = omega (arith, counted, is, ap tail e, none) in
-          subst IsLast all
-          (comes_bare (rw e k) small (omega (arith, all, sized)) within)
-
-      go : (T : Ty) → tree C of.0 ≡ T → HasContent T → IsLast size
-      go (Text bound) e k =
-          let one : behind ≡ 1 = is ∙ ap tail e in
-          comes_text bound size e small sized (omega (arith, counted, one)) within
-          (zero_end (omega (arith, one)))
-      go (Octets bound) e k = bare (Octets bound) e tt refl
-      go (Encapsulation E) e k = bare (Encapsulation E) e tt refl
-      go T e k = absurd k
+      count ≤ length octets → (0 < behind → get_or octets size 0 ≡ 0) →
+      TakenTogether C d octets of count (step_of None) (take size octets) d.carry d.piece.items
+  comes_last size n is small sized counted within zero_end =
+      comes_end size None small sized (omega (arith, counted, is)) within
+      (ends_well T (total - offset) _ (λ some.
+      last_is size small sized (omega (arith, counted, is, some))
+      ∙ zero_end (omega (arith, is, some))))
 
   -- a string's last octet isn't zero
-  pub comes_bad : (bound : _) (size : ℕ) → tree C of.0 ≡ Text bound → total - offset ≤ 32 →
-      size ≡ total - offset - length d.piece.items → count ≡ size + 1 → count ≤ length octets →
-      get_or octets size 0 ≢ 0 →
-      TakenTogether C d octets of count (record {
-        transition = transitions.Refused kinds.StringEnd;
-        output = outputs.Nothing;
-      }) (take size octets) d.carry d.piece.items
-  comes_bad bound size is small sized counted within bad =
-      let T = tree C of.0 in
-      let one : tail T ≡ 1 = ap tail is in
-      let room : length d.piece.items < total - offset + tail T = content.room_last small in
-      let n : count - 1 ≡ size = omega (arith, counted) in
-      let piece = d.piece.items ++ take size octets in
-      let all : length piece ≡ total - offset =
-      omega (arith, held_size size (omega (arith, within, counted)), sized, room, one) in
-      record {
-        leaf = innermost.Content of total offset;
-        goes_on = e;
-        same = refl;
-        some = omega (arith, counted);
-        within = within;
-        ahead = ahead_fewer (count - 1) (length octets - 1) d.outer.items (omega (arith, within))
-            ahead;
-        short = omega (
-          arith,
-          length-take-le size octets (omega (arith, within, counted)),
-          sized,
-          small,
-          room,
-          one,
-        );
-        carry = d.carry;
-        piece = piece;
-        adds = (
-          refl,
-          rw n refl,
-          (λ large. absurd (omega (arith, large, small))),
-          (λ _. omega (arith, all, one)),
-        );
-        transition_fits = tt;
-        has_output = tt;
-        output_fits_string = refl;
-        string_goes_on = tt;
-        lines = λ coding path here. [];
-        comes = λ coding path here order at.
-            rw n (text_bad T path total offset here piece (get_or octets size 0) bound is small all
-            bad);
-        says = λ coding path here. refl;
-      }
-
-  -- the same, by how many octets stand behind the piece
   pub comes_unended : (size behind : ℕ) (s : Step) →
       s.transition ≡ transitions.Refused kinds.StringEnd → s.output ≡ outputs.Nothing →
-      behind ≡ tail (tree C of.0) → total - offset ≤ 32 →
+      behind ≡ tail T → total - offset ≤ 32 →
       size ≡ total - offset - length d.piece.items → count ≡ size + behind →
       count ≤ length octets → 0 < behind → get_or octets size 0 ≢ 0 →
       TakenTogether C d octets of count s (take size octets) d.carry d.piece.items
-  comes_unended size behind s transition output is small sized counted within some bad =
-      let step : s ≡ record {
-        transition = transitions.Refused kinds.StringEnd;
-        output = outputs.Nothing;
-      } = rw (transition, output) refl in
-      subst (λ x. TakenTogether C d octets of count x (take size octets) d.carry d.piece.items)
-      (sym step) (go (tree C of.0) refl content.kind)
-    where
-      go : (T : Ty) → tree C of.0 ≡ T → HasContent T →
-          TakenTogether C d octets of count (record {
-            transition = transitions.Refused kinds.StringEnd;
-            output = outputs.Nothing;
-          }) (take size octets) d.carry d.piece.items
-      go (Text bound) e k =
-          let one : behind ≡ 1 = is ∙ ap tail e in
-          comes_bad bound size e small sized (omega (arith, counted, one)) within bad
-      go (Octets bound) e k = absurd (omega (arith, some, is, ap tail e))
-      go (Encapsulation E) e k = absurd (omega (arith, some, is, ap tail e))
-      go T e k = absurd k
+  comes_unended size n s transition output is small sized counted within some bad =
+      let step : s ≡ step_of (Some kinds.StringEnd) = rw (transition, output) refl in
+      rw step (comes_end size (Some kinds.StringEnd) small sized (omega (arith, counted, is)) within
+      (ends_badly T (total - offset) _ (omega (arith, is, some)) (λ zero_end.
+      bad (sym (last_is size small sized (omega (arith, counted, some))) ∙ zero_end))))
 
   -- octets that leave the piece incomplete
-  pub piece_waits : IsParted C (innermost.Content of total offset) d.piece.items (length octets) →
+  pub piece_waits : IsParted C content_leaf d.piece.items (length octets) →
       count ≡ length octets → 0 < count →
       TakenTogether C d octets of count (record {
-        transition = transitions.More (innermost.Content of total offset);
+        transition = transitions.More content_leaf;
         output = outputs.Nothing;
       }) [] d.carry (d.piece.items ++ octets)
   piece_waits parted counted some =
-      let T = tree C of.0 in
       let within : count ≤ length octets = omega (arith, counted) in
-      let piece = d.piece.items ++ take (count - 1) octets in
-      let b = get_or octets (count - 1) 0 in
-      let size : length piece ≡ length d.piece.items + (count - 1) =
-      held_size (count - 1) (omega (arith, within)) in
-      let all : piece ++ b ∷ [] ≡ d.piece.items ++ octets =
+      let size = before_size within in
+      let all : held_before ++ last_octet ∷ [] ≡ d.piece.items ++ octets =
       with_last some within
       ∙ ap (λ xs. d.piece.items ++ xs) (take_all count octets (omega (arith, counted))) in
-      let long = length-append d.piece.items octets in
-      record {
-        leaf = innermost.Content of total offset;
-        goes_on = e;
-        same = refl;
-        some = some;
-        within = within;
-        ahead = ahead_fewer (count - 1) (length octets - 1) d.outer.items (omega (arith, within))
-            ahead;
-        short = waits_short parted;
-        carry = d.carry;
-        piece = piece;
-        adds = (
-          refl,
-          refl,
-          (λ large. omega (arith, size, parted.0 large, counted)),
-          (λ small. omega (arith, size, parted.1 small, counted)),
-        );
-        transition_fits = (refl, no_carry);
-        has_output = tt;
-        output_fits_string = refl;
-        string_goes_on = refl;
-        lines = λ coding path here. [];
-        comes = λ coding path here order at.
-            rw (← all) (content_held T path total offset here piece b
-            (λ large. omega (arith, size, parted.0 large, counted, some))
-            (λ small. omega (arith, size, parted.1 small, counted, some)));
-        says = λ coding path here. refl;
-      }
-    where
-      waits_short : IsParted C (innermost.Content of total offset) d.piece.items (length octets) →
-          length (d.piece.items ++ octets) + 0 ≤ 32
-      waits_short parted =
-          elim (cases_lt 32 (total - offset)) [
-            | inl large ↦ omega (arith, parted.0 large, length-append d.piece.items octets)
-            | inr small ↦ omega (
-              arith,
-              parted.1 small,
-              tail_small (tree C of.0),
-              length-append d.piece.items octets,
-            )
-          ]
+      of_content _ [] (d.piece.items ++ octets) some within (
+        (λ large. omega (arith, parted.0 large, counted)),
+        (λ small. omega (arith, parted.1 small, counted)),
+      ) (elim (cases_lt 32 (total - offset)) [
+        | inl large ↦ omega (arith, parted.0 large, length-append d.piece.items octets)
+        | inr small ↦ omega (
+          arith,
+          parted.1 small,
+          tail_small T,
+          length-append d.piece.items octets,
+        )
+      ]) (refl, no_carry) tt refl refl (λ path here. [])
+      (λ path here. rw (← all) (content_held T path total offset here held_before last_octet
+      (λ large. omega (arith, size, parted.0 large, counted, some))
+      (λ small. omega (arith, size, parted.1 small, counted, some))))
+      (λ path here. refl)
 
 -- octets that leave a piece incomplete, of an innermost part of this type
 pub part_waits : (C : Table) (d : Decoder) (octets : List ℕ) (leaf : Innermost) (of : TypeId) →

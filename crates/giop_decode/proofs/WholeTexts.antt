@@ -15,6 +15,7 @@ use Rattle.giop_decode.specs.declared.text_ahead.TextAhead.{TextAhead}
 use Rattle.giop_decode.specs.DecoderState.{Fits, HoldsNoted, read_by_fields}
 use Rattle.giop_decode.specs.DecoderSteps.{emitted}
 use Rattle.giop_decode.specs.Passes.{Gives, Passes}
+use Rattle.giop_decode.specs.Pieces.{tail}
 use Rattle.giop_decode.specs.Noted.{Noted, is_header_root, noted, with_piece, without_name_if}
 use Rattle.giop_decode.specs.ReadResult.{plain, line, Line, PathSegment, Piece, Short}
 use Rattle.giop_decode.specs.ReadingSteps.{around, path_in}
@@ -30,7 +31,7 @@ use Rattle.giop_decode.proofs.Segments.{said_none}
 use Rattle.giop_decode.proofs.SoFar.{TakenSoFar, so_far, then_fails, then_some}
 use Rattle.giop_decode.proofs.Surrounding.{around_unless_ended, free_ended, free_ticked, places_ticked}
 use Rattle.giop_decode.proofs.Counting.{ahead_free, free_ticked_by}
-use Rattle.giop_decode.proofs.Whole.{IsAtLast, at_last, is_at_last, comes_text, fits_then, same_type as type_at_last}
+use Rattle.giop_decode.proofs.Whole.{IsAtLast, at_last, is_at_last, comes_last, fits_then, same_type as type_at_last}
 use Rattle.giop_print.proofs.Writing.{wrote-nil}
 use Rattle.giop_print.specs.Output.{OutLog, Wrote, WroteFront}
 use Rattle.giop_sig.specs.Types.{Text, Ty}
@@ -258,10 +259,10 @@ module _ (C : Table) (d : Decoder) (octets : List ℕ) (text : TextAhead) (f : F
       subst (λ xs. TakenTogether C begun (drop text.head octets) text.of (n + 1) ended_step xs
       d.carry d.piece.items)
       (sym h.content)
-      (comes_text C begun text.of n 0 (drop text.head octets) (n + 1) begun_fits refl
-      (ahead_free (length (drop text.head octets) - 1) d.outer.items free f.ahead) h.bound n h.is
-      (omega (arith, h.short)) (omega (arith, ap length no_piece)) refl
-      (omega (arith, left, h.within)) h.zero_end)
+      (comes_last C begun text.of n 0 (drop text.head octets) (n + 1) begun_fits refl
+      (ahead_free (length (drop text.head octets) - 1) d.outer.items free f.ahead) n 1
+      (sym (ap tail h.is)) (omega (arith, h.short)) (omega (arith, ap length no_piece)) refl
+      (omega (arith, left, h.within)) (λ some. h.zero_end))
 
   -- what is noted of the content's line, from what was noted before the length
   noted_behind : (new : Notes) (here at : ℕ) (lines : List Line) →
