@@ -1,5 +1,5 @@
 -- The numbers of a capture's streams, and the flows that have them.
-use Rattle.std.proofs.Common.{◌≡◌, ℕ, zero, suc, ◌+◌, ◌*◌, ◌-◌, ◌^◌, ◌/◌, ◌%◌, ◌==◌, ◌<◌, ◌≤◌, arith, inl, inr, Bool, true, false, List, [], ◌∷◌, length, Option, Some, None, IfSome, refl, sym, subst, ◌∙◌, slice_get, set, if◌then◌else◌}
+use Rattle.std.proofs.Common.{◌≡◌, ℕ, zero, suc, ◌+◌, ◌*◌, ◌-◌, ◌^◌, ◌/◌, ◌%◌, ◌==◌, ◌<◌, ◌≤◌, arith, Bool, true, false, List, [], ◌∷◌, length, Option, Some, None, IfSome, refl, sym, subst, ◌∙◌, slice_get, set, if◌then◌else◌}
 use Rattle.std.proofs.Math.ListN.{length-set}
 use Rattle.std.proofs.Math.Nat.{min-le_right, min-eq_left, min-eq_right, le-min}
 use Rattle.std.proofs.lemmas.Bool.{eqb-true, eqb-false, eq-eqb, cases_lt, false_from_ne_true}
@@ -21,15 +21,7 @@ flow_id i Even = 2 * i
 flow_id i Odd = 2 * i + 1
 
 id_is : (id : ℕ) → flow_id (id / 2) (parity_of id) ≡ id
-id_is id = by (id % 2 == 0) refl
-  where
-    by : (b : Bool) → (id % 2 == 0) ≡ b → flow_id (id / 2) (parity_of id) ≡ id
-    by true is =
-        let even : id % 2 ≡ 0 = eqb-true _ _ is in
-        rw is (omega arith)
-    by false is =
-        let odd = eqb-false (id % 2) 0 is in
-        rw is (omega arith)
+id_is id = search (arith, eqb-true, eqb-false)
 
 other_id : (i : ℕ) (parity : Parity) → flow_id i (other parity) ≡ flow_id i parity → ⊥
 other_id i Even same = omega (arith, same)
@@ -46,8 +38,8 @@ set_each : {X : Type 0} (P : ℕ → X → Type 0) (xs : List X) (i : ℕ) (x : 
     IfSome (slice_get (set xs i x) j) (P j)
 set_each P [] i x others here j = tt
 set_each P (y ∷ ys) zero x others here zero = here
-set_each P (y ∷ ys) zero x others here (suc j) = others (suc j) (λ is. omega (arith, is))
-set_each P (y ∷ ys) (suc i) x others here zero = others 0 (λ is. omega (arith, is))
+set_each P (y ∷ ys) zero x others here (suc j) = search (arith)
+set_each P (y ∷ ys) (suc i) x others here zero = search (arith)
 set_each P (y ∷ ys) (suc i) x others here (suc j) =
     set_each (λ k. P (suc k)) ys i x (λ k apart. others (suc k) (λ is. apart (omega (arith, is))))
     here j
@@ -86,7 +78,7 @@ pub record AreNumbered (S : Setup) (h : History) : Type 0 where
 
 counted_most : (n : ℕ) → counted n ≤ 2 ^ 64 - 1
 unfolding counted
-counted_most n = min-le_right (n + 1) (2 ^ 64 - 1)
+counted_most n = search (arith, min-le_right)
 
 counted_up : (n : ℕ) → n ≤ 2 ^ 64 - 1 → n ≤ counted n
 unfolding counted
@@ -94,72 +86,13 @@ counted_up n within = le-min (omega arith) within
 
 pub counted_new : (n : ℕ) → counted n < 2 ^ 64 - 1 → n < counted n
 unfolding counted
-counted_new n few =
-    elim (cases_lt (2 ^ 64 - 1) (n + 1)) [
-      | inl past ↦ absurd (omega (
-        arith,
-        min-eq_right {n = n + 1} {m = 2 ^ 64 - 1}
-            (omega (arith, past)),
-        few,
-      ))
-      | inr within ↦ omega (arith, min-eq_left {n = n + 1} {m = 2 ^ 64 - 1} within)
-    ]
+counted_new n few = search (arith, cases_lt, min-eq_right, min-eq_left)
 
 pub numbers_begun : (S : Setup) (h : History) (id : ℕ) (b : Bool) →
     (b ≡ true → id / 2 < S.connections) → AreNumbered S h →
     AreNumbered S (with_begun h id b)
-numbers_begun S h id false room k =
-    let up = counted_up h.begun k.most in
-    record {
-      most = counted_most h.begun;
-      within = λ f. let before = k.within f in omega (arith, before, up);
-      apart = k.apart;
-      fresh = λ n new. k.fresh n (omega (arith, new, up));
-      beyond = k.beyond;
-    }
-numbers_begun S h id true room k = record {
-  most = counted_most h.begun;
-  within = λ f. within f (f == id) refl;
-  apart = λ f g number same. apart f g (f == id) refl (g == id) refl number same;
-  fresh = λ n new. k.fresh n (omega (arith, new, up));
-  beyond = λ f past. beyond f (f == id) refl past;
-}
-  where
-    up : h.begun ≤ counted h.begun
-    up = counted_up h.begun k.most
-
-    within : (f : ℕ) (b : Bool) → (f == id) ≡ b →
-        (if f == id then counted h.begun else h.stream_of f) ≤ counted h.begun
-    within f true is = rw is (omega arith)
-    within f false is = let before = k.within f in rw is (omega (arith, before, up))
-
-    apart : (f g : ℕ) (b : Bool) → (f == id) ≡ b → (c : Bool) → (g == id) ≡ c →
-        IsUnique (if f == id then counted h.begun else h.stream_of f) →
-        (if f == id then counted h.begun else h.stream_of f)
-        ≡ (if g == id then counted h.begun else h.stream_of g) → f ≡ g
-    apart f g true is true is' number same = eqb-true _ _ is ∙ sym (eqb-true _ _ is')
-    apart f g true is false is' number same =
-        let one : IsUnique (counted h.begun) = rw is at number in
-        let it : counted h.begun ≡ h.stream_of g = rw (is, is') at same in
-        let new = counted_new h.begun one.1 in
-        let old = k.within g in
-        absurd (omega (arith, it, new, old))
-    apart f g false is true is' number same =
-        let one : IsUnique (h.stream_of f) = rw is at number in
-        let it : h.stream_of f ≡ counted h.begun = rw (is, is') at same in
-        let new = counted_new h.begun (omega (arith, it, one.1)) in
-        let old = k.within f in
-        absurd (omega (arith, it, new, old))
-    apart f g false is false is' number same = k.apart f g (rw is at number) (rw (is, is') at same)
-
-    beyond : (f : ℕ) (b : Bool) → (f == id) ≡ b → S.connections ≤ f / 2 →
-        (if f == id then counted h.begun else h.stream_of f) ≡ 0
-    beyond f true is past =
-        let it : f ≡ id = eqb-true _ _ is in
-        let here = room refl in
-        let past' : S.connections ≤ id / 2 = subst (λ x. S.connections ≤ x / 2) it past in
-        absurd (omega (arith, past', here))
-    beyond f false is past = rw is (k.beyond f past)
+numbers_begun S h id false room k = search (arith, counted_up, counted_most)
+numbers_begun S h id true room k = search (arith, counted_most, counted_up, eqb-true, counted_new)
 
 pub stream_at : (h : History) (n : ℕ) (s : StreamHistory) → (with_stream h n s).stream n ≡ s
 stream_at h n s = rw (eq-eqb n n refl) refl
@@ -169,18 +102,11 @@ pub stream_else : (h : History) (n : ℕ) (s : StreamHistory) (m : ℕ) → (n =
 stream_else h n s m apart = rw apart refl
 
 pub unequal : (n m : ℕ) → (n ≡ m → ⊥) → (n == m) ≡ false
-unequal n m apart = false_from_ne_true (n == m) (λ is. apart (eqb-true _ _ is))
+unequal n m apart = search (arith, false_from_ne_true, eqb-true)
 
 pub numbers_with : (S : Setup) (h : History) (n : ℕ) (s : StreamHistory) → n ≤ h.begun →
     AreNumbered S h → AreNumbered S (with_stream h n s)
-numbers_with S h n s within k = record {
-  most = k.most;
-  within = k.within;
-  apart = k.apart;
-  fresh = λ m new. stream_else h n s m (unequal n m (λ is. omega (arith, is, new, within)))
-      ∙ k.fresh m new;
-  beyond = k.beyond;
-}
+numbers_with S h n s within k = search (arith, stream_else, unequal)
 
 -- ---- a connection in which a flow changes
 
@@ -201,10 +127,7 @@ module _ (S : Setup) (h behind : History) (cs : List Connection) (id : ℕ) (c :
   -- the flow itself, and the other one of its connection
   pub own_side : slice_get cs (id / 2) ≡ Some c → AreSides S h cs →
       HasSide S h id (side (parity_of id) c)
-  own_side is k =
-      let here = subst (λ (o : Option Connection). IfSome o (HasSides S h (id / 2))) is
-      (k.sides (id / 2)) in
-      subst (λ f. HasSide S h f (side (parity_of id) c)) (id_is id) (here (parity_of id))
+  own_side is k = search (arith, id_is)
 
   pub sides_on : (s opposite : Side) → slice_get cs (id / 2) ≡ Some c → AreSides S h cs →
       ((g n : ℕ) (p : List ℕ) (a : Answers) → (g ≡ id → ⊥) → IsSide S h g n p a →
@@ -251,12 +174,4 @@ module _ (S : Setup) (h behind : History) (cs : List Connection) (id : ℕ) (c :
 -- ---- a flow whose connection has no room
 
 pub no_room : {X : Type 0} (xs : List X) (i : ℕ) → slice_get xs i ≡ None → length xs ≤ i
-no_room xs i beyond =
-    elim (cases_lt i (length xs)) [
-      | inl below ↦
-          elim ((slice_get_cases xs i).1) [
-            | inl has ↦ let absent : Some has.0 ≡ None = sym has.2 ∙ beyond in cc
-            | inr past ↦ past.0
-          ]
-      | inr past ↦ past
-    ]
+no_room xs i beyond = search (arith, cases_lt, slice_get_cases)

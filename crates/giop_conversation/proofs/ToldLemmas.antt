@@ -43,18 +43,7 @@ pub new_ready : (t : Tagging) (whole : Option (List ℕ)) (below : ℕ) (written
       failures = 0;
     } →
     whole ≡ Some written → IsReady t written
-new_ready t whole below written is known =
-    subst (λ (x : Tagging). IsReady x written)
-    (ap (λ (o : Option (List ℕ)). record {
-      whole = o;
-      below = below;
-      tag = [];
-      due = 0;
-      since = 0;
-      puts = 0;
-      failures = 0;
-    }) (sym known) ∙ sym is)
-    (ready_new written below)
+new_ready t whole below written is known = search (arith, ready_new)
 
 module _ (S : Setup) (written : List ℕ) (events : List Event) where
   -- an event that leads on, whose lines were written or a front of them
@@ -68,24 +57,10 @@ module _ (S : Setup) (written : List ℕ) (events : List Event) where
       MatchResult r (λ _. HasTold S written (events ++ e ∷ []) rooms out arrival streams messages
       faults cut)
       (λ _. HasToldFront S written (events ++ e ∷ []) out)
-  told_or_front (Ok v) d behind e rooms out arrival streams messages faults cut tag lines leads step
-      text holds writes =
-      record {
-        dump = behind;
-        leads = leads_more S events (start S written) e d behind leads step;
-        holds = holds (subst (IsReady out) (sym text) writes);
-      }
+  told_or_front (Ok v) d behind e rooms out arrival streams messages faults cut tag lines leads
+      step text holds writes = search (arith, leads_more)
   told_or_front (Err v) d behind e rooms out arrival streams messages faults cut tag lines leads
-      step text holds writes =
-      record {
-        dump = behind;
-        leads = leads_more S events (start S written) e d behind leads step;
-        before = d.text;
-        tag = tag;
-        lines = lines;
-        text = text;
-        front = writes;
-      }
+      step text holds writes = search (arith, leads_more)
 
   module _ (rooms : List Conversation) (out : Tagging) (arrival : Arrival)
       (streams messages faults : ℕ) (cut : Bool) where
@@ -274,24 +249,11 @@ module _ (S : Setup) (written : List ℕ) (events : List Event) where
             (λ _. HasTold S written (events ++ Delivers flow octets ∷ []) (set rooms (flow / 2) new)
             out' arrival streams messages faults cut)
             (λ _. HasToldFront S written (events ++ Delivers flow octets ∷ []) out')
-        by (Ok v) d behind stream lines Held leads step text read holds =
-            record {
-              dump = behind;
-              leads = leads_more S events (start S written) (Delivers flow octets) d behind leads
-                  step;
-              holds = holds read.0 (subst (IsReady out') (sym text) read.1);
-            }
-        by (Err v) d behind stream lines Held leads step text read holds =
-            record {
-              dump = behind;
-              leads = leads_more S events (start S written) (Delivers flow octets) d behind leads
-                  step;
-              before = d.text;
-              tag = stream_tag stream;
-              lines = lines;
-              text = text;
-              front = read;
-            }
+        by (Ok v) d behind stream lines Held leads step text read holds = search (arith, leads_more)
+        by (Err v) d behind stream lines Held leads step text read holds = search (
+          arith,
+          leads_more,
+        )
 
     -- nothing was written of a flow whose connection has no room
     pub delivered_beyond : (flow : ℕ) (octets : List ℕ) (out' : Tagging) → Before →
@@ -511,20 +473,5 @@ module _ (S : Setup) (written : List ℕ) (events : List Event) where
             MatchResult r (λ _. HasFinished S written events packets octets out'
             (cut || nat_lt 0 faults))
             (λ _. HasFinishedFront S written events packets octets out')
-        by (Ok v) d line leads text faulted writes =
-            record {
-              dump = d;
-              leads = leads;
-              ready = subst (IsReady out') (sym text) writes;
-              faulted = faulted;
-            }
-        by (Err v) d line leads text faulted writes =
-            record {
-              dump = d;
-              leads = leads;
-              before = d.text;
-              tag = [];
-              lines = line;
-              text = text;
-              front = writes;
-            }
+        by (Ok v) d line leads text faulted writes = search (arith)
+        by (Err v) d line leads text faulted writes = search (arith)
