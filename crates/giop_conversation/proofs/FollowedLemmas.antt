@@ -9,14 +9,14 @@ use Rattle.std.proofs.Math.ListN.{length-set}
 use Rattle.tcp_flow.specs.Flow.{Event, Opens, Begins, Delivers, Closes}
 use Rattle.tcp_flow.specs.declared.flow.CloseCause.{CloseCause}
 use Rattle.tcp_segment.specs.declared.endpoint.Flow.{Flow}
-use Rattle.giop_conversation.specs.Followed.{octets_behind, octets_from, octets_of, is_at_fault, is_last_at_fault, reader_faulted, is_stopped, parity_of, other, direction, HaveFollowed}
+use Rattle.giop_conversation.specs.Followed.{octets_behind, octets_from, octets_of, is_at_fault, is_last_at_fault, reader_faulted, is_stopped, side_of, other, direction, HaveFollowed}
 use Rattle.giop_conversation.specs.Directions.{DirectionView, HasRead}
 use Rattle.giop_checkpoint.specs.declared.fault.StreamFault.{StreamFault}
 use Rattle.giop_stream.specs.declared.status.Status.{Status}
 use Rattle.giop_stream.specs.Framing.{cut, fault_of}
 use Rattle.giop_stream.specs.EngineHolds.{status_of}
-use Rattle.giop_conversation.specs.declared.conversation.Parity.{Parity}
-use Rattle.giop_conversation.specs.declared.conversation.Parity.TheVariants.{Even, Odd}
+use Rattle.giop_conversation.specs.declared.conversation.Side.{Side}
+use Rattle.giop_conversation.specs.declared.conversation.Side.TheVariants.{Even, Odd}
 use Rattle.giop_conversation.specs.declared.conversation.Conversation.{Conversation}
 
 octets_more : (flow : ℕ) (p : List ℕ) (events : List Event) (e : Event) →
@@ -32,19 +32,19 @@ last_more all [] e = refl
 last_more all (e' ∷ []) e = refl
 last_more all (e' ∷ e'' ∷ es) e = last_more all (e'' ∷ es) e
 
-same_parity : (g f : ℕ) → parity_of g ≡ parity_of f → g % 2 ≡ f % 2
-same_parity g f same = search (arith, eqb-true, eqb-false)
+same_side : (g f : ℕ) → side_of g ≡ side_of f → g % 2 ≡ f % 2
+same_side g f same = search (arith, eqb-true, eqb-false)
 
-same_flow : (g f : ℕ) → g / 2 ≡ f / 2 → parity_of g ≡ parity_of f → g ≡ f
-same_flow g f half same = search (arith, same_parity)
+same_flow : (g f : ℕ) → g / 2 ≡ f / 2 → side_of g ≡ side_of f → g ≡ f
+same_flow g f half same = search (arith, same_side)
 
-by_parity : (p q : Parity) → (q ≡ p) ⊎ (q ≡ other p)
-by_parity Even Even = inl refl
-by_parity Even Odd = inr refl
-by_parity Odd Even = inr refl
-by_parity Odd Odd = inl refl
+by_side : (p q : Side) → (q ≡ p) ⊎ (q ≡ other p)
+by_side Even Even = inl refl
+by_side Even Odd = inr refl
+by_side Odd Even = inr refl
+by_side Odd Odd = inl refl
 
-differ : (p : Parity) → p ≡ other p → ⊥
+differ : (p : Side) → p ≡ other p → ⊥
 differ Even is = cc
 differ Odd is = cc
 
@@ -79,18 +79,18 @@ IsOfFlow flow e = (g : ℕ) (p : List ℕ) → (g ≡ flow → ⊥) → octets_b
 pub followed_on : (rooms : List Conversation) (events : List Event) (e : Event) (flow : ℕ)
     (old new : Conversation) → HaveFollowed rooms events → slice_get rooms (flow / 2) ≡ Some old →
     IsOfFlow flow e →
-    (HasRead (direction (parity_of flow) old).engine (octets_of flow events) →
-    HasRead (direction (parity_of flow) new).engine
+    (HasRead (direction (side_of flow) old).engine (octets_of flow events) →
+    HasRead (direction (side_of flow) new).engine
     (octets_behind flow (octets_of flow events) e)) →
-    (direction (other (parity_of flow)) new).engine
-    ≡ (direction (other (parity_of flow)) old).engine →
+    (direction (other (side_of flow)) new).engine
+    ≡ (direction (other (side_of flow)) old).engine →
     HaveFollowed (set rooms (flow / 2) new) (events ++ e ∷ [])
 followed_on rooms events e flow old new follows here only reads stays g = search (
   arith,
   cases_eq,
   in_place,
   octets_more,
-  by_parity,
+  by_side,
   same_flow,
   differ,
   elsewhere,
@@ -156,7 +156,7 @@ pub record IsNew (c : Conversation) : Type 0 where
   pub even : HasRead c.even.engine []
   pub odd : HasRead c.odd.engine []
 
-new_direction : (p : Parity) (c : Conversation) → IsNew c → HasRead (direction p c).engine []
+new_direction : (p : Side) (c : Conversation) → IsNew c → HasRead (direction p c).engine []
 new_direction Even c new = new.even
 new_direction Odd c new = new.odd
 
@@ -175,7 +175,7 @@ pub no_element : {X : Type 0} (xs : List X) (n i : ℕ) → n ≡ length xs → 
     slice_get xs i ≡ None
 no_element xs n i many none = search (arith, cases_lt, false≢true, slice_get_past)
 
-same_engine : (p : Parity) (old new : Conversation) → new.even.engine ≡ old.even.engine →
+same_engine : (p : Side) (old new : Conversation) → new.even.engine ≡ old.even.engine →
     new.odd.engine ≡ old.odd.engine → (direction p new).engine ≡ (direction p old).engine
 same_engine Even old new even odd = even
 same_engine Odd old new even odd = odd
@@ -197,8 +197,8 @@ opened rooms events flow endpoints old new follows here even odd = search (
 
 pub stream_begun : (rooms : List Conversation) (events : List Event) (flow number : ℕ)
     (old new : Conversation) → HaveFollowed rooms events → slice_get rooms (flow / 2) ≡ Some old →
-    HasRead (direction (parity_of flow) new).engine [] →
-    direction (other (parity_of flow)) new ≡ direction (other (parity_of flow)) old →
+    HasRead (direction (side_of flow) new).engine [] →
+    direction (other (side_of flow)) new ≡ direction (other (side_of flow)) old →
     HaveFollowed (set rooms (flow / 2) new) (events ++ Begins flow number ∷ [])
 stream_begun rooms events flow number old new follows here read stays =
     followed_on rooms events (Begins flow number) flow old new follows here (of_begins flow number)
@@ -207,9 +207,9 @@ stream_begun rooms events flow number old new follows here read stays =
 
 pub octets_read : (rooms : List Conversation) (events : List Event) (flow : ℕ) (octets : List ℕ)
     (old new : Conversation) → HaveFollowed rooms events → slice_get rooms (flow / 2) ≡ Some old →
-    ((p : List ℕ) → HasRead (direction (parity_of flow) old).engine p →
-    HasRead (direction (parity_of flow) new).engine (p ++ octets)) →
-    direction (other (parity_of flow)) new ≡ direction (other (parity_of flow)) old →
+    ((p : List ℕ) → HasRead (direction (side_of flow) old).engine p →
+    HasRead (direction (side_of flow) new).engine (p ++ octets)) →
+    direction (other (side_of flow)) new ≡ direction (other (side_of flow)) old →
     HaveFollowed (set rooms (flow / 2) new) (events ++ Delivers flow octets ∷ [])
 octets_read rooms events flow octets old new follows here reads stays =
     followed_on rooms events (Delivers flow octets) flow old new follows here
@@ -226,7 +226,7 @@ stopped_is (Some found) = refl
 pub fault_told : (rooms : List Conversation) (events : List Event) (flow : ℕ) (octets : List ℕ)
     (old : Conversation) (status : Status) → HaveFollowed rooms events →
     slice_get rooms (flow / 2) ≡ Some old →
-    ((p : List ℕ) → HasRead (direction (parity_of flow) old).engine p →
+    ((p : List ℕ) → HasRead (direction (side_of flow) old).engine p →
     status ≡ status_of (fault_of (cut (p ++ octets)).stop)) →
     is_stopped status ≡ reader_faulted (events ++ Delivers flow octets ∷ [])
 fault_told rooms events flow octets old status follows here tells = search (

@@ -7,27 +7,27 @@ use Rattle.std.proofs.lemmas.Option.{slice_get_cases}
 use Rattle.giop_print.specs.Output.{counted}
 use Rattle.giop_message.specs.Signatures.{Answers}
 use Rattle.giop_stream.specs.Stream.{text, closing}
-use Rattle.giop_conversation.specs.declared.conversation.Parity.{Parity}
-use Rattle.giop_conversation.specs.declared.conversation.Parity.TheVariants.{Even, Odd}
-use Rattle.giop_conversation.specs.Followed.{parity_of, other}
-use Rattle.giop_conversation.specs.Captured.{Setup, Side, Connection, side, with_side, rules_in}
+use Rattle.giop_conversation.specs.declared.conversation.Side.{Side}
+use Rattle.giop_conversation.specs.declared.conversation.Side.TheVariants.{Even, Odd}
+use Rattle.giop_conversation.specs.Followed.{side_of, other}
+use Rattle.giop_conversation.specs.Captured.{Setup, Half, Connection, half, with_half, rules_in}
 use Rattle.giop_conversation.specs.StreamTexts.{StreamHistory, new_stream, History, with_begun, with_stream, IsUnique}
 
 -- ---- the flows of connections
 
 -- the id of a flow, by the place of its connection
-abbrev pub flow_id : ℕ → Parity → ℕ
+abbrev pub flow_id : ℕ → Side → ℕ
 flow_id i Even = 2 * i
 flow_id i Odd = 2 * i + 1
 
-id_is : (id : ℕ) → flow_id (id / 2) (parity_of id) ≡ id
+id_is : (id : ℕ) → flow_id (id / 2) (side_of id) ≡ id
 id_is id = search (arith, eqb-true, eqb-false)
 
-other_id : (i : ℕ) (parity : Parity) → flow_id i (other parity) ≡ flow_id i parity → ⊥
+other_id : (i : ℕ) (side : Side) → flow_id i (other side) ≡ flow_id i side → ⊥
 other_id i Even same = omega (arith, same)
 other_id i Odd same = omega (arith, same)
 
-place_is : (i j : ℕ) (p q : Parity) → flow_id j q ≡ flow_id i p → j ≡ i
+place_is : (i j : ℕ) (p q : Side) → flow_id j q ≡ flow_id i p → j ≡ i
 place_is i j Even Even same = omega (arith, same)
 place_is i j Even Odd same = absurd (omega (arith, same))
 place_is i j Odd Even same = absurd (omega (arith, same))
@@ -46,7 +46,7 @@ set_each P (y ∷ ys) (suc i) x others here (suc j) =
 
 -- A flow has the stream that the history says: where no other has its number, its octets are those
 -- of the history, and its answers give the same text and closing.
-pub record IsSide (S : Setup) (h : History) (id stream : ℕ) (octets : List ℕ) (answers : Answers) :
+pub record IsHalf (S : Setup) (h : History) (id stream : ℕ) (octets : List ℕ) (answers : Answers) :
     Type 0 where
   pub stream_is : stream ≡ h.stream_of id
   pub octets_are : IsUnique stream → octets ≡ (h.stream stream).octets
@@ -55,15 +55,15 @@ pub record IsSide (S : Setup) (h : History) (id stream : ℕ) (octets : List ℕ
   pub closing_is : IsUnique stream → closing (rules_in S answers) octets
       ≡ closing (rules_in S (h.stream stream).answers) octets
 
-abbrev pub HasSide : Setup → History → ℕ → Side → Type 0
-HasSide S h id s = IsSide S h id s.stream s.octets s.answers
+abbrev pub HasHalf : Setup → History → ℕ → Half → Type 0
+HasHalf S h id s = IsHalf S h id s.stream s.octets s.answers
 
-abbrev pub HasSides : Setup → History → ℕ → Connection → Type 0
-HasSides S h i c = (p : Parity) → HasSide S h (flow_id i p) (side p c)
+abbrev pub HasHalves : Setup → History → ℕ → Connection → Type 0
+HasHalves S h i c = (p : Side) → HasHalf S h (flow_id i p) (half p c)
 
-pub record AreSides (S : Setup) (h : History) (cs : List Connection) : Type 0 where
+pub record AreHalves (S : Setup) (h : History) (cs : List Connection) : Type 0 where
   pub rooms : length cs ≡ S.connections
-  pub sides : (i : ℕ) → IfSome (slice_get cs i) (HasSides S h i)
+  pub halves : (i : ℕ) → IfSome (slice_get cs i) (HasHalves S h i)
 
 -- ---- the numbers of streams
 
@@ -110,66 +110,66 @@ numbers_with S h n s within k = search (arith, stream_else, unequal)
 
 -- ---- a connection in which a flow changes
 
-with_both : (P : Parity → Side → Type 0) (parity : Parity) (c : Connection) (s opposite : Side) →
-    P parity s → P (other parity) opposite →
-    (p : Parity) → P p (side p (with_side (other parity) (with_side parity c s) opposite))
+with_both : (P : Side → Half → Type 0) (side : Side) (c : Connection) (s opposite : Half) →
+    P side s → P (other side) opposite →
+    (p : Side) → P p (half p (with_half (other side) (with_half side c s) opposite))
 with_both P Even c s opposite own rest Even = own
 with_both P Even c s opposite own rest Odd = rest
 with_both P Odd c s opposite own rest Even = rest
 with_both P Odd c s opposite own rest Odd = own
 
-alone : (parity : Parity) (c : Connection) (s : Side) →
-    with_side (other parity) (with_side parity c s) (side (other parity) c) ≡ with_side parity c s
+alone : (side : Side) (c : Connection) (s : Half) →
+    with_half (other side) (with_half side c s) (half (other side) c) ≡ with_half side c s
 alone Even c s = refl
 alone Odd c s = refl
 
 module _ (S : Setup) (h behind : History) (cs : List Connection) (id : ℕ) (c : Connection) where
   -- the flow itself, and the other one of its connection
-  pub own_side : slice_get cs (id / 2) ≡ Some c → AreSides S h cs →
-      HasSide S h id (side (parity_of id) c)
-  own_side is k = search (arith, id_is)
+  pub own_half : slice_get cs (id / 2) ≡ Some c → AreHalves S h cs →
+      HasHalf S h id (half (side_of id) c)
+  own_half is k = search (arith, id_is)
 
-  pub sides_on : (s opposite : Side) → slice_get cs (id / 2) ≡ Some c → AreSides S h cs →
-      ((g n : ℕ) (p : List ℕ) (a : Answers) → (g ≡ id → ⊥) → IsSide S h g n p a →
-      IsSide S behind g n p a) →
-      HasSide S behind id s →
-      ((g : ℕ) → HasSide S behind g (side (other (parity_of id)) c) → HasSide S behind g opposite) →
-      AreSides S behind (set cs (id / 2) (with_side (other (parity_of id))
-      (with_side (parity_of id) c s) opposite))
-  sides_on s opposite is k others own alike = record {
-    rooms = length-set cs (id / 2) (with_side (other (parity_of id)) (with_side (parity_of id) c s)
+  pub halves_on : (s opposite : Half) → slice_get cs (id / 2) ≡ Some c → AreHalves S h cs →
+      ((g n : ℕ) (p : List ℕ) (a : Answers) → (g ≡ id → ⊥) → IsHalf S h g n p a →
+      IsHalf S behind g n p a) →
+      HasHalf S behind id s →
+      ((g : ℕ) → HasHalf S behind g (half (other (side_of id)) c) → HasHalf S behind g opposite) →
+      AreHalves S behind (set cs (id / 2) (with_half (other (side_of id))
+      (with_half (side_of id) c s) opposite))
+  halves_on s opposite is k others own alike = record {
+    rooms = length-set cs (id / 2) (with_half (other (side_of id)) (with_half (side_of id) c s)
         opposite) ∙ k.rooms;
-    sides = set_each (HasSides S behind) cs (id / 2)
-        (with_side (other (parity_of id)) (with_side (parity_of id) c s) opposite)
-        (λ j apart. by j apart (slice_get cs j) (k.sides j))
-        (with_both (λ p. HasSide S behind (flow_id (id / 2) p)) (parity_of id) c s opposite
-        (subst (λ f. HasSide S behind f s) (sym (id_is id)) own)
-        (alike across (others across (side (other (parity_of id)) c).stream
-        (side (other (parity_of id)) c).octets
-        (side (other (parity_of id)) c).answers
-        (λ same. other_id (id / 2) (parity_of id) (same ∙ sym (id_is id)))
-        (subst (λ (o : Option Connection). IfSome o (HasSides S h (id / 2))) is (k.sides (id / 2))
-        (other (parity_of id))))));
+    halves = set_each (HasHalves S behind) cs (id / 2)
+        (with_half (other (side_of id)) (with_half (side_of id) c s) opposite)
+        (λ j apart. by j apart (slice_get cs j) (k.halves j))
+        (with_both (λ p. HasHalf S behind (flow_id (id / 2) p)) (side_of id) c s opposite
+        (subst (λ f. HasHalf S behind f s) (sym (id_is id)) own)
+        (alike across (others across (half (other (side_of id)) c).stream
+        (half (other (side_of id)) c).octets
+        (half (other (side_of id)) c).answers
+        (λ same. other_id (id / 2) (side_of id) (same ∙ sym (id_is id)))
+        (subst (λ (o : Option Connection). IfSome o (HasHalves S h (id / 2))) is (k.halves (id / 2))
+        (other (side_of id))))));
   }
     where
       across : ℕ
-      across = flow_id (id / 2) (other (parity_of id))
+      across = flow_id (id / 2) (other (side_of id))
 
-      by : (j : ℕ) → (j ≡ id / 2 → ⊥) → (o : Option Connection) → IfSome o (HasSides S h j) →
-          IfSome o (HasSides S behind j)
+      by : (j : ℕ) → (j ≡ id / 2 → ⊥) → (o : Option Connection) → IfSome o (HasHalves S h j) →
+          IfSome o (HasHalves S behind j)
       by j apart None has = tt
-      by j apart (Some d) has = λ q. others (flow_id j q) (side q d).stream (side q d).octets
-          (side q d).answers
-          (λ same. apart (place_is (id / 2) j (parity_of id) q (same ∙ sym (id_is id)))) (has q)
+      by j apart (Some d) has = λ q. others (flow_id j q) (half q d).stream (half q d).octets
+          (half q d).answers
+          (λ same. apart (place_is (id / 2) j (side_of id) q (same ∙ sym (id_is id)))) (has q)
 
   -- where the other one stays
-  pub side_on : (s : Side) → slice_get cs (id / 2) ≡ Some c → AreSides S h cs →
-      ((g n : ℕ) (p : List ℕ) (a : Answers) → (g ≡ id → ⊥) → IsSide S h g n p a →
-      IsSide S behind g n p a) →
-      HasSide S behind id s → AreSides S behind (set cs (id / 2) (with_side (parity_of id) c s))
-  side_on s is k others own =
-      subst (λ (x : Connection). AreSides S behind (set cs (id / 2) x)) (alone (parity_of id) c s)
-      (sides_on s (side (other (parity_of id)) c) is k others own (λ g has. has))
+  pub half_on : (s : Half) → slice_get cs (id / 2) ≡ Some c → AreHalves S h cs →
+      ((g n : ℕ) (p : List ℕ) (a : Answers) → (g ≡ id → ⊥) → IsHalf S h g n p a →
+      IsHalf S behind g n p a) →
+      HasHalf S behind id s → AreHalves S behind (set cs (id / 2) (with_half (side_of id) c s))
+  half_on s is k others own =
+      subst (λ (x : Connection). AreHalves S behind (set cs (id / 2) x)) (alone (side_of id) c s)
+      (halves_on s (half (other (side_of id)) c) is k others own (λ g has. has))
 
 -- ---- a flow whose connection has no room
 

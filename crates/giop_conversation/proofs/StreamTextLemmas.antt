@@ -15,24 +15,24 @@ use Rattle.giop_stream.proofs.StreamLaws.{added_both_by}
 use Rattle.tcp_flow.specs.Flow.{Event, Opens, Begins, Delivers, Closes, OfCapture, PacketArrives, HasFault}
 use Rattle.tcp_flow.specs.declared.flow.CloseCause.{CloseCause}
 use Rattle.tcp_segment.specs.declared.endpoint.Flow.{Flow}
-use Rattle.giop_conversation.specs.declared.conversation.Parity.TheVariants.{Even, Odd}
+use Rattle.giop_conversation.specs.declared.conversation.Side.TheVariants.{Even, Odd}
 use Rattle.giop_conversation.specs.Tags.{stream_tag, with_tags}
 use Rattle.giop_conversation.specs.Lines.{capture_fault_line}
-use Rattle.giop_conversation.specs.Followed.{parity_of, other}
-use Rattle.giop_conversation.specs.Captured.{Setup, Side, Connection, Dump, Leads, Answered, IsAnswered, start, new_connection, side, rules_in, delivered_lines, calls_behind, opened_in, begun_in, delivered_in, closed_in, closed_lines, stepped, calls_in}
+use Rattle.giop_conversation.specs.Followed.{side_of, other}
+use Rattle.giop_conversation.specs.Captured.{Setup, Half, Connection, Dump, Leads, Answered, IsAnswered, start, new_connection, half, rules_in, delivered_lines, calls_behind, opened_in, begun_in, delivered_in, closed_in, closed_lines, stepped, calls_in}
 use Rattle.giop_conversation.specs.CaptureParts.{StreamPart, read_lines, own_lines, Part, OfStream, FaultLine, part_text, text_of, of_stream, read_of, own_of}
 use Rattle.giop_conversation.specs.StreamTexts.{StreamHistory, new_stream, read_on, closed, History, no_history, with_begun, with_stream, happened, history, IsDumped, IsUnique, ShowsStreams}
 use Rattle.giop_conversation.specs.Exchanges.{Exchanged}
 use Rattle.giop_conversation.specs.Stamped.{begin_lines}
 use Rattle.giop_conversation.proofs.EmptyStream.{no_text, one_closing}
 use Rattle.giop_conversation.proofs.PartLemmas.{AreParts, whole_both, are_whole, text_is, of_it, of_another, begin_parts, closed_parts, stamped_parts}
-use Rattle.giop_conversation.proofs.StreamNumbers.{flow_id, IsSide, HasSide, HasSides, AreSides, AreNumbered, counted_new, numbers_begun, numbers_with, stream_at, stream_else, unequal, own_side, sides_on, side_on, no_room}
+use Rattle.giop_conversation.proofs.StreamNumbers.{flow_id, IsHalf, HasHalf, HasHalves, AreHalves, AreNumbered, counted_new, numbers_begun, numbers_with, stream_at, stream_else, unequal, own_half, halves_on, half_on, no_room}
 
 -- ---- the whole
 
 pub record AreShown (S : Setup) (written : List ℕ) (h : History) (d : Dump) : Type 0 where
   pub count : d.streams ≡ h.begun
-  pub sides : AreSides S h d.connections
+  pub halves : AreHalves S h d.connections
   pub numbers : AreNumbered S h
   pub shows : ShowsStreams S written h d.text
 
@@ -133,7 +133,7 @@ module _ (S : Setup) (written : List ℕ)
       slice_get d.connections (id / 2) ≡ o →
       AreShown S written h d → AreShown S written h (opened_in d id flow o)
   on_opened h d id flow None is b = b
-  on_opened h d id flow (Some c) is b = search (arith, own_side, side_on)
+  on_opened h d id flow (Some c) is b = search (arith, own_half, half_on)
 
   on_begun : (h : History) (d : Dump) (id : ℕ) (o : Option Connection) →
       slice_get d.connections (id / 2) ≡ o →
@@ -142,14 +142,14 @@ module _ (S : Setup) (written : List ℕ)
   on_begun h d id None is b =
       let past = no_room d.connections (id / 2) is in
       let none : nat_lt (id / 2) S.connections ≡ false =
-      false_from_ne_true _ (λ some. let low = ltb-true _ _ some in let rooms = b.sides.rooms in
+      false_from_ne_true _ (λ some. let low = ltb-true _ _ some in let rooms = b.halves.rooms in
       omega (arith, past, low, rooms)) in
       rw none (record {
         count = ap counted b.count;
-        sides = record {
-          rooms = b.sides.rooms;
-          sides =
-              λ i. by i (slice_get d.connections i) (b.sides.sides i);
+        halves = record {
+          rooms = b.halves.rooms;
+          halves =
+              λ i. by i (slice_get d.connections i) (b.halves.halves i);
         };
         numbers = numbers_begun S h id false (λ is. absurd cc) b.numbers;
         shows = record {
@@ -160,24 +160,24 @@ module _ (S : Setup) (written : List ℕ)
         };
       })
     where
-      by : (i : ℕ) (o : Option Connection) → IfSome o (HasSides S h i) →
-          IfSome o (HasSides S (with_begun h id false) i)
+      by : (i : ℕ) (o : Option Connection) → IfSome o (HasHalves S h i) →
+          IfSome o (HasHalves S (with_begun h id false) i)
       by i None has = tt
       by i (Some c) has = search (arith, text_is)
   on_begun h d id (Some c) is b =
       let low = slice_get_within d.connections (id / 2) c is in
-      let rooms = b.sides.rooms in
+      let rooms = b.halves.rooms in
       let room : id / 2 < S.connections = omega (arith, low, rooms) in
       let some : nat_lt (id / 2) S.connections ≡ true = lt-ltb _ _ room in
       let n = counted d.streams in
-      let s = side (parity_of id) c in
+      let s = half (side_of id) c in
       let lines = begin_parts s.flow d.arrival.time in
       let new : IsUnique n → h.stream n ≡ new_stream =
       λ number. b.numbers.fresh n (rw b.count (counted_new h.begun (rw b.count at number.1))) in
       rw some (record {
         count = ap counted b.count;
-        sides = side_on S h (with_begun h id true) d.connections id c
-            (record s { stream = n; octets = [] }) is b.sides
+        halves = half_on S h (with_begun h id true) d.connections id c
+            (record s { stream = n; octets = [] }) is b.halves
             (λ g m p a apart k. record {
               stream_is = k.stream_is ∙ sym (rw (unequal g id apart) refl);
               octets_are = k.octets_are;
@@ -199,16 +199,16 @@ module _ (S : Setup) (written : List ℕ)
       })
 
   -- a stream changes that is not the flow's
-  side_stays : (h : History) (m : ℕ) (s : StreamHistory) (g n : ℕ) (p : List ℕ) (a : Answers) →
-      (IsUnique n → (with_stream h m s).stream n ≡ h.stream n) → IsSide S h g n p a →
-      IsSide S (with_stream h m s) g n p a
-  side_stays h m s g n p a stays it = search (arith, text_is)
+  half_stays : (h : History) (m : ℕ) (s : StreamHistory) (g n : ℕ) (p : List ℕ) (a : Answers) →
+      (IsUnique n → (with_stream h m s).stream n ≡ h.stream n) → IsHalf S h g n p a →
+      IsHalf S (with_stream h m s) g n p a
+  half_stays h m s g n p a stays it = search (arith, text_is)
 
   -- that of another flow
-  side_with : (h : History) (s : StreamHistory) (id g n : ℕ) (p : List ℕ) (a : Answers) →
+  half_with : (h : History) (s : StreamHistory) (id g n : ℕ) (p : List ℕ) (a : Answers) →
       AreNumbered S h → (g ≡ id → ⊥) →
-      IsSide S h g n p a → IsSide S (with_stream h (h.stream_of id) s) g n p a
-  side_with h s id g n p a k apart it = search (arith, side_stays, stream_else, unequal)
+      IsHalf S h g n p a → IsHalf S (with_stream h (h.stream_of id) s) g n p a
+  half_with h s id g n p a k apart it = search (arith, half_stays, stream_else, unequal)
 
   -- that of a flow without a room has no number
   beyond_is : (h : History) (s : StreamHistory) (id m : ℕ) → h.stream_of id ≡ 0 → IsUnique m →
@@ -224,38 +224,38 @@ module _ (S : Setup) (written : List ℕ)
     slice_get,
     numbers_with,
     beyond_is,
-    side_stays,
+    half_stays,
     flow_id,
   )
 
   on_delivered : (a : Answers) (h : History) (d : Dump) (id : ℕ) (octets : List ℕ)
       (o : Option Connection) →
       slice_get d.connections (id / 2) ≡ o →
-      IfSome o (λ c. IsAnswered S a (parity_of id) octets d.arrival c) → AreShown S written h d →
+      IfSome o (λ c. IsAnswered S a (side_of id) octets d.arrival c) → AreShown S written h d →
       AreShown S written (with_stream h (h.stream_of id)
       (read_on a octets (h.stream (h.stream_of id)))) (delivered_in S a d id octets o)
   on_delivered a h d id octets None is answered b =
       on_nothing h (read_on a octets (h.stream (h.stream_of id))) d id is b
   on_delivered a h d id octets (Some c) is answered b = record {
     count = b.count;
-    sides = sides_on S h behind d.connections id c
+    halves = halves_on S h behind d.connections id c
         (record s { octets = s.octets ++ octets; answers = a; calls = calls.own })
-        (record (side (other (parity_of id)) c) { calls = calls.opposite }) is b.sides
-        (λ g m p x apart it. side_with h next id g m p x b.numbers apart it) own (λ g has. has);
+        (record (half (other (side_of id)) c) { calls = calls.opposite }) is b.halves
+        (λ g m p x apart it. half_with h next id g m p x b.numbers apart it) own (λ g has. has);
     numbers = numbers_with S h n next (b.numbers.within id) b.numbers;
     shows = subst (λ m. ShowsStreams S written behind (d.text ++ with_tags (stream_tag m) lines))
         (sym k.stream_is)
         (more_lines S written h behind d.text n lines (added R s.octets octets)
         (added R s.octets octets) b.shows
-        (stamped_parts S.table a S.messages octets s.octets (calls_in S (parity_of id) d.arrival c))
+        (stamped_parts S.table a S.messages octets s.octets (calls_in S (side_of id) d.arrival c))
         (λ m number apart. stream_else h n next m apart) here);
   }
     where
       R : Rules
       R = rules_in S a
 
-      s : Side
-      s = side (parity_of id) c
+      s : Half
+      s = half (side_of id) c
 
       n : ℕ
       n = h.stream_of id
@@ -267,18 +267,18 @@ module _ (S : Setup) (written : List ℕ)
       behind = with_stream h n next
 
       calls : Exchanged
-      calls = calls_behind S a (parity_of id) octets d.arrival c
+      calls = calls_behind S a (side_of id) octets d.arrival c
 
       lines : List ℕ
-      lines = delivered_lines S a (parity_of id) octets d.arrival c
+      lines = delivered_lines S a (side_of id) octets d.arrival c
 
-      k : HasSide S h id s
-      k = search (arith, own_side)
+      k : HasHalf S h id s
+      k = search (arith, own_half)
 
       at : behind.stream s.stream ≡ next
       at = search (arith, behind, k, stream_at, next)
 
-      own : IsSide S behind id s.stream (s.octets ++ octets) a
+      own : IsHalf S behind id s.stream (s.octets ++ octets) a
       own = search (arith, k, at, text_is, s)
 
       here : IsUnique n → (r o : List ℕ) → IsDumped S (h.stream n) r o →
@@ -320,22 +320,22 @@ module _ (S : Setup) (written : List ℕ)
   on_closed h d id cause None is b = search (arith, on_nothing)
   on_closed h d id cause (Some c) is b = record {
     count = b.count;
-    sides = record {
-      rooms = b.sides.rooms;
-      sides =
-          λ i. by i (slice_get d.connections i) (b.sides.sides i);
+    halves = record {
+      rooms = b.halves.rooms;
+      halves =
+          λ i. by i (slice_get d.connections i) (b.halves.halves i);
     };
     numbers = numbers_with S h n next (b.numbers.within id) b.numbers;
     shows = subst (λ m. ShowsStreams S written behind
-        (d.text ++ with_tags (stream_tag m) (closed_lines S (parity_of id) cause c)))
+        (d.text ++ with_tags (stream_tag m) (closed_lines S (side_of id) cause c)))
         (sym k.stream_is)
-        (more_lines S written h behind d.text n (closed_lines S (parity_of id) cause c) []
+        (more_lines S written h behind d.text n (closed_lines S (side_of id) cause c) []
         (closing R s.octets) b.shows
         (closed_parts R s.octets cause) (λ m number apart. stream_else h n next m apart) here);
   }
     where
-      s : Side
-      s = side (parity_of id) c
+      s : Half
+      s = half (side_of id) c
 
       R : Rules
       R = rules_in S s.answers
@@ -349,8 +349,8 @@ module _ (S : Setup) (written : List ℕ)
       behind : History
       behind = with_stream h n next
 
-      k : HasSide S h id s
-      k = search (arith, own_side)
+      k : HasHalf S h id s
+      k = search (arith, own_half)
 
       -- the octets and the answers of a stream stay
       stays : {X : Type 0} (f : List ℕ → Answers → X) (m : ℕ) →
@@ -363,8 +363,8 @@ module _ (S : Setup) (written : List ℕ)
           at true same = search (arith, eqb-true)
           at false apart = rw apart refl
 
-      by : (i : ℕ) (o : Option Connection) → IfSome o (HasSides S h i) →
-          IfSome o (HasSides S behind i)
+      by : (i : ℕ) (o : Option Connection) → IfSome o (HasHalves S h i) →
+          IfSome o (HasHalves S behind i)
       by i None has = tt
       by i (Some c) has = search (arith, stays, text_is)
 
@@ -402,9 +402,9 @@ module _ (S : Setup) (written : List ℕ)
   pub at_start : AreShown S written no_history (start S written)
   at_start = record {
     count = refl;
-    sides = record {
+    halves = record {
       rooms = length-replicate S.connections (new_connection S);
-      sides = each_alike (HasSides S no_history) (new_connection S) S.connections sides;
+      halves = each_alike (HasHalves S no_history) (new_connection S) S.connections halves;
     };
     numbers = record {
       most = omega arith;
@@ -428,9 +428,9 @@ module _ (S : Setup) (written : List ℕ)
       R : Rules
       R = rules_in S new_stream.answers
 
-      sides : (i : ℕ) → HasSides S no_history i (new_connection S)
-      sides i Even = search (arith, text_is)
-      sides i Odd = search (arith, text_is)
+      halves : (i : ℕ) → HasHalves S no_history i (new_connection S)
+      halves i Even = search (arith, text_is)
+      halves i Odd = search (arith, text_is)
 
   pub all_shown : (events : List Event) (d : Dump) (leads : Leads S (start S written) events d) →
       ShowsStreams S written (history S no_history (start S written) events d leads) d.text

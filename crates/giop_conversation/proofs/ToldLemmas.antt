@@ -14,8 +14,8 @@ use Rattle.giop_conversation.specs.TaggedState.{Tagging, tagging_log, IsReady, W
 use Rattle.giop_conversation.specs.Lines.{capture_fault_line, capture_total_line}
 use Rattle.giop_conversation.specs.Stamped.{begin_lines}
 use Rattle.giop_conversation.specs.StreamReads.{WritesTagged}
-use Rattle.giop_conversation.specs.Followed.{parity_of}
-use Rattle.giop_conversation.specs.Captured.{Setup, Connection, Dump, Step, Leads, start, side, opened, begun, delivered, delivered_lines, closed_lines, rules_in, sum_within, cuts, opened_in, begun_in, delivered_in, closed_in, finished_text, IsAnswered}
+use Rattle.giop_conversation.specs.Followed.{side_of}
+use Rattle.giop_conversation.specs.Captured.{Setup, Connection, Dump, Step, Leads, start, half, opened, begun, delivered, delivered_lines, closed_lines, rules_in, sum_within, cuts, opened_in, begun_in, delivered_in, closed_in, finished_text, IsAnswered}
 use Rattle.giop_conversation.specs.DumpHeld.{HoldsConnection, ReadsBy, HoldsDump, HasTold, HasToldFront, HasFinished, HasFinishedFront}
 use Rattle.giop_conversation.proofs.Tagging.{ready_new}
 use Rattle.giop_conversation.proofs.DumpLemmas.{leads_more, held_at, none_at, held_set, no_tag_is}
@@ -72,7 +72,7 @@ module _ (S : Setup) (written : List ℕ) (events : List Event) where
     pub opened_told : (flow : ℕ) (endpoints : Flow) (old new : Conversation) → Before →
         slice_get rooms (flow / 2) ≡ Some old →
         ((c : Connection) → HoldsConnection S old c →
-        HoldsConnection S new (opened (parity_of flow) endpoints c)) →
+        HoldsConnection S new (opened (side_of flow) endpoints c)) →
         HasTold S written (events ++ Opens flow endpoints ∷ []) (set rooms (flow / 2) new) out
         arrival streams messages faults cut
     opened_told flow endpoints old new b here opens =
@@ -91,7 +91,7 @@ module _ (S : Setup) (written : List ℕ) (events : List Event) where
               });
           holds = record {
             connections = held_set S rooms d.connections (flow / 2) new
-                (opened (parity_of flow) endpoints at.connection) h.connections
+                (opened (side_of flow) endpoints at.connection) h.connections
                 (opens at.connection at.holds);
             ready = h.ready;
             arrival_is = h.arrival_is;
@@ -126,9 +126,9 @@ module _ (S : Setup) (written : List ℕ) (events : List Event) where
         (out' : Tagging) → next ≡ sum_within streams 1 → Before →
         slice_get rooms (flow / 2) ≡ Some old →
         ((c : Connection) → HoldsConnection S old c →
-        HoldsConnection S new (begun (parity_of flow) next c)) →
+        HoldsConnection S new (begun (side_of flow) next c)) →
         ((c : Connection) (w : List ℕ) → HoldsConnection S old c → IsReady out w →
-        WritesTagged r out' w (stream_tag next) (begin_lines (side (parity_of flow) c).flow
+        WritesTagged r out' w (stream_tag next) (begin_lines (half (side_of flow) c).flow
         arrival.time)) →
         MatchResult r
         (λ _. HasTold S written (events ++ Begins flow number ∷ []) (set rooms (flow / 2) new) out'
@@ -140,10 +140,10 @@ module _ (S : Setup) (written : List ℕ) (events : List Event) where
         let first : next ≡ counted d.streams =
         is ∙ (ap (λ n. sum_within n 1) h.streams_are ∙ counted_is d.streams) in
         let at = held_at S rooms d.connections (flow / 2) old h.connections here in
-        let endpoints = (side (parity_of flow) at.connection).flow in
+        let endpoints = (half (side_of flow) at.connection).flow in
         let step : Step S d (Begins flow number) (begun_in d flow (Some at.connection)) =
         record { answers = no_answers; answered = tt; is = ap (begun_in d flow) (sym at.is) } in
-        let holds = subst (λ n. HoldsConnection S new (begun (parity_of flow) n at.connection))
+        let holds = subst (λ n. HoldsConnection S new (begun (side_of flow) n at.connection))
         first (begins at.connection at.holds) in
         let lines = subst (λ n. WritesTagged r out' d.text (stream_tag n)
         (begin_lines endpoints d.arrival.time)) first
@@ -155,7 +155,7 @@ module _ (S : Setup) (written : List ℕ) (events : List Event) where
         (stream_tag (counted d.streams)) (begin_lines endpoints d.arrival.time) b.leads step refl
         (λ ready. record {
           connections = held_set S rooms d.connections (flow / 2) new
-              (begun (parity_of flow) (counted d.streams) at.connection) h.connections holds;
+              (begun (side_of flow) (counted d.streams) at.connection) h.connections holds;
           ready = ready;
           arrival_is = h.arrival_is;
           streams_are = first;
@@ -201,7 +201,7 @@ module _ (S : Setup) (written : List ℕ) (events : List Event) where
         (old new : Conversation) (out' : Tagging) → Before →
         slice_get rooms (flow / 2) ≡ Some old →
         ((c : Connection) (w : List ℕ) → HoldsConnection S old c → IsReady out w →
-        ReadsBy S c (parity_of flow) octets arrival w r new out') →
+        ReadsBy S c (side_of flow) octets arrival w r new out') →
         MatchResult r
         (λ _. HasTold S written (events ++ Delivers flow octets ∷ []) (set rooms (flow / 2) new)
         out' arrival streams messages faults cut)
@@ -210,8 +210,8 @@ module _ (S : Setup) (written : List ℕ) (events : List Event) where
         let d = b.dump in
         let h = b.holds in
         let at = held_at S rooms d.connections (flow / 2) old h.connections here in
-        let parity = parity_of flow in
-        let read = subst (λ (t : Arrival). ReadsBy S at.connection parity octets t d.text r new
+        let side = side_of flow in
+        let read = subst (λ (t : Arrival). ReadsBy S at.connection side octets t d.text r new
         out') h.arrival_is
         (reads at.connection d.text at.holds h.ready) in
         let a = read.answers in
@@ -219,16 +219,16 @@ module _ (S : Setup) (written : List ℕ) (events : List Event) where
         let step : Step S d (Delivers flow octets) behind = record {
           answers = a;
           answered = subst (λ (o : Option Connection).
-              IfSome o (λ c. IsAnswered S a parity octets d.arrival c)) (sym at.is) read.answered;
+              IfSome o (λ c. IsAnswered S a side octets d.arrival c)) (sym at.is) read.answered;
           is = ap (delivered_in S a d flow octets) (sym at.is);
         } in
-        by r d behind (side parity at.connection).stream
-        (delivered_lines S a parity octets d.arrival at.connection)
-        (HoldsConnection S new (delivered S a parity octets d.arrival at.connection)) b.leads step
+        by r d behind (half side at.connection).stream
+        (delivered_lines S a side octets d.arrival at.connection)
+        (HoldsConnection S new (delivered S a side octets d.arrival at.connection)) b.leads step
         refl read.reads
         (λ holds ready. record {
           connections = held_set S rooms d.connections (flow / 2) new
-              (delivered S a parity octets d.arrival at.connection) h.connections holds;
+              (delivered S a side octets d.arrival at.connection) h.connections holds;
           ready = ready;
           arrival_is = h.arrival_is;
           streams_are = h.streams_are;
@@ -268,7 +268,7 @@ module _ (S : Setup) (written : List ℕ) (events : List Event) where
               (record {
                 answers = no_answers;
                 answered = subst (λ (o : Option Connection).
-                    IfSome o (λ c. IsAnswered S no_answers (parity_of flow) octets d.arrival c))
+                    IfSome o (λ c. IsAnswered S no_answers (side_of flow) octets d.arrival c))
                     (sym none) tt;
                 is = ap (delivered_in S no_answers d flow octets) (sym none);
               });
@@ -291,11 +291,11 @@ module _ (S : Setup) (written : List ℕ) (events : List Event) where
         (messages' faults' : ℕ) (cut' : Bool) (totals : Totals) → Before →
         slice_get rooms (flow / 2) ≡ Some old →
         ((c : Connection) (w : List ℕ) → HoldsConnection S old c → IsReady out w →
-        WritesTagged r out' w (stream_tag (side (parity_of flow) c).stream)
-        (closed_lines S (parity_of flow) cause c)) →
+        WritesTagged r out' w (stream_tag (half (side_of flow) c).stream)
+        (closed_lines S (side_of flow) cause c)) →
         ((c : Connection) → HoldsConnection S old c →
-        totals ≡ final (rules_in S (side (parity_of flow) c).answers)
-        (side (parity_of flow) c).octets) →
+        totals ≡ final (rules_in S (half (side_of flow) c).answers)
+        (half (side_of flow) c).octets) →
         messages' ≡ sum_within messages totals.messages →
         faults' ≡ sum_within faults totals.faults → cut' ≡ (cut || cuts cause) →
         MatchResult r
@@ -307,7 +307,7 @@ module _ (S : Setup) (written : List ℕ) (events : List Event) where
         let d = b.dump in
         let h = b.holds in
         let at = held_at S rooms d.connections (flow / 2) old h.connections here in
-        let parity = parity_of flow in
+        let side = side_of flow in
         let total = ends at.connection at.holds in
         let behind = closed_in S d flow cause (Some at.connection) in
         let step : Step S d (Closes flow cause) behind =
@@ -319,7 +319,7 @@ module _ (S : Setup) (written : List ℕ) (events : List Event) where
         } in
         told_or_front r d behind (Closes flow cause) rooms out' arrival streams messages' faults'
         cut'
-        (stream_tag (side parity at.connection).stream) (closed_lines S parity cause at.connection)
+        (stream_tag (half side at.connection).stream) (closed_lines S side cause at.connection)
         b.leads step refl
         (λ ready. record {
           connections = h.connections;
@@ -337,8 +337,8 @@ module _ (S : Setup) (written : List ℕ) (events : List Event) where
         Before →
         slice_get rooms (flow / 2) ≡ Some old →
         ((c : Connection) (w : List ℕ) → HoldsConnection S old c → IsReady out w →
-        WroteTaggedFront out' w (stream_tag (side (parity_of flow) c).stream)
-        (closed_lines S (parity_of flow) cause c)) →
+        WroteTaggedFront out' w (stream_tag (half (side_of flow) c).stream)
+        (closed_lines S (side_of flow) cause c)) →
         HasToldFront S written (events ++ Closes flow cause ∷ []) out'
     closed_front flow cause old out' b here writes =
         let d = b.dump in
@@ -355,8 +355,8 @@ module _ (S : Setup) (written : List ℕ) (events : List Event) where
                     ap (closed_in S d flow cause) (sym at.is);
               });
           before = d.text;
-          tag = stream_tag (side (parity_of flow) at.connection).stream;
-          lines = closed_lines S (parity_of flow) cause at.connection;
+          tag = stream_tag (half (side_of flow) at.connection).stream;
+          lines = closed_lines S (side_of flow) cause at.connection;
           text = refl;
           front = writes at.connection d.text at.holds h.ready;
         }
