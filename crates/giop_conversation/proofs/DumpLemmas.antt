@@ -1,37 +1,34 @@
 -- What connections hold of a dump, behind one more event.
-use Rattle.std.proofs.Common.{◌≡◌, ℕ, zero, suc, Bool, true, false, List, [], ◌∷◌, ◌++◌, Option, Some, None, refl, sym, ap, subst, ◌∙◌, slice_get, set, replicate, ◌==◌, Result, Ok, Err, MatchResult}
-use Rattle.giop_sig.specs.Table.{Table}
+use Rattle.std.proofs.Common.{arith, ◌≡◌, ℕ, zero, suc, Bool, true, false, List, [], ◌∷◌, ◌++◌, Some, None, refl, ap, ◌∙◌, slice_get, set, replicate, ◌==◌, Result, MatchResult}
 use Rattle.tcp_flow.specs.Flow.{Event}
 use Rattle.giop_message.specs.Signatures.{Answers}
 use Rattle.giop_stream.specs.EngineHolds.{HoldsBy, rules_with}
-use Rattle.giop_stream.specs.Rules.{Rules, rules_by}
 use Rattle.giop_stream.specs.Stream.{closing}
 use Rattle.giop_stream.specs.AnswersAgree.{AnswersAgree}
 use Rattle.giop_stream.specs.HeaderEndsOfStream.{header_ends_from}
 use Rattle.giop_message.specs.HeaderEnds.{AgreesAtEnds}
 use Rattle.tcp_flow.specs.declared.flow.CloseCause.{CloseCause}
 use Rattle.giop_conversation.specs.declared.arrival.Arrival.{Arrival}
-use Rattle.giop_conversation.specs.declared.conversation.Parity.{Parity}
-use Rattle.giop_conversation.specs.declared.conversation.Parity.TheVariants.{Even, Odd}
+use Rattle.giop_conversation.specs.declared.conversation.Side.{Side}
+use Rattle.giop_conversation.specs.declared.conversation.Side.TheVariants.{Even, Odd}
 use Rattle.giop_conversation.specs.declared.conversation.Conversation.{Conversation}
 use Rattle.giop_conversation.specs.Tags.{tagged, with_tags, stream_tag}
-use Rattle.giop_conversation.specs.TaggedState.{Tagging, IsReady, WroteTaggedFront}
+use Rattle.giop_conversation.specs.TaggedState.{Tagging, WroteTaggedFront}
 use Rattle.giop_conversation.specs.Lines.{closed_line}
 use Rattle.giop_conversation.specs.Stamped.{stamped, exchanged}
 use Rattle.giop_conversation.specs.Exchanges.{Exchanged, answer_of, notified}
 use Rattle.giop_conversation.specs.Directions.{DirectionView}
 use Rattle.giop_conversation.specs.StreamReads.{AgreeWith, IsSetAlike, HasStood, WritesTagged, reading_in}
 use Rattle.giop_conversation.specs.Followed.{other, direction}
-use Rattle.giop_conversation.specs.Captured.{Setup, Side, Connection, Dump, Step, Leads, side, calls_in, rules_in, calls_behind, delivered, delivered_lines, IsAnswered}
-use Rattle.giop_conversation.specs.DumpHeld.{HoldsSide, HasCalls, HoldsConnection, ReadsBy, AreHeld}
+use Rattle.giop_conversation.specs.Captured.{Setup, Half, Connection, Dump, Step, Leads, half, calls_in, rules_in, calls_behind, delivered, IsAnswered}
+use Rattle.giop_conversation.specs.DumpHeld.{HoldsHalf, HasCalls, HoldsConnection, ReadsBy, AreHeld}
 
 -- ---- one event more
 
 pub leads_more : (S : Setup) (events : List Event) (d : Dump) (e : Event) (m behind : Dump) →
     Leads S d events m →
     Step S m e behind → Leads S d (events ++ e ∷ []) behind
-leads_more S [] d e m behind leads step =
-    (behind, subst (λ (x : Dump). Step S x e behind) leads step, refl)
+leads_more S [] d e m behind leads step = search (arith)
 leads_more S (e' ∷ es) d e m behind leads step =
     (leads.0, leads.1, leads_more S es leads.0 e m behind leads.2 step)
 
@@ -48,17 +45,8 @@ pub held_at : (S : Setup) (rs : List Conversation) (cs : List Connection) (i : �
 held_at S [] [] i r held is = absurd cc
 held_at S [] (c ∷ cs) i r held is = absurd held
 held_at S (r' ∷ rs) [] i r held is = absurd held
-held_at S (r' ∷ rs) (c ∷ cs) zero r held is =
-    let same : r' ≡ r = cc in
-    record {
-      connection = c;
-      is = refl;
-      holds =
-          subst (λ (x : Conversation). HoldsConnection S x c) same held.0;
-    }
-held_at S (r' ∷ rs) (c ∷ cs) (suc i) r held is =
-    let at = held_at S rs cs i r held.1 is in
-    record { connection = at.connection; is = at.is; holds = at.holds }
+held_at S (r' ∷ rs) (c ∷ cs) zero r held is = search (arith)
+held_at S (r' ∷ rs) (c ∷ cs) (suc i) r held is = search (arith, held_at S rs cs i r held.1 is)
 
 pub none_at : (S : Setup) (rs : List Conversation) (cs : List Connection) (i : ℕ) →
     AreHeld S rs cs → slice_get rs i ≡ None → slice_get cs i ≡ None
@@ -88,41 +76,20 @@ held_push S (r' ∷ rs) (suc n) r c held new = (held.0, held_push S rs n r c hel
 -- ---- the two flows of a connection
 
 -- by its two flows and its calls
-pub holds_by : (S : Setup) (parity : Parity) (r : Conversation) (c : Connection) →
-    r.parity ≡ parity →
-    HoldsSide S (direction parity r) (side parity c) →
-    HoldsSide S (direction (other parity) r) (side (other parity) c) →
-    HasCalls parity r.exchange c → HoldsConnection S r c
-holds_by S Even r c here own opposite calls =
-    record {
-      even = own;
-      odd = opposite;
-      calls =
-          subst (λ (p : Parity). HasCalls p r.exchange c) (sym here) calls;
-    }
-holds_by S Odd r c here own opposite calls =
-    record {
-      even = opposite;
-      odd = own;
-      calls =
-          subst (λ (p : Parity). HasCalls p r.exchange c) (sym here) calls;
-    }
+pub holds_by : (S : Setup) (side : Side) (r : Conversation) (c : Connection) →
+    r.side ≡ side →
+    HoldsHalf S (direction side r) (half side c) →
+    HoldsHalf S (direction (other side) r) (half (other side) c) →
+    HasCalls side r.exchange c → HoldsConnection S r c
+holds_by S Even r c here own opposite calls = search (arith)
+holds_by S Odd r c here own opposite calls = search (arith)
 
 -- the calls as a stream of a flow is read
-pub reading_is : (S : Setup) (parity : Parity) (arrival : Arrival) (c : Connection)
+pub reading_is : (S : Setup) (side : Side) (arrival : Arrival) (c : Connection)
     (d : DirectionView) (s : Exchanged) →
-    HoldsSide S d (side parity c) → HasCalls parity s c →
-    reading_in d.engine d.stream arrival s ≡ calls_in S parity arrival c
-reading_is S parity arrival c d s h k = λ j. record {
-  table = h.table j;
-  own = k.own j;
-  opposite = k.opposite j;
-  stream = h.stream j;
-  arrival = arrival;
-  replied = 0;
-  answered = None;
-  raised = None;
-}
+    HoldsHalf S d (half side c) → HasCalls side s c →
+    reading_in d.engine d.stream arrival s ≡ calls_in S side arrival c
+reading_is S side arrival c d s h k = search (arith)
 
 -- ---- lines without a tag
 
@@ -137,178 +104,78 @@ no_tag_is text = untagged_is text true
 
 -- ---- a connection whose flow closes, or is read
 
-rules_are : (S : Setup) (d : DirectionView) (s : Side) (a : Answers) → HoldsSide S d s →
+rules_are : (S : Setup) (d : DirectionView) (s : Half) (a : Answers) → HoldsHalf S d s →
     rules_with d.engine a ≡ rules_in S a
-rules_are S d s a h = λ j. rules_by (h.table j) a (h.most j)
+rules_are S d s a h = search (arith)
 
-pub close_in : {A E : Type 0} (r : Result A E) (S : Setup) (d : DirectionView) (s : Side)
+pub close_in : {A E : Type 0} (r : Result A E) (S : Setup) (d : DirectionView) (s : Half)
     (cause : CloseCause) (out : Tagging) (w : List ℕ) →
-    HoldsSide S d s →
+    HoldsHalf S d s →
     WritesTagged r out w (stream_tag d.stream)
     (closed_line cause ++ closing (rules_with d.engine s.answers) s.octets) →
     WritesTagged r out w (stream_tag s.stream)
     (closed_line cause ++ closing (rules_in S s.answers) s.octets)
-close_in r S d s cause out w h writes =
-    subst (λ n. WritesTagged r out w (stream_tag n)
-    (closed_line cause ++ closing (rules_in S s.answers) s.octets)) h.stream
-    (subst (λ (R : Rules). WritesTagged r out w (stream_tag d.stream)
-    (closed_line cause ++ closing R s.octets)) (rules_are S d s s.answers h) writes)
+close_in r S d s cause out w h writes = search (arith, rules_are)
 
-delivered_holds : (S : Setup) (parity : Parity) (k : Connection) (a : Answers) (octets : List ℕ)
+delivered_holds : (S : Setup) (side : Side) (k : Connection) (a : Answers) (octets : List ℕ)
     (arrival : Arrival) (new : Conversation) →
-    new.parity ≡ parity → HoldsBy (direction parity new).engine a
-    ((side parity k).octets ++ octets) →
-    (direction parity new).engine.table ≡ S.table →
-    (direction parity new).engine.most ≡ S.messages →
-    (direction parity new).stream ≡ (side parity k).stream →
-    (direction parity new).flow ≡ (side parity k).flow →
-    HoldsSide S (direction (other parity) new) (side (other parity) k) →
-    new.exchange ≡ calls_behind S a parity octets arrival k →
-    HoldsConnection S new (delivered S a parity octets arrival k)
+    new.side ≡ side → HoldsBy (direction side new).engine a
+    ((half side k).octets ++ octets) →
+    (direction side new).engine.table ≡ S.table →
+    (direction side new).engine.most ≡ S.messages →
+    (direction side new).stream ≡ (half side k).stream →
+    (direction side new).flow ≡ (half side k).flow →
+    HoldsHalf S (direction (other side) new) (half (other side) k) →
+    new.exchange ≡ calls_behind S a side octets arrival k →
+    HoldsConnection S new (delivered S a side octets arrival k)
 delivered_holds S Even k a octets arrival new is holds table most stream flow opposite calls =
-    record {
-      even = record { holds = holds; table = table; most = most; stream = stream; flow = flow };
-      odd = record {
-        holds = opposite.holds;
-        table = opposite.table;
-        most = opposite.most;
-        stream = opposite.stream;
-        flow = opposite.flow;
-      };
-      calls = subst (λ (p : Parity). HasCalls p new.exchange (delivered S a Even octets arrival k))
-          (sym is)
-          (record {
-            own = ap (λ (x : Exchanged). x.own) calls;
-            opposite =
-                ap (λ (x : Exchanged). x.opposite) calls;
-          });
-    }
+    search (arith)
 delivered_holds S Odd k a octets arrival new is holds table most stream flow opposite calls =
-    record {
-      even = record {
-        holds = opposite.holds;
-        table = opposite.table;
-        most = opposite.most;
-        stream = opposite.stream;
-        flow = opposite.flow;
-      };
-      odd = record { holds = holds; table = table; most = most; stream = stream; flow = flow };
-      calls = subst (λ (p : Parity). HasCalls p new.exchange (delivered S a Odd octets arrival k))
-          (sym is) (record {
-            own = ap (λ (x : Exchanged). x.own) calls;
-            opposite =
-                ap (λ (x : Exchanged). x.opposite) calls;
-          });
-    }
+    search (arith)
 
 -- the answers of a stream, and what the reading of it asks of them
-pub record GoesOn (S : Setup) (k : Connection) (parity : Parity) (octets : List ℕ)
+pub record GoesOn (S : Setup) (k : Connection) (side : Side) (octets : List ℕ)
     (arrival : Arrival) (d : DirectionView)
     (t : Exchanged) (a : Answers) : Type 0 where
-  pub answered : IsAnswered S a parity octets arrival k
-  pub holds : HoldsBy d.engine a (side parity k).octets
-  pub agrees : AgreeWith d.engine a (reading_in d.engine d.stream arrival t) (side parity k).octets
+  pub answered : IsAnswered S a side octets arrival k
+  pub holds : HoldsBy d.engine a (half side k).octets
+  pub agrees : AgreeWith d.engine a (reading_in d.engine d.stream arrival t) (half side k).octets
       octets
 
-pub goes_on_by : (S : Setup) (k : Connection) (parity : Parity) (octets : List ℕ)
+pub goes_on_by : (S : Setup) (k : Connection) (side : Side) (octets : List ℕ)
     (arrival : Arrival) (d : DirectionView) (t : Exchanged)
-    (a : Answers) → HoldsSide S d (side parity k) → HasCalls parity t k →
-    (AnswersAgree d.engine.most (side parity k).octets (side parity k).answers a →
-    HoldsBy d.engine (side parity k).answers (side parity k).octets →
-    HoldsBy d.engine a (side parity k).octets) →
-    AnswersAgree S.messages (side parity k).octets (side parity k).answers a →
-    AgreesAtEnds answer_of notified S.table (calls_in S parity arrival k) a
-    (header_ends_from (rules_in S a) (side parity k).octets octets) →
-    GoesOn S k parity octets arrival d t a
-goes_on_by S k parity octets arrival d t a h calls held before now =
-    let p = (side parity k).octets in
-    let starts = reading_is S parity arrival k d t h calls in
-    record {
-      answered = record { before = before; now = now };
-      holds = held (subst (λ n. AnswersAgree n p (side parity k).answers a) (sym h.most) before)
-          h.holds;
-      agrees =
-          subst (λ (C : Table). AgreesAtEnds answer_of notified C
-          (reading_in d.engine d.stream arrival t) a
-          (header_ends_from (rules_with d.engine a) p octets)) (sym h.table)
-          (subst (λ (R : Rules). AgreesAtEnds answer_of notified S.table
-          (reading_in d.engine d.stream arrival t) a (header_ends_from R p octets))
-          (sym (rules_are S d (side parity k) a h))
-          (subst (λ (x : Exchanged). AgreesAtEnds answer_of notified S.table x a
-          (header_ends_from (rules_in S a) p octets)) (sym starts) now));
-    }
+    (a : Answers) → HoldsHalf S d (half side k) → HasCalls side t k →
+    (AnswersAgree d.engine.most (half side k).octets (half side k).answers a →
+    HoldsBy d.engine (half side k).answers (half side k).octets →
+    HoldsBy d.engine a (half side k).octets) →
+    AnswersAgree S.messages (half side k).octets (half side k).answers a →
+    AgreesAtEnds answer_of notified S.table (calls_in S side arrival k) a
+    (header_ends_from (rules_in S a) (half side k).octets octets) →
+    GoesOn S k side octets arrival d t a
+goes_on_by S k side octets arrival d t a h calls held before now = search (
+  arith,
+  reading_is,
+  rules_are,
+)
 
-pub reads_by : {A E : Type 0} (r : Result A E) (S : Setup) (k : Connection) (parity : Parity)
+pub reads_by : {A E : Type 0} (r : Result A E) (S : Setup) (k : Connection) (side : Side)
     (octets : List ℕ) (arrival : Arrival)
     (w : List ℕ) (new : Conversation) (out : Tagging) (d : DirectionView) (t : Exchanged)
     (a : Answers) →
-    HoldsSide S d (side parity k) → HasCalls parity t k → GoesOn S k parity octets arrival d t a →
-    new.parity ≡ parity →
-    IsSetAlike (direction parity new).engine d.engine → (direction parity new).stream ≡ d.stream →
-    (direction parity new).flow ≡ d.flow →
-    HoldsSide S (direction (other parity) new) (side (other parity) k) →
+    HoldsHalf S d (half side k) → HasCalls side t k → GoesOn S k side octets arrival d t a →
+    new.side ≡ side →
+    IsSetAlike (direction side new).engine d.engine → (direction side new).stream ≡ d.stream →
+    (direction side new).flow ≡ d.flow →
+    HoldsHalf S (direction (other side) new) (half (other side) k) →
     MatchResult r
-    (λ _. HasStood (direction parity new).engine a ((side parity k).octets ++ octets) out
+    (λ _. HasStood (direction side new).engine a ((half side k).octets ++ octets) out
     (w ++ with_tags (stream_tag d.stream) (stamped (rules_with d.engine a)
-    (reading_in d.engine d.stream arrival t) (side parity k).octets octets))
+    (reading_in d.engine d.stream arrival t) (half side k).octets octets))
     new.exchange (exchanged (rules_with d.engine a) (reading_in d.engine d.stream arrival t)
-    (side parity k).octets octets))
+    (half side k).octets octets))
     (λ _. WroteTaggedFront out w (stream_tag d.stream)
     (stamped (rules_with d.engine a) (reading_in d.engine d.stream arrival t)
-    (side parity k).octets octets)) →
-    ReadsBy S k parity octets arrival w r new out
-reads_by r S k parity octets arrival w new out d t a h calls on is alike stream flow opposite
-    reads =
-    record { answers = a; answered = on.answered; reads = by r reads }
-  where
-    R : Rules
-    R = rules_in S a
-
-    starts : reading_in d.engine d.stream arrival t ≡ calls_in S parity arrival k
-    starts = reading_is S parity arrival k d t h calls
-
-    lines : stamped (rules_with d.engine a) (reading_in d.engine d.stream arrival t)
-        (side parity k).octets octets ≡ delivered_lines S a parity octets arrival k
-    lines = ap (λ (Q : Rules). stamped Q (reading_in d.engine d.stream arrival t)
-        (side parity k).octets octets) (rules_are S d (side parity k) a h)
-        ∙ ap (λ (x : Exchanged). stamped R x (side parity k).octets octets) starts
-
-    behind : exchanged (rules_with d.engine a) (reading_in d.engine d.stream arrival t)
-        (side parity k).octets octets ≡ calls_behind S a parity octets arrival k
-    behind = ap (λ (Q : Rules). exchanged Q (reading_in d.engine d.stream arrival t)
-        (side parity k).octets octets) (rules_are S d (side parity k) a h)
-        ∙ ap (λ (x : Exchanged). exchanged R x (side parity k).octets octets) starts
-
-    tag : stream_tag d.stream ≡ stream_tag (side parity k).stream
-    tag = ap stream_tag h.stream
-
-    by : {A E : Type 0} (r : Result A E) →
-        MatchResult r
-        (λ _. HasStood (direction parity new).engine a ((side parity k).octets ++ octets) out
-        (w ++ with_tags (stream_tag d.stream)
-        (stamped (rules_with d.engine a) (reading_in d.engine d.stream arrival t)
-        (side parity k).octets octets))
-        new.exchange (exchanged (rules_with d.engine a) (reading_in d.engine d.stream arrival t)
-        (side parity k).octets octets))
-        (λ _. WroteTaggedFront out w (stream_tag d.stream)
-        (stamped (rules_with d.engine a) (reading_in d.engine d.stream arrival t)
-        (side parity k).octets octets)) →
-        MatchResult r
-        (λ _. HoldsConnection S new (delivered S a parity octets arrival k)
-        × IsReady out (w ++ with_tags (stream_tag (side parity k).stream)
-        (delivered_lines S a parity octets arrival k)))
-        (λ _. WroteTaggedFront out w (stream_tag (side parity k).stream)
-        (delivered_lines S a parity octets arrival k))
-    by (Ok v) stood = (
-      delivered_holds S parity k a octets arrival new is stood.holds (alike.table ∙ h.table)
-          (alike.most ∙ h.most) (stream ∙ h.stream) (flow ∙ h.flow)
-          opposite (stood.told ∙ behind),
-      subst (λ (g : List ℕ). IsReady out (w
-          ++ with_tags g (delivered_lines S a parity octets arrival k))) tag
-          (subst (λ (l : List ℕ). IsReady out (w ++ with_tags (stream_tag d.stream) l)) lines
-          stood.ready),
-    )
-    by (Err v) front =
-        subst (λ (g : List ℕ). WroteTaggedFront out w g (delivered_lines S a parity octets arrival
-        k)) tag
-        (subst (λ (l : List ℕ). WroteTaggedFront out w (stream_tag d.stream) l) lines front)
+    (half side k).octets octets)) →
+    ReadsBy S k side octets arrival w r new out
+reads_by r S k side octets arrival w new out d t a h calls on is alike stream flow opposite reads
+    = search (arith, reading_is, rules_are, delivered_holds)

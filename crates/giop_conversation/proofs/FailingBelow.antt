@@ -8,8 +8,7 @@ pub lost : (most before between after since few more : ℕ) → between ≡ befo
     (after ≡ counted between) ⊎ (most < since + few) →
     (after ≡ counted before) ⊎ (most < since + more)
 lost most before between after since few more same within (inl one) = inl (one ∙ ap counted same)
-lost most before between after since few more same within (inr full) =
-    inr (omega (arith, within, full))
+lost most before between after since few more same within (inr full) = search (arith)
 
 pub loses_on : {A E : Type 0} (r : Result A E) (before between after : ℕ) (Other : Type 0) →
     between ≡ before → Loses r between after Other → Loses r before after Other

@@ -1,5 +1,5 @@
 -- What an engine and an out with tags do where a put fails.
-use Rattle.std.proofs.Common.{◌≡◌, ℕ, zero, suc, ◌<◌, true, false, List, Result, Ok, Err, refl, sym, ◌∙◌, arith}
+use Rattle.std.proofs.Common.{◌≡◌, ℕ, zero, suc, ◌<◌, true, false, List, Result, Ok, Err, refl, ◌∙◌, arith}
 use Rattle.std.proofs.lemmas.Bool.{false≢true}
 use Rattle.giop_print.specs.Output.{OutLog, counted}
 use Rattle.giop_stream.specs.declared.fault.Stop.{Stop}
@@ -15,8 +15,7 @@ pub stop_counts : (A : Type 0) (why : Stop) (before after : OutLog) (due : List 
     (e e' : EngineView) → e.failed ≡ false → Leaves {A = A} (Err why) e e' →
     StopWrites {A = A} (Err why) before after due → after.failures ≡ counted before.failures
 stop_counts A (stop.Out f) before after due e e' sound leaves writes = writes.failures
-stop_counts A stop.Failed before after due e e' sound leaves writes =
-    absurd (false≢true (sym sound ∙ leaves.0))
+stop_counts A stop.Failed before after due e e' sound leaves writes = search (arith, false≢true)
 
 -- a put that fails is counted
 pub counted_more : (n : ℕ) → 0 < counted n
@@ -29,8 +28,7 @@ pub closing_counts : (A : Type 0) (why : Stop) (before after : OutLog) (due : Li
     ((let failed : Result A Stop = Err stop.Failed in Err why ≡ failed) → e.failed ≡ true) →
     StopWrites {A = A} (Err why) before after due → after.failures ≡ counted before.failures
 closing_counts A (stop.Out f) before after due e sound only writes = writes.failures
-closing_counts A stop.Failed before after due e sound only writes =
-    absurd (false≢true (sym sound ∙ only refl))
+closing_counts A stop.Failed before after due e sound only writes = search (arith, false≢true)
 
 -- what writes lines fails by a put
 pub by_writes : {A E : Type 0} (r : Result A E) (before after : Tagging) (due : List ℕ) →
@@ -42,8 +40,8 @@ by_writes (Err e) before after due writes = writes.failures
 pub once : {A E : Type 0} (r : Result A E) (before after : Tagging) → before.failures ≡ 0 →
     FailsByPut r before after → FailsOnce r after
 once (Ok x) before after none fails = fails ∙ none
-once (Err e) before after none fails = rw fails (counted_more before.failures)
+once (Err e) before after none fails = search (arith, counted_more)
 
 pub none_failed : (n : ℕ) → (0 < n → false ≡ true) → n ≡ 0
 none_failed zero h = refl
-none_failed (suc n) h = absurd (false≢true (h (omega arith)))
+none_failed (suc n) h = search (arith, false≢true)

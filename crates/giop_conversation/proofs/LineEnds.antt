@@ -1,7 +1,7 @@
 -- All that is written is whole lines.
-use Rattle.std.proofs.Common.{◌≡◌, ℕ, Bool, true, List, [], ◌∷◌, ◌++◌, length, drop, flat_map, Option, Some, None, refl, sym, ap, ◌∙◌, codes, decimal, if◌then◌else◌}
+use Rattle.std.proofs.Common.{arith, ◌≡◌, ℕ, Bool, true, List, [], ◌∷◌, ◌++◌, length, drop, flat_map, Option, Some, None, refl, sym, ap, ◌∙◌, codes, decimal, if◌then◌else◌}
 use Rattle.giop_print.specs.Text.{joined}
-use Rattle.giop_print.specs.Lines.{order_word, type_word, more_word, start_line, fault_line, stream_fault_line, continues_line, cancelled_line, unfinished_line, total_line}
+use Rattle.giop_print.specs.Lines.{order_word, type_word, more_word, start_line, fault_line, stream_fault_line, continues_line, cancelled_line, total_line}
 use Rattle.giop_message.specs.Headers.{minor, order, kind, size, has_more}
 use Rattle.giop_message.specs.MessageReader.{LineClass, Value, Call, Rest, Fault, End}
 use Rattle.giop_message.specs.Text.{numbered_line, line_class_text}
@@ -12,7 +12,7 @@ use Rattle.giop_stream.specs.HeaderOctets.{fronts, wrong, first_wrong, first_wro
 use Rattle.giop_stream.specs.Framing.{limit, limited, cut_from, cut}
 use Rattle.giop_stream.specs.Lines.{Content, Started, Said, ContinuesMessage, CancelledBy, Faulted, Stopped, Line, in_order, up_to_last_line, lines_of_messages, stop_line, lines}
 use Rattle.giop_stream.specs.Text as stream
-use Rattle.giop_stream.specs.Stream.{text, closing, is_truncated, unfinished, final}
+use Rattle.giop_stream.specs.Stream.{text, closing}
 use Rattle.giop_stream.specs.EngineHolds.{added}
 use Rattle.giop_stream.proofs.StreamLaws.{added_both_by}
 use Rattle.giop_calls.specs.declared.calls.Call.{Call as OutstandingCall}
@@ -38,7 +38,7 @@ ends_joined first (x ∷ xs) = ends_append first x (joined (xs ++ codes "\n" ∷
 
 -- some lines and then others
 pub ends_both : (xs ys : List ℕ) → is_due xs ≡ true → is_due ys ≡ true → is_due (xs ++ ys) ≡ true
-ends_both xs ys first second = ends_append true xs ys ∙ (ap (λ b. ends_line b ys) first ∙ second)
+ends_both xs ys first second = search (arith, ends_append)
 
 pub none_ends : is_due [] ≡ true
 unfolding ends_line
@@ -89,17 +89,15 @@ class_ends place number End text = numbered_ends number text
 content_ends : (place number : ℕ) (content : Content) →
     is_due (stream.content_line place number content) ≡ true
 content_ends place number (Started header) = start_ends number header
-content_ends place number (Said line_class text) = class_ends place number line_class text
+content_ends place number (Said line_class text) = search (arith, class_ends)
 content_ends place number (ContinuesMessage i) = continues_ends number i
 content_ends place number (CancelledBy j) = cancelled_ends number j
-content_ends place number (Faulted fault) =
-    fault_ends number (stream.framing_fault_word fault) place
-content_ends place number (Stopped fault) = stream_fault_ends (stream.stream_word fault) place
+content_ends place number (Faulted fault) = search (arith, fault_ends)
+content_ends place number (Stopped fault) = search (arith, stream_fault_ends)
 
 all_end : (ls : List Line) → is_due (flat_map stream.line_text ls) ≡ true
 all_end [] = none_ends
-all_end (l ∷ ls) = ends_both (stream.line_text l) (flat_map stream.line_text ls)
-    (content_ends l.place l.number l.content) (all_end ls)
+all_end (l ∷ ls) = search (arith, ends_both, flat_map, content_ends, all_end ls)
 
 text_ends : (R : Rules) (p : List ℕ) → is_due (text R p) ≡ true
 unfolding text stream.lines_text
@@ -137,14 +135,7 @@ total_ends first messages faults octets =
 
 pub closing_ends : (R : Rules) (p : List ℕ) → is_due (closing R p) ≡ true
 unfolding closing
-closing_ends R p =
-    let truncated = if is_truncated (cut p) then stream.truncated_line (length p) else [] in
-    let open_ones = flat_map unfinished_line (unfinished R p) in
-    let total = total_line (final R p).messages (final R p).faults (final R p).octets in
-    ends_append true truncated (open_ones ++ total)
-    ∙ (ends_append (ends_line true truncated) open_ones total
-    ∙ total_ends (ends_line (ends_line true truncated) open_ones) (final R p).messages
-    (final R p).faults (final R p).octets)
+closing_ends R p = search (arith, flat_map, ends_append, total_ends)
 
 -- ---- the lines of a capture
 
@@ -193,8 +184,7 @@ capture_total_ends streams messages faults packets octets =
 
 pub closing_lines_end : (R : Rules) (p : List ℕ) (cause : CloseCause) →
     is_due (closed_line cause ++ closing R p) ≡ true
-closing_lines_end R p cause = ends_both (closed_line cause) (closing R p) (closed_line_ends cause)
-    (closing_ends R p)
+closing_lines_end R p cause = search (arith, ends_both, closed_line_ends, closing_ends)
 
 -- ---- the lines that are due behind octets
 
@@ -205,11 +195,11 @@ time_due_ends (Some message) arrival = time_line_ends message arrival
 answers_due_ends : (answered : Option Answering) (time : Option ℕ) →
     is_due (answers_due answered time) ≡ true
 answers_due_ends None time = none_ends
-answers_due_ends (Some a) time = answers_line_ends a.message a.call time
+answers_due_ends (Some a) time = search (arith, answers_line_ends)
 
 raises_due_ends : (raised : Option Raising) → is_due (raises_due raised) ≡ true
 raises_due_ends None = none_ends
-raises_due_ends (Some r) = raises_line_ends r.message r.name
+raises_due_ends (Some r) = search (arith, raises_line_ends)
 
 pub lines_due_end : (R : Rules) (s : Exchanged) (p octets : List ℕ) →
     is_due (lines_due R s p octets) ≡ true

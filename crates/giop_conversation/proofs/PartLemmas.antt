@@ -1,5 +1,5 @@
 -- Lines of a stream in a capture as parts of its text.
-use Rattle.std.proofs.Common.{◌≡◌, ℕ, ◌==◌, true, false, List, [], ◌∷◌, ◌++◌, drop, length, map, flat_map, Option, Some, None, refl, sym, ap, subst, ◌∙◌, append-nil}
+use Rattle.std.proofs.Common.{arith, ◌≡◌, ℕ, ◌==◌, true, false, List, [], ◌∷◌, ◌++◌, drop, map, flat_map, Option, Some, None, refl, subst, ◌∙◌, append-nil}
 use Rattle.std.specs.List.{AllByRecursion as Each}
 use Rattle.std.proofs.Math.Seq.{drop-length}
 use Rattle.std.proofs.lemmas.Bool.{eq-eqb}
@@ -34,7 +34,7 @@ pub record AreParts (lines reads own : List ℕ) : Type 0 where
   pub own_are : flat_map own_lines parts ≡ own
 
 pub none : AreParts [] [] []
-none = record { parts = []; whole = tt; lines_are = refl; reads_are = refl; own_are = refl }
+none = search (arith)
 
 pub one : (part : StreamPart) → is_due (lines_of part) ≡ true →
     AreParts (lines_of part) (read_lines part) (own_lines part)
@@ -54,22 +54,16 @@ each_both P (x ∷ xs) ys first second = (first.0, each_both P xs ys first.1 sec
 flat_both : {X : Type 0} (f : X → List ℕ) (xs ys : List X) (a b : List ℕ) → flat_map f xs ≡ a →
     flat_map f ys ≡ b →
     flat_map f (xs ++ ys) ≡ a ++ b
-flat_both f xs ys a b first second = rw (flat_map-append f xs ys, first, second) refl
+flat_both f xs ys a b first second = search (arith, flat_map-append)
 
 pub both : (l r o l' r' o' : List ℕ) → AreParts l r o → AreParts l' r' o' →
     AreParts (l ++ l') (r ++ r') (o ++ o')
-both l r o l' r' o' a b = record {
-  parts = a.parts ++ b.parts;
-  whole = each_both (λ part. is_due (lines_of part) ≡ true) a.parts b.parts a.whole b.whole;
-  lines_are = flat_both lines_of a.parts b.parts l l' a.lines_are b.lines_are;
-  reads_are = flat_both read_lines a.parts b.parts r r' a.reads_are b.reads_are;
-  own_are = flat_both own_lines a.parts b.parts o o' a.own_are b.own_are;
-}
+both l r o l' r' o' a b = search (arith, each_both, flat_both)
 
 -- ---- parts of the text
 
 pub whole_both : (xs ys : List Part) → Each IsWhole xs → Each IsWhole ys → Each IsWhole (xs ++ ys)
-whole_both xs ys first second = each_both IsWhole xs ys first second
+whole_both xs ys first second = search (arith, each_both)
 
 pub are_whole : (number : ℕ) (parts : List StreamPart) →
     Each (λ part. is_due (lines_of part) ≡ true) parts →
@@ -84,18 +78,14 @@ no_tags tag = refl
 pub text_is : (number : ℕ) (parts : List StreamPart) →
     Each (λ part. is_due (lines_of part) ≡ true) parts →
     text_of (map (OfStream number) parts) ≡ with_tags (stream_tag number) (flat_map lines_of parts)
-text_is number [] whole = sym (no_tags (stream_tag number))
-text_is number (x ∷ xs) whole =
-    let tag = stream_tag number in
-    ap (λ (t : List ℕ). with_tags tag (lines_of x) ++ t) (text_is number xs whole.1)
-    ∙ sym (joined tag (lines_of x) (flat_map lines_of xs) whole.0)
+text_is number [] whole = search (arith, no_tags)
+text_is number (x ∷ xs) whole = search (arith, joined, flat_map, text_is number xs whole.1)
 
 -- of the stream of the number they are all, and of another one none
 pub of_it : (f : StreamPart → List ℕ) (number : ℕ) (parts : List StreamPart) →
     flat_map (of_stream f number) (map (OfStream number) parts) ≡ flat_map f parts
 of_it f number [] = refl
-of_it f number (x ∷ xs) =
-    rw (eq-eqb number number refl) (ap (λ (t : List ℕ). f x ++ t) (of_it f number xs))
+of_it f number (x ∷ xs) = search (arith, eq-eqb, of_it f number xs)
 
 pub of_another : (f : StreamPart → List ℕ) (number other : ℕ) (parts : List StreamPart) →
     (number == other) ≡ false →
@@ -147,8 +137,7 @@ module _ (C : Table) (a : Answers) (most : ℕ) where
 
   none_added : (p : List ℕ) → added R p [] ≡ []
   unfolding added
-  none_added p = ap (λ (q : List ℕ). drop (length (text R p)) (text R q)) (append-nil p)
-      ∙ drop-length (text R p)
+  none_added p = search (arith, drop, append-nil, drop-length)
 
   octet_parts : (s : Exchanged) (p : List ℕ) (x : ℕ) →
       AreParts (added R p (x ∷ []) ++ lines_due R s p (x ∷ [])) (added R p (x ∷ []))

@@ -3,7 +3,7 @@
 use Rattle.std.specs.Prelude.{◌⊎◌, ◌||◌, is_some}
 use Rattle.std.proofs.lemmas.Bool.{cases_lt, le-ltb, false≢true}
 use Rattle.std.proofs.lemmas.List.{drop_all}
-use Rattle.std.proofs.Common.{◌≡◌, inl, inr, ℕ, zero, suc, ◌<◌, ◌≤◌, Bool, true, false, take, drop, List, [], ◌∷◌, ◌++◌, length, Option, Some, None, refl, sym, ap, subst, ◌∙◌, arith, append-nil, append_assoc, nat_lt}
+use Rattle.std.proofs.Common.{◌≡◌, ℕ, zero, suc, ◌<◌, ◌≤◌, Bool, true, false, take, drop, List, [], ◌∷◌, ◌++◌, length, Option, Some, None, refl, sym, ap, subst, ◌∙◌, arith, append-nil, append_assoc, nat_lt}
 use Rattle.giop_sig.specs.Table.{Table}
 use Rattle.giop_message.specs.Signatures.{Answers}
 use Rattle.giop_message.specs.HeaderEnds.{HeaderEnd, Header_end, Exception_end, IsAnswered, CallEvent, Requested, Replied, Raised, call_event, after_event, after_ends, AgreesAtEnds}
@@ -14,9 +14,7 @@ use Rattle.giop_stream.specs.EngineHolds.{added}
 use Rattle.giop_stream.specs.DueOctets.{begins_in, begun_in, is_due_after}
 use Rattle.giop_stream.specs.Framing.{cut, messages}
 use Rattle.giop_stream.proofs.StreamLaws.{added_both_by, header_ends_both, messages_grow}
-use Rattle.giop_conversation.specs.declared.arrival.Arrival.{Arrival}
 use Rattle.giop_conversation.specs.Exchanges.{Exchanged, Answering, Raising, answer_of, notified, is_waiting}
-use Rattle.giop_stream.specs.Stream.{text}
 use Rattle.giop_conversation.specs.Stamped.{answers_due, raises_due, told, taken, lines_due, exchanged, stamped}
 
 -- ---- in two parts
@@ -24,7 +22,7 @@ use Rattle.giop_conversation.specs.Stamped.{answers_due, raises_due, told, taken
 pub exchanged_both : (R : Rules) (q : List ℕ) (s : Exchanged) (p r : List ℕ) →
     exchanged R s p (q ++ r) ≡ exchanged R (exchanged R s p q) (p ++ q) r
 unfolding exchanged
-exchanged_both R [] s p r = ap (λ (f : List ℕ). exchanged R s f r) (sym (append-nil p))
+exchanged_both R [] s p r = search (arith, append-nil)
 exchanged_both R (x ∷ xs) s p r =
     let s' = taken (told R s p (x ∷ [])) in
     exchanged_both R xs s' (p ++ x ∷ []) r
@@ -34,7 +32,7 @@ exchanged_both R (x ∷ xs) s p r =
 pub stamped_both : (R : Rules) (q : List ℕ) (s : Exchanged) (p r : List ℕ) →
     stamped R s p (q ++ r) ≡ stamped R s p q ++ stamped R (exchanged R s p q) (p ++ q) r
 unfolding stamped exchanged
-stamped_both R [] s p r = ap (λ (f : List ℕ). stamped R s f r) (sym (append-nil p))
+stamped_both R [] s p r = search (arith, append-nil)
 stamped_both R (x ∷ xs) s p r =
     let s' = taken (told R s p (x ∷ [])) in
     let first = added R p (x ∷ []) ++ lines_due R s p (x ∷ []) in
@@ -99,7 +97,7 @@ pub record IsTaken (s : Exchanged) : Type 0 where
   pub raised : s.raised ≡ None
 
 pub taken_stays : (s : Exchanged) → IsTaken s → taken s ≡ s
-taken_stays s none = λ j. record s { answered = sym none.answered j; raised = sym none.raised j }
+taken_stays s none = search (arith)
 
 pub exchanged_taken : (R : Rules) (octets : List ℕ) (s : Exchanged) (p : List ℕ) → IsTaken s →
     IsTaken (exchanged R s p octets)
@@ -150,24 +148,19 @@ pub agrees_then : (R : Rules) (C : Table) (a : Answers) (s : Exchanged) (p q r :
     s.table ≡ C →
     AgreesAtEnds answer_of notified C s a (header_ends_from R p (q ++ r)) →
     AgreesAtEnds answer_of notified C (taken (told R s p q)) a (header_ends_from R (p ++ q) r)
-agrees_then R C a s p q r table agrees =
-    let both = subst (λ (es : List HeaderEnd). AgreesAtEnds answer_of notified C s a es)
-    (header_ends_both R p q r) agrees in
-    let behind = answers_then answer_of notified C s a (header_ends_from R p q)
-    (header_ends_from R (p ++ q) r) both in
-    agrees_otherwise C a (header_ends_from R (p ++ q) r) (told R s p q) None None
-    (subst (λ (D : Table). AgreesAtEnds answer_of notified C
-    (after_ends notified D s (header_ends_from R p q)) a (header_ends_from R (p ++ q) r))
-    (sym table) behind)
+agrees_then R C a s p q r table agrees = search (
+  arith,
+  header_ends_both,
+  answers_then,
+  agrees_otherwise,
+)
 
 pub agrees_behind : (R : Rules) (C : Table) (a : Answers) (q : List ℕ) (s : Exchanged)
     (p r : List ℕ) → s.table ≡ C →
     AgreesAtEnds answer_of notified C s a (header_ends_from R p (q ++ r)) →
     AgreesAtEnds answer_of notified C (exchanged R s p q) a (header_ends_from R (p ++ q) r)
 unfolding exchanged
-agrees_behind R C a [] s p r table agrees =
-    subst (λ (f : List ℕ). AgreesAtEnds answer_of notified C s a (header_ends_from R f r))
-    (sym (append-nil p)) agrees
+agrees_behind R C a [] s p r table agrees = search (arith, append-nil)
 agrees_behind R C a (x ∷ xs) s p r table agrees =
     let s' = taken (told R s p (x ∷ [])) in
     subst (λ (f : List ℕ). AgreesAtEnds answer_of notified C (exchanged R s' (p ++ x ∷ []) xs) a
@@ -197,23 +190,17 @@ none_of (Some x) e = absurd (false≢true (sym e))
 
 -- where no Reply waits
 waits_not : (s : Exchanged) → is_waiting s ≡ false → IsTaken s
-waits_not s e = (let both = both_false (is_some s.answered) (is_some s.raised) e in
-    record { answered = none_of s.answered both.0; raised = none_of s.raised both.1 })
+waits_not s e = search (arith, both_false, none_of)
 
 pub not_waiting : (s : Exchanged) → IsTaken s → is_waiting s ≡ false
-not_waiting s none = rw (none.answered, none.raised) refl
+not_waiting s none = search (arith)
 
 not_less : (m n : ℕ) → nat_lt m n ≡ false → n ≤ m
-not_less m n e = go (cases_lt m n)
-  where
-    go : (m < n) ⊎ (n ≤ m) → n ≤ m
-    go (inl less) = grind (arith, e, less)
-    go (inr most) = most
+not_less m n e = search (arith, cases_lt)
 
 pub none_due : (s : Exchanged) (time : Option ℕ) → IsTaken s → answers_due s.answered time
     ++ raises_due s.raised ≡ []
-none_due s time none = ap (λ (o : Option Answering). answers_due o time ++ raises_due s.raised)
-    none.answered ∙ ap raises_due none.raised
+none_due s time none = search (arith)
 
 module _ (C : Table) (a : Answers) (most : ℕ) where
   abbrev R : Rules
@@ -223,27 +210,17 @@ module _ (C : Table) (a : Answers) (most : ℕ) where
   nothing_due : (s : Exchanged) (p octets : List ℕ) → begins_in p octets ≡ false →
       IsTaken (told R s p octets) → lines_due R s p octets ≡ []
   unfolding lines_due
-  nothing_due s p octets none_begin behind =
-      rw none_begin (none_due (told R s p octets) s.arrival.time behind)
+  nothing_due s p octets none_begin behind = search (arith, none_due)
 
   -- after the octets of a front
   undue_front : (s : Exchanged) (p octets : List ℕ) → s.table ≡ C →
       is_due_after is_waiting notified true C s R p octets ≡ false →
       IsTaken (told R s p octets) × (begins_in p octets ≡ false)
-  undue_front s p octets table undue =
-      let both = both_false _ (begins_in p octets) undue in (
-        waits_not (told R s p octets) (ap (λ (D : Table). is_waiting
-            (after_ends notified D s (header_ends_from R p octets))) table ∙ both.0),
-        both.1,
-      )
+  undue_front s p octets table undue = search (arith, both_false, waits_not)
 
   -- as many have begun before it
   same_begun : (p q : List ℕ) → begins_in p q ≡ false → Begun (p ++ q) ≡ Begun p
-  same_begun p q none = omega (
-    arith,
-    not_less (Begun p) (Begun (p ++ q)) none,
-    messages_grow p q,
-  )
+  same_begun p q none = search (arith, not_less, messages_grow)
 
   told_then : (s : Exchanged) (p : List ℕ) (x : ℕ) (rest : List ℕ) →
       told R (told R s p (x ∷ [])) (p ++ x ∷ []) rest ≡ told R s p (x ∷ rest)
@@ -282,14 +259,12 @@ module _ (C : Table) (a : Answers) (most : ℕ) where
   -- what is due behind a piece is due behind its last octet
   time_then : (p : List ℕ) (x : ℕ) (rest : List ℕ) → begins_in p (x ∷ []) ≡ false →
       begun_in (p ++ x ∷ []) rest ≡ begun_in p (x ∷ rest)
-  time_then p x rest none =
-      rw (append_assoc p (x ∷ []) rest, same_begun p (x ∷ []) none) refl
+  time_then p x rest none = search (arith, append_assoc, same_begun)
 
   due_then : (s : Exchanged) (p : List ℕ) (x : ℕ) (rest : List ℕ) → begins_in p (x ∷ []) ≡ false →
       lines_due R (told R s p (x ∷ [])) (p ++ x ∷ []) rest ≡ lines_due R s p (x ∷ rest)
   unfolding lines_due
-  due_then s p x rest none =
-      rw (told_arrival R s p (x ∷ []), time_then p x rest none, told_then s p x rest) refl
+  due_then s p x rest none = search (arith, told_arrival, time_then, told_then)
 
   -- by its first octet and the others
   stamped_first : (s : Exchanged) (p : List ℕ) (x : ℕ) (rest : List ℕ) →
@@ -308,12 +283,7 @@ module _ (C : Table) (a : Answers) (most : ℕ) where
   stamped_none : (s : Exchanged) (p : List ℕ) → IsTaken s → stamped R s p [] ≡ added R p []
       ++ lines_due R s p []
   unfolding stamped added header_ends_from
-  stamped_none s p none =
-      let same = append-nil p in
-      let add : added R p [] ≡ [] = ap (λ (f : List ℕ). drop (length (text R p)) (text R f)) same
-      ∙ drop_all (length (text R p)) (text R p) (omega arith) in
-      sym (ap (λ (l : List ℕ). l ++ lines_due R s p []) add
-      ∙ nothing_due s p [] (le-ltb (Begun p) (Begun (p ++ [])) (omega (arith, ap Begun same))) none)
+  stamped_none s p none = search (arith, append-nil, drop, drop_all, nothing_due, le-ltb)
 
   exchanged_none : (s : Exchanged) (p : List ℕ) → IsTaken s →
       exchanged R s p [] ≡ taken (told R s p [])
@@ -323,7 +293,7 @@ module _ (C : Table) (a : Answers) (most : ℕ) where
   stamped_one : (s : Exchanged) (p : List ℕ) (x : ℕ) → stamped R s p (x ∷ []) ≡ added R p (x ∷ [])
       ++ lines_due R s p (x ∷ [])
   unfolding stamped
-  stamped_one s p x = append-nil (added R p (x ∷ []) ++ lines_due R s p (x ∷ []))
+  stamped_one s p x = search (arith, append-nil)
 
   exchanged_one : (s : Exchanged) (p : List ℕ) (x : ℕ) →
       exchanged R s p (x ∷ []) ≡ taken (told R s p (x ∷ []))
@@ -335,7 +305,7 @@ module _ (C : Table) (a : Answers) (most : ℕ) where
       stamped R s p piece ≡ added R p piece ++ lines_due R s p piece
   piece_text [] n s p table none undue within = stamped_none s p none
   piece_text (x ∷ []) n s p table none undue within = stamped_one s p x
-  piece_text (x ∷ y ∷ zs) zero s p table none undue within = absurd (omega (arith, within))
+  piece_text (x ∷ y ∷ zs) zero s p table none undue within = search (arith)
   piece_text (x ∷ y ∷ zs) (suc n) s p table none undue within =
       let here = undue_front s p (x ∷ []) table (undue 1 (omega (arith, within))) in
       let t = told R s p (x ∷ []) in
@@ -359,7 +329,7 @@ module _ (C : Table) (a : Answers) (most : ℕ) where
       exchanged R s p piece ≡ taken (told R s p piece)
   piece_told [] n s p table none undue within = exchanged_none s p none
   piece_told (x ∷ []) n s p table none undue within = exchanged_one s p x
-  piece_told (x ∷ y ∷ zs) zero s p table none undue within = absurd (omega (arith, within))
+  piece_told (x ∷ y ∷ zs) zero s p table none undue within = search (arith)
   piece_told (x ∷ y ∷ zs) (suc n) s p table none undue within =
       let here = undue_front s p (x ∷ []) table (undue 1 (omega (arith, within))) in
       let t = told R s p (x ∷ []) in

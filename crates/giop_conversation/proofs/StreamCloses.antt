@@ -1,5 +1,5 @@
 -- Where each stream that lives closes in the end, each that has a room has closed.
-use Rattle.std.proofs.Common.{◌≡◌, ℕ, ◌/◌, ◌==◌, ◌⊎◌, inl, inr, Bool, true, false, List, [], ◌∷◌, Option, Some, None, is_some, refl, sym, ap, ◌∙◌, nat_lt, if◌then◌else◌}
+use Rattle.std.proofs.Common.{arith, ◌≡◌, ℕ, ◌/◌, ◌==◌, ◌⊎◌, inl, inr, Bool, true, false, List, [], ◌∷◌, Option, Some, None, is_some, refl, sym, ap, ◌∙◌, nat_lt, if◌then◌else◌}
 use Rattle.std.proofs.lemmas.Bool.{eqb-true, eq-eqb, cases_eq, false≢true}
 use Rattle.giop_print.specs.Output.{counted}
 use Rattle.giop_message.specs.Signatures.{Answers}
@@ -52,10 +52,10 @@ lives_on : (payloads : _) (f : ℕ) (e : Event) (before behind : Option ℕ) →
     (flow_of e ≡ Some f → ⊥) →
     MayFollow payloads f before e behind → is_some before ≡ true → is_some behind ≡ true
 lives_on payloads f e before behind past (inl own) lives = absurd (past own.0)
-lives_on payloads f e before behind past (inr same) lives = ap is_some (sym same.1) ∙ lives
+lives_on payloads f e before behind past (inr same) lives = search (arith, is_some)
 
 other_flow : (f id : ℕ) → (f ≡ id → ⊥) → Some id ≡ Some f → ⊥
-other_flow f id apart is = apart (let same : f ≡ id = cc in same)
+other_flow f id apart is = search (arith)
 
 -- ---- a stream with a room that hasn't closed is the last one of a flow that lives
 
@@ -154,7 +154,7 @@ module _ (S : Setup) (h : History) (due behind : ℕ → Option ℕ) (t : AreLas
 
       stays : (b : Bool) → (h.stream_of id == m) ≡ b →
           ((with_stream h (h.stream_of id) next).stream m).is_closed ≡ (h.stream m).is_closed
-      stays true same = rw same (ap (λ n. (h.stream n).is_closed) (eqb-true _ _ same))
+      stays true same = search (arith, eqb-true)
       stays false apart = rw apart refl
 
   closed_last : (id : ℕ) (cause : CloseCause) → FollowsBy (Closes id cause) →
@@ -166,9 +166,7 @@ module _ (S : Setup) (h : History) (due behind : ℕ → Option ℕ) (t : AreLas
 
       by : (b : Bool) → (h.stream_of id == m) ≡ b →
           IsLast (with_stream h (h.stream_of id) next) behind m
-      by true same =
-          let none : true ≡ false = rw same at closes in
-          absurd (false≢true (sym none))
+      by true same = search (arith, false≢true)
       by false apart =
           let l = t m room (rw apart at closes) in
           let x = follows l.flow in
@@ -184,8 +182,8 @@ module _ (S : Setup) (h : History) (due behind : ℕ → Option ℕ) (t : AreLas
 
   event_last : (a : Answers) (e : Event) → FollowsBy e → AreLast (happened S a h e) behind
   event_last a (Opens id flow) follows = opened_last id flow follows
-  event_last a (Begins id n) follows = begun_last id n (nat_lt (id / 2) S.connections) follows
-  event_last a (Delivers id octets) follows = delivered_last a id octets follows
+  event_last a (Begins id n) follows = search (arith, begun_last, nat_lt)
+  event_last a (Delivers id octets) follows = search (arith, delivered_last)
   event_last a (Closes id cause) follows = closed_last id cause follows
   event_last a (OfCapture event) follows = λ m room closes.
       let l = t m room closes in
@@ -201,13 +199,7 @@ module _ (S : Setup) (h : History) (due behind : ℕ → Option ℕ) (t : AreLas
 
 last_closed : (h : History) (due : ℕ → Option ℕ) → AreLast h due → ((f : ℕ) → due f ≡ None) →
     (m : ℕ) → h.has_room m ≡ true → (h.stream m).is_closed ≡ true
-last_closed h due t none m room = by (h.stream m).is_closed refl
-  where
-    by : (b : Bool) → (h.stream m).is_closed ≡ b → (h.stream m).is_closed ≡ true
-    by true is = is
-    by false is =
-        let l = t m room is in
-        absurd (false≢true (ap is_some (sym (none l.flow)) ∙ l.lives))
+last_closed h due t none m room = search (arith, false≢true, is_some)
 
 closes_on : (S : Setup) (events : List Event) (h : History) (due : ℕ → Option ℕ) (d behind : Dump)
     (leads : Leads S d events behind) → AreLast h due →

@@ -56,7 +56,7 @@ lives_still payloads f e before behind past (inl own) lives = absurd (past own.0
 lives_still payloads f e before behind past (inr same) lives = ap is_some same.1 ∙ lives
 
 other_flow : (f id : ℕ) → (f ≡ id → ⊥) → Some id ≡ Some f → ⊥
-other_flow f id apart is = apart (let same : f ≡ id = cc in same)
+other_flow f id apart is = search (arith)
 
 -- ---- streams that live are not closed, and none goes on behind its close
 
@@ -117,9 +117,7 @@ module _ (S : Setup) (h : History) (due behind : ℕ → Option ℕ) (k : AreNum
       by : (f : ℕ) → is_some (behind f) ≡ true → IsUnique (h.stream_of f) → (f ≡ id)
           ⊎ (f ≡ id → ⊥) →
           (h.stream (h.stream_of f)).is_closed ≡ false
-      by f lives number (inl is) =
-          let none : h.stream_of f ≡ 0 = ap h.stream_of is ∙ room refl in
-          absurd (omega (arith, none, number.0))
+      by f lives number (inl is) = search (arith)
       by f lives number (inr apart) =
           let x = follows f in
           t.live f (lives_still x.0 f (Begins id n) (due f) (behind f) (other_flow f id apart) x.1
@@ -129,16 +127,11 @@ module _ (S : Setup) (h : History) (due behind : ℕ → Option ℕ) (k : AreNum
   changed_ends : (id : ℕ) (s : StreamHistory) → (IsUnique (h.stream_of id) → s.goes_on ≡ false) →
       (m : ℕ) → IsUnique m →
       ((with_stream h (h.stream_of id) s).stream m).goes_on ≡ false
-  changed_ends id s here m number = by (h.stream_of id == m) refl
-    where
-      by : (b : Bool) → (h.stream_of id == m) ≡ b →
-          ((with_stream h (h.stream_of id) s).stream m).goes_on ≡ false
-      by true same = rw same (here (subst IsUnique (sym (eqb-true _ _ same)) number))
-      by false apart = rw apart (t.ends m number)
+  changed_ends id s here m number = search (arith, eqb-true)
 
   goes_not : (id : ℕ) → is_some (due id) ≡ true → IsUnique (h.stream_of id) →
       ((h.stream (h.stream_of id)).goes_on || (h.stream (h.stream_of id)).is_closed) ≡ false
-  goes_not id lives number = rw (t.ends (h.stream_of id) number, t.live id lives number) refl
+  goes_not id lives number = search (arith)
 
   delivered_ends : (a : Answers) (id : ℕ) (octets : List ℕ) → FollowsBy (Delivers id octets) →
       EndOnce (with_stream h (h.stream_of id) (read_on a octets (h.stream (h.stream_of id)))) behind
@@ -158,17 +151,12 @@ module _ (S : Setup) (h : History) (due behind : ℕ → Option ℕ) (k : AreNum
 
       stays : (m : ℕ) → ((with_stream h (h.stream_of id) next).stream m).is_closed
           ≡ (h.stream m).is_closed
-      stays m = at (h.stream_of id == m) refl
-        where
-          at : (b : Bool) → (h.stream_of id == m) ≡ b →
-              ((with_stream h (h.stream_of id) next).stream m).is_closed ≡ (h.stream m).is_closed
-          at true same = rw same (ap (λ n. (h.stream n).is_closed) (eqb-true _ _ same))
-          at false apart = rw apart refl
+      stays m = search (arith, next, eqb-true)
 
       by : (f : ℕ) → is_some (behind f) ≡ true → IsUnique (h.stream_of f) → (f ≡ id)
           ⊎ (f ≡ id → ⊥) →
           (h.stream (h.stream_of f)).is_closed ≡ false
-      by f lives number (inl is) = t.live f (ap (λ g. is_some (due g)) is ∙ lived) number
+      by f lives number (inl is) = search (arith, is_some, lived)
       by f lives number (inr apart) =
           let x = follows f in
           t.live f (lives_still x.0 f (Delivers id octets) (due f) (behind f)
@@ -193,7 +181,7 @@ module _ (S : Setup) (h : History) (due behind : ℕ → Option ℕ) (k : AreNum
       by : (f : ℕ) → is_some (behind f) ≡ true → IsUnique (h.stream_of f) → (f ≡ id)
           ⊎ (f ≡ id → ⊥) →
           ((with_stream h (h.stream_of id) next).stream (h.stream_of f)).is_closed ≡ false
-      by f lives number (inl is) = absurd (did.1 (ap (λ g. is_some (behind g)) (sym is) ∙ lives))
+      by f lives number (inl is) = search (arith, did, is_some)
       by f lives number (inr apart) =
           let x = follows f in
           ap (λ (s : StreamHistory). s.is_closed)
@@ -210,7 +198,7 @@ module _ (S : Setup) (h : History) (due behind : ℕ → Option ℕ) (k : AreNum
     where
       by : nat_lt (id / 2) S.connections ≡ false → (id / 2 < S.connections)
           ⊎ (S.connections ≤ id / 2) → S.connections ≤ id / 2
-      by none (inl low) = absurd (false≢true (sym none ∙ lt-ltb _ _ low))
+      by none (inl low) = search (arith, false≢true, lt-ltb)
       by none (inr past) = past
   event_ends a (Delivers id octets) follows = delivered_ends a id octets follows
   event_ends a (Closes id cause) follows = closed_ends id cause follows

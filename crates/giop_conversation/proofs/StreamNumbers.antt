@@ -1,5 +1,5 @@
 -- The numbers of a capture's streams, and the flows that have them.
-use Rattle.std.proofs.Common.{◌≡◌, ℕ, zero, suc, ◌+◌, ◌*◌, ◌-◌, ◌^◌, ◌/◌, ◌%◌, ◌==◌, ◌<◌, ◌≤◌, arith, inl, inr, Bool, true, false, List, [], ◌∷◌, length, Option, Some, None, IfSome, refl, sym, subst, ◌∙◌, slice_get, set, if◌then◌else◌}
+use Rattle.std.proofs.Common.{◌≡◌, ℕ, zero, suc, ◌+◌, ◌*◌, ◌-◌, ◌^◌, ◌/◌, ◌%◌, ◌==◌, ◌<◌, ◌≤◌, arith, Bool, true, false, List, [], ◌∷◌, length, Option, Some, None, IfSome, refl, sym, subst, ◌∙◌, slice_get, set, if◌then◌else◌}
 use Rattle.std.proofs.Math.ListN.{length-set}
 use Rattle.std.proofs.Math.Nat.{min-le_right, min-eq_left, min-eq_right, le-min}
 use Rattle.std.proofs.lemmas.Bool.{eqb-true, eqb-false, eq-eqb, cases_lt, false_from_ne_true}
@@ -7,35 +7,27 @@ use Rattle.std.proofs.lemmas.Option.{slice_get_cases}
 use Rattle.giop_print.specs.Output.{counted}
 use Rattle.giop_message.specs.Signatures.{Answers}
 use Rattle.giop_stream.specs.Stream.{text, closing}
-use Rattle.giop_conversation.specs.declared.conversation.Parity.{Parity}
-use Rattle.giop_conversation.specs.declared.conversation.Parity.TheVariants.{Even, Odd}
-use Rattle.giop_conversation.specs.Followed.{parity_of, other}
-use Rattle.giop_conversation.specs.Captured.{Setup, Side, Connection, side, with_side, rules_in}
+use Rattle.giop_conversation.specs.declared.conversation.Side.{Side}
+use Rattle.giop_conversation.specs.declared.conversation.Side.TheVariants.{Even, Odd}
+use Rattle.giop_conversation.specs.Followed.{side_of, other}
+use Rattle.giop_conversation.specs.Captured.{Setup, Half, Connection, half, with_half, rules_in}
 use Rattle.giop_conversation.specs.StreamTexts.{StreamHistory, new_stream, History, with_begun, with_stream, IsUnique}
 
 -- ---- the flows of connections
 
 -- the id of a flow, by the place of its connection
-abbrev pub flow_id : ℕ → Parity → ℕ
+abbrev pub flow_id : ℕ → Side → ℕ
 flow_id i Even = 2 * i
 flow_id i Odd = 2 * i + 1
 
-id_is : (id : ℕ) → flow_id (id / 2) (parity_of id) ≡ id
-id_is id = by (id % 2 == 0) refl
-  where
-    by : (b : Bool) → (id % 2 == 0) ≡ b → flow_id (id / 2) (parity_of id) ≡ id
-    by true is =
-        let even : id % 2 ≡ 0 = eqb-true _ _ is in
-        rw is (omega arith)
-    by false is =
-        let odd = eqb-false (id % 2) 0 is in
-        rw is (omega arith)
+id_is : (id : ℕ) → flow_id (id / 2) (side_of id) ≡ id
+id_is id = search (arith, eqb-true, eqb-false)
 
-other_id : (i : ℕ) (parity : Parity) → flow_id i (other parity) ≡ flow_id i parity → ⊥
+other_id : (i : ℕ) (side : Side) → flow_id i (other side) ≡ flow_id i side → ⊥
 other_id i Even same = omega (arith, same)
 other_id i Odd same = omega (arith, same)
 
-place_is : (i j : ℕ) (p q : Parity) → flow_id j q ≡ flow_id i p → j ≡ i
+place_is : (i j : ℕ) (p q : Side) → flow_id j q ≡ flow_id i p → j ≡ i
 place_is i j Even Even same = omega (arith, same)
 place_is i j Even Odd same = absurd (omega (arith, same))
 place_is i j Odd Even same = absurd (omega (arith, same))
@@ -46,15 +38,15 @@ set_each : {X : Type 0} (P : ℕ → X → Type 0) (xs : List X) (i : ℕ) (x : 
     IfSome (slice_get (set xs i x) j) (P j)
 set_each P [] i x others here j = tt
 set_each P (y ∷ ys) zero x others here zero = here
-set_each P (y ∷ ys) zero x others here (suc j) = others (suc j) (λ is. omega (arith, is))
-set_each P (y ∷ ys) (suc i) x others here zero = others 0 (λ is. omega (arith, is))
+set_each P (y ∷ ys) zero x others here (suc j) = search (arith)
+set_each P (y ∷ ys) (suc i) x others here zero = search (arith)
 set_each P (y ∷ ys) (suc i) x others here (suc j) =
     set_each (λ k. P (suc k)) ys i x (λ k apart. others (suc k) (λ is. apart (omega (arith, is))))
     here j
 
 -- A flow has the stream that the history says: where no other has its number, its octets are those
 -- of the history, and its answers give the same text and closing.
-pub record IsSide (S : Setup) (h : History) (id stream : ℕ) (octets : List ℕ) (answers : Answers) :
+pub record IsHalf (S : Setup) (h : History) (id stream : ℕ) (octets : List ℕ) (answers : Answers) :
     Type 0 where
   pub stream_is : stream ≡ h.stream_of id
   pub octets_are : IsUnique stream → octets ≡ (h.stream stream).octets
@@ -63,15 +55,15 @@ pub record IsSide (S : Setup) (h : History) (id stream : ℕ) (octets : List ℕ
   pub closing_is : IsUnique stream → closing (rules_in S answers) octets
       ≡ closing (rules_in S (h.stream stream).answers) octets
 
-abbrev pub HasSide : Setup → History → ℕ → Side → Type 0
-HasSide S h id s = IsSide S h id s.stream s.octets s.answers
+abbrev pub HasHalf : Setup → History → ℕ → Half → Type 0
+HasHalf S h id s = IsHalf S h id s.stream s.octets s.answers
 
-abbrev pub HasSides : Setup → History → ℕ → Connection → Type 0
-HasSides S h i c = (p : Parity) → HasSide S h (flow_id i p) (side p c)
+abbrev pub HasHalves : Setup → History → ℕ → Connection → Type 0
+HasHalves S h i c = (p : Side) → HasHalf S h (flow_id i p) (half p c)
 
-pub record AreSides (S : Setup) (h : History) (cs : List Connection) : Type 0 where
+pub record AreHalves (S : Setup) (h : History) (cs : List Connection) : Type 0 where
   pub rooms : length cs ≡ S.connections
-  pub sides : (i : ℕ) → IfSome (slice_get cs i) (HasSides S h i)
+  pub halves : (i : ℕ) → IfSome (slice_get cs i) (HasHalves S h i)
 
 -- ---- the numbers of streams
 
@@ -86,7 +78,7 @@ pub record AreNumbered (S : Setup) (h : History) : Type 0 where
 
 counted_most : (n : ℕ) → counted n ≤ 2 ^ 64 - 1
 unfolding counted
-counted_most n = min-le_right (n + 1) (2 ^ 64 - 1)
+counted_most n = search (arith, min-le_right)
 
 counted_up : (n : ℕ) → n ≤ 2 ^ 64 - 1 → n ≤ counted n
 unfolding counted
@@ -94,72 +86,13 @@ counted_up n within = le-min (omega arith) within
 
 pub counted_new : (n : ℕ) → counted n < 2 ^ 64 - 1 → n < counted n
 unfolding counted
-counted_new n few =
-    elim (cases_lt (2 ^ 64 - 1) (n + 1)) [
-      | inl past ↦ absurd (omega (
-        arith,
-        min-eq_right {n = n + 1} {m = 2 ^ 64 - 1}
-            (omega (arith, past)),
-        few,
-      ))
-      | inr within ↦ omega (arith, min-eq_left {n = n + 1} {m = 2 ^ 64 - 1} within)
-    ]
+counted_new n few = search (arith, cases_lt, min-eq_right, min-eq_left)
 
 pub numbers_begun : (S : Setup) (h : History) (id : ℕ) (b : Bool) →
     (b ≡ true → id / 2 < S.connections) → AreNumbered S h →
     AreNumbered S (with_begun h id b)
-numbers_begun S h id false room k =
-    let up = counted_up h.begun k.most in
-    record {
-      most = counted_most h.begun;
-      within = λ f. let before = k.within f in omega (arith, before, up);
-      apart = k.apart;
-      fresh = λ n new. k.fresh n (omega (arith, new, up));
-      beyond = k.beyond;
-    }
-numbers_begun S h id true room k = record {
-  most = counted_most h.begun;
-  within = λ f. within f (f == id) refl;
-  apart = λ f g number same. apart f g (f == id) refl (g == id) refl number same;
-  fresh = λ n new. k.fresh n (omega (arith, new, up));
-  beyond = λ f past. beyond f (f == id) refl past;
-}
-  where
-    up : h.begun ≤ counted h.begun
-    up = counted_up h.begun k.most
-
-    within : (f : ℕ) (b : Bool) → (f == id) ≡ b →
-        (if f == id then counted h.begun else h.stream_of f) ≤ counted h.begun
-    within f true is = rw is (omega arith)
-    within f false is = let before = k.within f in rw is (omega (arith, before, up))
-
-    apart : (f g : ℕ) (b : Bool) → (f == id) ≡ b → (c : Bool) → (g == id) ≡ c →
-        IsUnique (if f == id then counted h.begun else h.stream_of f) →
-        (if f == id then counted h.begun else h.stream_of f)
-        ≡ (if g == id then counted h.begun else h.stream_of g) → f ≡ g
-    apart f g true is true is' number same = eqb-true _ _ is ∙ sym (eqb-true _ _ is')
-    apart f g true is false is' number same =
-        let one : IsUnique (counted h.begun) = rw is at number in
-        let it : counted h.begun ≡ h.stream_of g = rw (is, is') at same in
-        let new = counted_new h.begun one.1 in
-        let old = k.within g in
-        absurd (omega (arith, it, new, old))
-    apart f g false is true is' number same =
-        let one : IsUnique (h.stream_of f) = rw is at number in
-        let it : h.stream_of f ≡ counted h.begun = rw (is, is') at same in
-        let new = counted_new h.begun (omega (arith, it, one.1)) in
-        let old = k.within f in
-        absurd (omega (arith, it, new, old))
-    apart f g false is false is' number same = k.apart f g (rw is at number) (rw (is, is') at same)
-
-    beyond : (f : ℕ) (b : Bool) → (f == id) ≡ b → S.connections ≤ f / 2 →
-        (if f == id then counted h.begun else h.stream_of f) ≡ 0
-    beyond f true is past =
-        let it : f ≡ id = eqb-true _ _ is in
-        let here = room refl in
-        let past' : S.connections ≤ id / 2 = subst (λ x. S.connections ≤ x / 2) it past in
-        absurd (omega (arith, past', here))
-    beyond f false is past = rw is (k.beyond f past)
+numbers_begun S h id false room k = search (arith, counted_up, counted_most)
+numbers_begun S h id true room k = search (arith, counted_most, counted_up, eqb-true, counted_new)
 
 pub stream_at : (h : History) (n : ℕ) (s : StreamHistory) → (with_stream h n s).stream n ≡ s
 stream_at h n s = rw (eq-eqb n n refl) refl
@@ -169,94 +102,76 @@ pub stream_else : (h : History) (n : ℕ) (s : StreamHistory) (m : ℕ) → (n =
 stream_else h n s m apart = rw apart refl
 
 pub unequal : (n m : ℕ) → (n ≡ m → ⊥) → (n == m) ≡ false
-unequal n m apart = false_from_ne_true (n == m) (λ is. apart (eqb-true _ _ is))
+unequal n m apart = search (arith, false_from_ne_true, eqb-true)
 
 pub numbers_with : (S : Setup) (h : History) (n : ℕ) (s : StreamHistory) → n ≤ h.begun →
     AreNumbered S h → AreNumbered S (with_stream h n s)
-numbers_with S h n s within k = record {
-  most = k.most;
-  within = k.within;
-  apart = k.apart;
-  fresh = λ m new. stream_else h n s m (unequal n m (λ is. omega (arith, is, new, within)))
-      ∙ k.fresh m new;
-  beyond = k.beyond;
-}
+numbers_with S h n s within k = search (arith, stream_else, unequal)
 
 -- ---- a connection in which a flow changes
 
-with_both : (P : Parity → Side → Type 0) (parity : Parity) (c : Connection) (s opposite : Side) →
-    P parity s → P (other parity) opposite →
-    (p : Parity) → P p (side p (with_side (other parity) (with_side parity c s) opposite))
+with_both : (P : Side → Half → Type 0) (side : Side) (c : Connection) (s opposite : Half) →
+    P side s → P (other side) opposite →
+    (p : Side) → P p (half p (with_half (other side) (with_half side c s) opposite))
 with_both P Even c s opposite own rest Even = own
 with_both P Even c s opposite own rest Odd = rest
 with_both P Odd c s opposite own rest Even = rest
 with_both P Odd c s opposite own rest Odd = own
 
-alone : (parity : Parity) (c : Connection) (s : Side) →
-    with_side (other parity) (with_side parity c s) (side (other parity) c) ≡ with_side parity c s
+alone : (side : Side) (c : Connection) (s : Half) →
+    with_half (other side) (with_half side c s) (half (other side) c) ≡ with_half side c s
 alone Even c s = refl
 alone Odd c s = refl
 
 module _ (S : Setup) (h behind : History) (cs : List Connection) (id : ℕ) (c : Connection) where
   -- the flow itself, and the other one of its connection
-  pub own_side : slice_get cs (id / 2) ≡ Some c → AreSides S h cs →
-      HasSide S h id (side (parity_of id) c)
-  own_side is k =
-      let here = subst (λ (o : Option Connection). IfSome o (HasSides S h (id / 2))) is
-      (k.sides (id / 2)) in
-      subst (λ f. HasSide S h f (side (parity_of id) c)) (id_is id) (here (parity_of id))
+  pub own_half : slice_get cs (id / 2) ≡ Some c → AreHalves S h cs →
+      HasHalf S h id (half (side_of id) c)
+  own_half is k = search (arith, id_is)
 
-  pub sides_on : (s opposite : Side) → slice_get cs (id / 2) ≡ Some c → AreSides S h cs →
-      ((g n : ℕ) (p : List ℕ) (a : Answers) → (g ≡ id → ⊥) → IsSide S h g n p a →
-      IsSide S behind g n p a) →
-      HasSide S behind id s →
-      ((g : ℕ) → HasSide S behind g (side (other (parity_of id)) c) → HasSide S behind g opposite) →
-      AreSides S behind (set cs (id / 2) (with_side (other (parity_of id))
-      (with_side (parity_of id) c s) opposite))
-  sides_on s opposite is k others own alike = record {
-    rooms = length-set cs (id / 2) (with_side (other (parity_of id)) (with_side (parity_of id) c s)
+  pub halves_on : (s opposite : Half) → slice_get cs (id / 2) ≡ Some c → AreHalves S h cs →
+      ((g n : ℕ) (p : List ℕ) (a : Answers) → (g ≡ id → ⊥) → IsHalf S h g n p a →
+      IsHalf S behind g n p a) →
+      HasHalf S behind id s →
+      ((g : ℕ) → HasHalf S behind g (half (other (side_of id)) c) → HasHalf S behind g opposite) →
+      AreHalves S behind (set cs (id / 2) (with_half (other (side_of id))
+      (with_half (side_of id) c s) opposite))
+  halves_on s opposite is k others own alike = record {
+    rooms = length-set cs (id / 2) (with_half (other (side_of id)) (with_half (side_of id) c s)
         opposite) ∙ k.rooms;
-    sides = set_each (HasSides S behind) cs (id / 2)
-        (with_side (other (parity_of id)) (with_side (parity_of id) c s) opposite)
-        (λ j apart. by j apart (slice_get cs j) (k.sides j))
-        (with_both (λ p. HasSide S behind (flow_id (id / 2) p)) (parity_of id) c s opposite
-        (subst (λ f. HasSide S behind f s) (sym (id_is id)) own)
-        (alike across (others across (side (other (parity_of id)) c).stream
-        (side (other (parity_of id)) c).octets
-        (side (other (parity_of id)) c).answers
-        (λ same. other_id (id / 2) (parity_of id) (same ∙ sym (id_is id)))
-        (subst (λ (o : Option Connection). IfSome o (HasSides S h (id / 2))) is (k.sides (id / 2))
-        (other (parity_of id))))));
+    halves = set_each (HasHalves S behind) cs (id / 2)
+        (with_half (other (side_of id)) (with_half (side_of id) c s) opposite)
+        (λ j apart. by j apart (slice_get cs j) (k.halves j))
+        (with_both (λ p. HasHalf S behind (flow_id (id / 2) p)) (side_of id) c s opposite
+        (subst (λ f. HasHalf S behind f s) (sym (id_is id)) own)
+        (alike across (others across (half (other (side_of id)) c).stream
+        (half (other (side_of id)) c).octets
+        (half (other (side_of id)) c).answers
+        (λ same. other_id (id / 2) (side_of id) (same ∙ sym (id_is id)))
+        (subst (λ (o : Option Connection). IfSome o (HasHalves S h (id / 2))) is (k.halves (id / 2))
+        (other (side_of id))))));
   }
     where
       across : ℕ
-      across = flow_id (id / 2) (other (parity_of id))
+      across = flow_id (id / 2) (other (side_of id))
 
-      by : (j : ℕ) → (j ≡ id / 2 → ⊥) → (o : Option Connection) → IfSome o (HasSides S h j) →
-          IfSome o (HasSides S behind j)
+      by : (j : ℕ) → (j ≡ id / 2 → ⊥) → (o : Option Connection) → IfSome o (HasHalves S h j) →
+          IfSome o (HasHalves S behind j)
       by j apart None has = tt
-      by j apart (Some d) has = λ q. others (flow_id j q) (side q d).stream (side q d).octets
-          (side q d).answers
-          (λ same. apart (place_is (id / 2) j (parity_of id) q (same ∙ sym (id_is id)))) (has q)
+      by j apart (Some d) has = λ q. others (flow_id j q) (half q d).stream (half q d).octets
+          (half q d).answers
+          (λ same. apart (place_is (id / 2) j (side_of id) q (same ∙ sym (id_is id)))) (has q)
 
   -- where the other one stays
-  pub side_on : (s : Side) → slice_get cs (id / 2) ≡ Some c → AreSides S h cs →
-      ((g n : ℕ) (p : List ℕ) (a : Answers) → (g ≡ id → ⊥) → IsSide S h g n p a →
-      IsSide S behind g n p a) →
-      HasSide S behind id s → AreSides S behind (set cs (id / 2) (with_side (parity_of id) c s))
-  side_on s is k others own =
-      subst (λ (x : Connection). AreSides S behind (set cs (id / 2) x)) (alone (parity_of id) c s)
-      (sides_on s (side (other (parity_of id)) c) is k others own (λ g has. has))
+  pub half_on : (s : Half) → slice_get cs (id / 2) ≡ Some c → AreHalves S h cs →
+      ((g n : ℕ) (p : List ℕ) (a : Answers) → (g ≡ id → ⊥) → IsHalf S h g n p a →
+      IsHalf S behind g n p a) →
+      HasHalf S behind id s → AreHalves S behind (set cs (id / 2) (with_half (side_of id) c s))
+  half_on s is k others own =
+      subst (λ (x : Connection). AreHalves S behind (set cs (id / 2) x)) (alone (side_of id) c s)
+      (halves_on s (half (other (side_of id)) c) is k others own (λ g has. has))
 
 -- ---- a flow whose connection has no room
 
 pub no_room : {X : Type 0} (xs : List X) (i : ℕ) → slice_get xs i ≡ None → length xs ≤ i
-no_room xs i beyond =
-    elim (cases_lt i (length xs)) [
-      | inl below ↦
-          elim ((slice_get_cases xs i).1) [
-            | inl has ↦ let absent : Some has.0 ≡ None = sym has.2 ∙ beyond in cc
-            | inr past ↦ past.0
-          ]
-      | inr past ↦ past
-    ]
+no_room xs i beyond = search (arith, cases_lt, slice_get_cases)

@@ -6,13 +6,13 @@ use Rattle.giop_print.specs.Output.{OutLog, Wrote, WroteFront, Writes}
 use Rattle.giop_print.proofs.Writing.{wrote-nil, wrote-append, wrote-front, front-append}
 use Rattle.giop_sig.specs.Table.{Table}
 use Rattle.giop_message.specs.Signatures.{Answers}
-use Rattle.giop_message.specs.HeaderEnds.{AgreesAtEnds, after_ends}
+use Rattle.giop_message.specs.HeaderEnds.{after_ends}
 use Rattle.giop_stream.specs.Rules.{Rules, rules_by}
 use Rattle.giop_stream.specs.HeaderOctets.{fronts, wrong, first_wrong, first_wrong_octet}
 use Rattle.giop_stream.specs.Framing.{limit, limited, cut_from, cut, messages}
 use Rattle.giop_stream.specs.Events.{events_from, events}
 use Rattle.giop_stream.specs.AnswersAgree.{AnswersAgree}
-use Rattle.giop_stream.specs.DueOctets.{begun_in, is_due_after}
+use Rattle.giop_stream.specs.DueOctets.{begun_in}
 use Rattle.giop_stream.specs.HeaderEndsOfStream.{header_ends_from}
 use Rattle.giop_stream.specs.declared.fault.Stop.{Stop}
 use Rattle.giop_stream.specs.declared.fault.Stop.TheVariants as stop
@@ -23,7 +23,7 @@ use Rattle.giop_conversation.specs.declared.arrival.Arrival.{Arrival}
 use Rattle.giop_conversation.specs.Tags.{with_tags, tagged}
 use Rattle.giop_conversation.specs.TaggedText.{ends_line, is_due, stopped_at}
 use Rattle.giop_conversation.specs.TaggedState.{Tagging, tagging_log, IsReady}
-use Rattle.giop_conversation.specs.Exchanges.{Exchanged, answer_of, notified, is_waiting}
+use Rattle.giop_conversation.specs.Exchanges.{Exchanged, notified}
 use Rattle.giop_conversation.specs.StreamReads.{AgreeWith, IsSetAlike, HasCome, HasStood, WritesTagged, reading_in}
 use Rattle.giop_conversation.specs.Stamped.{begin_lines, time_due, answers_due, raises_due, told, taken, lines_due, exchanged, stamped}
 use Rattle.giop_conversation.proofs.Tagging.{ready_wrote, ready_front, ready_with}
@@ -37,8 +37,7 @@ pub stop_front : (A : Type 0) (why : Stop) (before after : OutLog) (due : List �
     StopWrites {A = A} (Err why) before after due →
     WroteFront before after due
 stop_front A (stop.Out f) before after due e e' sound leaves writes = writes
-stop_front A stop.Failed before after due e e' sound leaves writes =
-    absurd (false≢true (sym sound ∙ leaves.0))
+stop_front A stop.Failed before after due e e' sound leaves writes = search (arith, false≢true)
 
 -- and so does one of which the closing is written
 pub closing_front : (A : Type 0) (why : Stop) (before after : OutLog) (due : List ℕ)
@@ -47,22 +46,20 @@ pub closing_front : (A : Type 0) (why : Stop) (before after : OutLog) (due : Lis
     e.failed ≡ true) →
     StopWrites {A = A} (Err why) before after due → WroteFront before after due
 closing_front A (stop.Out f) before after due e sound only writes = writes
-closing_front A stop.Failed before after due e sound only writes =
-    absurd (false≢true (sym sound ∙ only refl))
+closing_front A stop.Failed before after due e sound only writes = search (arith, false≢true)
 
 -- lines written by one call and then by another
 pub writes_both : {A E : Type 0} (r : Result A E) (a b c : OutLog) (x y : List ℕ) → Wrote a b x →
     Writes r b c y → Writes r a c (x ++ y)
-writes_both (Ok v) a b c x y first second = wrote-append a b c x y first second
-writes_both (Err e) a b c x y first second = wrote-front a b c x y first second
+writes_both (Ok v) a b c x y first second = search (arith, wrote-append)
+writes_both (Err e) a b c x y first second = search (arith, wrote-front)
 
 -- whole lines stand below
 pub writes_below : {A E : Type 0} (r : Result A E) (t after : Tagging) (w lines : List ℕ) →
     IsReady t w → is_due lines ≡ true →
     Writes r (tagging_log t) (tagging_log after) lines → WritesTagged r after w t.tag lines
-writes_below (Ok v) t after w lines ready ends wrote =
-    (ready_wrote t after w lines ready wrote ends).0
-writes_below (Err e) t after w lines ready ends wrote = ready_front t after w lines ready wrote
+writes_below (Ok v) t after w lines ready ends wrote = search (arith, ready_wrote)
+writes_below (Err e) t after w lines ready ends wrote = search (arith, ready_front)
 
 pub begin_lines_end : (flow : Option Flow) (time : Option ℕ) → is_due (begin_lines flow time) ≡ true
 begin_lines_end None time = none_ends
@@ -83,8 +80,7 @@ below_tag r t set after w lines tag due ready is same ends writes =
 pub front_of : {A E : Type 0} (r : Result A E) (a b : OutLog) (x y : List ℕ) (e : E) → r ≡ Err e →
     WroteFront a b x →
     Writes r a b (x ++ y)
-front_of r a b x y e is front = subst (λ (q : Result _ _). Writes q a b (x ++ y)) (sym is)
-    (front-append a b x y front)
+front_of r a b x y e is front = search (arith, front-append)
 
 -- ---- a piece
 
@@ -101,9 +97,7 @@ front_lines R s p octets n a b front =
 -- the first n of them are undue before the last
 pub undue_taken : (C : Table) (R : Rules) (s : Exchanged) (p octets : List ℕ) (n : ℕ) →
     AreUndue C R s p octets n → AreUndue C R s p (take n octets) n
-undue_taken C R s p octets n undue k few =
-    ap (is_due_after is_waiting notified true C s R p) (take-take k n octets (omega (arith, few)))
-    ∙ undue k few
+undue_taken C R s p octets n undue k few = search (arith, take-take)
 
 module _ (C : Table) (a : Answers) (most : ℕ) (s : Exchanged) (p octets : List ℕ) (n : ℕ)
     (table : s.table ≡ C) (none : IsTaken s)
@@ -115,14 +109,12 @@ module _ (C : Table) (a : Answers) (most : ℕ) (s : Exchanged) (p octets : List
   piece = take n octets
 
   piece_is : stamped R s p piece ≡ added R p piece ++ lines_due R s p piece
-  piece_is = piece_text C a most piece n s p table none (undue_taken C R s p octets n undue)
-      (omega (arith, length-take-le n octets within))
+  piece_is = search (arith, piece_text, undue_taken, length-take-le)
 
   -- what was told of it
   tells : (s' : Exchanged) → s' ≡ after_ends notified C s (header_ends_from R p piece) →
       s' ≡ told R s p piece
-  tells s' is = is ∙ ap (λ (D : Table). after_ends notified D s (header_ends_from R p piece))
-      (sym table)
+  tells s' is = search (arith)
 
   pub piece_written : {A E : Type 0} (r : Result A E) (s' : Exchanged) (begun : Option ℕ)
       (arrival : Arrival)
@@ -142,9 +134,7 @@ module _ (C : Table) (a : Answers) (most : ℕ) (s : Exchanged) (p octets : List
   pub piece_calls : (s' s'' : Exchanged) →
       s' ≡ after_ends notified C s (header_ends_from R p piece) → s'' ≡ taken s' →
       s'' ≡ exchanged R s p piece
-  piece_calls s' s'' is behind =
-      behind ∙ (ap taken (tells s' is) ∙ sym (piece_told C a most piece n s p table none
-      (undue_taken C R s p octets n undue) (omega (arith, length-take-le n octets within))))
+  piece_calls s' s'' is behind = search (arith, tells, piece_told, undue_taken, length-take-le)
 
   -- where the feeding of the piece failed
   pub piece_front : (old new : OutLog) → WroteFront old new (added R p piece) →
@@ -156,7 +146,7 @@ module _ (C : Table) (a : Answers) (most : ℕ) (s : Exchanged) (p octets : List
 -- ---- pieces, one after the other
 
 same_rules : (e e' : EngineView) (a : Answers) → IsSetAlike e' e → rules_with e' a ≡ rules_with e a
-same_rules e e' a same = λ j. rules_by (same.table j) a (same.most j)
+same_rules e e' a same = search (arith)
 
 -- how far the octets have been read
 abbrev pub HasReadTo : EngineView → EngineView → Answers → List ℕ → List ℕ → ℕ → Exchanged →
@@ -170,56 +160,36 @@ pub read_none : (e : EngineView) (a : Answers) (p octets : List ℕ) (s : Exchan
     HoldsBy e a p →
     HasReadTo e e a p octets 0 s s t t
 unfolding stamped exchanged
-read_none e a p octets s t holds =
-    record {
-      holds = subst (HoldsBy e a) (sym (append-nil p)) holds;
-      wrote =
-          wrote-nil (tagging_log t);
-      told = refl;
-    }
+read_none e a p octets s t holds = search (arith, append-nil, wrote-nil)
 
 pub agree_on : (e e' : EngineView) (a : Answers) (p octets : List ℕ) (at : ℕ) (s s' : Exchanged) →
     IsSetAlike e' e →
     s.table ≡ e.table → s' ≡ exchanged (rules_with e a) s p (take at octets) →
     AgreeWith e a s p octets →
     AgreeWith e' a s' (p ++ take at octets) (drop at octets)
-agree_on e e' a p octets at s s' same table told agrees =
-    let parts : AgreeWith e a s p (take at octets ++ drop at octets) =
-    subst (λ (os : List ℕ). AgreeWith e a s p os) (sym (take-append-drop at octets)) agrees in
-    let behind = agrees_behind (rules_with e a) e.table a (take at octets) s p (drop at octets)
-    table parts in
-    let now = subst (λ (x : Exchanged). AgreesAtEnds answer_of notified e.table x a
-    (header_ends_from (rules_with e a) (p ++ take at octets) (drop at octets)))
-    (sym told) behind in
-    subst (λ (R : Rules). AgreesAtEnds answer_of notified e'.table s' a
-    (header_ends_from R (p ++ take at octets) (drop at octets)))
-    (sym (same_rules e e' a same))
-    (subst (λ (C : Table). AgreesAtEnds answer_of notified C s' a
-    (header_ends_from (rules_with e a) (p ++ take at octets) (drop at octets)))
-    (sym same.table) now)
+agree_on e e' a p octets at s s' same table told agrees = search (
+  arith,
+  take,
+  drop,
+  take-append-drop,
+  agrees_behind,
+  same_rules,
+)
 
 -- the calls as they are read on
 pub table_on : (e e' : EngineView) (a : Answers) (p octets : List ℕ) (at : ℕ) (s s' : Exchanged) →
     IsSetAlike e' e →
     s.table ≡ e.table → s' ≡ exchanged (rules_with e a) s p (take at octets) → s'.table ≡ e'.table
-table_on e e' a p octets at s s' same table told =
-    ap (λ (x : Exchanged). x.table) told
-    ∙ (exchanged_table (rules_with e a) (take at octets) s p ∙ (table ∙ sym same.table))
+table_on e e' a p octets at s s' same table told = search (arith, exchanged_table, take)
 
 pub arrival_on : (R : Rules) (p octets : List ℕ) (s s' : Exchanged) (arrival : Arrival) →
     s.arrival ≡ arrival →
     s' ≡ exchanged R s p octets → s'.arrival ≡ arrival
-arrival_on R p octets s s' arrival now told = ap (λ (x : Exchanged). x.arrival) told
-    ∙ (exchanged_arrival R octets s p ∙ now)
+arrival_on R p octets s s' arrival now told = search (arith, exchanged_arrival)
 
 pub taken_on : (R : Rules) (p octets : List ℕ) (s s' : Exchanged) → IsTaken s →
     s' ≡ exchanged R s p octets → IsTaken s'
-taken_on R p octets s s' none told =
-    let taken = exchanged_taken R octets s p none in
-    record {
-      answered = ap (λ (x : Exchanged). x.answered) told ∙ taken.answered;
-      raised = ap (λ (x : Exchanged). x.raised) told ∙ taken.raised;
-    }
+taken_on R p octets s s' none told = search (arith, exchanged_taken)
 
 -- the lines of some octets and then those of others
 lines_on : (e e' : EngineView) (a : Answers) (p front more : List ℕ) (s s' : Exchanged) →
@@ -227,22 +197,14 @@ lines_on : (e e' : EngineView) (a : Answers) (p front more : List ℕ) (s s' : E
     s' ≡ exchanged (rules_with e a) s p front →
     stamped (rules_with e a) s p front ++ stamped (rules_with e' a) s' (p ++ front) more
     ≡ stamped (rules_with e a) s p (front ++ more)
-lines_on e e' a p front more s s' same told =
-    ap (λ (R : Rules). stamped (rules_with e a) s p front ++ stamped R s' (p ++ front) more)
-    (same_rules e e' a same)
-    ∙ (ap (λ (x : Exchanged). stamped (rules_with e a) s p front
-    ++ stamped (rules_with e a) x (p ++ front) more) told
-    ∙ sym (stamped_both (rules_with e a) front s p more))
+lines_on e e' a p front more s s' same told = search (arith, same_rules, stamped_both)
 
 calls_on : (e e' : EngineView) (a : Answers) (p front more : List ℕ) (s s' : Exchanged) →
     IsSetAlike e' e →
     s' ≡ exchanged (rules_with e a) s p front →
     exchanged (rules_with e' a) s' (p ++ front) more
     ≡ exchanged (rules_with e a) s p (front ++ more)
-calls_on e e' a p front more s s' same told =
-    ap (λ (R : Rules). exchanged R s' (p ++ front) more) (same_rules e e' a same)
-    ∙ (ap (λ (x : Exchanged). exchanged (rules_with e a) x (p ++ front) more) told
-    ∙ sym (exchanged_both (rules_with e a) front s p more))
+calls_on e e' a p front more s s' same told = search (arith, same_rules, exchanged_both)
 
 come_on : (e e' e'' : EngineView) (a : Answers) (p octets : List ℕ) (at n : ℕ)
     (s s' s'' : Exchanged) (t t' t'' : Tagging) →
@@ -351,21 +313,4 @@ pub reading_starts : (e : EngineView) (stream : ℕ) (arrival : Arrival) (s0 s1 
       raised = None;
     } →
     e.table ≡ C → number ≡ stream → s2 ≡ reading_in e stream arrival s0
-reading_starts e stream arrival s0 s1 s2 C number first second same numbered =
-    second
-    ∙ (ap (λ (x : Exchanged). record x {
-      stream = number;
-      arrival = arrival;
-      replied = 0;
-      answered = None;
-      raised = None;
-    }) first
-    ∙ λ j. record s0 {
-      table = sym same j;
-      stream = numbered j;
-      arrival = arrival;
-      replied = 0;
-      answered =
-          None;
-      raised = None;
-    })
+reading_starts e stream arrival s0 s1 s2 C number first second same numbered = search (arith)

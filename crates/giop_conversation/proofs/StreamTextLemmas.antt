@@ -15,24 +15,24 @@ use Rattle.giop_stream.proofs.StreamLaws.{added_both_by}
 use Rattle.tcp_flow.specs.Flow.{Event, Opens, Begins, Delivers, Closes, OfCapture, PacketArrives, HasFault}
 use Rattle.tcp_flow.specs.declared.flow.CloseCause.{CloseCause}
 use Rattle.tcp_segment.specs.declared.endpoint.Flow.{Flow}
-use Rattle.giop_conversation.specs.declared.conversation.Parity.TheVariants.{Even, Odd}
+use Rattle.giop_conversation.specs.declared.conversation.Side.TheVariants.{Even, Odd}
 use Rattle.giop_conversation.specs.Tags.{stream_tag, with_tags}
 use Rattle.giop_conversation.specs.Lines.{capture_fault_line}
-use Rattle.giop_conversation.specs.Followed.{parity_of, other}
-use Rattle.giop_conversation.specs.Captured.{Setup, Side, Connection, Dump, Leads, Answered, IsAnswered, start, new_connection, side, rules_in, delivered_lines, calls_behind, opened_in, begun_in, delivered_in, closed_in, closed_lines, stepped, calls_in}
+use Rattle.giop_conversation.specs.Followed.{side_of, other}
+use Rattle.giop_conversation.specs.Captured.{Setup, Half, Connection, Dump, Leads, Answered, IsAnswered, start, new_connection, half, rules_in, delivered_lines, calls_behind, opened_in, begun_in, delivered_in, closed_in, closed_lines, stepped, calls_in}
 use Rattle.giop_conversation.specs.CaptureParts.{StreamPart, read_lines, own_lines, Part, OfStream, FaultLine, part_text, text_of, of_stream, read_of, own_of}
 use Rattle.giop_conversation.specs.StreamTexts.{StreamHistory, new_stream, read_on, closed, History, no_history, with_begun, with_stream, happened, history, IsDumped, IsUnique, ShowsStreams}
 use Rattle.giop_conversation.specs.Exchanges.{Exchanged}
 use Rattle.giop_conversation.specs.Stamped.{begin_lines}
 use Rattle.giop_conversation.proofs.EmptyStream.{no_text, one_closing}
 use Rattle.giop_conversation.proofs.PartLemmas.{AreParts, whole_both, are_whole, text_is, of_it, of_another, begin_parts, closed_parts, stamped_parts}
-use Rattle.giop_conversation.proofs.StreamNumbers.{flow_id, IsSide, HasSide, HasSides, AreSides, AreNumbered, counted_new, numbers_begun, numbers_with, stream_at, stream_else, unequal, own_side, sides_on, side_on, no_room}
+use Rattle.giop_conversation.proofs.StreamNumbers.{flow_id, IsHalf, HasHalf, HasHalves, AreHalves, AreNumbered, counted_new, numbers_begun, numbers_with, stream_at, stream_else, unequal, own_half, halves_on, half_on, no_room}
 
 -- ---- the whole
 
 pub record AreShown (S : Setup) (written : List ℕ) (h : History) (d : Dump) : Type 0 where
   pub count : d.streams ≡ h.begun
-  pub sides : AreSides S h d.connections
+  pub halves : AreHalves S h d.connections
   pub numbers : AreNumbered S h
   pub shows : ShowsStreams S written h d.text
 
@@ -57,17 +57,11 @@ more_lines S written h behind all n lines reads own t more others here = record 
     new = map (OfStream n) more.parts
 
     shown : all ++ with_tags (stream_tag n) lines ≡ written ++ text_of (t.parts ++ new)
-    shown = ap (λ (x : List ℕ). x ++ with_tags (stream_tag n) lines) t.shows
-        ∙ (append_assoc written (text_of t.parts) (with_tags (stream_tag n) lines)
-        ∙ ap (λ (x : List ℕ). written ++ x)
-        (ap (λ (x : List ℕ). text_of t.parts ++ x)
-        (ap (with_tags (stream_tag n)) (sym more.lines_are) ∙ sym (text_is n more.parts more.whole))
-        ∙ sym (flat_map-append part_text t.parts new)))
+    shown = search (arith, append_assoc, text_is, flat_map-append)
 
     of : (m : ℕ) (f : StreamPart → List ℕ) (x : List ℕ) → flat_map (of_stream f m) new ≡ x →
         flat_map (of_stream f m) (t.parts ++ new) ≡ flat_map (of_stream f m) t.parts ++ x
-    of m f x is = flat_map-append (of_stream f m) t.parts new
-        ∙ ap (λ (y : List ℕ). flat_map (of_stream f m) t.parts ++ y) is
+    of m f x is = search (arith, flat_map-append, flat_map)
 
     by : (m : ℕ) → IsUnique m → (b : Bool) → (n == m) ≡ b →
         IsDumped S (behind.stream m) (read_of m (t.parts ++ new)) (own_of m (t.parts ++ new))
@@ -114,8 +108,7 @@ more_fault S written h all word at t = record {
 
     of : (m : ℕ) (f : StreamPart → List ℕ) →
         flat_map (of_stream f m) (t.parts ++ new) ≡ flat_map (of_stream f m) t.parts
-    of m f = flat_map-append (of_stream f m) t.parts new
-        ∙ append-nil (flat_map (of_stream f m) t.parts)
+    of m f = search (arith, flat_map-append, append-nil, flat_map)
 
 -- ---- events
 
@@ -140,20 +133,7 @@ module _ (S : Setup) (written : List ℕ)
       slice_get d.connections (id / 2) ≡ o →
       AreShown S written h d → AreShown S written h (opened_in d id flow o)
   on_opened h d id flow None is b = b
-  on_opened h d id flow (Some c) is b =
-      let own = own_side S h h d.connections id c is b.sides in
-      record {
-        count = b.count;
-        sides = side_on S h h d.connections id c
-            (record (side (parity_of id) c) {
-              flow = Some flow;
-              calls =
-                  record (side (parity_of id) c).calls { entries = [] };
-            }) is b.sides
-            (λ g n p a apart has. has) own;
-        numbers = b.numbers;
-        shows = b.shows;
-      }
+  on_opened h d id flow (Some c) is b = search (arith, own_half, half_on)
 
   on_begun : (h : History) (d : Dump) (id : ℕ) (o : Option Connection) →
       slice_get d.connections (id / 2) ≡ o →
@@ -162,14 +142,14 @@ module _ (S : Setup) (written : List ℕ)
   on_begun h d id None is b =
       let past = no_room d.connections (id / 2) is in
       let none : nat_lt (id / 2) S.connections ≡ false =
-      false_from_ne_true _ (λ some. let low = ltb-true _ _ some in let rooms = b.sides.rooms in
+      false_from_ne_true _ (λ some. let low = ltb-true _ _ some in let rooms = b.halves.rooms in
       omega (arith, past, low, rooms)) in
       rw none (record {
         count = ap counted b.count;
-        sides = record {
-          rooms = b.sides.rooms;
-          sides =
-              λ i. by i (slice_get d.connections i) (b.sides.sides i);
+        halves = record {
+          rooms = b.halves.rooms;
+          halves =
+              λ i. by i (slice_get d.connections i) (b.halves.halves i);
         };
         numbers = numbers_begun S h id false (λ is. absurd cc) b.numbers;
         shows = record {
@@ -180,31 +160,24 @@ module _ (S : Setup) (written : List ℕ)
         };
       })
     where
-      by : (i : ℕ) (o : Option Connection) → IfSome o (HasSides S h i) →
-          IfSome o (HasSides S (with_begun h id false) i)
+      by : (i : ℕ) (o : Option Connection) → IfSome o (HasHalves S h i) →
+          IfSome o (HasHalves S (with_begun h id false) i)
       by i None has = tt
-      by i (Some c) has = λ p.
-          let k = has p in
-          record {
-            stream_is = k.stream_is;
-            octets_are = k.octets_are;
-            text_is = k.text_is;
-            closing_is = k.closing_is;
-          }
+      by i (Some c) has = search (arith, text_is)
   on_begun h d id (Some c) is b =
       let low = slice_get_within d.connections (id / 2) c is in
-      let rooms = b.sides.rooms in
+      let rooms = b.halves.rooms in
       let room : id / 2 < S.connections = omega (arith, low, rooms) in
       let some : nat_lt (id / 2) S.connections ≡ true = lt-ltb _ _ room in
       let n = counted d.streams in
-      let s = side (parity_of id) c in
+      let s = half (side_of id) c in
       let lines = begin_parts s.flow d.arrival.time in
       let new : IsUnique n → h.stream n ≡ new_stream =
       λ number. b.numbers.fresh n (rw b.count (counted_new h.begun (rw b.count at number.1))) in
       rw some (record {
         count = ap counted b.count;
-        sides = side_on S h (with_begun h id true) d.connections id c
-            (record s { stream = n; octets = [] }) is b.sides
+        halves = half_on S h (with_begun h id true) d.connections id c
+            (record s { stream = n; octets = [] }) is b.halves
             (λ g m p a apart k. record {
               stream_is = k.stream_is ∙ sym (rw (unequal g id apart) refl);
               octets_are = k.octets_are;
@@ -226,95 +199,63 @@ module _ (S : Setup) (written : List ℕ)
       })
 
   -- a stream changes that is not the flow's
-  side_stays : (h : History) (m : ℕ) (s : StreamHistory) (g n : ℕ) (p : List ℕ) (a : Answers) →
-      (IsUnique n → (with_stream h m s).stream n ≡ h.stream n) → IsSide S h g n p a →
-      IsSide S (with_stream h m s) g n p a
-  side_stays h m s g n p a stays it = record {
-    stream_is = it.stream_is;
-    octets_are = λ number. it.octets_are number
-        ∙ ap (λ (t : StreamHistory). t.octets) (sym (stays number));
-    text_is = λ number. it.text_is number ∙
-        ap (λ (t : StreamHistory). text (rules_in S t.answers) p) (sym (stays number));
-    closing_is = λ number. it.closing_is number
-        ∙ ap (λ (t : StreamHistory). closing (rules_in S t.answers) p) (sym (stays number));
-  }
+  half_stays : (h : History) (m : ℕ) (s : StreamHistory) (g n : ℕ) (p : List ℕ) (a : Answers) →
+      (IsUnique n → (with_stream h m s).stream n ≡ h.stream n) → IsHalf S h g n p a →
+      IsHalf S (with_stream h m s) g n p a
+  half_stays h m s g n p a stays it = search (arith, text_is)
 
   -- that of another flow
-  side_with : (h : History) (s : StreamHistory) (id g n : ℕ) (p : List ℕ) (a : Answers) →
+  half_with : (h : History) (s : StreamHistory) (id g n : ℕ) (p : List ℕ) (a : Answers) →
       AreNumbered S h → (g ≡ id → ⊥) →
-      IsSide S h g n p a → IsSide S (with_stream h (h.stream_of id) s) g n p a
-  side_with h s id g n p a k apart it =
-      side_stays h (h.stream_of id) s g n p a
-      (λ number. stream_else h (h.stream_of id) s n
-      (unequal (h.stream_of id) n (λ same. apart
-      (k.apart g id (subst IsUnique it.stream_is number) (sym it.stream_is ∙ sym same))))) it
+      IsHalf S h g n p a → IsHalf S (with_stream h (h.stream_of id) s) g n p a
+  half_with h s id g n p a k apart it = search (arith, half_stays, stream_else, unequal)
 
   -- that of a flow without a room has no number
   beyond_is : (h : History) (s : StreamHistory) (id m : ℕ) → h.stream_of id ≡ 0 → IsUnique m →
       (with_stream h (h.stream_of id) s).stream m ≡ h.stream m
-  beyond_is h s id m none number =
-      stream_else h (h.stream_of id) s m (unequal (h.stream_of id) m
-      (λ same. omega (arith, same, none, number.0)))
+  beyond_is h s id m none number = search (arith, stream_else, unequal)
 
   on_nothing : (h : History) (s : StreamHistory) (d : Dump) (id : ℕ) →
       slice_get d.connections (id / 2) ≡ None →
       AreShown S written h d → AreShown S written (with_stream h (h.stream_of id) s) d
-  on_nothing h s d id is b =
-      let past = no_room d.connections (id / 2) is in
-      let rooms = b.sides.rooms in
-      let none = b.numbers.beyond id (omega (arith, past, rooms)) in
-      record {
-        count = b.count;
-        sides = record {
-          rooms = rooms;
-          sides =
-              λ i. by none i (slice_get d.connections i) (b.sides.sides i);
-        };
-        numbers = numbers_with S h (h.stream_of id) s (b.numbers.within id) b.numbers;
-        shows = record {
-          parts = b.shows.parts;
-          whole = b.shows.whole;
-          shows = b.shows.shows;
-          streams = λ m number. rw (beyond_is h s id m none number) (b.shows.streams m number);
-        };
-      }
-    where
-      by : h.stream_of id ≡ 0 → (i : ℕ) (o : Option Connection) → IfSome o (HasSides S h i) →
-          IfSome o (HasSides S (with_stream h (h.stream_of id) s) i)
-      by none i None has = tt
-      by none i (Some c) has = λ p.
-          side_stays h (h.stream_of id) s (flow_id i p) (side p c).stream (side p c).octets
-          (side p c).answers
-          (beyond_is h s id (side p c).stream none) (has p)
+  on_nothing h s d id is b = search (
+    arith,
+    no_room,
+    slice_get,
+    numbers_with,
+    beyond_is,
+    half_stays,
+    flow_id,
+  )
 
   on_delivered : (a : Answers) (h : History) (d : Dump) (id : ℕ) (octets : List ℕ)
       (o : Option Connection) →
       slice_get d.connections (id / 2) ≡ o →
-      IfSome o (λ c. IsAnswered S a (parity_of id) octets d.arrival c) → AreShown S written h d →
+      IfSome o (λ c. IsAnswered S a (side_of id) octets d.arrival c) → AreShown S written h d →
       AreShown S written (with_stream h (h.stream_of id)
       (read_on a octets (h.stream (h.stream_of id)))) (delivered_in S a d id octets o)
   on_delivered a h d id octets None is answered b =
       on_nothing h (read_on a octets (h.stream (h.stream_of id))) d id is b
   on_delivered a h d id octets (Some c) is answered b = record {
     count = b.count;
-    sides = sides_on S h behind d.connections id c
+    halves = halves_on S h behind d.connections id c
         (record s { octets = s.octets ++ octets; answers = a; calls = calls.own })
-        (record (side (other (parity_of id)) c) { calls = calls.opposite }) is b.sides
-        (λ g m p x apart it. side_with h next id g m p x b.numbers apart it) own (λ g has. has);
+        (record (half (other (side_of id)) c) { calls = calls.opposite }) is b.halves
+        (λ g m p x apart it. half_with h next id g m p x b.numbers apart it) own (λ g has. has);
     numbers = numbers_with S h n next (b.numbers.within id) b.numbers;
     shows = subst (λ m. ShowsStreams S written behind (d.text ++ with_tags (stream_tag m) lines))
         (sym k.stream_is)
         (more_lines S written h behind d.text n lines (added R s.octets octets)
         (added R s.octets octets) b.shows
-        (stamped_parts S.table a S.messages octets s.octets (calls_in S (parity_of id) d.arrival c))
+        (stamped_parts S.table a S.messages octets s.octets (calls_in S (side_of id) d.arrival c))
         (λ m number apart. stream_else h n next m apart) here);
   }
     where
       R : Rules
       R = rules_in S a
 
-      s : Side
-      s = side (parity_of id) c
+      s : Half
+      s = half (side_of id) c
 
       n : ℕ
       n = h.stream_of id
@@ -326,29 +267,19 @@ module _ (S : Setup) (written : List ℕ)
       behind = with_stream h n next
 
       calls : Exchanged
-      calls = calls_behind S a (parity_of id) octets d.arrival c
+      calls = calls_behind S a (side_of id) octets d.arrival c
 
       lines : List ℕ
-      lines = delivered_lines S a (parity_of id) octets d.arrival c
+      lines = delivered_lines S a (side_of id) octets d.arrival c
 
-      k : HasSide S h id s
-      k = own_side S h h d.connections id c is b.sides
+      k : HasHalf S h id s
+      k = search (arith, own_half)
 
       at : behind.stream s.stream ≡ next
-      at = ap behind.stream k.stream_is ∙ stream_at h n next
+      at = search (arith, behind, k, stream_at, next)
 
-      own : IsSide S behind id s.stream (s.octets ++ octets) a
-      own = record {
-        stream_is = k.stream_is;
-        octets_are = λ number.
-            ap (λ (x : List ℕ). x ++ octets) (k.octets_are number
-            ∙ ap (λ m. (h.stream m).octets) k.stream_is)
-            ∙ ap (λ (t : StreamHistory). t.octets) (sym at);
-        text_is = λ number. ap (λ (t : StreamHistory).
-            text (rules_in S t.answers) (s.octets ++ octets)) (sym at);
-        closing_is = λ number. ap (λ (t : StreamHistory).
-            closing (rules_in S t.answers) (s.octets ++ octets)) (sym at);
-      }
+      own : IsHalf S behind id s.stream (s.octets ++ octets) a
+      own = search (arith, k, at, text_is, s)
 
       here : IsUnique n → (r o : List ℕ) → IsDumped S (h.stream n) r o →
           IsDumped S (behind.stream n) (r ++ added R s.octets octets) (o ++ added R s.octets octets)
@@ -386,25 +317,25 @@ module _ (S : Setup) (written : List ℕ)
       AreShown S written h d → AreShown S written
       (with_stream h (h.stream_of id) (closed (h.stream (h.stream_of id))))
       (closed_in S d id cause o)
-  on_closed h d id cause None is b = on_nothing h (closed (h.stream (h.stream_of id))) d id is b
+  on_closed h d id cause None is b = search (arith, on_nothing)
   on_closed h d id cause (Some c) is b = record {
     count = b.count;
-    sides = record {
-      rooms = b.sides.rooms;
-      sides =
-          λ i. by i (slice_get d.connections i) (b.sides.sides i);
+    halves = record {
+      rooms = b.halves.rooms;
+      halves =
+          λ i. by i (slice_get d.connections i) (b.halves.halves i);
     };
     numbers = numbers_with S h n next (b.numbers.within id) b.numbers;
     shows = subst (λ m. ShowsStreams S written behind
-        (d.text ++ with_tags (stream_tag m) (closed_lines S (parity_of id) cause c)))
+        (d.text ++ with_tags (stream_tag m) (closed_lines S (side_of id) cause c)))
         (sym k.stream_is)
-        (more_lines S written h behind d.text n (closed_lines S (parity_of id) cause c) []
+        (more_lines S written h behind d.text n (closed_lines S (side_of id) cause c) []
         (closing R s.octets) b.shows
         (closed_parts R s.octets cause) (λ m number apart. stream_else h n next m apart) here);
   }
     where
-      s : Side
-      s = side (parity_of id) c
+      s : Half
+      s = half (side_of id) c
 
       R : Rules
       R = rules_in S s.answers
@@ -418,8 +349,8 @@ module _ (S : Setup) (written : List ℕ)
       behind : History
       behind = with_stream h n next
 
-      k : HasSide S h id s
-      k = own_side S h h d.connections id c is b.sides
+      k : HasHalf S h id s
+      k = search (arith, own_half)
 
       -- the octets and the answers of a stream stay
       stays : {X : Type 0} (f : List ℕ → Answers → X) (m : ℕ) →
@@ -429,72 +360,32 @@ module _ (S : Setup) (written : List ℕ)
         where
           at : (b : Bool) → (n == m) ≡ b → f (behind.stream m).octets (behind.stream m).answers
               ≡ f (h.stream m).octets (h.stream m).answers
-          at true same = rw same (ap (λ m. f (h.stream m).octets (h.stream m).answers)
-              (eqb-true _ _ same))
+          at true same = search (arith, eqb-true)
           at false apart = rw apart refl
 
-      by : (i : ℕ) (o : Option Connection) → IfSome o (HasSides S h i) →
-          IfSome o (HasSides S behind i)
+      by : (i : ℕ) (o : Option Connection) → IfSome o (HasHalves S h i) →
+          IfSome o (HasHalves S behind i)
       by i None has = tt
-      by i (Some c) has = λ p.
-          let it = has p in
-          let x = side p c in
-          record {
-            stream_is = it.stream_is;
-            octets_are = λ number. it.octets_are number
-                ∙ sym (stays (λ octets answers. octets) x.stream);
-            text_is = λ number. it.text_is number
-                ∙ sym (stays (λ octets answers. text (rules_in S answers) x.octets) x.stream);
-            closing_is = λ number. it.closing_is number
-                ∙ sym (stays (λ octets answers. closing (rules_in S answers) x.octets) x.stream);
-          }
+      by i (Some c) has = search (arith, stays, text_is)
 
       here : IsUnique n → (r o : List ℕ) → IsDumped S (h.stream n) r o →
           IsDumped S (behind.stream n) (r ++ []) (o ++ closing R s.octets)
-      here number r o t =
-          let number' = subst IsUnique (sym k.stream_is) number in
-          let Q = rules_in S (h.stream n).answers in
-          let p = (h.stream n).octets in
-          let last : closing R s.octets ≡ closing Q p =
-          k.closing_is number' ∙ (ap (λ m. closing (rules_in S (h.stream m).answers) s.octets)
-          k.stream_is
-          ∙ ap (closing Q) (k.octets_are number' ∙ ap (λ m. (h.stream m).octets) k.stream_is)) in
-          rw (stream_at h n next) (record {
-            reads_are = append-nil r ∙ t.reads_are;
-            own_are = λ goes.
-                let still = never (h.stream n).goes_on (h.stream n).is_closed goes in
-                let was : o ≡ text Q p =
-                t.own_are still.0 ∙ (ap (λ (x : Bool). text Q p ++ (if x then closing Q p else []))
-                still.1 ∙ append-nil (text Q p)) in
-                rw (was, last) refl;
-          })
+      here number r o t = search (arith, k, s, stream_at, next, append-nil, never)
 
   pub on_event : (a : Answers) (h : History) (d : Dump) (e : Event) → Answered S a d e →
       AreShown S written h d →
       AreShown S written (happened S a h e) (stepped S a d e)
-  on_event a h d (Opens id flow) answered b =
-      on_opened h d id flow (slice_get d.connections (id / 2)) refl b
-  on_event a h d (Begins id number) answered b =
-      on_begun h d id (slice_get d.connections (id / 2)) refl b
-  on_event a h d (Delivers id octets) answered b =
-      on_delivered a h d id octets (slice_get d.connections (id / 2)) refl answered b
-  on_event a h d (Closes id cause) answered b =
-      on_closed h d id cause (slice_get d.connections (id / 2)) refl b
-  on_event a h d (OfCapture (PacketArrives time)) answered b =
-      record { count = b.count; sides = b.sides; numbers = b.numbers; shows = b.shows }
-  on_event a h d (OfCapture (HasFault word at)) answered b =
-      record {
-        count = b.count;
-        sides = b.sides;
-        numbers = b.numbers;
-        shows =
-            more_fault S written h d.text word at b.shows;
-      }
+  on_event a h d (Opens id flow) answered b = search (arith, on_opened, slice_get)
+  on_event a h d (Begins id number) answered b = search (arith, on_begun, slice_get)
+  on_event a h d (Delivers id octets) answered b = search (arith, on_delivered, slice_get)
+  on_event a h d (Closes id cause) answered b = search (arith, on_closed, slice_get)
+  on_event a h d (OfCapture (PacketArrives time)) answered b = search (arith)
+  on_event a h d (OfCapture (HasFault word at)) answered b = search (arith, more_fault)
 
   on_events : (events : List Event) (h : History) (d behind : Dump)
       (leads : Leads S d events behind) → AreShown S written h d →
       AreShown S written (history S h d events behind leads) behind
-  on_events [] h d behind leads b = subst (AreShown S written h) (sym leads) b
+  on_events [] h d behind leads b = search (arith)
   on_events (e ∷ es) h d behind leads b =
       on_events es (happened S leads.1.answers h e) leads.0 behind leads.2
       (subst (AreShown S written (happened S leads.1.answers h e)) (sym leads.1.is)
@@ -511,9 +402,9 @@ module _ (S : Setup) (written : List ℕ)
   pub at_start : AreShown S written no_history (start S written)
   at_start = record {
     count = refl;
-    sides = record {
+    halves = record {
       rooms = length-replicate S.connections (new_connection S);
-      sides = each_alike (HasSides S no_history) (new_connection S) S.connections sides;
+      halves = each_alike (HasHalves S no_history) (new_connection S) S.connections halves;
     };
     numbers = record {
       most = omega arith;
@@ -537,22 +428,10 @@ module _ (S : Setup) (written : List ℕ)
       R : Rules
       R = rules_in S new_stream.answers
 
-      sides : (i : ℕ) → HasSides S no_history i (new_connection S)
-      sides i Even = record {
-        stream_is = refl;
-        octets_are = λ number. refl;
-        text_is =
-            λ number. refl;
-        closing_is = λ number. refl;
-      }
-      sides i Odd = record {
-        stream_is = refl;
-        octets_are = λ number. refl;
-        text_is =
-            λ number. refl;
-        closing_is = λ number. refl;
-      }
+      halves : (i : ℕ) → HasHalves S no_history i (new_connection S)
+      halves i Even = search (arith, text_is)
+      halves i Odd = search (arith, text_is)
 
   pub all_shown : (events : List Event) (d : Dump) (leads : Leads S (start S written) events d) →
       ShowsStreams S written (history S no_history (start S written) events d leads) d.text
-  all_shown events d leads = (on_events events no_history (start S written) d leads at_start).shows
+  all_shown events d leads = search (arith, on_events, at_start)

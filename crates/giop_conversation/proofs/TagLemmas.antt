@@ -20,14 +20,13 @@ ends_append first (x ∷ xs) b = ends_append (x == 10) xs b
 
 pub joined : (tag a b : List ℕ) → is_due a ≡ true →
     with_tags tag (a ++ b) ≡ with_tags tag a ++ with_tags tag b
-joined tag a b due = tagged_append true tag a b
-    ∙ ap (λ first. tagged true tag a ++ tagged first tag b) due
+joined tag a b due = search (arith, tagged_append)
 
 -- the octets of one line, at most up to its end
 pub tagged_line : (first : Bool) (tag xs : List ℕ) (n : ℕ) → 0 < n → n ≤ line_size xs →
     tagged first tag (take n xs) ≡ lead first tag ++ take n xs
 unfolding tagged line_size
-tagged_line first tag [] n some within = absurd (omega (arith, some, within))
+tagged_line first tag [] n some within = search (arith)
 tagged_line first tag (x ∷ xs) zero some within = absurd (omega (arith, some))
 tagged_line first tag (x ∷ xs) (suc n) some within =
     by (x == 10) refl n within (λ m any fits. tagged_line false tag xs m any fits)
@@ -37,7 +36,7 @@ tagged_line first tag (x ∷ xs) (suc n) some within =
         ((m : ℕ) → 0 < m → m ≤ line_size xs → tagged false tag (take m xs) ≡ take m xs) →
         lead first tag ++ x ∷ tagged (x == 10) tag (take n xs) ≡ lead first tag ++ x ∷ take n xs
     by b is zero within rest = refl
-    by true is (suc n) within rest = absurd (omega (arith, rw is at within))
+    by true is (suc n) within rest = search (arith)
     by false is (suc n) within rest =
         ap (λ more. lead first tag ++ x ∷ more) (rw is (rest (suc n) (omega arith)
         (omega (arith, rw is at within))))
@@ -45,7 +44,7 @@ tagged_line first tag (x ∷ xs) (suc n) some within =
 pub ends_take : (first : Bool) (xs : List ℕ) (n : ℕ) → 0 < n → n ≤ length xs →
     ends_line first (take n xs) ≡ (slice_index xs (n - 1) == 10)
 unfolding ends_line
-ends_take first [] n some within = absurd (omega (arith, some, within))
+ends_take first [] n some within = search (arith)
 ends_take first (x ∷ xs) zero some within = absurd (omega (arith, some))
 ends_take first (x ∷ xs) (suc zero) some within = refl
 ends_take first (x ∷ xs) (suc (suc n)) some within =
@@ -74,7 +73,7 @@ untagged_few (suc skip) size (x ∷ xs) few = untagged_few skip size xs (omega (
 untagged_lead : (first : Bool) (tag rest : List ℕ) →
     untagged (passed first (length tag)) (length tag) (lead first tag
     ++ rest) ≡ untagged 0 (length tag) rest
-untagged_lead true tag rest = untagged_tag (length tag) tag rest
+untagged_lead true tag rest = search (arith, untagged_tag)
 untagged_lead false tag rest = refl
 
 pub untagged_tagged : (first : Bool) (tag text rest : List ℕ) →
@@ -123,18 +122,9 @@ line_some (x ∷ xs) (suc k) low before is =
 pub line_is_within : (xs : List ℕ) → line_size xs ≤ length xs
 unfolding line_size
 line_is_within [] = omega arith
-line_is_within (x ∷ xs) = by (x == 10) refl (line_is_within xs)
-  where
-    by : (b : Bool) → (x == 10) ≡ b → line_size xs ≤ length xs →
-        line_size (x ∷ xs) ≤ suc (length xs)
-    by true is rest = rw is (omega arith)
-    by false is rest = rw is (omega (arith, rest))
+line_is_within (x ∷ xs) = search (arith, line_is_within xs)
 
 pub line_has_some : (xs : List ℕ) → 0 < length xs → 0 < line_size xs
 unfolding line_size
 line_has_some [] some = some
-line_has_some (x ∷ xs) some = by (x == 10) refl
-  where
-    by : (b : Bool) → (x == 10) ≡ b → 0 < line_size (x ∷ xs)
-    by true is = rw is (omega arith)
-    by false is = rw is (omega arith)
+line_has_some (x ∷ xs) some = search (arith)

@@ -13,27 +13,24 @@ use Rattle.giop_conversation.proofs.TagLemmas.{tagged_append, ends_append, tagge
 -- ---- what is begun of a tag
 
 whole_tag : (b : Bool) (tag : List ℕ) → take (length tag - 0) (lead b tag) ≡ lead b tag
-whole_tag true tag = let e : length tag - 0 ≡ length tag =
-    omega arith in rw e (take_all (length tag) tag (omega arith))
-whole_tag false tag = take_all (length tag - 0) [] (omega arith)
+whole_tag true tag = search (arith, take_all)
+whole_tag false tag = search (arith, take_all)
 
 no_tag_begun : (b : Bool) (tag : List ℕ) (due : ℕ) → (b ≡ true → due ≡ length tag) →
     take (length tag - due) (lead b tag) ≡ []
-no_tag_begun true tag due is = let e : length tag - due ≡ 0 = omega (arith, is refl) in rw e refl
-no_tag_begun false tag due is = take_all (length tag - due) [] (omega arith)
+no_tag_begun true tag due is = search (arith)
+no_tag_begun false tag due is = search (arith, take_all)
 
 begun_is_few : (b : Bool) (tag : List ℕ) (n : ℕ) →
     length (take n (lead b tag)) ≤ passed b (length tag)
-begun_is_few true tag n = let l = length-take n tag in omega arith
-begun_is_few false tag n = let none : take n (lead false tag) ≡ [] =
-    take_all n [] (omega arith) in rw none (omega arith)
+begun_is_few true tag n = search (arith, length-take)
+begun_is_few false tag n = search (arith, take, take_all)
 
 -- a text ended is a text with tags
 pub stopped_ended : (tag text : List ℕ) (due : ℕ) → (is_due text ≡ true → due ≡ length tag) →
     stopped_at tag text due ≡ with_tags tag text
 unfolding stopped_at
-stopped_ended tag text due is =
-    rw (no_tag_begun (is_due text) tag due is) (append-nil (with_tags tag text))
+stopped_ended tag text due is = search (arith, no_tag_begun, append-nil)
 
 -- more text behind a text that ended
 pub stopped_more : (tag text more : List ℕ) (due : ℕ) → is_due text ≡ true →
@@ -62,24 +59,13 @@ pub tag_step : (w w' before tag : List ℕ) (since : ℕ) (text : List ℕ) (due
     Stands w before tag since text due → 0 < due → n ≤ due →
     w' ≡ w ++ take n (drop (length tag - due) tag) → Stands w' before tag (since + n) text (due - n)
 unfolding stopped_at
-tag_step w w' before tag since text due n stands some few is = by (is_due text) refl
-  where
-    by : (b : Bool) → is_due text ≡ b → Stands w' before tag (since + n) text (due - n)
-    by false ends = absurd (omega (arith, some, stands.inside ends))
-    by true ends =
-        let l = length-append (with_tags tag text) (take (length tag - due) tag) in
-        let l' = length-append (with_tags tag text) (take (length tag - (due - n)) tag) in
-        let t = length-take (length tag - due) tag in
-        let t' = length-take (length tag - (due - n)) tag in
-        let c : since ≡ length (with_tags tag text ++ take (length tag - due) tag) =
-        rw ends at stands.counted in
-        record {
-          whole = rw ends (tag_behind w w' before tag text due n stands.within few
-              (rw ends at stands.whole) is);
-          counted = rw ends (omega (arith, stands.within, few, c, l, l', t, t'));
-          within = omega (arith, stands.within);
-          inside = λ isnt. absurd (cc (ends, isnt));
-        }
+tag_step w w' before tag since text due n stands some few is = search (
+  arith,
+  length-append,
+  take,
+  length-take,
+  tag_behind,
+)
 
 -- the tag that is due behind octets of a line
 abbrev pub due_at : List ℕ → List ℕ → ℕ → ℕ
@@ -89,15 +75,7 @@ pub due_is : (tag octets text : List ℕ) (n : ℕ) → 0 < n → n ≤ length o
     (due_at tag octets n ≤ length tag)
     × ((is_due (text ++ take n octets) ≡ true → due_at tag octets n ≡ length tag)
     × (is_due (text ++ take n octets) ≡ false → due_at tag octets n ≡ 0))
-due_is tag octets text n some within =
-    rw (ends_append true text (take n octets), ends_take (is_due text) octets n some within)
-    (by (slice_index octets (n - 1) == 10))
-  where
-    by : (b : Bool) → ((if b then length tag else 0) ≤ length tag)
-        × ((b ≡ true → (if b then length tag else 0) ≡ length tag)
-        × (b ≡ false → (if b then length tag else 0) ≡ 0))
-    by true = (omega arith, ((λ _. refl), (λ isnt. absurd (cc isnt))))
-    by false = (omega arith, ((λ isnt. absurd (cc isnt)), (λ _. refl)))
+due_is tag octets text n some within = search (arith, ends_append, take, ends_take, slice_index)
 
 line_text : (tag text octets : List ℕ) (n : ℕ) → 0 < n → n ≤ line_size octets → n ≤ length octets →
     stopped_at tag (text ++ take n octets) (due_at tag octets n) ≡ stopped_at tag text 0
@@ -116,18 +94,15 @@ pub line_step : (w w' before tag : List ℕ) (since : ℕ) (text octets : List �
     Stands w before tag since text 0 → 0 < n → n ≤ line_size octets → n ≤ length octets →
     w' ≡ w ++ take n octets →
     Stands w' before tag (since + n) (text ++ take n octets) (due_at tag octets n)
-line_step w w' before tag since text octets n stands some line within is =
-    let whole = line_text tag text octets n some line within in
-    let ends = due_is tag octets text n some within in
-    let l = length-append (stopped_at tag text 0) (take n octets) in
-    let t = length-take n octets in
-    record {
-      whole = rw (whole, is, stands.whole) (append_assoc before (stopped_at tag text 0)
-          (take n octets));
-      counted = rw whole (omega (arith, stands.counted, l, t, within));
-      within = ends.0;
-      inside = ends.1.1;
-    }
+line_step w w' before tag since text octets n stands some line within is = search (
+  arith,
+  line_text,
+  due_is,
+  length-append,
+  take,
+  length-take,
+  append_assoc,
+)
 
 -- ---- the same of an out, where what was written to it is known
 
@@ -166,8 +141,7 @@ take_take : (n m : ℕ) (xs : List ℕ) → n ≤ m → take n (take m xs) ≡ t
 take_take zero m xs few = refl
 take_take (suc n) zero xs few = absurd (omega (arith, few))
 take_take (suc n) (suc m) [] few = refl
-take_take (suc n) (suc m) (x ∷ xs) few =
-    ap (λ rest. x ∷ rest) (take_take n m xs (omega (arith, few)))
+take_take (suc n) (suc m) (x ∷ xs) few = search (arith, take_take n m xs (omega (arith, few)))
 
 -- a put of octets of one line
 pub put_line_ok : (a b : Option (List ℕ)) (tag octets : List ℕ) (since since' due due' n : ℕ) →
@@ -176,29 +150,16 @@ pub put_line_ok : (a b : Option (List ℕ)) (tag octets : List ℕ) (since since
     PutSome a b (take (line_size octets) octets) since since' n →
     due' ≡ due_behind tag (slice_index octets (n - 1)) →
     PutLine a b tag octets since since' due due' n
-put_line_ok a b tag octets since since' due due' n none some within line put is =
-    let l = length-take (line_size octets) octets in
-    let few : n ≤ line_size octets = omega (arith, l, put.within) in
-    let first : 0 < n = put.some (omega (arith, l, within, line)) in
-    let fits : n ≤ length octets = omega (arith, few, within) in
-    let appends = rw (take_take n (line_size octets) octets few) at put.written in
-    record {
-      some = first;
-      within = fits;
-      next = is;
-      stands = λ before text stands.
-          rw (is, put.counted) (line_step_in a b before tag since text octets n (rw none at stands)
-          first few fits appends);
-    }
+put_line_ok a b tag octets since since' due due' n none some within line put is = search (
+  arith,
+  length-take,
+  take_take,
+  line_step_in,
+)
 
 pub put_line_err : (a b : Option (List ℕ)) (tag : List ℕ) (since since' due : ℕ) → due ≡ 0 →
     PutNothing a b since since' → PutFront a b tag since since' due due
-put_line_err a b tag since since' due none put =
-    record {
-      within = rw none (omega arith);
-      stands = λ before text stands. rw put.counted
-          (kept_in a b before tag since text due stands put.written);
-    }
+put_line_err a b tag since since' due none put = search (arith, kept_in)
 
 pub put_after_tag : (a b d : Option (List ℕ)) (tag octets : List ℕ)
     (since since' since'' due due' due'' n : ℕ) →
@@ -206,24 +167,14 @@ pub put_after_tag : (a b d : Option (List ℕ)) (tag octets : List ℕ)
     StandsIn b before tag since' text due') →
     PutLine b d tag octets since' since'' due' due'' n →
     PutLine a d tag octets since since'' due due'' n
-put_after_tag a b d tag octets since since' since'' due due' due'' n first put =
-    record {
-      some = put.some;
-      within = put.within;
-      next = put.next;
-      stands = λ before text stands. put.stands before text (first before text stands);
-    }
+put_after_tag a b d tag octets since since' since'' due due' due'' n first put = search (arith)
 
 pub failed_after_tag : (a b d : Option (List ℕ)) (tag : List ℕ)
     (since since' since'' due due' due'' : ℕ) →
     ((before text : List ℕ) → StandsIn a before tag since text due →
     StandsIn b before tag since' text due') →
     PutFront b d tag since' since'' due' due'' → PutFront a d tag since since'' due due''
-failed_after_tag a b d tag since since' since'' due due' due'' first put =
-    record {
-      within = put.within;
-      stands = λ before text stands. put.stands before text (first before text stands);
-    }
+failed_after_tag a b d tag since since' since'' due due' due'' first put = search (arith)
 
 pub put_both : {E : Type 0} (r : Result ℕ E) (a b d : Option (List ℕ)) (tag octets : List ℕ)
     (since since' since'' due due' due'' : ℕ) →
@@ -294,9 +245,7 @@ pub shown_is : (w before tag : List ℕ) (since : ℕ) (text : List ℕ) (due fa
     Stands w before tag since text due → is_clean tag due failures text ≡ true →
     shown tag due since failures w ≡ Some (identity before tag ++ text)
 unfolding shown
-shown_is w before tag since text due failures s clean =
-    let r = is_read w before tag since text due s in
-    rw (tagged_is w before tag since text due failures s clean, r.front, r.back) refl
+shown_is w before tag since text due failures s clean = search (arith, is_read, tagged_is)
 
 pub record Shows (w tag : List ℕ) (since due failures : ℕ) (s : List ℕ) : Type 0 where
   pub before : List ℕ
@@ -319,18 +268,13 @@ record HasParts (w tag : List ℕ) (since due failures : ℕ) : Type 0 where
 has_parts : (w tag : List ℕ) (since due failures : ℕ) → is_tagged tag due since failures w ≡ true →
     HasParts w tag since due failures
 unfolding is_tagged
-has_parts w tag since due failures holds =
-    let parts = and_parts _ _ holds in
-    let sizes = and_parts _ _ parts.0 in
-    let rest = and_parts _ _ parts.1 in
-    let last = and_parts _ _ rest.1 in
-    record {
-      size = leb-true since (length w) sizes.0;
-      within = leb-true due (length tag) sizes.1;
-      body = (bytes_eq-Decides _ _).0 rest.0;
-      inside = zero_or (is_due (text_of tag since w)) due last.0;
-      clean = last.1;
-    }
+has_parts w tag since due failures holds = search (
+  arith,
+  and_parts,
+  leb-true,
+  bytes_eq-Decides,
+  zero_or,
+)
 
 pub shows : (w tag : List ℕ) (since due failures : ℕ) (s : List ℕ) →
     shown tag due since failures w ≡ Some s →
@@ -339,7 +283,7 @@ unfolding shown value_of
 shows w tag since due failures s some = by (is_tagged tag due since failures w) refl
   where
     by : (b : Bool) → is_tagged tag due since failures w ≡ b → Shows w tag since due failures s
-    by false fails = absurd (cc (rw fails at some))
+    by false fails = search (arith)
     by true holds =
         let h = has_parts w tag since due failures holds in
         let start = length w - since in
@@ -391,7 +335,4 @@ pub identity_is : (before tag text before' tag' text' : List ℕ) →
     identity before' tag' ++ text' ≡ identity before tag ++ text →
     AreSame before tag text before' tag' text'
 unfolding first_is
-identity_is before tag text before' tag' text' e =
-    let l : length before' ≡ length before = ap first_is e in
-    let t : length tag' ≡ length tag = ap (λ xs. first_is (drop 1 xs)) e in
-    same_parts before tag text before' tag' text' l t (ap (drop 2) e)
+identity_is before tag text before' tag' text' e = search (arith, drop, same_parts)

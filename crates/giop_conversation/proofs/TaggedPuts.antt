@@ -1,5 +1,5 @@
 -- A put to an out with tags, as an `Out` tells it.
-use Rattle.std.proofs.Common.{◌≡◌, ℕ, ◌+◌, ◌-◌, ◌^◌, ◌==◌, min, Bool, true, false, List, [], ◌++◌, length, take, Option, Some, None, option_and_then, refl, sym, ap, ◌∙◌, arith, append-nil, append_assoc}
+use Rattle.std.proofs.Common.{◌≡◌, ℕ, ◌+◌, ◌-◌, ◌^◌, ◌==◌, min, true, false, List, [], ◌++◌, length, take, Option, Some, None, option_and_then, refl, sym, ap, ◌∙◌, arith, append-nil, append_assoc}
 use Rattle.std.proofs.lemmas.Bool.{or_left, or_right, eq-eqb, ne_eqb, not_from_false}
 use Rattle.std.specs.Io.KnownBytes.{Appends, Keeps}
 use Rattle.giop_print.specs.Output.{counted, Took, Failed}
@@ -9,21 +9,15 @@ use Rattle.giop_conversation.proofs.TaggedLemmas.{shown_is, shows, due_is}
 
 pub clean_line : (tag text : List ℕ) (due failures : ℕ) → (is_due text ≡ true → due ≡ length tag) →
     is_clean tag due failures text ≡ true
-clean_line tag text due failures whole = by (is_due text) refl
-  where
-    by : (b : Bool) → is_due text ≡ b → is_clean tag due failures text ≡ true
-    by true is = or_right _ _ (eq-eqb due (length tag) (whole is))
-    by false is = or_left _ _ (or_right _ _ (not_from_false (is_due text) is))
+clean_line tag text due failures whole = search (arith, or_right, eq-eqb, or_left, not_from_false)
 
 counted_is_some : (failures : ℕ) → (counted failures == 0) ≡ false
 unfolding counted
-counted_is_some failures =
-    ne_eqb (min (failures + 1) (2 ^ 64 - 1)) 0 (λ none. absurd (omega (arith, none)))
+counted_is_some failures = search (arith, ne_eqb, min)
 
 pub clean_failed : (tag text : List ℕ) (due failures : ℕ) →
     is_clean tag due (counted failures) text ≡ true
-clean_failed tag text due failures =
-    or_left _ _ (or_left _ _ (not_from_false (counted failures == 0) (counted_is_some failures)))
+clean_failed tag text due failures = search (arith, or_left, not_from_false, counted_is_some)
 
 -- what is shown where the octets stand so
 shown_in : (b : Option (List ℕ)) (before tag : List ℕ) (since : ℕ) (text : List ℕ)
@@ -31,8 +25,7 @@ shown_in : (b : Option (List ℕ)) (before tag : List ℕ) (since : ℕ) (text :
     StandsIn b before tag since text due → is_clean tag due failures text ≡ true →
     option_and_then (shown tag due since failures) b ≡ Some (identity before tag ++ text)
 shown_in None before tag since text due failures stands clean = absurd stands
-shown_in (Some w) before tag since text due failures stands clean =
-    shown_is w before tag since text due failures stands clean
+shown_in (Some w) before tag since text due failures stands clean = search (arith, shown_is)
 
 -- the text grows by octets, or stays
 pub grows : (a b : Option (List ℕ)) (tag more : List ℕ)
@@ -84,16 +77,13 @@ pub took : (a b : Option (List ℕ)) (tag octets : List ℕ)
           puts';
       failures = failures;
     })) octets n
-took a b tag octets f f' since since' due due' n puts puts' failures put more =
-    record {
-      some = λ any. put.some;
-      within = put.within;
-      written = grows a b tag (take n octets) since since' due due' failures failures put.stands
-          (λ text. clean_line tag (text ++ take n octets) due' failures
-          (λ ends. put.next ∙ (due_is tag octets text n put.some put.within).1.0 ends));
-      puts = more;
-      failures = refl;
-    }
+took a b tag octets f f' since since' due due' n puts puts' failures put more = search (
+  arith,
+  grows,
+  take,
+  clean_line,
+  due_is,
+)
 
 pub failed : (a b : Option (List ℕ)) (tag : List ℕ)
     (f f' since since' due due' puts puts' failures failures' : ℕ) →
@@ -118,12 +108,5 @@ pub failed : (a b : Option (List ℕ)) (tag : List ℕ)
           puts';
       failures = failures';
     }))
-failed a b tag f f' since since' due due' puts puts' failures failures' put more one =
-    record {
-      written = keeps_if _ _ (rw one (grows a b tag [] since since' due due' failures
-          (counted failures)
-          (λ before text stands. rw (append-nil text) (put.stands before text stands))
-          (λ text. clean_failed tag (text ++ []) due' failures)));
-      puts = more;
-      failures = one;
-    }
+failed a b tag f f' since since' due due' puts puts' failures failures' put more one = search
+    (arith, keeps_if, grows, append-nil, clean_failed)

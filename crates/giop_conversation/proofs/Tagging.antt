@@ -1,5 +1,5 @@
 -- What writing lines to an out with tags does to the out below.
-use Rattle.std.proofs.Common.{◌≡◌, ℕ, true, List, [], ◌++◌, length, take, Option, Some, None, option_and_then, refl, sym, ap, ◌∙◌, arith, append-nil, append_assoc}
+use Rattle.std.proofs.Common.{◌≡◌, ℕ, true, List, [], ◌++◌, length, take, Option, Some, None, option_and_then, refl, ap, ◌∙◌, arith, append-nil, append_assoc}
 use Rattle.std.proofs.lemmas.Bool.{or_right, eqb-true, eq-eqb}
 use Rattle.std.specs.Io.KnownBytes.{Appends}
 use Rattle.giop_print.specs.Output.{Wrote, WroteFront}
@@ -20,17 +20,7 @@ record HasGrown (t t' : Tagging) (before text more : List ℕ) : Type 0 where
 grown_by : (t t' : Tagging) (before text more : List ℕ) (below s : List ℕ) → t'.whole ≡ Some below →
     s ≡ (identity before t.tag ++ text) ++ more → Shows below t'.tag t'.since t'.due t'.failures s →
     HasGrown t t' before text more
-grown_by t t' before text more below s known is found =
-    let e : identity found.before t'.tag ++ found.text ≡ identity before t.tag ++ (text ++ more) =
-    sym found.is ∙ (is ∙ append_assoc (identity before t.tag) text more) in
-    let same = identity_is before t.tag (text ++ more) found.before t'.tag found.text e in
-    record {
-      below = below;
-      known = known;
-      tag = same.same_tag;
-      stands = rw (same.same_before, same.same_tag, same.same_text) at found.stands;
-      clean = rw (same.same_tag, same.same_text) at found.clean;
-    }
+grown_by t t' before text more below s known is found = search (arith, append_assoc, identity_is)
 
 grown : (t t' : Tagging) (before text more : List ℕ) (whole : Option (List ℕ)) → t'.whole ≡ whole →
     Appends (Some (identity before t.tag ++ text))
@@ -43,12 +33,11 @@ grown t t' before text more (Some below) known appends =
     by : (o : Option (List ℕ)) → shown t'.tag t'.due t'.since t'.failures below ≡ o →
         Appends (Some (identity before t.tag ++ text)) o more → HasGrown t t' before text more
     by None is appends = absurd appends
-    by (Some s) is appends =
-        grown_by t t' before text more below s known appends (shows _ _ _ _ _ _ is)
+    by (Some s) is appends = search (arith, grown_by, shows)
 
 ready_is_clean : (t : Tagging) (w : List ℕ) (r : IsReady t w) →
     is_clean t.tag t.due t.failures r.text ≡ true
-ready_is_clean t w r = or_right _ _ (eq-eqb t.due (length t.tag) r.due)
+ready_is_clean t w r = search (arith, or_right, eq-eqb)
 
 ready_grown : (t t' : Tagging) (w more : List ℕ) (r : IsReady t w) →
     Appends (tagging_log t).written (tagging_log t').written more →
@@ -62,18 +51,11 @@ ready_grown t t' w more r appends =
 ready_below : (t t' : Tagging) (w more : List ℕ) (r : IsReady t w)
     (g : HasGrown t t' r.before r.text more) →
     g.below ≡ w ++ stopped_at t.tag more t'.due
-ready_below t t' w more r g =
-    let tags = with_tags t.tag r.text in
-    let old : w ≡ r.before ++ tags = r.stands.whole
-    ∙ ap (λ b. r.before ++ b) (stopped_ended t.tag r.text t.due (λ _. r.due)) in
-    g.stands.whole ∙ (ap (λ b. r.before ++ b) (stopped_more t.tag r.text more t'.due r.ended)
-    ∙ (sym (append_assoc r.before tags (stopped_at t.tag more t'.due))
-    ∙ ap (λ b. b ++ stopped_at t.tag more t'.due) (sym old)))
+ready_below t t' w more r g = search (arith, stopped_ended, stopped_more, append_assoc)
 
 clean_due : (tag text : List ℕ) (due failures : ℕ) → failures ≡ 0 → is_due text ≡ true →
     is_clean tag due failures text ≡ true → due ≡ length tag
-clean_due tag text due failures none ended clean =
-    eqb-true due (length tag) (rw (none, ended) at clean)
+clean_due tag text due failures none ended clean = search (arith, eqb-true)
 
 pub ready_wrote : (t t' : Tagging) (w lines : List ℕ) → IsReady t w →
     Wrote (tagging_log t) (tagging_log t') lines →
@@ -115,15 +97,7 @@ ready_front t t' w lines r wrote =
 
 fresh_stands : (w tag : List ℕ) → Stands w w tag 0 [] (length tag)
 unfolding tagged ends_line
-fresh_stands w tag =
-    let none : stopped_at tag [] (length tag) ≡ [] =
-    stopped_ended tag [] (length tag) (λ _. refl) in
-    record {
-      whole = rw (none, append-nil w) refl;
-      counted = rw none refl;
-      within = omega arith;
-      inside = λ isnt. absurd (cc isnt);
-    }
+fresh_stands w tag = search (arith, stopped_ended, append-nil)
 
 pub ready_with : (t : Tagging) (w tag : List ℕ) → IsReady t w →
     IsReady (record t { tag = tag; due = length tag; since = 0 }) w

@@ -11,10 +11,8 @@ use Rattle.std.proofs.lemmas.Fmt.{length-decimal-le_wide}
 use Rattle.giop_conversation.specs.Times.{last_within, years, years_of, months_of, last_digits, second, day, day_text, clock_text, second_text, instant_text, time_text}
 
 rises : (f : ℕ → ℕ) → ((n : ℕ) → f n ≤ f (suc n)) → (k more : ℕ) → f k ≤ f (more + k)
-rises f up k zero = let same : zero + k ≡ k = omega arith in rw same (omega arith)
-rises f up k (suc more) =
-    let same : suc more + k ≡ suc (more + k) = omega arith in
-    rw same (omega (arith, rises f up k more, up (more + k)))
+rises f up k zero = search (arith)
+rises f up k (suc more) = search (arith, rises f up k more)
 
 rises_to : (f : ℕ → ℕ) → ((n : ℕ) → f n ≤ f (suc n)) → (k later : ℕ) → k ≤ later → f k ≤ f later
 rises_to f up k later low =
@@ -47,7 +45,7 @@ last_is f up (suc most) k n few low high =
     at_most : (b : Bool) → nat_le (f (suc most)) n ≡ b → k ≡ suc most →
         last_within f (suc most) n ≡ k
     at_most true is same = rw is (sym same)
-    at_most false is same = absurd (omega (arith, leb-false _ _ is, rw same at low))
+    at_most false is same = search (arith, leb-false)
 
 years_rise : (n : ℕ) → days_of_years n ≤ days_of_years (suc n)
 unfolding days_of_years
@@ -78,7 +76,7 @@ years_short (suc n) = grind (arith, nat_tests, years_short n)
 -- without a walk over the years
 pub years_closed : (n : ℕ) →
     365 * (n + 369) + (n + 369) / 4 - (n + 369) / 100 + (n + 369) / 400 - 134774 ≡ days_of_years n
-years_closed n = omega (arith, days_of_years_closed n)
+years_closed n = search (arith, days_of_years_closed)
 
 pub year_found : (days passed left : ℕ) → passed < years → days_of_years passed + left ≡ days →
     left < days_in_year (1970 + passed) →
@@ -115,12 +113,8 @@ pub record IsMonth (year days passed left : ℕ) : Type 0 where
 -- in January and February
 pub early_month : (year days passed : ℕ) → days < days_in_year year - 306 →
     passed ≡ (12 * days + 6) / 367 → IsMonth year days passed (days - (367 * passed + 5) / 12)
-early_month year days zero early is =
-    let before = days_of_months_closed year 0 (omega arith) in
-    record { before = grind (arith, before); short = grind arith; few = omega arith }
-early_month year days (suc zero) early is =
-    let before = days_of_months_closed year 1 (omega arith) in
-    record { before = grind (arith, before); short = grind arith; few = omega arith }
+early_month year days zero early is = search (arith, days_of_months_closed)
+early_month year days (suc zero) early is = search (arith, days_of_months_closed)
 early_month year days (suc (suc passed)) early is = absurd (grind arith)
 
 -- behind them
@@ -211,10 +205,7 @@ pub nine_digits : (n : ℕ) (text : List ℕ) →
     ++ (two_digits (n % 10000 % 100) ++ text))))
     ≡ last_digits 9 n ++ text
 unfolding last_digits
-nine_digits n text =
-    both (omega arith) (both (omega arith) (both (omega arith) (both (omega arith)
-    (both (omega arith) (both (omega arith) (both (omega arith) (both (omega arith)
-    (both (omega arith) refl))))))))
+nine_digits n text = search (arith, both)
 
 -- the first second of 1970
 pub first_day : (0 < days_of_years years) × (0 ≡ years_of 0)
@@ -229,7 +220,7 @@ first_date passed is = rw is refl
 
 pub first_second : second_text 0 ≡ codes "1970-01-01T00:00:00."
 unfolding second_text clock_text
-first_second = rw (first_date (years_of 0) (sym first_day.1)) refl
+first_second = search (arith, first_date, first_day)
 
 -- a second by the year and the day that it is in
 pub second_is : (seconds passed days : ℕ) → passed ≡ years_of (seconds / 86_400) →
@@ -237,16 +228,14 @@ pub second_is : (seconds passed days : ℕ) → passed ≡ years_of (seconds / 8
     (day_text passed days ++ (codes "T" ++ (clock_text (seconds % 86_400) ++ codes "."))) ++ []
     ≡ second_text seconds
 unfolding second_text
-second_is seconds passed days year day = append-nil _ ∙ rw (day, year) refl
+second_is seconds passed days year day = search (arith, append-nil)
 
 -- a time by its second
 pub time_is : (n seconds : ℕ) → seconds ≡ n / second →
     nat_lt (seconds / 86_400) (days_of_years years) ≡ true →
     time_text (Some n) ≡ second_text seconds ++ (last_digits 9 (n % second) ++ codes "Z")
 unfolding time_text instant_text
-time_is n seconds is early =
-    let same : n / day ≡ seconds / 86_400 = omega (arith, is) in
-    rw (same, early, is) refl
+time_is n seconds is early = search (arith)
 
 pub time_put : (n seconds : ℕ) (octets text : List ℕ) → seconds ≡ n / second →
     nat_lt (seconds / 86_400) (days_of_years years) ≡ true → octets ≡ second_text seconds →
@@ -260,20 +249,13 @@ time_put n seconds octets text is early shown =
 pub none_put : (n seconds : ℕ) → seconds ≡ n / second →
     nat_lt (seconds / 86_400) (days_of_years years) ≡ false → time_text (Some n) ≡ codes "-"
 unfolding time_text
-none_put n seconds is late =
-    let same : n / day ≡ seconds / 86_400 = omega (arith, is) in
-    rw (same, late) refl
+none_put n seconds is late = search (arith)
 
 -- no year of four digits is so late
 pub late_text : (n : ℕ) → 18446744073709551616 ≤ n / second → time_text (Some n) ≡ codes "-"
 unfolding time_text
-late_text n late =
-    let last = years_short years in
-    let none : nat_lt (n / day) (days_of_years years) ≡ false =
-    le-ltb (n / day) (days_of_years years) (omega (arith, last, late)) in
-    rw none refl
+late_text n late = search (arith, years_short, nat_lt, le-ltb)
 
 -- seconds of a span have at most 30 digits
 pub seconds_short : (n : ℕ) → n < 2 ^ 128 → length (decimal (n / second)) ≤ 30
-seconds_short n fits =
-    length-decimal-le_wide 30 (n / second) (omega arith) (omega (arith, fits)) (omega (arith, fits))
+seconds_short n fits = search (arith, length-decimal-le_wide)

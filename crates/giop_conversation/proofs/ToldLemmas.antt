@@ -14,8 +14,8 @@ use Rattle.giop_conversation.specs.TaggedState.{Tagging, tagging_log, IsReady, W
 use Rattle.giop_conversation.specs.Lines.{capture_fault_line, capture_total_line}
 use Rattle.giop_conversation.specs.Stamped.{begin_lines}
 use Rattle.giop_conversation.specs.StreamReads.{WritesTagged}
-use Rattle.giop_conversation.specs.Followed.{parity_of}
-use Rattle.giop_conversation.specs.Captured.{Setup, Connection, Dump, Step, Leads, start, side, opened, begun, delivered, delivered_lines, closed_lines, rules_in, sum_within, cuts, opened_in, begun_in, delivered_in, closed_in, finished_text, IsAnswered}
+use Rattle.giop_conversation.specs.Followed.{side_of}
+use Rattle.giop_conversation.specs.Captured.{Setup, Connection, Dump, Step, Leads, start, half, opened, begun, delivered, delivered_lines, closed_lines, rules_in, sum_within, cuts, opened_in, begun_in, delivered_in, closed_in, finished_text, IsAnswered}
 use Rattle.giop_conversation.specs.DumpHeld.{HoldsConnection, ReadsBy, HoldsDump, HasTold, HasToldFront, HasFinished, HasFinishedFront}
 use Rattle.giop_conversation.proofs.Tagging.{ready_new}
 use Rattle.giop_conversation.proofs.DumpLemmas.{leads_more, held_at, none_at, held_set, no_tag_is}
@@ -43,18 +43,7 @@ pub new_ready : (t : Tagging) (whole : Option (List ℕ)) (below : ℕ) (written
       failures = 0;
     } →
     whole ≡ Some written → IsReady t written
-new_ready t whole below written is known =
-    subst (λ (x : Tagging). IsReady x written)
-    (ap (λ (o : Option (List ℕ)). record {
-      whole = o;
-      below = below;
-      tag = [];
-      due = 0;
-      since = 0;
-      puts = 0;
-      failures = 0;
-    }) (sym known) ∙ sym is)
-    (ready_new written below)
+new_ready t whole below written is known = search (arith, ready_new)
 
 module _ (S : Setup) (written : List ℕ) (events : List Event) where
   -- an event that leads on, whose lines were written or a front of them
@@ -68,24 +57,10 @@ module _ (S : Setup) (written : List ℕ) (events : List Event) where
       MatchResult r (λ _. HasTold S written (events ++ e ∷ []) rooms out arrival streams messages
       faults cut)
       (λ _. HasToldFront S written (events ++ e ∷ []) out)
-  told_or_front (Ok v) d behind e rooms out arrival streams messages faults cut tag lines leads step
-      text holds writes =
-      record {
-        dump = behind;
-        leads = leads_more S events (start S written) e d behind leads step;
-        holds = holds (subst (IsReady out) (sym text) writes);
-      }
+  told_or_front (Ok v) d behind e rooms out arrival streams messages faults cut tag lines leads
+      step text holds writes = search (arith, leads_more)
   told_or_front (Err v) d behind e rooms out arrival streams messages faults cut tag lines leads
-      step text holds writes =
-      record {
-        dump = behind;
-        leads = leads_more S events (start S written) e d behind leads step;
-        before = d.text;
-        tag = tag;
-        lines = lines;
-        text = text;
-        front = writes;
-      }
+      step text holds writes = search (arith, leads_more)
 
   module _ (rooms : List Conversation) (out : Tagging) (arrival : Arrival)
       (streams messages faults : ℕ) (cut : Bool) where
@@ -97,7 +72,7 @@ module _ (S : Setup) (written : List ℕ) (events : List Event) where
     pub opened_told : (flow : ℕ) (endpoints : Flow) (old new : Conversation) → Before →
         slice_get rooms (flow / 2) ≡ Some old →
         ((c : Connection) → HoldsConnection S old c →
-        HoldsConnection S new (opened (parity_of flow) endpoints c)) →
+        HoldsConnection S new (opened (side_of flow) endpoints c)) →
         HasTold S written (events ++ Opens flow endpoints ∷ []) (set rooms (flow / 2) new) out
         arrival streams messages faults cut
     opened_told flow endpoints old new b here opens =
@@ -116,7 +91,7 @@ module _ (S : Setup) (written : List ℕ) (events : List Event) where
               });
           holds = record {
             connections = held_set S rooms d.connections (flow / 2) new
-                (opened (parity_of flow) endpoints at.connection) h.connections
+                (opened (side_of flow) endpoints at.connection) h.connections
                 (opens at.connection at.holds);
             ready = h.ready;
             arrival_is = h.arrival_is;
@@ -151,9 +126,9 @@ module _ (S : Setup) (written : List ℕ) (events : List Event) where
         (out' : Tagging) → next ≡ sum_within streams 1 → Before →
         slice_get rooms (flow / 2) ≡ Some old →
         ((c : Connection) → HoldsConnection S old c →
-        HoldsConnection S new (begun (parity_of flow) next c)) →
+        HoldsConnection S new (begun (side_of flow) next c)) →
         ((c : Connection) (w : List ℕ) → HoldsConnection S old c → IsReady out w →
-        WritesTagged r out' w (stream_tag next) (begin_lines (side (parity_of flow) c).flow
+        WritesTagged r out' w (stream_tag next) (begin_lines (half (side_of flow) c).flow
         arrival.time)) →
         MatchResult r
         (λ _. HasTold S written (events ++ Begins flow number ∷ []) (set rooms (flow / 2) new) out'
@@ -165,10 +140,10 @@ module _ (S : Setup) (written : List ℕ) (events : List Event) where
         let first : next ≡ counted d.streams =
         is ∙ (ap (λ n. sum_within n 1) h.streams_are ∙ counted_is d.streams) in
         let at = held_at S rooms d.connections (flow / 2) old h.connections here in
-        let endpoints = (side (parity_of flow) at.connection).flow in
+        let endpoints = (half (side_of flow) at.connection).flow in
         let step : Step S d (Begins flow number) (begun_in d flow (Some at.connection)) =
         record { answers = no_answers; answered = tt; is = ap (begun_in d flow) (sym at.is) } in
-        let holds = subst (λ n. HoldsConnection S new (begun (parity_of flow) n at.connection))
+        let holds = subst (λ n. HoldsConnection S new (begun (side_of flow) n at.connection))
         first (begins at.connection at.holds) in
         let lines = subst (λ n. WritesTagged r out' d.text (stream_tag n)
         (begin_lines endpoints d.arrival.time)) first
@@ -180,7 +155,7 @@ module _ (S : Setup) (written : List ℕ) (events : List Event) where
         (stream_tag (counted d.streams)) (begin_lines endpoints d.arrival.time) b.leads step refl
         (λ ready. record {
           connections = held_set S rooms d.connections (flow / 2) new
-              (begun (parity_of flow) (counted d.streams) at.connection) h.connections holds;
+              (begun (side_of flow) (counted d.streams) at.connection) h.connections holds;
           ready = ready;
           arrival_is = h.arrival_is;
           streams_are = first;
@@ -226,7 +201,7 @@ module _ (S : Setup) (written : List ℕ) (events : List Event) where
         (old new : Conversation) (out' : Tagging) → Before →
         slice_get rooms (flow / 2) ≡ Some old →
         ((c : Connection) (w : List ℕ) → HoldsConnection S old c → IsReady out w →
-        ReadsBy S c (parity_of flow) octets arrival w r new out') →
+        ReadsBy S c (side_of flow) octets arrival w r new out') →
         MatchResult r
         (λ _. HasTold S written (events ++ Delivers flow octets ∷ []) (set rooms (flow / 2) new)
         out' arrival streams messages faults cut)
@@ -235,8 +210,8 @@ module _ (S : Setup) (written : List ℕ) (events : List Event) where
         let d = b.dump in
         let h = b.holds in
         let at = held_at S rooms d.connections (flow / 2) old h.connections here in
-        let parity = parity_of flow in
-        let read = subst (λ (t : Arrival). ReadsBy S at.connection parity octets t d.text r new
+        let side = side_of flow in
+        let read = subst (λ (t : Arrival). ReadsBy S at.connection side octets t d.text r new
         out') h.arrival_is
         (reads at.connection d.text at.holds h.ready) in
         let a = read.answers in
@@ -244,16 +219,16 @@ module _ (S : Setup) (written : List ℕ) (events : List Event) where
         let step : Step S d (Delivers flow octets) behind = record {
           answers = a;
           answered = subst (λ (o : Option Connection).
-              IfSome o (λ c. IsAnswered S a parity octets d.arrival c)) (sym at.is) read.answered;
+              IfSome o (λ c. IsAnswered S a side octets d.arrival c)) (sym at.is) read.answered;
           is = ap (delivered_in S a d flow octets) (sym at.is);
         } in
-        by r d behind (side parity at.connection).stream
-        (delivered_lines S a parity octets d.arrival at.connection)
-        (HoldsConnection S new (delivered S a parity octets d.arrival at.connection)) b.leads step
+        by r d behind (half side at.connection).stream
+        (delivered_lines S a side octets d.arrival at.connection)
+        (HoldsConnection S new (delivered S a side octets d.arrival at.connection)) b.leads step
         refl read.reads
         (λ holds ready. record {
           connections = held_set S rooms d.connections (flow / 2) new
-              (delivered S a parity octets d.arrival at.connection) h.connections holds;
+              (delivered S a side octets d.arrival at.connection) h.connections holds;
           ready = ready;
           arrival_is = h.arrival_is;
           streams_are = h.streams_are;
@@ -274,24 +249,11 @@ module _ (S : Setup) (written : List ℕ) (events : List Event) where
             (λ _. HasTold S written (events ++ Delivers flow octets ∷ []) (set rooms (flow / 2) new)
             out' arrival streams messages faults cut)
             (λ _. HasToldFront S written (events ++ Delivers flow octets ∷ []) out')
-        by (Ok v) d behind stream lines Held leads step text read holds =
-            record {
-              dump = behind;
-              leads = leads_more S events (start S written) (Delivers flow octets) d behind leads
-                  step;
-              holds = holds read.0 (subst (IsReady out') (sym text) read.1);
-            }
-        by (Err v) d behind stream lines Held leads step text read holds =
-            record {
-              dump = behind;
-              leads = leads_more S events (start S written) (Delivers flow octets) d behind leads
-                  step;
-              before = d.text;
-              tag = stream_tag stream;
-              lines = lines;
-              text = text;
-              front = read;
-            }
+        by (Ok v) d behind stream lines Held leads step text read holds = search (arith, leads_more)
+        by (Err v) d behind stream lines Held leads step text read holds = search (
+          arith,
+          leads_more,
+        )
 
     -- nothing was written of a flow whose connection has no room
     pub delivered_beyond : (flow : ℕ) (octets : List ℕ) (out' : Tagging) → Before →
@@ -306,7 +268,7 @@ module _ (S : Setup) (written : List ℕ) (events : List Event) where
               (record {
                 answers = no_answers;
                 answered = subst (λ (o : Option Connection).
-                    IfSome o (λ c. IsAnswered S no_answers (parity_of flow) octets d.arrival c))
+                    IfSome o (λ c. IsAnswered S no_answers (side_of flow) octets d.arrival c))
                     (sym none) tt;
                 is = ap (delivered_in S no_answers d flow octets) (sym none);
               });
@@ -329,11 +291,11 @@ module _ (S : Setup) (written : List ℕ) (events : List Event) where
         (messages' faults' : ℕ) (cut' : Bool) (totals : Totals) → Before →
         slice_get rooms (flow / 2) ≡ Some old →
         ((c : Connection) (w : List ℕ) → HoldsConnection S old c → IsReady out w →
-        WritesTagged r out' w (stream_tag (side (parity_of flow) c).stream)
-        (closed_lines S (parity_of flow) cause c)) →
+        WritesTagged r out' w (stream_tag (half (side_of flow) c).stream)
+        (closed_lines S (side_of flow) cause c)) →
         ((c : Connection) → HoldsConnection S old c →
-        totals ≡ final (rules_in S (side (parity_of flow) c).answers)
-        (side (parity_of flow) c).octets) →
+        totals ≡ final (rules_in S (half (side_of flow) c).answers)
+        (half (side_of flow) c).octets) →
         messages' ≡ sum_within messages totals.messages →
         faults' ≡ sum_within faults totals.faults → cut' ≡ (cut || cuts cause) →
         MatchResult r
@@ -345,7 +307,7 @@ module _ (S : Setup) (written : List ℕ) (events : List Event) where
         let d = b.dump in
         let h = b.holds in
         let at = held_at S rooms d.connections (flow / 2) old h.connections here in
-        let parity = parity_of flow in
+        let side = side_of flow in
         let total = ends at.connection at.holds in
         let behind = closed_in S d flow cause (Some at.connection) in
         let step : Step S d (Closes flow cause) behind =
@@ -357,7 +319,7 @@ module _ (S : Setup) (written : List ℕ) (events : List Event) where
         } in
         told_or_front r d behind (Closes flow cause) rooms out' arrival streams messages' faults'
         cut'
-        (stream_tag (side parity at.connection).stream) (closed_lines S parity cause at.connection)
+        (stream_tag (half side at.connection).stream) (closed_lines S side cause at.connection)
         b.leads step refl
         (λ ready. record {
           connections = h.connections;
@@ -375,8 +337,8 @@ module _ (S : Setup) (written : List ℕ) (events : List Event) where
         Before →
         slice_get rooms (flow / 2) ≡ Some old →
         ((c : Connection) (w : List ℕ) → HoldsConnection S old c → IsReady out w →
-        WroteTaggedFront out' w (stream_tag (side (parity_of flow) c).stream)
-        (closed_lines S (parity_of flow) cause c)) →
+        WroteTaggedFront out' w (stream_tag (half (side_of flow) c).stream)
+        (closed_lines S (side_of flow) cause c)) →
         HasToldFront S written (events ++ Closes flow cause ∷ []) out'
     closed_front flow cause old out' b here writes =
         let d = b.dump in
@@ -393,8 +355,8 @@ module _ (S : Setup) (written : List ℕ) (events : List Event) where
                     ap (closed_in S d flow cause) (sym at.is);
               });
           before = d.text;
-          tag = stream_tag (side (parity_of flow) at.connection).stream;
-          lines = closed_lines S (parity_of flow) cause at.connection;
+          tag = stream_tag (half (side_of flow) at.connection).stream;
+          lines = closed_lines S (side_of flow) cause at.connection;
           text = refl;
           front = writes at.connection d.text at.holds h.ready;
         }
@@ -511,20 +473,5 @@ module _ (S : Setup) (written : List ℕ) (events : List Event) where
             MatchResult r (λ _. HasFinished S written events packets octets out'
             (cut || nat_lt 0 faults))
             (λ _. HasFinishedFront S written events packets octets out')
-        by (Ok v) d line leads text faulted writes =
-            record {
-              dump = d;
-              leads = leads;
-              ready = subst (IsReady out') (sym text) writes;
-              faulted = faulted;
-            }
-        by (Err v) d line leads text faulted writes =
-            record {
-              dump = d;
-              leads = leads;
-              before = d.text;
-              tag = [];
-              lines = line;
-              text = text;
-              front = writes;
-            }
+        by (Ok v) d line leads text faulted writes = search (arith)
+        by (Err v) d line leads text faulted writes = search (arith)

@@ -23,25 +23,15 @@ use Rattle.giop_conversation.proofs.TaggedPuts.{grows, clean_line, clean_failed}
 
 pub is_line : (xs front : List ℕ) (last : ℕ) → xs ≡ front ++ (last ∷ []) → (last == 10) ≡ true →
     list_any (λ y. y == 10) front ≡ false → IsLine xs
-is_line xs front last is ends none =
-    let l = length-append front (last ∷ []) in
-    let e : length xs ≡ length (front ++ (last ∷ [])) = ap length is in
-    let size : length xs ≡ length front + 1 = omega (arith, e, l) in
-    let at : length xs - 1 ≡ length front = omega (arith, size) in
-    let end : slice_index (front ++ (last ∷ [])) (length front) ≡ last =
-    get_or_push front last 0 (length front) refl in
-    record {
-      some = omega (arith, size);
-      ended = rw (at, is, end) ends;
-      only = λ k less.
-          let low : k < length front = omega (arith, less, size) in
-          let same : slice_index (front ++ (last ∷ [])) k ≡ slice_index front k =
-          get_or_append_left front (last ∷ []) 0 k low in
-          false_from_ne_true (slice_index xs k == 10) (λ hit. cc (
-            none,
-            list_any_at (λ y. y == 10) front k 0 low (rw (is, same) at hit),
-          ));
-    }
+is_line xs front last is ends none = search (
+  arith,
+  length-append,
+  slice_index,
+  get_or_push,
+  get_or_append_left,
+  false_from_ne_true,
+  list_any_at,
+)
 
 -- the octets that are LF, as bits of a number
 one_bit : (b : Bool) → cond b 1 0 + 2 * 0 ≡ 1 → b ≡ true
@@ -54,25 +44,14 @@ no_bit false m n is = (refl, omega (arith, is))
 
 -- an octet that is none, before a line
 longer : (x : ℕ) (ys : List ℕ) → (x == 10) ≡ false → IsLine ys → IsLine (x ∷ ys)
-longer x [] first rest = absurd (omega (arith, rest.some))
-longer x (y ∷ ys) first rest =
-    let last : length (x ∷ y ∷ ys) - 1 ≡ suc (length (y ∷ ys) - 1) = omega arith in
-    record { some = omega arith; ended = rw last rest.ended; only = none }
-  where
-    none : (j : ℕ) → j + 1 < length (x ∷ y ∷ ys) → (slice_index (x ∷ y ∷ ys) j == 10) ≡ false
-    none zero less = first
-    none (suc j) less = rest.only j (omega (arith, less))
+longer x [] first rest = search (arith)
+longer x (y ∷ ys) first rest = search (arith, slice_index)
 
 -- only the last of them is
 only_last : (xs : List ℕ) (k : ℕ) → length xs ≡ k + 1 →
     mask_l (map (λ x. x == 10) xs) ≡ 2 ^ k → IsLine xs
 only_last [] k size bits = absurd (omega (arith, size))
-only_last (x ∷ []) zero size bits =
-    record {
-      some = omega arith;
-      ended = one_bit (x == 10) bits;
-      only = λ k less. absurd (omega (arith, less));
-    }
+only_last (x ∷ []) zero size bits = search (arith, one_bit)
 only_last (x ∷ []) (suc k) size bits = absurd (omega (arith, size))
 only_last (x ∷ y ∷ ys) zero size bits = absurd (omega (arith, size))
 only_last (x ∷ y ∷ ys) (suc k) size bits =
@@ -86,8 +65,7 @@ HasNone = Each (λ x. (x == 10) ≡ false)
 
 before_line : (front xs : List ℕ) → HasNone front → IsLine xs → IsLine (front ++ xs)
 before_line [] xs none line = line
-before_line (x ∷ front) xs none line =
-    longer x (front ++ xs) none.0 (before_line front xs none.1 line)
+before_line (x ∷ front) xs none line = search (arith, longer, before_line front xs none.1 line)
 
 block_before : (octets : List ℕ) (a : ℕ) → HasNone (take 16 (drop a octets)) →
     IsLine (drop (a + 16) octets) → IsLine (drop a octets)
@@ -140,7 +118,7 @@ none_in (suc n) (x ∷ xs) (y ∷ ys) (z ∷ zs) a b c none =
     ((here.0, more.0), ((here.1.0, more.1.0), (here.1.1, more.1.1)))
 
 marks_long : (xs : List ℕ) (n : ℕ) → length xs ≡ n → length (marks xs n) ≡ n
-marks_long xs n size = length-zip2 _ xs (replicate n 10) (size ∙ sym (length-replicate n 10)) ∙ size
+marks_long xs n size = search (arith, length-zip2, length-replicate)
 
 -- 64 octets, in blocks of 16
 module _ (octets : List ℕ) (size : length octets ≡ 64) where
@@ -148,7 +126,7 @@ module _ (octets : List ℕ) (size : length octets ≡ 64) where
   block a = take 16 (drop a octets)
 
   block_long : (a : ℕ) → a ≤ 48 → length (block a) ≡ 16
-  block_long a within = length-chunk a 16 octets (omega (arith, size, within))
+  block_long a within = search (arith, length-chunk)
 
   pub line_bits : mask_l (marks_of (block 0) (block 16) (block 32) 16) % 2 ^ 64 ≡ 0 →
       (mask_l (map (top (hbits w8)) (zip2 (λ a b. cond (a == b) (2 ^ bits w8 - 1) 0)
@@ -178,20 +156,10 @@ module _ (octets : List ℕ) (size : length octets ≡ 64) where
 
 -- the end of a line is one too
 pub line_behind : (xs : List ℕ) (k : ℕ) → IsLine xs → k < length xs → IsLine (drop k xs)
-line_behind xs k l some =
-    let size = length-drop k xs in
-    let last : k + (length (drop k xs) - 1) ≡ length xs - 1 = omega (arith, size, some) in
-    record {
-      some = omega (arith, size, some);
-      ended = rw (get_or-drop k xs (length (drop k xs) - 1) 0, last) l.ended;
-      only = λ j less. rw (get_or-drop k xs j 0) (l.only (k + j) (omega (arith, size, less)));
-    }
+line_behind xs k l some = search (arith, length-drop, drop, get_or-drop)
 
 line_is_whole : (line : List ℕ) → IsLine line → line_size line ≡ length line
-line_is_whole line l =
-    line_some line (length line - 1) (omega (arith, l.some))
-    (λ j less is. absurd (cc (is, l.only j (omega (arith, less))))) l.ended
-    ∙ (omega (arith, l.some))
+line_is_whole line l = search (arith, line_some)
 
 -- the tag, and octets of the line behind it
 past_tag : (a b : Option (List ℕ)) (before tag : List ℕ) (since : ℕ) (text line : List ℕ) (k : ℕ) →
@@ -273,17 +241,8 @@ pub wrote_line : (a b : Option (List ℕ)) (tag line : List ℕ)
       puts = puts;
       failures = failures;
     })) line
-wrote_line a b tag line f f' since since' due puts failures is some all appends more =
-    let sum : since' ≡ since + (length tag + length line) =
-    omega (arith, more, length-append tag line) in
-    record {
-      written = grows a b tag line since since' due due failures failures
-          (λ before text stands. rw (all, sum) (whole_stands a b before tag since text line is some
-          (rw all at stands) appends))
-          (λ text. clean_line tag (text ++ line) due failures (λ _. all));
-      puts = omega arith;
-      failures = refl;
-    }
+wrote_line a b tag line f f' since since' due puts failures is some all appends more = search
+    (arith, length-append, grows, whole_stands, clean_line)
 
 pub wrote_front : (a b : Option (List ℕ)) (tag line : List ℕ)
     (f f' since since' due due' n puts failures failures' : ℕ) → IsLine line → 0 < length tag →

@@ -16,14 +16,14 @@ use Rattle.tcp_segment.specs.declared.endpoint.Flow.{Flow}
 use Rattle.tcp_flow.specs.Flow.{Event, Opens, Begins, Delivers, Closes, OfCapture, PacketArrives, HasFault}
 use Rattle.tcp_flow.specs.declared.flow.CloseCause.{CloseCause}
 use Rattle.tcp_flow.specs.declared.flow.CloseCause.TheVariants.{Fin, Reset, Syn, Fault, Gap, Room, End}
-use Rattle.giop_conversation.specs.declared.conversation.Parity.{Parity}
-use Rattle.giop_conversation.specs.declared.conversation.Parity.TheVariants.{Even, Odd}
+use Rattle.giop_conversation.specs.declared.conversation.Side.{Side}
+use Rattle.giop_conversation.specs.declared.conversation.Side.TheVariants.{Even, Odd}
 use Rattle.giop_conversation.specs.declared.arrival.Arrival.{Arrival}
 use Rattle.giop_conversation.specs.Tags.{stream_tag, with_tags}
 use Rattle.giop_conversation.specs.Lines.{closed_line, capture_fault_line, capture_total_line}
 use Rattle.giop_conversation.specs.Exchanges.{Exchanged, answer_of, notified}
 use Rattle.giop_conversation.specs.Stamped.{begin_lines, exchanged, stamped}
-use Rattle.giop_conversation.specs.Followed.{parity_of, other}
+use Rattle.giop_conversation.specs.Followed.{side_of, other}
 
 -- what is set before a capture is read: the types, how many messages of a stream may be open at
 -- once, how many calls of a flow may be outstanding, and how many connections are known at once
@@ -40,7 +40,7 @@ setup table messages calls connections =
 -- ---- a connection
 
 -- one flow of a connection
-pub record Side : Type 0 where
+pub record Half : Type 0 where
   pub flow : Option Flow  -- who sends to whom
   pub stream : ℕ  -- the number of its last stream, from 1; 0 where none has begun
   pub octets : List ℕ  -- what was delivered of that stream
@@ -48,28 +48,28 @@ pub record Side : Type 0 where
   pub calls : Entries Call  -- its outstanding calls
 
 pub record Connection : Type 0 where
-  pub even : Side
-  pub odd : Side
+  pub even : Half
+  pub odd : Half
 
-abbrev pub side : Parity → Connection → Side
-side Even c = c.even
-side Odd c = c.odd
+abbrev pub half : Side → Connection → Half
+half Even c = c.even
+half Odd c = c.odd
 
-abbrev pub with_side : Parity → Connection → Side → Connection
-with_side Even c s = record c { even = s }
-with_side Odd c s = record c { odd = s }
+abbrev pub with_half : Side → Connection → Half → Connection
+with_half Even c s = record c { even = s }
+with_half Odd c s = record c { odd = s }
 
 -- the rules that a stream is read by, where the ids of its messages answer these operations
 abbrev pub rules_in : Setup → Answers → Rules
 rules_in S a = rules_by S.table a S.messages
 
 -- the calls of the connection, as the stream of a flow is read in this packet
-abbrev pub calls_in : Setup → Parity → Arrival → Connection → Exchanged
-calls_in S parity arrival c = record {
+abbrev pub calls_in : Setup → Side → Arrival → Connection → Exchanged
+calls_in S side arrival c = record {
   table = S.table;
-  own = (side parity c).calls;
-  opposite = (side (other parity) c).calls;
-  stream = (side parity c).stream;
+  own = (half side c).calls;
+  opposite = (half (other side) c).calls;
+  stream = (half side c).stream;
   arrival = arrival;
   replied = 0;
   answered = None;
@@ -77,52 +77,52 @@ calls_in S parity arrival c = record {
 }
 
 -- who sends to whom in a flow; it has no calls
-abbrev pub opened : Parity → Flow → Connection → Connection
-opened parity flow c =
-    with_side parity c (record (side parity c) {
+abbrev pub opened : Side → Flow → Connection → Connection
+opened side flow c =
+    with_half side c (record (half side c) {
       flow = Some flow;
-      calls = record (side parity c).calls { entries = [] };
+      calls = record (half side c).calls { entries = [] };
     })
 
 -- a stream of this number begins in a flow
-abbrev pub begun : Parity → ℕ → Connection → Connection
-begun parity stream c = with_side parity c (record (side parity c) { stream = stream; octets = [] })
+abbrev pub begun : Side → ℕ → Connection → Connection
+begun side stream c = with_half side c (record (half side c) { stream = stream; octets = [] })
 
 -- the calls of the connection after octets that are delivered in this packet, if the ids of the
 -- stream's messages answer these operations
-abbrev pub calls_behind : Setup → Answers → Parity → List ℕ → Arrival → Connection → Exchanged
-calls_behind S a parity octets arrival c =
-    exchanged (rules_in S a) (calls_in S parity arrival c) (side parity c).octets octets
+abbrev pub calls_behind : Setup → Answers → Side → List ℕ → Arrival → Connection → Exchanged
+calls_behind S a side octets arrival c =
+    exchanged (rules_in S a) (calls_in S side arrival c) (half side c).octets octets
 
 -- the connection behind them
-abbrev pub delivered : Setup → Answers → Parity → List ℕ → Arrival → Connection → Connection
-delivered S a parity octets arrival c =
-    let behind = calls_behind S a parity octets arrival c in
-    with_side (other parity)
-    (with_side parity c (record (side parity c) {
-      octets = (side parity c).octets ++ octets;
+abbrev pub delivered : Setup → Answers → Side → List ℕ → Arrival → Connection → Connection
+delivered S a side octets arrival c =
+    let behind = calls_behind S a side octets arrival c in
+    with_half (other side)
+    (with_half side c (record (half side c) {
+      octets = (half side c).octets ++ octets;
       answers = a;
       calls = behind.own;
     }))
-    (record (side (other parity) c) { calls = behind.opposite })
+    (record (half (other side) c) { calls = behind.opposite })
 
 -- their lines, without the tag
-abbrev pub delivered_lines : Setup → Answers → Parity → List ℕ → Arrival → Connection → List ℕ
-delivered_lines S a parity octets arrival c =
-    stamped (rules_in S a) (calls_in S parity arrival c) (side parity c).octets octets
+abbrev pub delivered_lines : Setup → Answers → Side → List ℕ → Arrival → Connection → List ℕ
+delivered_lines S a side octets arrival c =
+    stamped (rules_in S a) (calls_in S side arrival c) (half side c).octets octets
 
 -- These answers are those of the calls: they are the stream's for what was delivered before, and a
 -- Reply whose header ends in the octets has results of the operation of the call that it answers.
-pub record IsAnswered (S : Setup) (a : Answers) (parity : Parity) (octets : List ℕ)
+pub record IsAnswered (S : Setup) (a : Answers) (side : Side) (octets : List ℕ)
     (arrival : Arrival) (c : Connection) : Type 0 where
-  pub before : AnswersAgree S.messages (side parity c).octets (side parity c).answers a
-  pub now : AgreesAtEnds answer_of notified S.table (calls_in S parity arrival c) a
-      (header_ends_from (rules_in S a) (side parity c).octets octets)
+  pub before : AnswersAgree S.messages (half side c).octets (half side c).answers a
+  pub now : AgreesAtEnds answer_of notified S.table (calls_in S side arrival c) a
+      (header_ends_from (rules_in S a) (half side c).octets octets)
 
 -- the lines with which the stream of a flow closes: why, and its closing
-abbrev pub closed_lines : Setup → Parity → CloseCause → Connection → List ℕ
-closed_lines S parity cause c =
-    closed_line cause ++ closing (rules_in S (side parity c).answers) (side parity c).octets
+abbrev pub closed_lines : Setup → Side → CloseCause → Connection → List ℕ
+closed_lines S side cause c =
+    closed_line cause ++ closing (rules_in S (half side c).answers) (half side c).octets
 
 -- ---- the capture
 
@@ -135,8 +135,8 @@ pub record Dump : Type 0 where
   pub arrival : Arrival  -- the packet that is read
   pub text : List ℕ  -- all that was written
 
-abbrev pub new_side : Setup → Side
-new_side S = record {
+abbrev pub new_half : Setup → Half
+new_half S = record {
   flow = None;
   stream = 0;
   octets = [];
@@ -145,7 +145,7 @@ new_side S = record {
 }
 
 abbrev pub new_connection : Setup → Connection
-new_connection S = record { even = new_side S; odd = new_side S }
+new_connection S = record { even = new_half S; odd = new_half S }
 
 -- before a capture is read, where this was written
 abbrev pub start : Setup → List ℕ → Dump
@@ -172,19 +172,19 @@ with_connection d id c = record d { connections = set d.connections (id / 2) c }
 
 abbrev pub opened_in : Dump → ℕ → Flow → Option Connection → Dump
 opened_in d id flow None = d
-opened_in d id flow (Some c) = with_connection d id (opened (parity_of id) flow c)
+opened_in d id flow (Some c) = with_connection d id (opened (side_of id) flow c)
 
 -- the line of a stream that begins, with the stream's tag
 abbrev pub text_of_begin : Dump → ℕ → Option Connection → List ℕ
 text_of_begin d id None = []
 text_of_begin d id (Some c) =
-    with_tags (stream_tag (counted d.streams)) (begin_lines (side (parity_of id) c).flow
+    with_tags (stream_tag (counted d.streams)) (begin_lines (half (side_of id) c).flow
     d.arrival.time)
 
 abbrev pub begun_in : Dump → ℕ → Option Connection → Dump
 begun_in d id None = record d { streams = counted d.streams }
 begun_in d id (Some c) =
-    record (with_connection d id (begun (parity_of id) (counted d.streams) c)) {
+    record (with_connection d id (begun (side_of id) (counted d.streams) c)) {
       streams = counted d.streams;
       text = d.text ++ text_of_begin d id (Some c);
     }
@@ -192,9 +192,9 @@ begun_in d id (Some c) =
 abbrev pub delivered_in : Setup → Answers → Dump → ℕ → List ℕ → Option Connection → Dump
 delivered_in S a d id octets None = d
 delivered_in S a d id octets (Some c) =
-    record (with_connection d id (delivered S a (parity_of id) octets d.arrival c)) {
-      text = d.text ++ with_tags (stream_tag (side (parity_of id) c).stream)
-          (delivered_lines S a (parity_of id) octets d.arrival c);
+    record (with_connection d id (delivered S a (side_of id) octets d.arrival c)) {
+      text = d.text ++ with_tags (stream_tag (half (side_of id) c).stream)
+          (delivered_lines S a (side_of id) octets d.arrival c);
     }
 
 -- whether a stream that closes is cut
@@ -210,13 +210,13 @@ cuts End = false
 abbrev pub closed_in : Setup → Dump → ℕ → CloseCause → Option Connection → Dump
 closed_in S d id cause None = d
 closed_in S d id cause (Some c) =
-    let s = side (parity_of id) c in
+    let s = half (side_of id) c in
     let totals = final (rules_in S s.answers) s.octets in
     record d {
       messages = sum_within d.messages totals.messages;
       faults = sum_within d.faults totals.faults;
       is_cut = d.is_cut || cuts cause;
-      text = d.text ++ with_tags (stream_tag s.stream) (closed_lines S (parity_of id) cause c);
+      text = d.text ++ with_tags (stream_tag s.stream) (closed_lines S (side_of id) cause c);
     }
 
 -- behind an event, where the ids of the messages of the stream that is read answer these operations
@@ -233,7 +233,7 @@ stepped S a d (OfCapture (HasFault word at)) =
 -- These answers are those of the calls, where octets are delivered.
 abbrev pub Answered : Setup → Answers → Dump → Event → Type 0
 Answered S a d (Delivers id octets) =
-    IfSome (connection_of d id) (λ c. IsAnswered S a (parity_of id) octets d.arrival c)
+    IfSome (connection_of d id) (λ c. IsAnswered S a (side_of id) octets d.arrival c)
 Answered S a d (Opens id flow) = Unit {0}
 Answered S a d (Begins id number) = Unit {0}
 Answered S a d (Closes id cause) = Unit {0}

@@ -5,17 +5,17 @@ use Rattle.tcp_flow.specs.Flow.{Event}
 use Rattle.giop_message.specs.Signatures.{Answers}
 use Rattle.giop_stream.specs.EngineHolds.{HoldsBy}
 use Rattle.giop_conversation.specs.declared.arrival.Arrival.{Arrival}
-use Rattle.giop_conversation.specs.declared.conversation.Parity.{Parity}
+use Rattle.giop_conversation.specs.declared.conversation.Side.{Side}
 use Rattle.giop_conversation.specs.declared.conversation.Conversation.{Conversation}
 use Rattle.giop_conversation.specs.Tags.{stream_tag, with_tags}
 use Rattle.giop_conversation.specs.TaggedState.{Tagging, IsReady, WroteTaggedFront}
 use Rattle.giop_conversation.specs.Exchanges.{Exchanged}
 use Rattle.giop_conversation.specs.Directions.{DirectionView}
 use Rattle.giop_conversation.specs.Followed.{other}
-use Rattle.giop_conversation.specs.Captured.{Setup, Side, Connection, Dump, Leads, start, finished_text, side, IsAnswered, delivered, delivered_lines}
+use Rattle.giop_conversation.specs.Captured.{Setup, Half, Connection, Dump, Leads, start, finished_text, half, IsAnswered, delivered, delivered_lines}
 
 -- a direction holds a flow
-pub record HoldsSide (S : Setup) (d : DirectionView) (s : Side) : Type 0 where
+pub record HoldsHalf (S : Setup) (d : DirectionView) (s : Half) : Type 0 where
   pub holds : HoldsBy d.engine s.answers s.octets
   pub table : d.engine.table ≡ S.table
   pub most : d.engine.most ≡ S.messages
@@ -23,31 +23,31 @@ pub record HoldsSide (S : Setup) (d : DirectionView) (s : Side) : Type 0 where
   pub flow : d.flow ≡ s.flow
 
 -- An exchange has the calls of a connection, those of this flow as its own.
-pub record HasCalls (parity : Parity) (calls : Exchanged) (c : Connection) : Type 0 where
-  pub own : calls.own ≡ (side parity c).calls
-  pub opposite : calls.opposite ≡ (side (other parity) c).calls
+pub record HasCalls (side : Side) (calls : Exchanged) (c : Connection) : Type 0 where
+  pub own : calls.own ≡ (half side c).calls
+  pub opposite : calls.opposite ≡ (half (other side) c).calls
 
 -- a connection holds what is known of it
 pub record HoldsConnection (S : Setup) (r : Conversation) (c : Connection) : Type 0 where
-  pub even : HoldsSide S r.even c.even
-  pub odd : HoldsSide S r.odd c.odd
-  pub calls : HasCalls r.parity r.exchange c
+  pub even : HoldsHalf S r.even c.even
+  pub odd : HoldsHalf S r.odd c.odd
+  pub calls : HasCalls r.side r.exchange c
 
 -- The octets of a flow were read by answers that are those of the calls: it holds the connection
 -- behind them, and below stand their lines, each with the tag of the stream; or a front of them,
 -- where a put failed.
-pub record ReadsBy {A E : Type 0} (S : Setup) (c : Connection) (parity : Parity) (octets : List ℕ)
+pub record ReadsBy {A E : Type 0} (S : Setup) (c : Connection) (side : Side) (octets : List ℕ)
     (arrival : Arrival) (w : List ℕ) (result : Result A E) (r : Conversation) (out : Tagging) :
     Type 0
   where
     pub answers : Answers
-    pub answered : IsAnswered S answers parity octets arrival c
+    pub answered : IsAnswered S answers side octets arrival c
     pub reads : MatchResult result
-        (λ _. HoldsConnection S r (delivered S answers parity octets arrival c)
-        × IsReady out (w ++ with_tags (stream_tag (side parity c).stream)
-        (delivered_lines S answers parity octets arrival c)))
-        (λ _. WroteTaggedFront out w (stream_tag (side parity c).stream)
-        (delivered_lines S answers parity octets arrival c))
+        (λ _. HoldsConnection S r (delivered S answers side octets arrival c)
+        × IsReady out (w ++ with_tags (stream_tag (half side c).stream)
+        (delivered_lines S answers side octets arrival c)))
+        (λ _. WroteTaggedFront out w (stream_tag (half side c).stream)
+        (delivered_lines S answers side octets arrival c))
 
 -- each does
 abbrev pub AreHeld : Setup → List Conversation → List Connection → Type 0

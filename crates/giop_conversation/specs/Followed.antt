@@ -8,8 +8,8 @@ use Rattle.giop_stream.specs.Framing.{cut}
 use Rattle.giop_stream.specs.declared.status.Status.{Status}
 use Rattle.giop_stream.specs.declared.status.Status.TheVariants.{Running, Stopped}
 use Rattle.giop_conversation.specs.Directions.{DirectionView, HasRead}
-use Rattle.giop_conversation.specs.declared.conversation.Parity.{Parity}
-use Rattle.giop_conversation.specs.declared.conversation.Parity.TheVariants.{Even, Odd}
+use Rattle.giop_conversation.specs.declared.conversation.Side.{Side}
+use Rattle.giop_conversation.specs.declared.conversation.Side.TheVariants.{Even, Odd}
 use Rattle.giop_conversation.specs.declared.conversation.Conversation.{Conversation}
 
 -- ---- the streams
@@ -52,21 +52,21 @@ reader_faulted events = is_last_at_fault events events
 
 -- ---- the connections
 
-abbrev pub parity_of : ℕ → Parity
-parity_of flow = if flow % 2 == 0 then Even else Odd
+abbrev pub side_of : ℕ → Side
+side_of flow = if flow % 2 == 0 then Even else Odd
 
-abbrev pub other : Parity → Parity
+abbrev pub other : Side → Side
 other Even = Odd
 other Odd = Even
 
 -- the direction of a connection
-abbrev pub direction : Parity → Conversation → DirectionView
+abbrev pub direction : Side → Conversation → DirectionView
 direction Even c = c.even
 direction Odd c = c.odd
 
 -- the direction of a flow, where its connection has a room
 abbrev pub direction_of : List Conversation → ℕ → Option DirectionView
-direction_of rooms flow = option_map (direction (parity_of flow)) (slice_get rooms (flow / 2))
+direction_of rooms flow = option_map (direction (side_of flow)) (slice_get rooms (flow / 2))
 
 -- The direction of each flow has read its last stream.
 abbrev pub HaveFollowed : List Conversation → List Event → Type 0

@@ -6,13 +6,13 @@ ghost use Rattle.giop_stream.specs.Framing.{cut, fault_of};
 ghost use Rattle.giop_stream.specs.EngineHolds.{AreOf, status_of};
 ghost use Rattle.giop_conversation.specs.Failing.{FailsByPut};
 ghost use Rattle.giop_conversation.specs.Directions.{HasRead};
-ghost use Rattle.giop_conversation.specs.Followed.{direction, other, parity_of as spec_parity_of};
+ghost use Rattle.giop_conversation.specs.Followed.{direction, other, side_of as spec_side_of};
 ghost use Rattle.giop_stream.specs.Stream.{final};
 ghost use Rattle.giop_conversation.specs.Tags.{stream_tag};
 ghost use Rattle.giop_conversation.specs.TaggedState.{IsReady};
 ghost use Rattle.giop_conversation.specs.Stamped.{begin_lines};
 ghost use Rattle.giop_conversation.specs.StreamReads.{WritesTagged};
-ghost use Rattle.giop_conversation.specs.Captured.{Setup, Connection, setup, side, new_connection, opened, begun, closed_lines, rules_in};
+ghost use Rattle.giop_conversation.specs.Captured.{Setup, Connection, setup, half, new_connection, opened, begun, closed_lines, rules_in};
 ghost use Rattle.giop_conversation.specs.DumpHeld.{HasCalls, HoldsConnection, ReadsBy};
 
 use crate::arrival::Arrival;
@@ -29,27 +29,23 @@ use tcp_segment::Flow;
 
 /// Which of the two flows of a connection: the one with an even id, or the one with an odd id.
 #[derive(Clone, Copy, Debug, PartialEq, Eq)]
-pub enum Parity {
+pub enum Side {
     Even,
     Odd,
 }
 
 /// Which flow of its connection one is, by its id.
-pub fn parity_of(flow: u32) -> Parity
-    ensures { result ≡ spec_parity_of flow }
+pub fn side_of(flow: u32) -> Side
+    ensures { result ≡ spec_side_of flow }
 {
-    if flow % 2 == 0 {
-        Parity::Even
-    } else {
-        Parity::Odd
-    }
+    if flow % 2 == 0 { Side::Even } else { Side::Odd }
 }
 
 /// A connection: the directions of its two flows, and the calls of both.
 #[derive(Drop)]
 pub struct Conversation<'a> {
     // The flow that was read last: the calls of the exchange's own stream are of it.
-    parity: Parity,
+    side: Side,
     exchange: Exchange<'a>,
     even: Direction<'a>,
     odd: Direction<'a>,
@@ -72,7 +68,7 @@ impl<'a> Conversation<'a> {
             HoldsConnection S c (new_connection S))) }
     {
         Ok(Conversation {
-            parity: Parity::Even,
+            side: Side::Even,
             exchange: Exchange::new(alloc, catalogue, limits.calls)?,
             even: Direction::new(alloc, catalogue, requests, limits.messages)?,
             odd: Direction::new(alloc, catalogue, requests, limits.messages)?,
@@ -80,106 +76,106 @@ impl<'a> Conversation<'a> {
     }
 
     /// From now on a flow is read.
-    fn face(&mut self, parity: Parity)
+    fn face(&mut self, side: Side)
         ensures even { self.new.even ≡ self.old.even }
         ensures odd { self.new.odd ≡ self.old.odd }
-        ensures value { self.new.parity ≡ parity }
+        ensures value { self.new.side ≡ side }
         // The calls of a connection stay, those of the flow as the exchange's own.
-        ensures kept { (c : Connection) → HasCalls self.old.parity self.old.exchange c →
-            HasCalls parity self.new.exchange c }
+        ensures kept { (c : Connection) → HasCalls self.old.side self.old.exchange c →
+            HasCalls side self.new.exchange c }
     {
-        if self.parity != parity {
+        if self.side != side {
             self.exchange.turn();
         }
-        self.parity = parity;
+        self.side = side;
     }
 
     /// Who sends to whom in a flow is known from now on, and it has no calls.
-    pub fn open(&mut self, parity: Parity, flow: Flow)
+    pub fn open(&mut self, side: Side, flow: Flow)
         ensures even { self.new.even.engine ≡ self.old.even.engine }
         ensures odd { self.new.odd.engine ≡ self.old.odd.engine }
         ensures held { (S : Setup) (c : Connection) → HoldsConnection S self.old c →
-            HoldsConnection S self.new (opened parity flow c) }
+            HoldsConnection S self.new (opened side flow c) }
     {
-        self.face(parity);
+        self.face(side);
         self.exchange.forget();
-        match parity {
-            Parity::Even => self.even.open(flow),
-            Parity::Odd => self.odd.open(flow),
+        match side {
+            Side::Even => self.even.open(flow),
+            Side::Odd => self.odd.open(flow),
         }
     }
 
     /// A stream of a flow begins.
     pub fn begin<O: Out>(
         &mut self,
-        parity: Parity,
+        side: Side,
         stream: u64,
         time: Option<u128>,
         out: &mut Tagged<O>,
     ) -> Result<(), OutFault>
-        ensures read { HasRead (direction parity self.new).engine [] }
-        ensures other { direction (other parity) self.new ≡ direction (other parity) self.old }
+        ensures read { HasRead (direction side self.new).engine [] }
+        ensures other { direction (other side) self.new ≡ direction (other side) self.old }
         ensures fails { FailsByPut result out.old out.new }
         ensures held { (S : Setup) (c : Connection) → HoldsConnection S self.old c →
-            HoldsConnection S self.new (begun parity stream c) }
+            HoldsConnection S self.new (begun side stream c) }
         // Below stands its line with the tag of the stream, or a front of it.
         ensures text { (S : Setup) (c : Connection) (w : List ℕ) → HoldsConnection S self.old c →
             IsReady out.old w → WritesTagged result out.new w (stream_tag stream)
-            (begin_lines (side parity c).flow time) }
+            (begin_lines (half side c).flow time) }
     {
-        match parity {
-            Parity::Even => self.even.begin(stream, time, out),
-            Parity::Odd => self.odd.begin(stream, time, out),
+        match side {
+            Side::Even => self.even.begin(stream, time, out),
+            Side::Odd => self.odd.begin(stream, time, out),
         }
     }
 
     /// Reads octets of a flow's stream.
     pub fn read<O: Out>(
         &mut self,
-        parity: Parity,
+        side: Side,
         octets: &[u8],
         arrival: Arrival,
         out: &mut Tagged<O>,
     ) -> Result<Status, OutFault>
-        ensures read { (p : List ℕ) → HasRead (direction parity self.old).engine p →
-            OnOk result (HasRead (direction parity self.new).engine (p ++ octets.now)) }
-        ensures status { (p : List ℕ) → HasRead (direction parity self.old).engine p →
+        ensures read { (p : List ℕ) → HasRead (direction side self.old).engine p →
+            OnOk result (HasRead (direction side self.new).engine (p ++ octets.now)) }
+        ensures status { (p : List ℕ) → HasRead (direction side self.old).engine p →
             IfOk result (λ s. s ≡ status_of (fault_of (cut (p ++ octets.now)).stop)) }
-        ensures other { direction (other parity) self.new ≡ direction (other parity) self.old }
+        ensures other { direction (other side) self.new ≡ direction (other side) self.old }
         ensures fails { FailsByPut result out.old out.new }
         // By answers that are those of the calls, below stand the lines of the octets, each with the tag of the stream, or a
         // front of them; and it holds the connection behind them.
         ensures text { (S : Setup) (c : Connection) (w : List ℕ) → HoldsConnection S self.old c →
-            IsReady out.old w → ReadsBy S c parity octets.now arrival w result self.new out.new }
+            IsReady out.old w → ReadsBy S c side octets.now arrival w result self.new out.new }
     {
         answers_agree();
         answers_go_on::<Exchange<'a>>();
-        self.face(parity);
-        match parity {
-            Parity::Even => self.even.read(&mut self.exchange, octets, arrival, out),
-            Parity::Odd => self.odd.read(&mut self.exchange, octets, arrival, out),
+        self.face(side);
+        match side {
+            Side::Even => self.even.read(&mut self.exchange, octets, arrival, out),
+            Side::Odd => self.odd.read(&mut self.exchange, octets, arrival, out),
         }
     }
 
     /// The stream of a flow closes. Returns what it had.
     pub fn close<O: Out>(
         &self,
-        parity: Parity,
+        side: Side,
         cause: CloseCause,
         out: &mut Tagged<O>,
     ) -> Result<Totals, OutFault>
         ensures fails { FailsByPut result out.old out.new }
         // Below stand why, and then the closing, each line with the tag of the stream; or a front of them.
         ensures text { (S : Setup) (c : Connection) (w : List ℕ) → HoldsConnection S self.now c →
-            IsReady out.old w → WritesTagged result out.new w (stream_tag (side parity c).stream)
-            (closed_lines S parity cause c) }
+            IsReady out.old w → WritesTagged result out.new w (stream_tag (half side c).stream)
+            (closed_lines S side cause c) }
         ensures totals { (S : Setup) (c : Connection) → HoldsConnection S self.now c →
             IfOk result (λ t.
-            t ≡ final (rules_in S (side parity c).answers) (side parity c).octets) }
+            t ≡ final (rules_in S (half side c).answers) (half side c).octets) }
     {
-        match parity {
-            Parity::Even => self.even.close(cause, out),
-            Parity::Odd => self.odd.close(cause, out),
+        match side {
+            Side::Even => self.even.close(cause, out),
+            Side::Odd => self.odd.close(cause, out),
         }
     }
 }

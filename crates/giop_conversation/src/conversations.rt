@@ -14,7 +14,7 @@ ghost use Rattle.giop_conversation.specs.DumpTold.{Told};
 ghost use Rattle.giop_conversation.specs.Followed.{reader_faulted, is_stopped as spec_is_stopped};
 
 use crate::arrival::Arrival;
-use crate::conversation::{Conversation, parity_of};
+use crate::conversation::{Conversation, side_of};
 use crate::limits::{Limits, NoMemory};
 use crate::lines::{CaptureTotals, capture_fault_line, capture_total_line};
 use crate::tag::no_tag;
@@ -149,7 +149,7 @@ impl<'a, O: Out + Drop> Conversations<'a, O> {
             Told S written (events ++ Opens flow endpoints ∷ []) self.new }
     {
         match self.rooms.get_mut(flow as usize / 2) {
-            Some(room) => room.open(parity_of(flow), endpoints),
+            Some(room) => room.open(side_of(flow), endpoints),
             None => {}
         }
     }
@@ -173,7 +173,7 @@ impl<'a, O: Out + Drop> Conversations<'a, O> {
         self.totals.streams = sum_within(self.totals.streams, 1);
         match self.rooms.get_mut(flow as usize / 2) {
             Some(room) => room.begin(
-                parity_of(flow),
+                side_of(flow),
                 self.totals.streams,
                 self.arrival.time,
                 &mut self.out,
@@ -201,7 +201,7 @@ impl<'a, O: Out + Drop> Conversations<'a, O> {
             return Err(OutFault);
         }
         match self.rooms.get_mut(flow as usize / 2) {
-            Some(room) => match room.read(parity_of(flow), octets, self.arrival, &mut self.out) {
+            Some(room) => match room.read(side_of(flow), octets, self.arrival, &mut self.out) {
                 Ok(status) => Ok(is_stopped(status)),
                 Err(fault) => Err(fault),
             },
@@ -227,7 +227,7 @@ impl<'a, O: Out + Drop> Conversations<'a, O> {
             return Err(OutFault);
         }
         match self.rooms.get(flow as usize / 2) {
-            Some(room) => match room.close(parity_of(flow), cause, &mut self.out) {
+            Some(room) => match room.close(side_of(flow), cause, &mut self.out) {
                 Ok(totals) => {
                     self.totals.messages = sum_within(self.totals.messages, totals.messages);
                     self.totals.faults = sum_within(self.totals.faults, totals.faults);

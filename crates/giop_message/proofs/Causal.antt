@@ -167,8 +167,7 @@ step_prompt S header at (In_padding t) b = go (nat_lt 1 (padding at 8))
     go : (test : Bool) → Prompt (at + 1)
         (if test then ReadTo [] (at + 1) (In_padding t) else body S header t (at + 1) [])
     go true = ((tt, inl refl), inl refl)
-    go false = silent_prompt (at + 1) (body S header t (at + 1) [])
-        (body_silent S header t (at + 1))
+    go false = search (arith, silent_prompt, body_silent)
 step_prompt S header at (In_rest offset held) b = search (arith, rest_by)
 step_prompt S header at Over b = ((tt, inl refl), inr refl)
 
@@ -232,12 +231,7 @@ one_more S header n (ReadTo emitted at stage) b (inr h) = search (arith)
 pub told_begins : (S : Signatures) (header xs more : List ℕ) → (later : List LineAt)
     × (message_lines (message S header (xs ++ more)) ≡ message_lines (message S header xs) ++ later)
     × Behind (12 + length xs) later
-told_begins S header xs [] = (
-  [],
-  ap (λ s. message_lines (message S header s)) (append-nil xs)
-      ∙ sym (append-nil (message_lines (message S header xs))),
-  tt,
-)
+told_begins S header xs [] = search (arith, append-nil)
 told_begins S header xs (b ∷ more) =
     let one = one_more S header (12 + length xs) (message S header xs) b (stands S header xs) in
     let all = told_begins S header (xs ++ b ∷ []) more in (
@@ -325,13 +319,7 @@ module _ (k : ℕ) where
         line_classes_before (12 + n) old bound (omega arith),
         line_classes_here ((12 + n) + 1) more turn.0 (omega arith),
       ) turn.1
-      go (inr e) =
-          let far : ((12 + n) + 1) - 12 ≢ k = λ f. e (omega (arith, f)) in
-          rw (
-            line_classes_append old more,
-            line_classes_elsewhere ((12 + n) + 1) more turn.0 far,
-            append-nil (LineClasses old),
-          ) old_turn
+      go (inr e) = search (arith, line_classes_append, more, line_classes_elsewhere, append-nil)
 
       same : (n + 1 < k) ⊎ (k ≤ n + 1) → (k < n + 1) ⊎ (n + 1 ≤ k) →
           AreInLineOrder (LineClasses (old ++ more))

@@ -35,15 +35,7 @@ ends_only stage e f = absurd cc
 
 pub is_closing : (S : ℕ → Signatures) → IsClosing (reader_by S)
 unfolding closes_by line_class_of close
-is_closing S = record {
-  closed = λ number header xs. closes_say (stage_of (message (S number) header xs));
-  over = λ number header xs x faulted. ap (λ stage. LineClasses (close stage))
-      ((octet_leaves (S number) header xs x).1 faulted);
-  one_rest = λ number header xs x rested.
-      ends_only (stage_of (message (S number) header (xs ++ x ∷ [])))
-      (ap (λ stage. LineClasses (close stage))
-      ((octet_leaves (S number) header xs x).0 rested).1);
-}
+is_closing S = search (arith, closes_say, octet_leaves, ends_only)
 
 leaves_end : (line_classes : List LineClass) (stage : Stage) → Leaves line_classes stage →
     (line_classes ≡ Rest ∷ []) ⊎ (list_any is_fault line_classes ≡ true) →

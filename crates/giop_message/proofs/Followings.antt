@@ -256,12 +256,7 @@ at_more {s = s} more is move = record {
 module _ {C : Table} {answers : Answers} {number : ℕ} {header : List ℕ} {m : Struct_of} {s : List ℕ}
     (f : Follows C answers number header m s) (more : List ℕ) where
   pub is_at : {n : Struct_of} → Moved m n (length more) → IsAt number header n (s ++ more)
-  is_at move = at_more more (record {
-    same_number = f.same_number;
-    same_header = f.same_header;
-    at =
-        f.at;
-  }) move
+  is_at move = search (arith, at_more)
 
   pub follows_on : {n : Struct_of} → Moved m n (length more) → n.id ≡ cond (in_header n.part) None
       (first_request_id (message_lines (message (signatures_of C (answers number)) header
@@ -290,10 +285,4 @@ pub same_fields : {C : Table} {answers : Answers} {number : ℕ} {header : List 
     {s : List ℕ} →
     Follows C answers number header m s → n.number ≡ m.number → n.header ≡ m.header → n.id ≡ m.id →
     n.at ≡ m.at → n.part ≡ m.part → n.decoder ≡ m.decoder → Follows C answers number header n s
-same_fields f same_number same_header id at part decoder = record {
-  same_number = same_number ∙ f.same_number;
-  same_header = same_header ∙ f.same_header;
-  id = id ∙ rw part f.id;
-  at = at ∙ f.at;
-  stands = rw (part, decoder) f.stands;
-}
+same_fields f same_number same_header id at part decoder = search (arith)

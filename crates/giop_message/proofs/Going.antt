@@ -159,12 +159,7 @@ module _ (S : Signatures) (header : List ℕ) (t : BodyType) (at b : ℕ) (s : L
       ReadTo [] (at + length (s ++ b ∷ [])) (In_padding t)
       ≡ advance S header (ReadTo [] (at + length s) (In_padding t)) b
   unfolding advance message_step
-  padding_waits m = rw (
-    lt-ltb 1 (padding (at + length s) 8) m,
-    front_none,
-    length_one_more,
-    add_assoc,
-  ) refl
+  padding_waits m = search (arith, lt-ltb, front_none, length_one_more, add_assoc)
 
   padding_begins : padding at 8 ≡ length (s ++ b ∷ []) → padding (at + length s) 8 ≤ 1 →
       body S header t (at + padding at 8) (drop (padding at 8) (s ++ b ∷ []))

@@ -54,7 +54,7 @@ module _ (header : List ℕ) (T : Ty) where
       ∙ whole_stays more (s ++ b ∷ []) h one
 
   fault_stays : (more s : List ℕ) → faulted (Reads s) ≡ true → faulted (Reads (s ++ more)) ≡ true
-  fault_stays [] s e = search (arith, faulted, append-nil)
+  fault_stays [] s e = search (arith, append-nil)
   fault_stays (b ∷ more) s e =
       let one = ap faulted (read_goes (plain (order header)) [] T 12 s b)
       ∙ fault_on (Reads s) b e in

@@ -6,17 +6,16 @@ use Rattle.std.specs.List.{AllByRecursion as Each}
 use Rattle.std.specs.Option.{option_map}
 use Rattle.std.specs.Str.{bytes_eq}
 use Rattle.std.proofs.lemmas.Bool.{false≢true, cases_lt}
-use Rattle.std.proofs.lemmas.List.Elements.{All-from_recursion}
 use Rattle.giop_sig.specs.Types.{Ty, Struct}
 use Rattle.giop_sig.specs.Fits.{IsFit}
 use Rattle.giop_sig.specs.Trees.{trees_after, type_in}
 use Rattle.giop_sig.specs.Builtin.{builtin_types, builtin_table}
-use Rattle.giop_sig.specs.HeaderTypes.{header_type, header_number, IsTable, IsOperation, IsException}
+use Rattle.giop_sig.specs.HeaderTypes.{header_type, header_number, IsTable}
 use Rattle.giop_sig.proofs.Builtins.{builtin_are, builtin_fit, header_built_in}
 use Rattle.giop_decode.specs.ReadResult
 use Rattle.giop_decode.specs.ReadResult.{Coding, PathSegment, Name, Switch, Held, Line, OpenPart, Part, Member, Inside, Leaf, LeadingNumber, Opening, Content, Read, Done, Short, Fault, lines_of, with_front, followed, within}
 use Rattle.giop_decode.specs.Reading.{parts_from}
-use Rattle.giop_decode.specs.ReadingSteps.{IsOctetResult, part_at, path_in, segment_of, segment_in, step, resumed, IsEmptyResult, leaf_step}
+use Rattle.giop_decode.specs.ReadingSteps.{IsOctetResult, part_at, path_in, segment_of, segment_in, step, resumed, IsEmptyResult}
 use Rattle.giop_decode.specs.Fits.{FitsIn}
 use Rattle.giop_decode.specs.Noted.{is_member, ends_operation, ends_text}
 use Rattle.giop_decode.proofs.ReadingLaws.{step_now, next_part, switch_member, now_within, parts_quiet}
@@ -35,17 +34,7 @@ request_ends _ = (_, _, _, refl, refl)
 -- ---- the headers fit
 
 builtin_is : IsTable builtin_table
-builtin_is = record {
-  types = builtin_are;
-  begins = ([], sym (append-nil builtin_types));
-  operations = All-from_recursion (IsOperation builtin_types) [] tt;
-  exceptions = All-from_recursion (IsException builtin_types) [] tt;
-  operations_distinct = λ i j h k e. absurd (omega arith);
-  exceptions_distinct = λ i j h k e. absurd (omega arith);
-  operations_few = omega arith;
-  exceptions_few = omega arith;
-  declared_few = omega arith;
-}
+builtin_is = search (arith, builtin_are, append-nil)
 
 number_fit : (found : Option ℕ) → IfSome found (λ n. n < length builtin_types)
     → IfSome (option_map (type_in builtin_types) found) (IsFit 24)
@@ -174,11 +163,7 @@ and_false false b c e = refl
 ends_none : (is : Bool) (lines : List Line) → Each (λ l. ends_text l.value ≡ false) lines →
     Each (λ l. ends_operation is l ≡ false) lines
 ends_none is [] h = tt
-ends_none is (l ∷ ls) h = (
-  and_false is (is_member (codes "operation") l.path) (ends_text l.value)
-      h.0,
-  ends_none is ls h.1,
-)
+ends_none is (l ∷ ls) h = search (arith, and_false, ends_none is ls h.1)
 
 firm_none : (is : Bool) (r : Read) → Firm r → CallsNone is r
 firm_none is (Done lines at rest) h = tt
@@ -212,8 +197,7 @@ held_member name (a ∷ b ∷ path) outer = search (arith, deep_member)
 pub step_none : (is : Bool) (coding : Coding) (path : List PathSegment) (outer : List OpenPart)
     (leaf : Leaf)
     (at b : ℕ) → CallsNone is (step coding path outer leaf at b)
-step_none is coding path [] leaf at b = firm_none is (leaf_step coding path leaf at b)
-    (leaf_says coding path leaf at b).firm
+step_none is coding path [] leaf at b = search (arith, firm_none, leaf_says)
 step_none is coding path (Part T i count ∷ outer) leaf at b =
     let inner = step coding (path ++ segment_of T i ∷ []) outer leaf at b in
     followed_none is (at + 1) (within (Part T i count) inner)

@@ -1,11 +1,10 @@
 -- A message after an octet: after a part of the rest no octet is held, and after a fault the
 -- message is over.
-use Rattle.std.proofs.Common.{◌≡◌, ℕ, ◌+◌, Bool, true, false, List, [], ◌∷◌, ◌++◌, length, map, drop, refl, sym, ap, ◌∙◌, append-nil, inl, inr}
+use Rattle.std.proofs.Common.{arith, ◌≡◌, ℕ, ◌+◌, Bool, true, false, List, [], ◌∷◌, ◌++◌, length, map, drop, refl, sym, ◌∙◌, append-nil, inl, inr}
 use Rattle.std.specs.List.{list_any}
 use Rattle.std.proofs.lemmas.Bool.{false≢true}
-use Rattle.std.specs.Prelude.{◌==◌, nat_lt, if◌then◌else◌}
+use Rattle.std.specs.Prelude.{◌==◌, if◌then◌else◌}
 use Rattle.std.proofs.Math.Seq.{drop-append_seam}
-use Rattle.giop_cdr.specs.Alignment.{padding}
 use Rattle.giop_print.specs.declared.path.Root.{Root}
 use Rattle.giop_decode.specs.ReadResult.{plain, Line, Read, Done, Short, Fault as Faulted}
 use Rattle.giop_decode.specs.ReadingSteps as decoder
@@ -15,7 +14,7 @@ use Rattle.giop_decode.proofs.ReadingLaws.{step_now}
 use Rattle.giop_message.specs.declared.part.Section.{Section}
 use Rattle.giop_message.specs.Headers.{order}
 use Rattle.giop_message.specs.MessageState.{due}
-use Rattle.giop_message.specs.Messages.{RestLine, LineAt, line_at, calls, section_lines, Stage, In_typed, In_padding, In_rest, Over, Message, ReadTo, with_front, section_then, body, message, message_lines, stage_of, root_of, may_call, after}
+use Rattle.giop_message.specs.Messages.{RestLine, LineAt, line_at, calls, section_lines, Stage, In_typed, In_padding, In_rest, Over, Message, ReadTo, with_front, section_then, message, message_lines, stage_of, root_of, may_call, after}
 use Rattle.giop_message.specs.ReaderOfTable.{line_class_of, timed_line_of, due_by}
 use Rattle.giop_message.specs.MessageReader.{LineClass, Rest, is_fault}
 use Rattle.giop_message.specs.Signatures.{Signatures}
@@ -37,7 +36,7 @@ abbrev Settles : Message → Type 0
 Settles (ReadTo emitted at stage) = Leaves (LineClasses emitted) stage
 
 silent_settles : (n : ℕ) (m : Message) → Silent n m → Settles m
-silent_settles n (ReadTo emitted at stage) h = rw h.0 (λ e. absurd cc, λ e. absurd (false≢true e))
+silent_settles n (ReadTo emitted at stage) h = search (arith, false≢true)
 
 -- lines of a typed part are no faults
 section_lines_faultless : (root : Root) (is : Bool) (h : Noted) (lines : List Line) →
@@ -59,7 +58,7 @@ section_lines_faultless root is h (l ∷ ls) =
 section_lines_leave : (root : Root) (is : Bool) (h : Noted) (lines : List Line) (stage : Stage) →
     Leaves (LineClasses (section_lines root is h lines)) stage
 unfolding section_lines line_at line_class_of
-section_lines_leave root is h [] stage = (λ e. absurd cc, λ e. absurd (false≢true e))
+section_lines_leave root is h [] stage = search (arith, false≢true)
 section_lines_leave root is h (l ∷ ls) stage = (
   λ e. absurd cc,
   λ e. absurd (false≢true
@@ -83,9 +82,7 @@ module _ (section : Section) (is : Bool) (next : Noted → ℕ → List ℕ → 
       let now = noted (is_header_root R) k lines in
       rw (h.1, h.2) (front_settles n (section_lines R is k lines) (next now n [])
       (section_lines_leave R is k lines) (silent now))
-  passes_settles k (Short lines at outer leaf) h =
-      section_lines_leave R is k lines (In_typed section (noted (is_header_root R) k lines) outer
-      leaf)
+  passes_settles k (Short lines at outer leaf) h = search (arith, section_lines_leave)
   passes_settles k (Faulted [] at why T) h = (λ e. absurd cc, λ e. refl)
   passes_settles k (Faulted (l ∷ ls) at why T) h = (λ e. absurd cc, λ e. refl)
 
@@ -94,8 +91,8 @@ rest_settles : (offset : ℕ) (held : List ℕ) (n : ℕ) (test : Bool) →
     (In_rest (offset + 32) [])
     else ReadTo [] n (In_rest offset held))
 unfolding line_at line_class_of
-rest_settles offset held n true = (λ e. (offset + 32, refl), λ e. absurd (false≢true e))
-rest_settles offset held n false = (λ e. absurd cc, λ e. absurd (false≢true e))
+rest_settles offset held n true = search (arith, false≢true)
+rest_settles offset held n false = search (arith, false≢true)
 
 step_settles : (S : Signatures) (header : List ℕ) (at : ℕ) (stage : Stage) (b : ℕ) →
     Settles (message_step S header at stage b)
@@ -105,34 +102,26 @@ step_settles S header at (In_typed section k outer leaf) b =
     (λ k. after_silent S header section k (at + 1)) k
     (decoder.step (plain (order header)) [] outer leaf at b)
     (step_now (plain (order header)) [] outer leaf at b)
-step_settles S header at (In_padding t) b = go (nat_lt 1 (padding at 8))
-  where
-    go : (test : Bool) →
-        Settles (if test then ReadTo [] (at + 1) (In_padding t) else body S header t (at + 1) [])
-    go true = (λ e. absurd cc, λ e. absurd (false≢true e))
-    go false = silent_settles (at + 1) (body S header t (at + 1) [])
-        (body_silent S header t (at + 1))
-step_settles S header at (In_rest offset held) b =
-    rest_settles offset (held ++ b ∷ []) (at + 1) (length (held ++ b ∷ []) == 32)
-step_settles S header at Over b = (λ e. absurd cc, λ e. absurd (false≢true e))
+step_settles S header at (In_padding t) b = search (arith, false≢true, silent_settles, body_silent)
+step_settles S header at (In_rest offset held) b = search (arith, rest_settles)
+step_settles S header at Over b = search (arith, false≢true)
 
 -- the lines of an octet, and where the message is after it
 advance_settles : (S : Signatures) (header : List ℕ) (m : Message) (b : ℕ) →
     Leaves (LineClasses (drop (length (message_lines m)) (message_lines (advance S header m b))))
     (stage_of (advance S header m b))
 unfolding advance with_front message_lines stage_of
-advance_settles S header (ReadTo emitted at stage) b =
-    go (message_step S header at stage b) (step_settles S header at stage b)
-  where
-    go : (m : Message) → Settles m →
-        Leaves (LineClasses (drop (length emitted) (message_lines (with_front emitted m))))
-        (stage_of (with_front emitted m))
-    go (ReadTo more at' stage') h = rw (drop-append_seam emitted more) h
+advance_settles S header (ReadTo emitted at stage) b = search (
+  arith,
+  step_settles,
+  drop,
+  drop-append_seam,
+)
 
 classes_of_lines : (emitted : List LineAt) →
     map (λ r. r.line_class) (map timed_line_of emitted) ≡ LineClasses emitted
 classes_of_lines [] = refl
-classes_of_lines (t ∷ ts) = ap (λ ss. line_class_of t.message_line ∷ ss) (classes_of_lines ts)
+classes_of_lines (t ∷ ts) = search (arith, classes_of_lines ts)
 
 pub octet_leaves : (S : Signatures) (header xs : List ℕ) (x : ℕ) →
     Leaves (map (λ r. r.line_class) (due_by S header xs x))

@@ -105,7 +105,6 @@ module _ (o : Order) (n : ℕ) (of : ℕ → List ℕ) (parts : ℕ → Ty)
     unfolding id_line
     told_four a b c d = search (
       arith,
-      id_line,
       first_four,
       passes_front,
       next,

@@ -5,7 +5,7 @@ use Rattle.giop_sig.specs.Types.{Encapsulation, Ty, Single, Struct, Union, Array
 use Rattle.giop_decode.specs.ReadResult.{Coding, PathSegment, Name, Index, Held, OpenPart, Part, Member, Inside, Leaf, Read, Done, Short, Fault, followed, within}
 use Rattle.giop_decode.specs.Pieces.{content, full_pieces}
 use Rattle.giop_decode.specs.Reading.{read, parts_from, enclosed, rest_of}
-use Rattle.giop_decode.specs.ReadingSteps.{IsEmptyResult, IsOctetResult, leaf_step, part_at, segment_of, step}
+use Rattle.giop_decode.specs.ReadingSteps.{IsEmptyResult, IsOctetResult, part_at, segment_of, step}
 use Rattle.giop_decode.specs.Fits.{FitsIn, IsEncapsulation}
 use Rattle.giop_decode.specs.Noted.{ends_in_string}
 use Rattle.giop_decode.proofs.ReadingLaws.{cut_inside, front_inside, now_within, block_waits, width_pos, number_none, part_quiet, step_now}
@@ -118,8 +118,7 @@ closed_enclosed n path T inner end (Fault lines at why S) is now h = h
 -- Where a line ends a string no other has begun.
 pub step_closed : (coding : Coding) (path : List PathSegment) (outer : List OpenPart) (leaf : Leaf)
     (at b : ℕ) → AllHold outer → Closed (step coding path outer leaf at b)
-step_closed coding path [] leaf at b hold =
-    closed_firm (leaf_step coding path leaf at b) (leaf_says coding path leaf at b).firm
+step_closed coding path [] leaf at b hold = search (arith, closed_firm, leaf_says)
 step_closed coding path (Inside T inner end ∷ outer) leaf at b hold =
     let r = step inner (path ++ Held ∷ []) outer leaf at b in
     closed_enclosed (at + 1) path T inner end r hold.0

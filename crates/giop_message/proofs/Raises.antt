@@ -216,13 +216,7 @@ module _ (header : List ℕ) where
   tells_none : (reader : List ℕ → Message) →
       ((s : List ℕ) → raises_here (stage_of (reader s)) ≡ false) →
       Tells reader (λ s. None)
-  tells_none reader quiet = record {
-    none = refl;
-    stays = λ s t name e. absurd cc;
-    settled = λ s t e. refl;
-    inside = λ s t e. absurd (false≢true (sym (quiet s) ∙ e));
-    pads = λ s x e. (refl, refl);
-  }
+  tells_none reader quiet = search (arith, false≢true)
 
   -- a section that has the name
   module _ (section : Section) (raises : is_raising section ≡ true)
@@ -364,10 +358,7 @@ module _ (header : List ℕ) where
     padded_pads : (s : List ℕ) (x : ℕ) → pads_here (stage_of (padded S header b at s)) ≡ true →
         Cases s →
         (Padded names at s ≡ None) × (Padded names at (s ++ x ∷ []) ≡ None)
-    padded_pads s x e (inl h) = (
-      names_wait names at s h,
-      one_more s x h (cases_lt (length (s ++ x ∷ [])) n),
-    )
+    padded_pads s x e (inl h) = search (arith, names_wait, one_more, cases_lt)
     padded_pads s x e (inr h) =
         let here = sym (ap (λ m. pads_here (stage_of m)) (padded_begins S header b at s h)) ∙ e in
         let both = (tells (at + n)).pads (drop n s) x here in

@@ -487,14 +487,14 @@ module _ (t : Standing) (xs : List ℕ) (p : Progress) (l : LastOf t xs p) (othe
           rw (raised_before header s before, raised_before header (s ++ xs) now, before, now) refl
       go sections.Exception e = search (arith, raising, is_raising)
       go sections.SystemException e = search (arith, raising, is_raising)
-      go sections.Body e = search (arith, section_none, xs, body_none)
+      go sections.Body e = search (arith, section_none, body_none)
 
 -- nor do fronts of octets after which the section goes on
 ends_sooner : (t : Standing) (front more : List ℕ) →
     AreAnswered (order t.header) (opened t).T (start (begun t)) (root_of t.section) (octets_of t)
     front progress.More → (k : ℕ) → k ≤ length front →
     header_ends t.number t.header t.s (take k (front ++ more)) ≡ []
-ends_sooner t front more on zero few = header_ends_none t.number t.header t.s
+ends_sooner t front more on zero few = search (arith, header_ends_none)
 ends_sooner t front more on (suc k) few =
     let o = order t.header in
     let fronts = more_fronts o (opened t).T (start (begun t)) (root_of t.section) (suc k)
@@ -536,7 +536,7 @@ module _ {t : Standing} {octets : List ℕ} {n : ℕ} {d' : Decoder} where
   -- octets that end no section end no header and no name
   pub none_ends : {p : Progress} → Took t octets n d' p → IsNoEnd p →
       header_ends number header s (take n octets) ≡ []
-  none_ends {p} k other = ends_none t (take n octets) p (last p k) other
+  none_ends {p} k other = search (arith, ends_none, take, last)
 
   -- nor do those before the last of a run
   none_sooner : {p : Progress} → Took t octets n d' p → (k : ℕ) → k < n →
@@ -556,14 +556,7 @@ module _ {t : Standing} {octets : List ℕ} {n : ℕ} {d' : Decoder} where
       Writes r a b (Text t octets n place) →
       TakesFront (λ went. went.0) (λ xs. header_ends number header s xs ≡ [])
       (λ xs. Writes r a b (due_text (S t) number place header s xs)) r octets
-  took_front r place a b counted k wrote = record {
-    n = n;
-    counted = counted;
-    within = k.within;
-    some = λ _. k.some;
-    fronts = none_sooner k;
-    all = wrote;
-  }
+  took_front r place a b counted k wrote = search (arith, none_sooner)
 
   -- where a put failed after the lines of the octets
   pub failed_front : {p : Progress} {E : Type 0} (r : Result (ℕ × Bool) E) (place : ℕ)
@@ -616,7 +609,7 @@ module _ {t : Standing} {octets : List ℕ} {n : ℕ} {d' : Decoder} where
           rw (raised_before header s before, none, before, now) refl
       go sections.Exception e = raising (ap is_raising e) (ap is_header e)
       go sections.SystemException e = raising (ap is_raising e) (ap is_header e)
-      go sections.Body e = search (arith, section_none, xs, body_none)
+      go sections.Body e = search (arith, section_none, body_none)
 
   one_ends : Took t octets n d' progress.Done → section ≡ sections.Header →
       header_ends number header s (take n octets)
@@ -691,11 +684,8 @@ module _ {C : Table} {answers : Answers} {number : ℕ} {header : List ℕ} {m :
       TakesFront (λ went. went.0) (λ xs. header_ends number header s xs ≡ [])
       (λ xs. Writes result a b (due_text (signatures_of C (answers number)) number place header s
       xs)) result octets
-  rest_front is octets place result n a b counted within some wrote = record {
-    n = n;
-    counted = counted;
-    within = within;
-    some = some;
-    fronts = λ k few. rest_none is (take k octets);
-    all = wrote;
-  }
+  rest_front is octets place result n a b counted within some wrote = search (
+    arith,
+    rest_none,
+    take,
+  )

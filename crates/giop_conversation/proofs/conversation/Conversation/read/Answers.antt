@@ -1,7 +1,7 @@
 use Rattle.std.proofs.Common.{◌≡◌, ◌∙◌}
-use Rattle.giop_conversation.specs.declared.conversation.Parity.TheVariants.{Even, Odd}
+use Rattle.giop_conversation.specs.declared.conversation.Side.TheVariants.{Even, Odd}
 use Rattle.giop_conversation.specs.Captured.{calls_in}
-use Rattle.giop_conversation.specs.DumpHeld.{HoldsSide, HasCalls}
+use Rattle.giop_conversation.specs.DumpHeld.{HoldsHalf, HasCalls}
 use Rattle.giop_conversation.proofs.DumpLemmas.{goes_on_by, reads_by}
 use Rattle.giop_conversation.proofs.conversation.Conversation.read.Goals as goal
 
@@ -11,10 +11,10 @@ returns-in-Even-clause-text g c = λ S k w holds ready.
     let arrival = c.args.arrival in
     let d = c.face.new.self.even in
     let t = c.face.new.self.exchange in
-    let h : HoldsSide S d k.even = rw c.face.ensures.even holds.even in
-    let opposite : HoldsSide S c.face.new.self.odd k.odd = rw c.face.ensures.odd holds.odd in
+    let h : HoldsHalf S d k.even = rw c.face.ensures.even holds.even in
+    let opposite : HoldsHalf S c.face.new.self.odd k.odd = rw c.face.ensures.odd holds.odd in
     let calls : HasCalls Even t k = rw c.in-Even.is at (c.face.ensures.kept k holds.calls) in
-    let here : c.face.new.self.parity ≡ Even = c.face.ensures.value ∙ c.in-Even.is in
+    let here : c.face.new.self.side ≡ Even = c.face.ensures.value ∙ c.in-Even.is in
     let go = c.answers_go_on.ensures S.table k.even.answers S.messages k.even.octets octets
     (calls_in S Even arrival k) in
     let a = go.0 in
@@ -31,10 +31,10 @@ returns-in-Odd-clause-text g c = λ S k w holds ready.
     let arrival = c.args.arrival in
     let d = c.face.new.self.odd in
     let t = c.face.new.self.exchange in
-    let h : HoldsSide S d k.odd = rw c.face.ensures.odd holds.odd in
-    let opposite : HoldsSide S c.face.new.self.even k.even = rw c.face.ensures.even holds.even in
+    let h : HoldsHalf S d k.odd = rw c.face.ensures.odd holds.odd in
+    let opposite : HoldsHalf S c.face.new.self.even k.even = rw c.face.ensures.even holds.even in
     let calls : HasCalls Odd t k = rw c.in-Odd.is at (c.face.ensures.kept k holds.calls) in
-    let here : c.face.new.self.parity ≡ Odd = c.face.ensures.value ∙ c.in-Odd.is in
+    let here : c.face.new.self.side ≡ Odd = c.face.ensures.value ∙ c.in-Odd.is in
     let go = c.answers_go_on.ensures S.table k.odd.answers S.messages k.odd.octets octets
     (calls_in S Odd arrival k) in
     let a = go.0 in

@@ -17,8 +17,8 @@ returns-in-Some-clause-follows g c = λ events number follows.
     on_ok c.begin.result (HaveFollowed (set rooms.items (c.args.flow / 2) new)
     (events ++ Begins c.args.flow number ∷ []))
     (stream_begun rooms.items events c.args.flow number old new follows here
-    (rw c.parity_of.ensures at c.begin.ensures.read)
-    (rw c.parity_of.ensures at c.begin.ensures.other))
+    (rw c.side_of.ensures at c.begin.ensures.read)
+    (rw c.side_of.ensures at c.begin.ensures.other))
 
 pub returns-in-Some-clause-fails : goal.returns-in-Some-clause-fails
 returns-in-Some-clause-fails g c =
@@ -45,8 +45,8 @@ returns-in-Some-clause-told g c = λ S written events number told.
     now.cut c.begin.result c.args.flow number
     c.sum_within-self.result old c.begin.new.self c.begin.new.out c.sum_within-self.ensures told
     here
-    (λ k. rw c.parity_of.ensures at (c.begin.ensures.held S k))
-    (λ k w. rw c.parity_of.ensures at (c.begin.ensures.text S k w))
+    (λ k. rw c.side_of.ensures at (c.begin.ensures.held S k))
+    (λ k w. rw c.side_of.ensures at (c.begin.ensures.text S k w))
 
 pub returns-in-None-clause-told : goal.returns-in-None-clause-told
 returns-in-None-clause-told g c = λ S written events number told.

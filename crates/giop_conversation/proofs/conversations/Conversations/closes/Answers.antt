@@ -34,8 +34,8 @@ returns-in-Ok-clause-told g c = λ S written events told.
     now.cut done c.args.flow c.args.cause
     old c.close.new.out c.sum_within-self.result c.sum_within-self-in-Ok.result c.is_cut-self.result
     c.in-Ok.totals told here
-    (λ k w. rw c.parity_of.ensures at (c.in-Ok.ensures.text S k w))
-    (λ k. rw c.parity_of.ensures at (c.in-Ok.ensures.totals S k))
+    (λ k w. rw c.side_of.ensures at (c.in-Ok.ensures.text S k w))
+    (λ k. rw c.side_of.ensures at (c.in-Ok.ensures.totals S k))
     c.sum_within-self.ensures c.sum_within-self-in-Ok.ensures c.is_cut-self.ensures
 
 pub returns-in-None-clause-told : goal.returns-in-None-clause-told
@@ -59,7 +59,7 @@ returns-in-Err-clause-told g c = λ S written events told.
     (at.3.1 old) in
     closed_front S written events rooms.items now.out now.arrival t.streams t.messages t.faults
     now.cut c.args.flow c.args.cause
-    old c.close.new.out told here (λ k w. rw c.parity_of.ensures at (c.in-Err.ensures.text S k w))
+    old c.close.new.out told here (λ k w. rw c.side_of.ensures at (c.in-Err.ensures.text S k w))
 
 pub returns-then-has_failed-clause-told : goal.returns-then-has_failed-clause-told
 returns-then-has_failed-clause-told g c = λ S written events told.

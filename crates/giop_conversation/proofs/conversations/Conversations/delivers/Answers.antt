@@ -12,11 +12,11 @@ returns-in-Ok-clause-follows g c = λ events follows.
     let here = element rooms.items (vec_len rooms) (c.args.flow / 2) old rooms.ok.0
     (c.in-Some.ensures.variant.0 refl) c.in-Some.ensures.value in (
       octets_read rooms.items events c.args.flow c.args.octets.now old c.read.new.self follows here
-          (rw c.parity_of.ensures at c.in-Ok.ensures.read)
-          (rw c.parity_of.ensures at c.in-Ok.ensures.other),
+          (rw c.side_of.ensures at c.in-Ok.ensures.read)
+          (rw c.side_of.ensures at c.in-Ok.ensures.other),
       c.is_stopped.ensures ∙ fault_told rooms.items events c.args.flow c.args.octets.now old
           c.in-Ok.status follows here
-          (rw c.parity_of.ensures at c.in-Ok.ensures.status),
+          (rw c.side_of.ensures at c.in-Ok.ensures.status),
     )
 
 pub returns-in-Err-clause-fails : goal.returns-in-Err-clause-fails
@@ -37,7 +37,7 @@ returns-in-Ok-clause-told g c = λ S written events told.
     delivered_told S written events rooms.items now.out now.arrival t.streams t.messages t.faults
     now.cut _ c.args.flow c.args.octets.now
     old c.read.new.self c.read.new.out told here (λ k w holds ready.
-    rw c.parity_of.ensures at (c.in-Ok.ensures.text S k w holds ready))
+    rw c.side_of.ensures at (c.in-Ok.ensures.text S k w holds ready))
 
 pub returns-in-Err-clause-told : goal.returns-in-Err-clause-told
 returns-in-Err-clause-told g c = λ S written events told.
@@ -50,7 +50,7 @@ returns-in-Err-clause-told g c = λ S written events told.
     delivered_told S written events rooms.items now.out now.arrival t.streams t.messages t.faults
     now.cut _ c.args.flow c.args.octets.now
     old c.read.new.self c.read.new.out told here (λ k w holds ready.
-    rw c.parity_of.ensures at (c.in-Err.ensures.text S k w holds ready))
+    rw c.side_of.ensures at (c.in-Err.ensures.text S k w holds ready))
 
 pub returns-in-None-clause-told : goal.returns-in-None-clause-told
 returns-in-None-clause-told g c = λ S written events told.

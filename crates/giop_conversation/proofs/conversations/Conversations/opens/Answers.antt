@@ -29,7 +29,7 @@ returns-in-Some-clause-told g c = λ S written events told.
     (c.in-Some.ensures.variant.0 refl) c.in-Some.ensures.value in
     opened_told S written events rooms.items now.out now.arrival t.streams t.messages t.faults
     now.cut c.args.flow c.args.endpoints old c.open.new.self
-    told here (λ k. rw c.parity_of.ensures at (c.open.ensures.held S k))
+    told here (λ k. rw c.side_of.ensures at (c.open.ensures.held S k))
 
 pub returns-in-None-clause-told : goal.returns-in-None-clause-told
 returns-in-None-clause-told g c = λ S written events told.
