@@ -9,9 +9,9 @@ use Rattle.tcp_flow.specs.declared.flow.FlowState.{FlowState}
 use Rattle.tcp_flow.specs.Flow.{Flow, Reader, Setting, Arrival, Octets, End, Acknowledged, setting, fresh, first_of, payload_came, closed, gap, step as flow_step, first_payload}
 use Rattle.tcp_flow.specs.Laws.{AllFollow, AllArePartsOf, IsGapless, IsSettled, due_of}
 use Rattle.tcp_flow.specs.State.{state}
-use Rattle.tcp_flow.proofs.Direct.{came_settled, fin_settled, missed_settled, fresh_settled}
-use Rattle.tcp_flow.proofs.Others.{step_others}
-use Rattle.tcp_flow.proofs.Room.{room_after, fin_blocks, missed_blocks}
+use Rattle.tcp_flow.proofs.Direct.{came_settled, fin_settled, missed_settled, gap_settled, fresh_settled}
+use Rattle.tcp_flow.proofs.Others.{step_others, gap_others}
+use Rattle.tcp_flow.proofs.Room.{room_after, fin_blocks, gap_blocks, missed_blocks}
 use Rattle.tcp_flow.proofs.States.{settled_whatever}
 use Rattle.tcp_flow.proofs.Truth.{runs_more, runs_grow, all_grow, came_true, gap_true, true_keeps}
 use Rattle.tcp_flow.proofs.Told.{IsKept, closed_told, came_told, step_told, gap_told}
@@ -215,6 +215,27 @@ gapped_follow payloads F w id h = by (flow_at w id) refl
         (gap_told (λ es. AllFollow payloads other None es (due_in (flow_at w other))) id
         (others_kept payloads id other (due_in (flow_at w other)) apart) F f
         (record { same = own; told = h.events other })).told))
+
+pub gapped_sound : (F : Reader) (w : State) (id : ℕ) (payloads : List Payload) → IsSound w →
+    Follow payloads w → IsSound (gapped F w id)
+gapped_sound F w id payloads h t = by (flow_at w id) refl
+  where
+    by : (o : Option FlowState) → flow_at w id ≡ o → IsSound (gapped F w id)
+    by None e = subst IsSound (sym (gapped_none F w id e)) h
+    by (Some s) e =
+        let before : Flow = state s w.held w.events in
+        let f : Flow = gap F before in
+        let own : s.id ≡ id = (t.own id s e).0 in
+        let g : IsGapless payloads f = gap_true F payloads before (flow_before payloads w id s t e)
+        in
+        let same : f.id ≡ id = (gap_told (λ es. Unit {0}) id (λ es event of x. tt) F before
+        (record { same = own; told = tt })).same in
+        subst IsSound (sym (gapped_some F w id s e))
+        (with_flow_sound w id f h (some_within w.flows id s e) same
+        (beside_own id s.id w.held f.held own (gap_others F before))
+        (omega (arith, h.blocks, gap_blocks F before))
+        (settled_whatever (flow_state f) f.held f.events [] (gap_settled F before g.next))
+        (apart_some w id s h e))
 
 pub closed_follow : (payloads : List Payload) (w : State) (id : ℕ) (cause : CloseCause) →
     Follow payloads w → Follow payloads (closed_at w id cause)

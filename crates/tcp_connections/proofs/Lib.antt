@@ -19,6 +19,7 @@ pub mod OwnFlows
 pub mod SamePairs
 pub mod Search
 pub mod SegmentParts
+pub mod Shown
 pub mod Sound
 pub mod Start
 pub mod States

@@ -2,13 +2,13 @@ use Rattle.std.proofs.Common.{◌≡◌, ◌+◌, ℕ, [], true, false, Some, No
 use Rattle.tcp_segment.specs.Segments.{segment_view}
 use Rattle.tcp_flow.specs.declared.flow.CloseCause.TheVariants.{Syn}
 use Rattle.tcp_streams.specs.Pairs.{pair_of, flow_id}
-use Rattle.tcp_connections.specs.Connections.{State, place_of, flow_at, flow_of_side, syn_at, room_at, is_kept, is_anew, forgotten, unknown_taken, syn_kept, step}
+use Rattle.tcp_connections.specs.Connections.{State, place_of, flow_at, flow_of_side, syn_at, room_at, is_kept, is_anew, ended_by, unknown_taken, syn_kept, step}
 use Rattle.tcp_connections.specs.State.{state_of}
 use Rattle.tcp_connections.proofs.Cases.{step_unknown, step_kept, step_anew, step_known}
 use Rattle.tcp_connections.proofs.Changes.{counted, syn_noted}
 use Rattle.tcp_connections.proofs.Counted.{step_segments}
-use Rattle.tcp_connections.proofs.Forgotten.{forgotten_known}
 use Rattle.tcp_connections.proofs.Search.{forgotten_unknown}
+use Rattle.tcp_connections.proofs.Shown.{shown_known}
 use Rattle.tcp_connections.proofs.Sound.{room_below}
 use Rattle.tcp_connections.proofs.States.{sound_of, known_of, moved, moved_ok, segments_of}
 use Rattle.tcp_connections.proofs.connections.Connections.take.Goals as goal
@@ -105,8 +105,8 @@ unfolding syn_kept
 returns-then-is_kept-clause-count g c =
     ap (λ (u : State). u.segments) (c.keep_syn.ensures.kept [])
 
-pub forget-requires-clause-state : goal.forget-requires-clause-state
-forget-requires-clause-state g c = (
+pub end_by-requires-clause-state : goal.end_by-requires-clause-state
+end_by-requires-clause-state g c = (
   _,
   (counted (g.L.Listener.observed c.args.to.now.listener)
       c.args.to.now.live.items c.args.self.now
@@ -118,7 +118,7 @@ pub take_unknown-requires-then-is_anew-clause-state :
     goal.take_unknown-requires-then-is_anew-clause-state
 take_unknown-requires-then-is_anew-clause-state g c = (
   _,
-  c.in_ok-forget.ensures.does _ (counted (g.L.Listener.observed c.args.to.now.listener)
+  c.in_ok-end_by.ensures.does _ (counted (g.L.Listener.observed c.args.to.now.listener)
       c.args.to.now.live.items c.args.self.now
       (record c.args.self.now { segments = c.args.self.now.segments + 1 }) c.requires.state.0
       c.requires.state.1 (λ e. refl) refl refl),
@@ -131,7 +131,7 @@ take_unknown-requires-then-is_anew-clause-new g c =
     let h = c.requires.state.1 in
     let pair = c.pair_of-side.result.0 in
     let v : State = record w { segments = w.segments + 1 } in
-    let n = c.in_ok-forget.ensures.does _ (counted (g.L.Listener.observed c.args.to.now.listener)
+    let n = c.in_ok-end_by.ensures.does _ (counted (g.L.Listener.observed c.args.to.now.listener)
     c.args.to.now.live.items c.args.self.now
     (record c.args.self.now { segments = c.args.self.now.segments + 1 }) c.requires.state.0
     c.requires.state.1 (λ e. refl) refl refl) in
@@ -139,7 +139,8 @@ take_unknown-requires-then-is_anew-clause-new g c =
     ap (place_of pair) (sym (known_of _ _ _ _ h)) ∙ sym c.place_of.ensures.place
     ∙ c.in-Some.is in
     ap (place_of pair) (known_of _ _ _ _ n
-    ∙ forgotten_known v c.in-Some.place c.pair_of-side.result.1 Syn)
+    ∙ shown_known g.L.Listener.faulted v c.in-Some.place (room_at v c.in-Some.place)
+    c.pair_of-side.result.1 c.pair_of-side.result.1 Syn)
     ∙ forgotten_unknown pair w.known c.in-Some.place h.sound.order some
 
 pub returns-then-is_anew-clause-does : goal.returns-then-is_anew-clause-does
@@ -167,10 +168,10 @@ returns-then-is_anew-clause-does g c w h =
     ∙ sym c.is_anew.ensures ∙ c.if-is_anew.true in
     moved_ok c.take_unknown-then-is_anew.result _ _ _ _ _
     (step_anew F w V place some not_kept anew ∙ ap (λ q.
-    unknown_taken F (forgotten (record w { segments = w.segments + 1 }) place q.1 Syn) V)
+    unknown_taken F (ended_by F (record w { segments = w.segments + 1 }) place q.1 Syn) V)
     (sym c.pair_of-side.ensures))
     (c.take_unknown-then-is_anew.ensures.does _
-    (c.in_ok-forget.ensures.does _ (counted (g.L.Listener.observed c.args.to.now.listener)
+    (c.in_ok-end_by.ensures.does _ (counted (g.L.Listener.observed c.args.to.now.listener)
     c.args.to.now.live.items c.args.self.now
     (record c.args.self.now { segments = c.args.self.now.segments + 1 }) w h (λ e. refl) refl
     refl)))
@@ -204,10 +205,10 @@ returns-then-is_anew-clause-count g c =
     (step_segments F w V ∙ ap (λ n. n + 1) (sym (ap (λ (u : State). u.segments) h.same)))
     (moved_ok c.take_unknown-then-is_anew.result _ _ _ _ _
     (step_anew F w V place some not_kept anew ∙ ap (λ q.
-    unknown_taken F (forgotten (record w { segments = w.segments + 1 }) place q.1 Syn) V)
+    unknown_taken F (ended_by F (record w { segments = w.segments + 1 }) place q.1 Syn) V)
     (sym c.pair_of-side.ensures))
     (c.take_unknown-then-is_anew.ensures.does _
-    (c.in_ok-forget.ensures.does _ (counted (g.L.Listener.observed c.args.to.now.listener)
+    (c.in_ok-end_by.ensures.does _ (counted (g.L.Listener.observed c.args.to.now.listener)
     c.args.to.now.live.items c.args.self.now
     (record c.args.self.now { segments = c.args.self.now.segments + 1 }) w h (λ e. refl) refl
     refl))))
