@@ -16,6 +16,7 @@ pub mod OwnersEnd
 pub mod OwnersGrown
 pub mod OwnersKnown
 pub mod OwnFlows
+pub mod Repeated
 pub mod SamePairs
 pub mod Search
 pub mod SegmentParts

@@ -1,9 +1,10 @@
 //! Connections are forgotten: by a RST or a SYN, or to make room for another, first those without a
 //! live stream. What they hold is shown before.
 
-ghost use Rattle.std.specs.Prelude.{◌≡◌, ◌<◌, ◌^◌, [], cond, OnErr};
+ghost use Rattle.std.specs.Prelude.{◌≡◌, ◌<◌, ◌^◌, [], cond, OnOk, OnErr};
 ghost use Rattle.std.specs.Vec.{vec_len};
 ghost use Rattle.tcp_segment.specs.Segments.{segment_view};
+ghost use Rattle.tcp_waiting.specs.Payload.{count_of};
 
 use crate::connections::Connections;
 use tcp_flow::{CloseCause, Listener, ListenerFault};
@@ -91,6 +92,7 @@ impl Connections {
         ensures does { Makes result (λ w. emptied L.faulted w id)
             (L.observed to.old.listener) to.old.live.items self.old
             (L.observed to.new.listener) to.new.live.items self.new }
+        ensures none { OnOk result (count_of id self.new.pool.held ≡ 0) }
         ensures cause { OnErr result (L.failed to.new.listener) }
     {
         let mut left = self.pool.len();

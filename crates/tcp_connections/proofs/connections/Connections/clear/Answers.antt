@@ -1,8 +1,8 @@
-use Rattle.std.proofs.Common.{◌≡◌, ◌<◌, ℕ, [], List, length, get_or, sym, ap, ◌∙◌, arith}
+use Rattle.std.proofs.Common.{◌≡◌, ℕ, [], length, get_or, sym, ap, ◌∙◌, arith}
 use Rattle.tcp_flow.specs.declared.flow.CloseCause.TheVariants.{Room}
 use Rattle.tcp_streams.specs.declared.pair.Side.{Side}
 use Rattle.tcp_streams.specs.Lives.{lives, elder_side}
-use Rattle.tcp_connections.specs.Connections.{State, room_at, cleared, shown, shown_by_age, forgotten}
+use Rattle.tcp_connections.specs.Connections.{State, room_at, shown, shown_by_age, forgotten}
 use Rattle.tcp_connections.specs.State.{state_of}
 use Rattle.tcp_connections.proofs.Shown.{shown_kept}
 use Rattle.tcp_connections.proofs.Sound.{room_below}

@@ -1,4 +1,4 @@
-use Rattle.std.proofs.Common.{◌≡◌, ◌<◌, ℕ, [], length, get_or, sym, ap, ◌∙◌, arith}
+use Rattle.std.proofs.Common.{◌≡◌, ℕ, [], length, get_or, sym, ap, ◌∙◌, arith}
 use Rattle.tcp_connections.specs.Connections.{State, room_at, shown, forgotten}
 use Rattle.tcp_connections.specs.State.{state_of}
 use Rattle.tcp_connections.proofs.Shown.{shown_kept}

@@ -1,6 +1,6 @@
 use Rattle.std.proofs.Common.{◌≡◌, ℕ, sym, ap, ◌∙◌}
 use Rattle.tcp_streams.specs.Pairs.{flow_id, opposite}
-use Rattle.tcp_connections.specs.Connections.{State, emptied, shown}
+use Rattle.tcp_connections.specs.Connections.{emptied, shown}
 use Rattle.tcp_connections.proofs.States.{moved_ok}
 use Rattle.tcp_connections.proofs.connections.Connections.show.Goals as goal
 
