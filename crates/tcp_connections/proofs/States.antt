@@ -20,7 +20,7 @@ use Rattle.tcp_connections.specs.State.{IsSound, IsState, IsAt, state_of, times}
 use Rattle.tcp_connections.proofs.Living.{IsTold, IsTurn, no_turn}
 use Rattle.tcp_connections.proofs.Forgotten.{both_forgotten, forgotten_sound}
 use Rattle.tcp_connections.proofs.Times.{none_there}
-use Rattle.tcp_connections.proofs.Sound.{IsApart, some_within, apart_some, with_flow_sound, forgot_sound, sound_seen}
+use Rattle.tcp_connections.proofs.Sound.{IsApart, room_below, some_within, apart_some, with_flow_sound, forgot_sound, sound_seen}
 
 -- what is so of the code's state, whatever has happened, is so of each that it has
 pub by_state : (P : State → Type 0) (O : List Event → Type 0) (live : List ℕ) (c : Connections)
@@ -221,6 +221,13 @@ forgot_done O O' live live' c c' es id s' f h l n turn rest flows pool held free
 pub sound_of : (O : List Event → Type 0) (live : List ℕ) (c : Connections) (w : State) →
     IsState O live c w → IsSound (state_of c [])
 sound_of O live c w h = sound_any c w.events [] (subst IsSound (sym h.same) h.sound)
+
+-- the room of a place is one of at most 65,536
+pub small_room : (O : List Event → Type 0) (live : List ℕ) (c : Connections) (w : State)
+    (place : ℕ) → IsState O live c w → place < length c.table.keys.items →
+    get_or c.table.rooms.items place 0 < 65536
+small_room O live c w place h l = let sound = sound_of O live c w h in
+    omega (arith, room_below (state_of c []) place sound l, sound.most)
 
 -- nor of which connection makes room
 pub eldest_any : (c : Connections) (es fs : List Event) (n : ℕ) →

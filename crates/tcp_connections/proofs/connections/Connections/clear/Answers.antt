@@ -1,34 +1,26 @@
-use Rattle.std.proofs.Common.{◌≡◌, ℕ, [], length, get_or, sym, ap, ◌∙◌, arith}
+use Rattle.std.proofs.Common.{◌≡◌, ℕ, length, get_or, sym, ap, ◌∙◌, arith}
 use Rattle.tcp_flow.specs.declared.flow.CloseCause.TheVariants.{Room}
 use Rattle.tcp_streams.specs.declared.pair.Side.{Side}
 use Rattle.tcp_streams.specs.Lives.{lives, elder_side}
 use Rattle.tcp_connections.specs.Connections.{State, room_at, shown, shown_by_age, forgotten}
-use Rattle.tcp_connections.specs.State.{state_of}
 use Rattle.tcp_connections.proofs.Shown.{shown_kept}
-use Rattle.tcp_connections.proofs.Sound.{room_below}
-use Rattle.tcp_connections.proofs.States.{sound_of, known_of, moved_ok}
+use Rattle.tcp_connections.proofs.States.{small_room, known_of, moved_ok}
 use Rattle.tcp_connections.proofs.connections.Connections.clear.Goals as goal
 
 pub elder_side-requires : goal.elder_side-requires
 elder_side-requires g c =
-    let sound = sound_of _ _ _ _ c.requires.state.1 in
-    let b = room_below (state_of c.args.self.now []) c.args.place sound
-    (omega (arith, c.requires.place, c.args.self.now.table.keys.ok.0)) in
-    omega (arith, b, c.room-room.ensures, sound.most)
+    omega (arith, c.room-room.ensures, small_room _ _ _ _ c.args.place c.requires.state.1
+    (omega (arith, c.requires.place, c.args.self.now.table.keys.ok.0)))
 
 pub show-requires-clause-room : goal.show-requires-clause-room
 show-requires-clause-room g c =
-    let sound = sound_of _ _ _ _ c.requires.state.1 in
-    let b = room_below (state_of c.args.self.now []) c.args.place sound
-    (omega (arith, c.requires.place, c.args.self.now.table.keys.ok.0)) in
-    omega (arith, b, c.room-room.ensures, sound.most)
+    omega (arith, c.room-room.ensures, small_room _ _ _ _ c.args.place c.requires.state.1
+    (omega (arith, c.requires.place, c.args.self.now.table.keys.ok.0)))
 
 pub elder_side-requires-2 : goal.elder_side-requires-2
 elder_side-requires-2 g c =
-    let sound = sound_of _ _ _ _ c.requires.state.1 in
-    let b = room_below (state_of c.args.self.now []) c.args.place sound
-    (omega (arith, c.requires.place, c.args.self.now.table.keys.ok.0)) in
-    omega (arith, b, c.room-room.ensures, sound.most)
+    omega (arith, c.room-room.ensures, small_room _ _ _ _ c.args.place c.requires.state.1
+    (omega (arith, c.requires.place, c.args.self.now.table.keys.ok.0)))
 
 pub forget-requires-clause-state : goal.forget-requires-clause-state
 forget-requires-clause-state g c = (

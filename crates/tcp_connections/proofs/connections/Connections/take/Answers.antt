@@ -10,7 +10,7 @@ use Rattle.tcp_connections.proofs.Counted.{step_segments}
 use Rattle.tcp_connections.proofs.Search.{forgotten_unknown}
 use Rattle.tcp_connections.proofs.Shown.{shown_known}
 use Rattle.tcp_connections.proofs.Sound.{room_below}
-use Rattle.tcp_connections.proofs.States.{sound_of, known_of, moved, moved_ok, segments_of}
+use Rattle.tcp_connections.proofs.States.{small_room, sound_of, known_of, moved, moved_ok, segments_of}
 use Rattle.tcp_connections.proofs.connections.Connections.take.Goals as goal
 
 pub take_unknown-requires-clause-state : goal.take_unknown-requires-clause-state
@@ -45,10 +45,8 @@ returns-in_default-clause-count g c =
 
 pub flow_id-id-requires : goal.flow_id-id-requires
 flow_id-id-requires g c =
-    let sound = sound_of _ _ _ _ c.requires.state.1 in
-    let b = room_below (state_of c.args.self.now []) c.in-Some.place sound
-    (omega (arith, c.in-Some.ensures.within, c.args.self.now.table.keys.ok.0)) in
-    omega (arith, b, c.room-room.ensures, sound.most)
+    omega (arith, c.room-room.ensures, small_room _ _ _ _ c.in-Some.place c.requires.state.1
+    (omega (arith, c.in-Some.ensures.within, c.args.self.now.table.keys.ok.0)))
 
 pub keep_syn-requires : goal.keep_syn-requires
 keep_syn-requires g c =
