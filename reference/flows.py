@@ -286,18 +286,20 @@ class Capture:
     def _made_known(self, ends: FrozenSet[Endpoint]) -> Connection:
         if len(self._known) == self.limits.connections:
             oldest = min(self._known, key=lambda each: (bool(self._known[each].live()), self._known[each].last))
-            live = self._known[oldest].live()
-            first = min(live, key=lambda stream: stream.number).flow if live else None
-            self._forget(oldest, first, "room")
+            self._forget(oldest, None, "room")
         self._connections += 1
         self._known[ends] = Connection(self._connections)
         return self._known[ends]
 
     def _forget(self, ends: FrozenSet[Endpoint], first: Optional[Flow], word: str) -> None:
-        """Forgets a connection, whose stream in this flow closes first."""
-        flows = self._known.pop(ends).flows
-        for flow in sorted(flows, key=lambda flow: flow != first):
-            flows[flow].close(word)
+        """Forgets a connection, with what it holds shown before: that of this flow first, or else of the older stream."""
+        flows = self._known[ends].flows
+        for state in by_turns(flows, first):
+            while state.held:
+                state.gap()
+        for state in by_turns(flows, first):
+            state.close(word)
+        del self._known[ends]
 
     def end(self) -> None:
         """The end of the capture: first the gaps, then the streams that live close."""
@@ -305,6 +307,11 @@ class Capture:
             min(holding, key=number_of).gap()
         for state in sorted((state for state in self._states() if state.live), key=number_of):
             state.end()
+
+
+def by_turns(flows: Dict[Flow, FlowState], first: Optional[Flow]) -> List[FlowState]:
+    """The flows of a connection, this one first, or by their live streams."""
+    return [flows[flow] for flow in sorted(flows, key=lambda flow: (flow != first, number_of(flows[flow])))]
 
 
 def number_of(state: FlowState) -> int:

@@ -4,15 +4,15 @@ use Rattle.std.proofs.lemmas.Bool.{cond-true, cond-false, lt-ltb, le-ltb}
 use Rattle.std.proofs.lemmas.List.{set-get_or}
 use Rattle.tcp_segment.specs.Segments.{Segment}
 use Rattle.tcp_flow.specs.declared.flow.CloseCause.{CloseCause}
-use Rattle.tcp_flow.specs.declared.flow.CloseCause.TheVariants.{Reset, Syn, Room}
+use Rattle.tcp_flow.specs.declared.flow.CloseCause.TheVariants.{Reset, Syn}
 use Rattle.tcp_flow.specs.declared.flow.FlowState.{FlowState}
 use Rattle.tcp_flow.specs.Flow.{Flow, Reader, Setting, Arrival, Octets, End, Acknowledged, setting, closed, gap, step as flow_step, held_by_others}
 use Rattle.tcp_flow.specs.State.{state}
 use Rattle.tcp_flow.proofs.Steps.{missed_none}
 use Rattle.tcp_streams.specs.declared.pair.Side.{Side}
 use Rattle.tcp_streams.specs.Pairs.{pair_of, opposite, flow_id}
-use Rattle.tcp_streams.specs.Lives.{lives, elder_side}
-use Rattle.tcp_connections.specs.Connections.{State, flow_at, with_flow, arrived, began, gapped, closed_at, flow_forgotten, place_of, room_at, forgotten, goes_before, eldest, with_room, next_room, made_known, first_number, number_behind, is_first, is_kept, is_anew, is_reset, syn_at, syn_kept, flow_of_side, fin_taken, unknown_taken, acknowledgement_taken, payload_taken, reset_taken, known_taken, step, is_holding, gaps_from, end_cause, all_closed}
+use Rattle.tcp_streams.specs.Lives.{lives}
+use Rattle.tcp_connections.specs.Connections.{State, flow_at, with_flow, arrived, began, gapped, closed_at, flow_forgotten, place_of, room_at, gaps_at, ended_by, cleared, goes_before, eldest, with_room, next_room, made_known, first_number, number_behind, is_first, is_kept, is_anew, is_reset, syn_at, syn_kept, flow_of_side, fin_taken, unknown_taken, acknowledgement_taken, payload_taken, reset_taken, known_taken, step, is_holding, gaps_from, end_cause, all_closed}
 
 pub arrived_none : (F : Reader) (w : State) (id : ℕ) (a : Arrival) → flow_at w id ≡ None →
     arrived F w id a ≡ w
@@ -138,52 +138,47 @@ pub a_fin : (F : Reader) (w : State) (id : ℕ) (s : Segment) → s.fin ≡ true
 unfolding fin_taken
 a_fin F w id s e = cond-true s.fin (arrived F w id (End (number_behind s))) w e
 
-pub no_reset : (w : State) (place : ℕ) (side : Side) (s : Segment) →
-    is_reset (flow_of_side w place side) s ≡ false → reset_taken w place side s ≡ w
+pub no_reset : (F : Reader) (w : State) (place : ℕ) (side : Side) (s : Segment) →
+    is_reset (flow_of_side w place side) s ≡ false → reset_taken F w place side s ≡ w
 unfolding reset_taken
-no_reset w place side s e =
-    cond-false (is_reset (flow_of_side w place side) s) (forgotten w place side Reset) w e
+no_reset F w place side s e =
+    cond-false (is_reset (flow_of_side w place side) s) (ended_by F w place side Reset) w e
 
-pub a_reset : (w : State) (place : ℕ) (side : Side) (s : Segment) →
+pub a_reset : (F : Reader) (w : State) (place : ℕ) (side : Side) (s : Segment) →
     is_reset (flow_of_side w place side) s ≡ true →
-    reset_taken w place side s ≡ forgotten w place side Reset
+    reset_taken F w place side s ≡ ended_by F w place side Reset
 unfolding reset_taken
-a_reset w place side s e =
-    cond-true (is_reset (flow_of_side w place side) s) (forgotten w place side Reset) w e
+a_reset F w place side s e =
+    cond-true (is_reset (flow_of_side w place side) s) (ended_by F w place side Reset) w e
 
 pub unknown_nothing : (F : Reader) (w : State) (s : Segment) → is_first w.ports s ≡ false →
     unknown_taken F w s ≡ w
 unfolding unknown_taken
 unknown_nothing F w s e = cond-false (is_first w.ports s)
-    (fin_taken F (began F (made_known (with_room w) (pair_of s.flow).0)
-    (flow_id (next_room (with_room w).free) (pair_of s.flow).1) (first_number s) s.payload)
-    (flow_id (next_room (with_room w).free) (pair_of s.flow).1) s) w e
+    (fin_taken F (began F (made_known (with_room F w) (pair_of s.flow).0)
+    (flow_id (next_room (with_room F w).free) (pair_of s.flow).1) (first_number s) s.payload)
+    (flow_id (next_room (with_room F w).free) (pair_of s.flow).1) s) w e
 
 pub unknown_first : (F : Reader) (w : State) (s : Segment) → is_first w.ports s ≡ true
-    → unknown_taken F w s ≡ fin_taken F (began F (made_known (with_room w) (pair_of s.flow).0)
-    (flow_id (next_room (with_room w).free) (pair_of s.flow).1) (first_number s) s.payload)
-    (flow_id (next_room (with_room w).free) (pair_of s.flow).1) s
+    → unknown_taken F w s ≡ fin_taken F (began F (made_known (with_room F w) (pair_of s.flow).0)
+    (flow_id (next_room (with_room F w).free) (pair_of s.flow).1) (first_number s) s.payload)
+    (flow_id (next_room (with_room F w).free) (pair_of s.flow).1) s
 unfolding unknown_taken
 unknown_first F w s e = cond-true (is_first w.ports s)
-    (fin_taken F (began F (made_known (with_room w) (pair_of s.flow).0)
-    (flow_id (next_room (with_room w).free) (pair_of s.flow).1) (first_number s) s.payload)
-    (flow_id (next_room (with_room w).free) (pair_of s.flow).1) s) w e
+    (fin_taken F (began F (made_known (with_room F w) (pair_of s.flow).0)
+    (flow_id (next_room (with_room F w).free) (pair_of s.flow).1) (first_number s) s.payload)
+    (flow_id (next_room (with_room F w).free) (pair_of s.flow).1) s) w e
 
-pub room_there : (w : State) → length w.known < length w.lasts → with_room w ≡ w
+pub room_there : (F : Reader) (w : State) → length w.known < length w.lasts → with_room F w ≡ w
 unfolding with_room
-room_there w l = cond-true (nat_lt (length w.known) (length w.lasts)) w
-    (forgotten w (eldest w (length w.known))
-    (elder_side (room_at w (eldest w (length w.known))) (lives w.events)) Room)
-    (lt-ltb (length w.known) (length w.lasts) l)
+room_there F w l = cond-true (nat_lt (length w.known) (length w.lasts)) w
+    (cleared F w (eldest w (length w.known))) (lt-ltb (length w.known) (length w.lasts) l)
 
-pub room_made : (w : State) → length w.lasts ≤ length w.known →
-    with_room w ≡ forgotten w (eldest w (length w.known))
-    (elder_side (room_at w (eldest w (length w.known))) (lives w.events)) Room
+pub room_made : (F : Reader) (w : State) → length w.lasts ≤ length w.known →
+    with_room F w ≡ cleared F w (eldest w (length w.known))
 unfolding with_room
-room_made w l = cond-false (nat_lt (length w.known) (length w.lasts)) w
-    (forgotten w (eldest w (length w.known))
-    (elder_side (room_at w (eldest w (length w.known))) (lives w.events)) Room)
-    (le-ltb (length w.known) (length w.lasts) l)
+room_made F w l = cond-false (nat_lt (length w.known) (length w.lasts)) w
+    (cleared F w (eldest w (length w.known))) (le-ltb (length w.known) (length w.lasts) l)
 
 pub step_unknown : (F : Reader) (w : State) (s : Segment) →
     place_of (pair_of s.flow).0 w.known ≡ None →
@@ -204,20 +199,20 @@ step_kept F w s place e a =
     rw (e, step) (cond-true (is_kept (flow_of_side v place side) s)
     (syn_kept v (room_at v place) id s)
     (cond (is_anew (syn_at v (room_at v place)) id s)
-    (unknown_taken F (forgotten v place side Syn) s) (known_taken F v place s)) a)
+    (unknown_taken F (ended_by F v place side Syn) s) (known_taken F v place s)) a)
 
 pub step_anew : (F : Reader) (w : State) (s : Segment) (place : ℕ) →
     place_of (pair_of s.flow).0 w.known ≡ Some place →
     is_kept (flow_of_side w place (pair_of s.flow).1) s ≡ false →
     is_anew (syn_at w (room_at w place)) (flow_id (room_at w place) (pair_of s.flow).1) s ≡ true
-    → step F w s ≡ unknown_taken F (forgotten (record w { segments = w.segments + 1 }) place
+    → step F w s ≡ unknown_taken F (ended_by F (record w { segments = w.segments + 1 }) place
     (pair_of s.flow).1 Syn) s
 unfolding step
 step_anew F w s place e k a =
     let v : State = record w { segments = w.segments + 1 } in
     let side : Side = (pair_of s.flow).1 in
     let id : ℕ = flow_id (room_at v place) side in
-    let there : State = unknown_taken F (forgotten v place side Syn) s in
+    let there : State = unknown_taken F (ended_by F v place side Syn) s in
     rw (e, step) (cond-false (is_kept (flow_of_side v place side) s)
     (syn_kept v (room_at v place) id s)
     (cond (is_anew (syn_at v (room_at v place)) id s) there (known_taken F v place s)) k
@@ -233,7 +228,7 @@ step_known F w s place e k a =
     let v : State = record w { segments = w.segments + 1 } in
     let side : Side = (pair_of s.flow).1 in
     let id : ℕ = flow_id (room_at v place) side in
-    let there : State = unknown_taken F (forgotten v place side Syn) s in
+    let there : State = unknown_taken F (ended_by F v place side Syn) s in
     rw (e, step) (cond-false (is_kept (flow_of_side v place side) s)
     (syn_kept v (room_at v place) id s)
     (cond (is_anew (syn_at v (room_at v place)) id s) there (known_taken F v place s)) k
@@ -244,19 +239,42 @@ pub known_is : (F : Reader) (w : State) (place : ℕ) (s : Segment) (room : ℕ)
     (id other : ℕ) → room ≡ room_at w place → side ≡ (pair_of s.flow).1 → id ≡ flow_id room side →
     other ≡ flow_id room (opposite side)
     → known_taken F w place s
-    ≡ reset_taken (fin_taken F (payload_taken F
+    ≡ reset_taken F (fin_taken F (payload_taken F
     (acknowledgement_taken F (record w { lasts = set w.lasts room w.segments }) other s) id s)
     id s) place side s
 unfolding known_taken
 known_is F w place s room side id other e f g h =
     let K : ℕ → Side → ℕ → ℕ → State = λ r d i o.
-    reset_taken (fin_taken F (payload_taken F
+    reset_taken F (fin_taken F (payload_taken F
     (acknowledgement_taken F (record w { lasts = set w.lasts r w.segments }) o s) i s) i s)
     place d s in
     let here : Side = (pair_of s.flow).1 in
     sym (ap (λ (i : ℕ). K room side i other) g ∙ ap (λ (o : ℕ). K room side (flow_id room side) o) h
     ∙ ap (λ (d : Side). K room d (flow_id room d) (flow_id room (opposite d))) f
     ∙ ap (λ (r : ℕ). K r here (flow_id r here) (flow_id r (opposite here))) e)
+
+-- ---- What a flow holds is gone on with.
+
+pub at_none : (F : Reader) (count : ℕ) (w : State) (id : ℕ) → count ≤ 0 →
+    gaps_at F count w id ≡ w
+unfolding gaps_at
+at_none F zero w id l = refl
+at_none F (suc count) w id l = absurd (omega (arith, l))
+
+pub at_over : (F : Reader) (count : ℕ) (w : State) (id : ℕ) →
+    is_holding w.held (flow_at w id) ≡ false → gaps_at F count w id ≡ w
+unfolding gaps_at
+at_over F zero w id e = refl
+at_over F (suc count) w id e = rw (e, gaps_at) refl
+
+pub at_gap : (F : Reader) (count : ℕ) (w : State) (id : ℕ) → 0 < count →
+    is_holding w.held (flow_at w id) ≡ true
+    → gaps_at F count w id ≡ gaps_at F (count - 1) (gapped F w id) id
+unfolding gaps_at
+at_gap F zero w id l e = absurd (omega (arith, l))
+at_gap F (suc count) w id l e =
+    let k : suc count - 1 ≡ count = omega arith in
+    rw (k, e, gaps_at) refl
 
 -- ---- The end of the capture.
 

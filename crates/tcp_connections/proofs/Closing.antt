@@ -1,7 +1,7 @@
 -- Where all live streams have closed, none lives.
 use Rattle.std.proofs.Common.{◌≡◌, ℕ, zero, suc, ◌+◌, ◌-◌, ◌<◌, ◌≤◌, true, List, [], ◌∷◌, ◌++◌, length, set, get_or, Option, Some, None, is_some, refl, sym, ◌∙◌, ap, subst, arith, inl, inr, true≢false, get_or-set_same, get_or-set_other, length-set}
 use Rattle.std.specs.Prelude.{Result, Ok, Err, OnOk}
-use Rattle.std.proofs.lemmas.Bool.{cases_Bool, cases_eq, cases_lt, cond-true, lt-ltb}
+use Rattle.std.proofs.lemmas.Bool.{cases_eq, cases_lt, cond-true, lt-ltb}
 use Rattle.tcp_flow.specs.declared.flow.CloseCause.{CloseCause}
 use Rattle.tcp_flow.specs.declared.flow.FlowState.{FlowState}
 use Rattle.tcp_flow.specs.declared.flow.ListenerFault.{ListenerFault}
@@ -10,11 +10,12 @@ use Rattle.tcp_flow.specs.State.{state}
 use Rattle.tcp_streams.specs.Lives.{lives, behind, without, most_ids}
 use Rattle.tcp_streams.proofs.Order.{lives_more}
 use Rattle.tcp_connections.specs.declared.connections.Connections.{Connections}
-use Rattle.tcp_connections.specs.Connections.{State, flow_at, flow_state, live_of, live_at, with_flow, gapped, is_holding, gaps_from, closed_at, end_cause, all_closed}
+use Rattle.tcp_connections.specs.Connections.{State, flow_at, flow_state, live_of, live_at, with_flow, gapped, gaps_from, closed_at, end_cause, all_closed}
 use Rattle.tcp_connections.specs.State.{IsSound, IsAt, AreTold, times}
-use Rattle.tcp_connections.proofs.Cases.{gapped_none, gapped_some, gaps_none, gaps_over, gaps_gap, gaps_next, closed_some, closes_none, closes_over, closes_one}
+use Rattle.tcp_connections.proofs.Cases.{gapped_none, gapped_some, closed_some, closes_none, closes_over, closes_one}
 use Rattle.tcp_connections.proofs.Ending.{length_without}
 use Rattle.tcp_connections.proofs.Living.{IsTurn, no_turn, closed_turn, gap_turn}
+use Rattle.tcp_connections.proofs.Repeated.{gaps_keep}
 use Rattle.tcp_connections.proofs.Sound.{some_same, some_within}
 use Rattle.tcp_connections.proofs.States.{told_flow}
 use Rattle.tcp_connections.proofs.Times.{times_at}
@@ -80,24 +81,7 @@ gapped_closing F w id h = by (flow_at w id) refl
 
 pub gaps_closing : (F : Reader) (count rank : ℕ) (w : State) → IsClosing w →
     IsClosing (gaps_from F count rank w)
-gaps_closing F zero rank w h = subst IsClosing (sym (gaps_none F 0 rank w (omega arith))) h
-gaps_closing F (suc count) rank w h =
-    let k : suc count - 1 ≡ count = omega arith in
-    let id : ℕ = get_or (lives w.events) rank 0 in
-    elim (cases_lt rank (length (lives w.events))) [
-      | inr g ↦ subst IsClosing (sym (gaps_over F (suc count) rank w g)) h
-      | inl some ↦
-          elim (cases_Bool (is_holding w.held (flow_at w id))) [
-            | inl e ↦ subst IsClosing
-                (sym (gaps_gap F (suc count) rank w (omega arith) some e
-                ∙ ap (λ (n : ℕ). gaps_from F n rank (gapped F w id)) k))
-                (gaps_closing F count rank (gapped F w id) (gapped_closing F w id h))
-            | inr e ↦ subst IsClosing
-                (sym (gaps_next F (suc count) rank w (omega arith) some e
-                ∙ ap (λ (n : ℕ). gaps_from F n (rank + 1) w) k))
-                (gaps_closing F count (rank + 1) w h)
-          ]
-    ]
+gaps_closing F count rank w h = gaps_keep F IsClosing (gapped_closing F) count rank w h
 
 -- the flow at the front closes
 front_closes : (w : State) (id : ℕ) (s : FlowState) (cause : CloseCause) → IsClosing w →

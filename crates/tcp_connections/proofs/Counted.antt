@@ -9,10 +9,11 @@ use Rattle.tcp_streams.specs.declared.pair.EndpointPair.{EndpointPair}
 use Rattle.tcp_streams.specs.declared.pair.Side.{Side}
 use Rattle.tcp_streams.specs.Lives.{lives, elder_side}
 use Rattle.tcp_streams.specs.Pairs.{pair_of, opposite, flow_id}
-use Rattle.tcp_connections.specs.Connections.{State, room_at, flow_forgotten, forgotten, eldest, with_room, next_room, made_known, place_of, flow_of_side, syn_at, syn_kept, is_kept, is_anew, is_reset, is_first, first_number, began, fin_taken, acknowledgement_taken, payload_taken, reset_taken, unknown_taken, known_taken, step}
+use Rattle.tcp_connections.specs.Connections.{State, room_at, flow_forgotten, forgotten, shown, shown_by_age, ended_by, eldest, with_room, next_room, made_known, place_of, flow_of_side, syn_at, syn_kept, is_kept, is_anew, is_reset, is_first, first_number, began, fin_taken, acknowledgement_taken, payload_taken, reset_taken, unknown_taken, known_taken, step}
 use Rattle.tcp_connections.proofs.Cases.{room_there, room_made, step_unknown, step_kept, step_anew, step_known}
 use Rattle.tcp_connections.proofs.Forgotten.{forgot_either}
 use Rattle.tcp_connections.proofs.Kept.{began_kept, acknowledgement_kept, payload_kept, fin_kept}
+use Rattle.tcp_connections.proofs.Shown.{shown_kept}
 
 forgot_segments : (w : State) (id : ℕ) (cause : CloseCause) →
     (flow_forgotten w id cause).segments ≡ w.segments
@@ -27,14 +28,22 @@ forgotten_segments w place side cause =
     (flow_id (room_at w place) (opposite side)) cause
     ∙ forgot_segments w (flow_id (room_at w place) side) cause
 
-room_segments : (w : State) → (with_room w).segments ≡ w.segments
-room_segments w =
+shown_segments : (F : Reader) (w : State) (place room : ℕ) (side other : Side)
+    (cause : CloseCause) → (forgotten (shown F w room side) place other cause).segments ≡ w.segments
+shown_segments F w place room side other cause =
+    forgotten_segments (shown F w room side) place other cause ∙ (shown_kept F w room side).segments
+
+room_segments : (F : Reader) (w : State) → (with_room F w).segments ≡ w.segments
+room_segments F w =
     elim (cases_lt (length w.known) (length w.lasts)) [
-      | inl l ↦ ap (λ (v : State). v.segments) (room_there w l)
+      | inl l ↦ ap (λ (v : State). v.segments) (room_there F w l)
       | inr g ↦
-          ap (λ (v : State). v.segments) (room_made w g)
-          ∙ forgotten_segments w (eldest w (length w.known))
-          (elder_side (room_at w (eldest w (length w.known))) (lives w.events)) Room
+          (let place : ℕ = eldest w (length w.known) in
+          let room : ℕ = room_at w place in
+          let v : State = shown_by_age F w room in
+          ap (λ (v : State). v.segments) (room_made F w g)
+          ∙ shown_segments F w place room (elder_side room (lives w.events))
+          (elder_side room (lives v.events)) Room)
     ]
 
 made_segments : (w : State) (p : EndpointPair) → (made_known w p).segments ≡ w.segments
@@ -50,20 +59,20 @@ unknown_segments : (F : Reader) (w : State) (s : Segment) →
     (unknown_taken F w s).segments ≡ w.segments
 unfolding unknown_taken
 unknown_segments F w s =
-    let v : State = with_room w in
+    let v : State = with_room F w in
     let m : State = made_known v (pair_of s.flow).0 in
     let id : ℕ = flow_id (next_room v.free) (pair_of s.flow).1 in
     let b : State = began F m id (first_number s) s.payload in
     either w.segments (is_first w.ports s) (fin_taken F b id s) w
     ((fin_kept F b id s).segments ∙ (began_kept F m id (first_number s) s.payload).segments
-    ∙ made_segments v (pair_of s.flow).0 ∙ room_segments w) refl
+    ∙ made_segments v (pair_of s.flow).0 ∙ room_segments F w) refl
 
-reset_segments : (w : State) (place : ℕ) (side : Side) (s : Segment) →
-    (reset_taken w place side s).segments ≡ w.segments
+reset_segments : (F : Reader) (w : State) (place : ℕ) (side : Side) (s : Segment) →
+    (reset_taken F w place side s).segments ≡ w.segments
 unfolding reset_taken
-reset_segments w place side s =
-    either w.segments (is_reset (flow_of_side w place side) s) (forgotten w place side Reset) w
-    (forgotten_segments w place side Reset) refl
+reset_segments F w place side s =
+    either w.segments (is_reset (flow_of_side w place side) s) (ended_by F w place side Reset) w
+    (shown_segments F w place (room_at w place) side side Reset) refl
 
 known_segments : (F : Reader) (w : State) (place : ℕ) (s : Segment) →
     (known_taken F w place s).segments ≡ w.segments
@@ -75,7 +84,7 @@ known_segments F w place s =
     let seen : State = record w { lasts = set w.lasts room w.segments } in
     let heard : State = acknowledgement_taken F seen (flow_id room (opposite side)) s in
     let paid : State = payload_taken F heard id s in
-    reset_segments (fin_taken F paid id s) place side s ∙ (fin_kept F paid id s).segments
+    reset_segments F (fin_taken F paid id s) place side s ∙ (fin_kept F paid id s).segments
     ∙ (payload_kept F heard id s).segments
     ∙ (acknowledgement_kept F seen (flow_id room (opposite side)) s).segments
 
@@ -101,8 +110,8 @@ step_segments F w s = by (place_of (pair_of s.flow).0 w.known) refl
           | inr k ↦
               elim (cases_Bool (is_anew (syn_at w (room_at w place)) id s)) [
                 | inl a ↦ ap (λ (u : State). u.segments) (step_anew F w s place e k a)
-                    ∙ unknown_segments F (forgotten v place side Syn) s
-                    ∙ forgotten_segments v place side Syn
+                    ∙ unknown_segments F (ended_by F v place side Syn) s
+                    ∙ shown_segments F v place (room_at v place) side side Syn
                 | inr a ↦ ap (λ (u : State). u.segments) (step_known F w s place e k a)
                     ∙ known_segments F v place s
               ]

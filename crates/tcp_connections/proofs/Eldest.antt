@@ -1,6 +1,7 @@
 -- The connection that makes room is the eldest.
 use Rattle.std.proofs.Common.{◌≡◌, ℕ, zero, suc, ◌<◌, ◌≤◌, Bool, true, false, cond, nat_lt, ◌&&◌, ◌||◌, length, refl, sym, ◌∙◌, subst, arith, inl, inr, true≢false}
 use Rattle.std.proofs.lemmas.Bool.{cases_Bool, cases_lt, cond-true, cond-false, lt-ltb, ltb-true, ltb-false, le-ltb}
+use Rattle.tcp_flow.specs.Flow.{Reader}
 use Rattle.tcp_connections.specs.Connections.{State, room_at, is_live, goes_before, eldest}
 use Rattle.tcp_connections.specs.Forgetting.{last_at, IsEldest, MakesRoom}
 use Rattle.tcp_connections.proofs.Cases.{room_made}
@@ -84,10 +85,10 @@ eldest_is_eldest w some =
           (none_before w (length w.known) other l) alike;
     }
 
-pub eldest_makes_room : (w : State) → 0 < length w.known → length w.lasts ≤ length w.known →
-    MakesRoom w
-eldest_makes_room w some full = record {
+pub eldest_makes_room : (F : Reader) (w : State) → 0 < length w.known →
+    length w.lasts ≤ length w.known → MakesRoom F w
+eldest_makes_room F w some full = record {
   place = eldest w (length w.known);
   eldest = eldest_is_eldest w some;
-  forgotten = room_made w full;
+  cleared = room_made F w full;
 }

@@ -272,7 +272,7 @@ none_held : (id next : ℕ) (ps : List Payload) → is_some (first id next ps) �
 none_held id next ps e = ap (count_of id) (sym (others_all id next ps e)) ∙ count_gone id ps
 
 -- a flow that isn't holding holds nothing
-idle : (w : State) (id : ℕ) → IsSound w → is_holding w.held (flow_at w id) ≡ false →
+pub idle : (w : State) (id : ℕ) → IsSound w → is_holding w.held (flow_at w id) ≡ false →
     count_of id w.held ≡ 0
 unfolding is_holding
 idle w id h e = by (flow_at w id) refl

@@ -1,7 +1,7 @@
 -- The flows of a state follow payloads: what each delivers is of them, whatever comes for a flow,
 -- and where the capture ends.
-use Rattle.std.proofs.Common.{◌≡◌, ℕ, zero, suc, ◌+◌, ◌-◌, ◌<◌, ◌≤◌, ◌^◌, false, cond, List, [], ◌∷◌, ◌++◌, length, set, get_or, Option, Some, None, is_some, unwrap_or, refl, sym, ◌∙◌, ap, subst, arith, inl, inr, length-set, get_or-set_same, get_or-set_other}
-use Rattle.std.proofs.lemmas.Bool.{cases_eq, cases_lt, cases_Bool}
+use Rattle.std.proofs.Common.{◌≡◌, ℕ, ◌<◌, ◌≤◌, ◌^◌, false, cond, List, [], ◌∷◌, ◌++◌, length, set, get_or, Option, Some, None, is_some, unwrap_or, refl, sym, ◌∙◌, ap, subst, arith, inl, inr, length-set, get_or-set_same, get_or-set_other}
+use Rattle.std.proofs.lemmas.Bool.{cases_eq}
 use Rattle.tcp_waiting.specs.Payload.{Payload, payload, blocks_of}
 use Rattle.tcp_waiting.proofs.Counts.{first_none}
 use Rattle.tcp_flow.specs.declared.flow.CloseCause.{CloseCause}
@@ -9,16 +9,17 @@ use Rattle.tcp_flow.specs.declared.flow.FlowState.{FlowState}
 use Rattle.tcp_flow.specs.Flow.{Flow, Reader, Setting, Arrival, Octets, End, Acknowledged, setting, fresh, first_of, payload_came, closed, gap, step as flow_step, first_payload}
 use Rattle.tcp_flow.specs.Laws.{AllFollow, AllArePartsOf, IsGapless, IsSettled, due_of}
 use Rattle.tcp_flow.specs.State.{state}
-use Rattle.tcp_flow.proofs.Direct.{came_settled, fin_settled, missed_settled, fresh_settled}
-use Rattle.tcp_flow.proofs.Others.{step_others}
-use Rattle.tcp_flow.proofs.Room.{room_after, fin_blocks, missed_blocks}
+use Rattle.tcp_flow.proofs.Direct.{came_settled, fin_settled, missed_settled, gap_settled, fresh_settled}
+use Rattle.tcp_flow.proofs.Others.{step_others, gap_others}
+use Rattle.tcp_flow.proofs.Room.{room_after, fin_blocks, gap_blocks, missed_blocks}
 use Rattle.tcp_flow.proofs.States.{settled_whatever}
 use Rattle.tcp_flow.proofs.Truth.{runs_more, runs_grow, all_grow, came_true, gap_true, true_keeps}
 use Rattle.tcp_flow.proofs.Told.{IsKept, closed_told, came_told, step_told, gap_told}
-use Rattle.tcp_streams.specs.Lives.{lives, most_ids}
-use Rattle.tcp_connections.specs.Connections.{State, flow_at, flow_state, with_flow, arrived, began, gapped, closed_at, is_holding, gaps_from, end_cause, all_closed}
+use Rattle.tcp_streams.specs.Lives.{most_ids}
+use Rattle.tcp_connections.specs.Connections.{State, flow_at, flow_state, with_flow, arrived, began, gapped, closed_at, gaps_from, all_closed}
 use Rattle.tcp_connections.specs.State.{IsSound}
-use Rattle.tcp_connections.proofs.Cases.{arrived_none, arrived_some, gapped_none, gapped_some, closed_none, closed_some, gaps_none, gaps_over, gaps_gap, gaps_next, closes_none, closes_over, closes_one}
+use Rattle.tcp_connections.proofs.Cases.{arrived_none, arrived_some, gapped_none, gapped_some, closed_none, closed_some}
+use Rattle.tcp_connections.proofs.Repeated.{gaps_keep, closes_keep}
 use Rattle.tcp_connections.proofs.Sound.{IsApart, some_within, apart_some, with_flow_sound}
 use Rattle.tcp_connections.proofs.States.{beside_own}
 
@@ -216,6 +217,27 @@ gapped_follow payloads F w id h = by (flow_at w id) refl
         (others_kept payloads id other (due_in (flow_at w other)) apart) F f
         (record { same = own; told = h.events other })).told))
 
+pub gapped_sound : (F : Reader) (w : State) (id : ℕ) (payloads : List Payload) → IsSound w →
+    Follow payloads w → IsSound (gapped F w id)
+gapped_sound F w id payloads h t = by (flow_at w id) refl
+  where
+    by : (o : Option FlowState) → flow_at w id ≡ o → IsSound (gapped F w id)
+    by None e = subst IsSound (sym (gapped_none F w id e)) h
+    by (Some s) e =
+        let before : Flow = state s w.held w.events in
+        let f : Flow = gap F before in
+        let own : s.id ≡ id = (t.own id s e).0 in
+        let g : IsGapless payloads f = gap_true F payloads before (flow_before payloads w id s t e)
+        in
+        let same : f.id ≡ id = (gap_told (λ es. Unit {0}) id (λ es event of x. tt) F before
+        (record { same = own; told = tt })).same in
+        subst IsSound (sym (gapped_some F w id s e))
+        (with_flow_sound w id f h (some_within w.flows id s e) same
+        (beside_own id s.id w.held f.held own (gap_others F before))
+        (omega (arith, h.blocks, gap_blocks F before))
+        (settled_whatever (flow_state f) f.held f.events [] (gap_settled F before g.next))
+        (apart_some w id s h e))
+
 pub closed_follow : (payloads : List Payload) (w : State) (id : ℕ) (cause : CloseCause) →
     Follow payloads w → Follow payloads (closed_at w id cause)
 closed_follow payloads w id cause h = by (flow_at w id) refl
@@ -238,40 +260,10 @@ closed_follow payloads w id cause h = by (flow_at w id) refl
 
 pub gaps_follow : (payloads : List Payload) (F : Reader) (count rank : ℕ) (w : State) →
     Follow payloads w → Follow payloads (gaps_from F count rank w)
-gaps_follow payloads F zero rank w h = subst (Follow payloads)
-    (sym (gaps_none F 0 rank w (omega arith))) h
-gaps_follow payloads F (suc count) rank w h =
-    let k : suc count - 1 ≡ count = omega arith in
-    let one : rank + 1 ≡ suc rank = omega arith in
-    let id : ℕ = get_or (lives w.events) rank 0 in
-    elim (cases_lt rank (length (lives w.events))) [
-      | inr g ↦ subst (Follow payloads) (sym (gaps_over F (suc count) rank w g)) h
-      | inl l ↦
-          elim (cases_Bool (is_holding w.held (flow_at w id))) [
-            | inl b ↦
-                subst (Follow payloads) (sym (gaps_gap F (suc count) rank w (omega arith) l b
-                ∙ ap (λ (n : ℕ). gaps_from F n rank (gapped F w id)) k))
-                (gaps_follow payloads F count rank (gapped F w id)
-                (gapped_follow payloads F w id h))
-            | inr b ↦
-                subst (Follow payloads) (sym (gaps_next F (suc count) rank w (omega arith) l b
-                ∙ ap (λ (n : ℕ). gaps_from F n (rank + 1) w) k))
-                (gaps_follow payloads F count (rank + 1) w h)
-          ]
-    ]
+gaps_follow payloads F count rank w h =
+    gaps_keep F (Follow payloads) (gapped_follow payloads F) count rank w h
 
 pub closes_follow : (payloads : List Payload) (count : ℕ) (w : State) → Follow payloads w →
     Follow payloads (all_closed count w)
-closes_follow payloads zero w h = subst (Follow payloads) (sym (closes_none 0 w (omega arith))) h
-closes_follow payloads (suc count) w h =
-    let k : suc count - 1 ≡ count = omega arith in
-    let id : ℕ = get_or (lives w.events) 0 0 in
-    let next : State = closed_at w id (end_cause (flow_at w id)) in
-    elim (cases_lt 0 (length (lives w.events))) [
-      | inr g ↦ subst (Follow payloads) (sym (closes_over (suc count) w g)) h
-      | inl l ↦
-          subst (Follow payloads) (sym (closes_one (suc count) w (omega arith) l
-          ∙ ap (λ (n : ℕ). all_closed n next) k))
-          (closes_follow payloads count next (closed_follow payloads w id (end_cause (flow_at w id))
-          h))
-    ]
+closes_follow payloads count w h =
+    closes_keep (Follow payloads) (closed_follow payloads) count w h

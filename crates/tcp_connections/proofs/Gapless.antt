@@ -16,7 +16,7 @@ use Rattle.tcp_streams.specs.declared.pair.EndpointPair.{EndpointPair}
 use Rattle.tcp_streams.specs.declared.pair.Side.{Side}
 use Rattle.tcp_streams.specs.Lives.{lives}
 use Rattle.tcp_streams.specs.Pairs.{compare_pairs, pair_of, opposite, flow_id, flow_from}
-use Rattle.tcp_connections.specs.Connections.{State, none_known, flow_at, began, syn_at, syn_kept, flow_of_side, place_of, room_at, forgotten, with_room, next_room, made_known, first_number, is_first, is_kept, is_anew, fin_taken, unknown_taken, acknowledgement_taken, payload_taken, known_taken, step, after, with_capture_event, gaps_from, ended}
+use Rattle.tcp_connections.specs.Connections.{State, none_known, flow_at, began, syn_at, syn_kept, flow_of_side, place_of, room_at, ended_by, with_room, next_room, made_known, first_number, is_first, is_kept, is_anew, fin_taken, unknown_taken, acknowledgement_taken, payload_taken, known_taken, step, after, with_capture_event, gaps_from, ended}
 use Rattle.tcp_connections.specs.declared.syns.KeptSyn.{KeptSyn}
 use Rattle.tcp_connections.specs.Gapless.{IsOfSegment, AreGapless, AreWhole}
 use Rattle.tcp_connections.specs.Owned.{AreOwned}
@@ -24,7 +24,6 @@ use Rattle.tcp_connections.specs.State.{times}
 use Rattle.tcp_connections.proofs.Cases.{step_unknown, step_kept, step_anew, step_known}
 use Rattle.tcp_connections.proofs.Closed.{all_closed_follow}
 use Rattle.tcp_connections.proofs.Following.{some_same, due_in, Follow, gaps_follow}
-use Rattle.tcp_connections.proofs.Forgotten.{forgotten_known}
 use Rattle.tcp_connections.proofs.Kept.{acknowledgement_kept, payload_kept, fin_kept, half}
 use Rattle.tcp_connections.proofs.Owners.{owner_of}
 use Rattle.tcp_connections.proofs.OwnersEnd.{end_owns}
@@ -33,7 +32,8 @@ use Rattle.tcp_connections.proofs.OwnersKnown.{told_owns, theirs_at, flow_of_pai
 use Rattle.tcp_connections.proofs.OwnFlows.{either}
 use Rattle.tcp_connections.proofs.Search.{forgotten_unknown}
 pub use Rattle.tcp_connections.proofs.SegmentParts.{At}
-use Rattle.tcp_connections.proofs.SegmentParts.{IsIn, fin_at, acknowledgement_at, first_at, payload_at, id_within, forgotten_at, reset_at, with_room_at, made_owner, made_at}
+use Rattle.tcp_connections.proofs.SegmentParts.{IsIn, fin_at, acknowledgement_at, first_at, payload_at, id_within, shown_at, reset_at, with_room_at, made_owner, made_at}
+use Rattle.tcp_connections.proofs.Shown.{shown_known}
 use Rattle.tcp_connections.proofs.Sound.{IsApart, some_none, apart_taken, room_below, sound_seen}
 use Rattle.tcp_connections.proofs.Start.{none_sound}
 use Rattle.tcp_connections.proofs.Times.{times_at, no_flow, none_there}
@@ -47,12 +47,12 @@ unfolding unknown_taken
 unknown_at segments F w s among new h =
     let pair : EndpointPair = (pair_of s.flow).0 in
     let side : Side = (pair_of s.flow).1 in
-    let v : State = with_room w in
+    let v : State = with_room F w in
     let room : ℕ = next_room v.free in
     let id : ℕ = flow_id room side in
     let made : State = made_known v pair in
-    let enough = room_enough w pair h.sound new in
-    let roomy : At segments v = with_room_at segments w h in
+    let enough = room_enough F w pair h.sound new in
+    let roomy : At segments v = with_room_at segments F w h in
     let m : At segments made = made_at segments v pair enough.1 enough.0 roomy in
     let below : room < length v.lasts = next_below v roomy.sound enough.1 in
     let within : id < length made.flows = omega (
@@ -136,7 +136,7 @@ known_at segments F w place s among is l h =
     (apart_taken heard id at_heard.sound taken) in
     let known : (fin_taken F paid id s).known ≡ w.known =
     (fin_kept F paid id s).known ∙ (payload_kept F heard id s).known ∙ kept.known in
-    reset_at segments (fin_taken F paid id s) place side s (omega (arith, l, ap length known))
+    reset_at segments F (fin_taken F paid id s) place side s (omega (arith, l, ap length known))
     (fin_at segments F paid id s at_paid)
 
 pub place_within : (p : EndpointPair) (ps : List EndpointPair) (i : ℕ) → place_of p ps ≡ Some i →
@@ -185,10 +185,10 @@ step_at_in segments F w s among h = by (place_of (pair_of s.flow).0 w.known) ref
               elim (cases_Bool (is_anew (syn_at w room) id s)) [
                 | inl a ↦
                     subst (At segments) (sym (step_anew F w s place e k a))
-                    (unknown_at segments F (forgotten v place side Syn) s among
-                    (ap (place_of (pair_of s.flow).0) (forgotten_known v place side Syn)
+                    (unknown_at segments F (ended_by F v place side Syn) s among
+                    (ap (place_of (pair_of s.flow).0) (shown_known F v place room side side Syn)
                     ∙ forgotten_unknown (pair_of s.flow).0 w.known place h.sound.order e)
-                    (forgotten_at segments v place side Syn within counted))
+                    (shown_at segments F v place room side side Syn within counted))
                 | inr a ↦ subst (At segments) (sym (step_known F w s place e k a))
                     (known_at segments F v place s among e within counted)
               ]

@@ -13,17 +13,17 @@ use Rattle.tcp_streams.specs.declared.pair.Side.{Side}
 use Rattle.tcp_streams.specs.Lives.{lives, elder_side}
 use Rattle.tcp_streams.specs.Pairs.{compare_pairs, pair_of, opposite, flow_id}
 use Rattle.tcp_connections.specs.declared.syns.KeptSyn.{KeptSyn}
-use Rattle.tcp_connections.specs.Connections.{State, none_known, place_of, place_among, room_at, forgotten, with_room, next_room, made_known, began, first_number, is_first, is_kept, is_anew, is_reset, is_near_due, is_answer, is_following, flow_of_side, syn_at, syn_kept, before_reset, fin_taken, payload_taken, acknowledgement_taken, unknown_taken, known_taken, step, after}
+use Rattle.tcp_connections.specs.Connections.{State, none_known, place_of, place_among, room_at, shown_by_age, ended_by, with_room, next_room, made_known, began, first_number, is_first, is_kept, is_anew, is_reset, is_near_due, is_answer, is_following, flow_of_side, syn_at, syn_kept, before_reset, fin_taken, payload_taken, acknowledgement_taken, unknown_taken, known_taken, step, after}
 use Rattle.tcp_connections.specs.Forgetting.{MakesRoom, MakesWay, BeginsAnew, IsForgottenBy}
 use Rattle.tcp_connections.specs.State.{IsSound}
 use Rattle.tcp_connections.proofs.Cases.{no_reset, a_reset, unknown_nothing, unknown_first, room_there, step_unknown, step_kept, step_anew, step_known}
 use Rattle.tcp_connections.proofs.Eldest.{eldest_makes_room}
-use Rattle.tcp_connections.proofs.Forgotten.{forgotten_known, forgotten_lasts}
 use Rattle.tcp_connections.proofs.Gapless.{place_within, start_at, after_at}
 use Rattle.tcp_connections.proofs.Kept.{began_kept, acknowledgement_kept, payload_kept, fin_kept}
 use Rattle.tcp_connections.proofs.OwnersKnown.{equal_of}
 use Rattle.tcp_connections.proofs.SamePairs.{same_pair_of}
 use Rattle.tcp_connections.proofs.Search.{forgotten_unknown}
+use Rattle.tcp_connections.proofs.Shown.{shown_known, shown_lasts}
 use Rattle.tcp_connections.proofs.Sound.{sound_seen}
 
 -- ---- Which pairs are known.
@@ -101,7 +101,7 @@ unknown_gone F w s p some new k e =
       | inr f ↦ absurd (both (place_of p w.known) k
           (sym (ap (λ (u : State). place_of p u.known) (unknown_nothing F w s f)) ∙ e))
       | inl f ↦
-          (let v : State = with_room w in
+          (let v : State = with_room F w in
           let pair : EndpointPair = (pair_of s.flow).0 in
           let made : State = made_known v pair in
           let id : ℕ = flow_id (next_room v.free) (pair_of s.flow).1 in
@@ -114,10 +114,11 @@ unknown_gone F w s p some new k e =
           ∙ sym (ap (λ (u : State). place_of p u.known) (unknown_first F w s f)) ∙ e) in
           elim (cases_lt (length w.known) (length w.lasts)) [
             | inl l ↦ absurd (both (place_of p w.known) k
-                (sym (ap (λ (u : State). place_of p u.known) (room_there w l)) ∙ gone))
+                (sym (ap (λ (u : State). place_of p u.known) (room_there F w l)) ∙ gone))
             | inr g ↦
-                (let room : MakesRoom w =
-                eldest_makes_room w (omega (arith, g, some)) g in
+                (let room : MakesRoom F w =
+                eldest_makes_room F w (omega (arith, g, some)) g in
+                let id : ℕ = room_at w room.place in
                 record {
                   begins = f;
                   new = new;
@@ -125,9 +126,9 @@ unknown_gone F w s p some new k e =
                   place = room.place;
                   eldest = room.eldest;
                   is = at_place p w.known room.place room.eldest.within k
-                      (sym (ap (place_of p) (ap (λ (u : State). u.known) room.forgotten
-                      ∙ forgotten_known w room.place
-                      (elder_side (room_at w room.place) (lives w.events)) Room)) ∙ gone);
+                      (sym (ap (place_of p) (ap (λ (u : State). u.known) room.cleared
+                      ∙ shown_known F w room.place id (elder_side id (lives w.events))
+                      (elder_side id (lives (shown_by_age F w id).events)) Room)) ∙ gone);
                 })
           ])
     ]
@@ -201,12 +202,12 @@ known_gone F w place s p l found k e =
     ∙ (acknowledgement_kept F seen (flow_id room (opposite side)) s).known in
     elim (cases_Bool (is_reset (flow_of_side ended place side) s)) [
       | inr r ↦ absurd (both (place_of p w.known) k (sym (ap (place_of p) known)
-          ∙ sym (ap (λ (u : State). place_of p u.known) (no_reset ended place side s r)) ∙ e))
+          ∙ sym (ap (λ (u : State). place_of p u.known) (no_reset F ended place side s r)) ∙ e))
       | inl r ↦
           (let gone : place_of p (remove w.known place) ≡ None =
           ap (λ (ps : List EndpointPair). place_of p (remove ps place)) (sym known)
-          ∙ sym (ap (place_of p) (forgotten_known ended place side Reset))
-          ∙ sym (ap (λ (u : State). place_of p u.known) (a_reset ended place side s r)) ∙ e in
+          ∙ sym (ap (place_of p) (shown_known F ended place (room_at ended place) side side Reset))
+          ∙ sym (ap (λ (u : State). place_of p u.known) (a_reset F ended place side s r)) ∙ e in
           (own_gone (pair_of s.flow).0 p w.known place l found k gone, r))
     ]
 
@@ -237,14 +238,16 @@ anew_of w s place a = by (syn_at w (room_at w place)) refl
 anew_gone : (F : Reader) (w : State) (place : ℕ) (side : Side) (s : Segment) (p : EndpointPair) →
     IsSound w → place < length w.known → place_of (pair_of s.flow).0 w.known ≡ Some place
     → is_some (place_of p w.known) ≡ true
-    → place_of p (unknown_taken F (forgotten w place side Syn) s).known ≡ None →
+    → place_of p (unknown_taken F (ended_by F w place side Syn) s).known ≡ None →
     (pair_of s.flow).0 ≡ p
 anew_gone F w place side s p h l found k e =
-    let f : State = forgotten w place side Syn in
-    let known : f.known ≡ remove w.known place = forgotten_known w place side Syn in
+    let f : State = ended_by F w place side Syn in
+    let room : ℕ = room_at w place in
+    let known : f.known ≡ remove w.known place = shown_known F w place room side side Syn in
     let less : length f.known + 1 ≡ length w.known =
     omega (arith, ap {B = ℕ} length known, length-remove w.known place l) in
-    let lasts : length f.lasts ≡ length w.lasts = ap length (forgotten_lasts w place side Syn) in
+    let lasts : length f.lasts ≡ length w.lasts =
+    ap length (shown_lasts F w place room side side Syn) in
     elim (cases_Bool (is_some (place_of p f.known))) [
       | inr gone ↦ own_gone (pair_of s.flow).0 p w.known place l found k
           (ap (place_of p) (sym known) ∙ none_of (place_of p f.known) gone)
@@ -307,7 +310,7 @@ step_gone F w s p h k e = by (place_of (pair_of s.flow).0 w.known) refl
               elim (cases_Bool (is_anew (syn_at w room) id s)) [
                 | inl a ↦
                     (let own = anew_gone F v place side s p sound within d k
-                    (after_step (unknown_taken F (forgotten v place side Syn) s)
+                    (after_step (unknown_taken F (ended_by F v place side Syn) s)
                     (step_anew F w s place d n a)) in
                     inl (record {
                       own = own;

@@ -16,9 +16,11 @@ pub mod OwnersEnd
 pub mod OwnersGrown
 pub mod OwnersKnown
 pub mod OwnFlows
+pub mod Repeated
 pub mod SamePairs
 pub mod Search
 pub mod SegmentParts
+pub mod Shown
 pub mod Sound
 pub mod Start
 pub mod States

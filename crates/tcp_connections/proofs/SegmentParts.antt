@@ -21,17 +21,18 @@ use Rattle.tcp_streams.specs.declared.pair.Side.{Side}
 use Rattle.tcp_streams.specs.declared.pair.Side.TheVariants.{FromLesser, FromGreater}
 use Rattle.tcp_streams.specs.Lives.{lives, elder_side}
 use Rattle.tcp_streams.specs.Pairs.{opposite, flow_id, flow_from}
-use Rattle.tcp_connections.specs.Connections.{State, flow_at, arrived, began, flow_forgotten, place_of, room_at, forgotten, eldest, with_room, next_room, rest_of_rooms, made_known, first_number, number_behind, is_first, fin_taken, acknowledgement_taken, payload_taken, is_reset, flow_of_side, reset_taken}
+use Rattle.tcp_connections.specs.Connections.{State, flow_at, arrived, began, flow_forgotten, place_of, room_at, gapped, shown, forgotten, shown_by_age, ended_by, eldest, with_room, next_room, rest_of_rooms, made_known, first_number, number_behind, is_first, fin_taken, acknowledgement_taken, payload_taken, is_reset, flow_of_side, reset_taken}
 use Rattle.tcp_connections.specs.Gapless.{IsOfSegment}
 use Rattle.tcp_connections.specs.Owned.{IsPartOf}
 use Rattle.tcp_connections.specs.State.{IsSound, times}
 use Rattle.tcp_connections.proofs.Cases.{forgot_some, room_there, room_made}
 use Rattle.tcp_connections.proofs.Changes.{opened}
-use Rattle.tcp_connections.proofs.Following.{due_in, Follow, others_kept, flow_before, Goes, arrived_both, began_both, follow_grown}
+use Rattle.tcp_connections.proofs.Following.{due_in, Follow, others_kept, flow_before, Goes, arrived_both, began_both, follow_grown, gapped_follow, gapped_sound}
 use Rattle.tcp_connections.proofs.Forgotten.{forgot_either, both_forgotten, forgotten_sound}
-use Rattle.tcp_connections.proofs.Owners.{owner_of, Owns, arrived_owns, began_owns}
+use Rattle.tcp_connections.proofs.Owners.{owner_of, Owns, arrived_owns, began_owns, gapped_owns}
 use Rattle.tcp_connections.proofs.OwnersKnown.{MadeKnown, forgot_owns, theirs_without, made_owns}
 use Rattle.tcp_connections.proofs.OwnFlows.{either, all_push}
+use Rattle.tcp_connections.proofs.Shown.{shown_kept, shown_keeps}
 use Rattle.tcp_connections.proofs.Sound.{IsApart, some_none, some_within, room_below, forgot_sound, known_sound}
 use Rattle.tcp_connections.proofs.Unknown.{eldest_within, next_free}
 
@@ -298,21 +299,45 @@ forgotten_at segments w place side cause l h =
       };
     }
 
-pub reset_at : (segments : List Segment) (w : State) (place : ℕ) (side : Side) (s : Segment) →
-    place < length w.known → At segments w → At segments (reset_taken w place side s)
-unfolding reset_taken
-reset_at segments w place side s l h =
-    either (At segments) (is_reset (flow_of_side w place side) s) (forgotten w place side Reset) w
-    (forgotten_at segments w place side Reset l h) h
+gapped_at : (segments : List Segment) (F : Reader) (w : State) (id : ℕ) → At segments w →
+    At segments (gapped F w id)
+gapped_at segments F w id h =
+    record {
+      sound = gapped_sound F w id h.payloads h.sound h.follow;
+      payloads = h.payloads;
+      came = h.came;
+      follow = gapped_follow h.payloads F w id h.follow;
+      owns = gapped_owns segments F w id h.follow.own h.owns;
+    }
 
-pub with_room_at : (segments : List Segment) (w : State) → At segments w → At segments (with_room w)
-with_room_at segments w h =
+-- what it holds is shown before
+pub shown_at : (segments : List Segment) (F : Reader) (w : State) (place room : ℕ)
+    (side other : Side) (cause : CloseCause) → place < length w.known → At segments w →
+    At segments (forgotten (shown F w room side) place other cause)
+shown_at segments F w place room side other cause l h =
+    forgotten_at segments (shown F w room side) place other cause
+    (omega (arith, l, ap length (shown_kept F w room side).known))
+    (shown_keeps F (At segments) (gapped_at segments F) w room side h)
+
+pub reset_at : (segments : List Segment) (F : Reader) (w : State) (place : ℕ) (side : Side)
+    (s : Segment) → place < length w.known → At segments w →
+    At segments (reset_taken F w place side s)
+unfolding reset_taken
+reset_at segments F w place side s l h =
+    either (At segments) (is_reset (flow_of_side w place side) s) (ended_by F w place side Reset) w
+    (shown_at segments F w place (room_at w place) side side Reset l h) h
+
+pub with_room_at : (segments : List Segment) (F : Reader) (w : State) → At segments w →
+    At segments (with_room F w)
+with_room_at segments F w h =
     elim (cases_lt (length w.known) (length w.lasts)) [
-      | inl l ↦ subst (At segments) (sym (room_there w l)) h
+      | inl l ↦ subst (At segments) (sym (room_there F w l)) h
       | inr g ↦
           (let place : ℕ = eldest w (length w.known) in
-          subst (At segments) (sym (room_made w g))
-          (forgotten_at segments w place (elder_side (room_at w place) (lives w.events)) Room
+          let room : ℕ = room_at w place in
+          subst (At segments) (sym (room_made F w g))
+          (shown_at segments F w place room (elder_side room (lives w.events))
+          (elder_side room (lives (shown_by_age F w room).events)) Room
           (eldest_within w (length w.known) (omega (arith, g, h.sound.some))) h))
     ]
 

@@ -20,7 +20,7 @@ use Rattle.tcp_connections.specs.State.{IsSound, IsState, IsAt, state_of, times}
 use Rattle.tcp_connections.proofs.Living.{IsTold, IsTurn, no_turn}
 use Rattle.tcp_connections.proofs.Forgotten.{both_forgotten, forgotten_sound}
 use Rattle.tcp_connections.proofs.Times.{none_there}
-use Rattle.tcp_connections.proofs.Sound.{IsApart, with_flow_sound, forgot_sound, sound_seen}
+use Rattle.tcp_connections.proofs.Sound.{IsApart, room_below, some_within, apart_some, with_flow_sound, forgot_sound, sound_seen}
 
 -- what is so of the code's state, whatever has happened, is so of each that it has
 pub by_state : (P : State → Type 0) (O : List Event → Type 0) (live : List ℕ) (c : Connections)
@@ -163,6 +163,31 @@ flow_done O O' live live' c c' es id s' f h l n own beside blocks settled apart 
       room = room ∙ h.room;
     })
 
+-- what the code has of a flow, before it does anything
+pub flow_start : (O : List Event → Type 0) (live : List ℕ) (c : Connections) (es : List Event)
+    (s : FlowState) → IsState O live c (state_of c es) →
+    IsFlow (λ e. O e × (live ≡ lives e)) s c.pool.held (state s c.pool.held es)
+flow_start O live c es s h = record { observed = (h.observed, h.live); same = refl }
+
+-- a step of a flow that the code has, by what it leaves
+pub flow_turned : (O O' : List Event → Type 0) (live live' : List ℕ) (c c' : Connections)
+    (es : List Event) (id : ℕ) (s s' : FlowState) (f : Flow) → IsState O live c (state_of c es) →
+    flow_at (state_of c es) id ≡ Some s → IsFlow (λ e. O' e × (live' ≡ lives e)) s' c'.pool.held f
+    → s'.id ≡ s.id → held_by_others s.id c'.pool.held ≡ held_by_others s.id c.pool.held →
+    blocks_of c'.pool.held ≤ c.pool.blocks → IsSettled (state s' c'.pool.held [])
+    → (id < most_ids → IsTurn false id es (state s c.pool.held es) → IsTurn false id es f)
+    → ((e : List Event) → rest_of c' e ≡ rest_of c e) →
+    c'.flows.items ≡ set c.flows.items id (Some s') → c'.pool.blocks ≡ c.pool.blocks
+    → c'.free.most ≡ c.free.most → c'.table.most ≡ c.table.most
+    → IsState O' live' c' (with_flow (state_of c es) id f)
+flow_turned O O' live live' c c' es id s s' f h e n own beside blocks settled turn =
+    let same : s.id ≡ id = h.sound.ids id s e in
+    let within : id < length c.flows.items = some_within c.flows.items id s e in
+    flow_done O O' live live' c c' es id s' f h within n (own ∙ same)
+    (beside_own id s.id c.pool.held c'.pool.held same beside) blocks settled
+    (apart_some (state_of c es) id s h.sound e)
+    (turn (small_id (state_of c es) id h.sound within) (turn_start O live c es id s h e))
+
 -- a flow that is forgotten, beside all others
 pub forgot_done : (O O' : List Event → Type 0) (live live' : List ℕ) (c c' : Connections)
     (es : List Event) (id : ℕ) (s' : FlowState) (f : Flow)
@@ -196,6 +221,13 @@ forgot_done O O' live live' c c' es id s' f h l n turn rest flows pool held free
 pub sound_of : (O : List Event → Type 0) (live : List ℕ) (c : Connections) (w : State) →
     IsState O live c w → IsSound (state_of c [])
 sound_of O live c w h = sound_any c w.events [] (subst IsSound (sym h.same) h.sound)
+
+-- the room of a place is one of at most 65,536
+pub small_room : (O : List Event → Type 0) (live : List ℕ) (c : Connections) (w : State)
+    (place : ℕ) → IsState O live c w → place < length c.table.keys.items →
+    get_or c.table.rooms.items place 0 < 65536
+small_room O live c w place h l = let sound = sound_of O live c w h in
+    omega (arith, room_below (state_of c []) place sound l, sound.most)
 
 -- nor of which connection makes room
 pub eldest_any : (c : Connections) (es fs : List Event) (n : ℕ) →

@@ -4,16 +4,17 @@ use Rattle.std.specs.List.{remove}
 use Rattle.std.proofs.lemmas.Bool.{cases_lt}
 use Rattle.std.proofs.lemmas.List.Edits.{length-remove}
 use Rattle.tcp_flow.specs.declared.flow.CloseCause.TheVariants.{Room}
+use Rattle.tcp_flow.specs.Flow.{Reader}
 use Rattle.tcp_streams.specs.declared.pair.EndpointPair.{EndpointPair}
 use Rattle.tcp_streams.specs.declared.pair.Side.{Side}
 use Rattle.tcp_streams.specs.declared.pair.Side.TheVariants.{FromLesser, FromGreater}
 use Rattle.tcp_streams.specs.Lives.{lives, elder_side}
 use Rattle.tcp_streams.specs.Pairs.{flow_id}
-use Rattle.tcp_connections.specs.Connections.{State, flow_at, room_at, place_of, place_among, goes_before, eldest, forgotten, with_room, next_room, made_known}
+use Rattle.tcp_connections.specs.Connections.{State, flow_at, room_at, place_of, place_among, goes_before, eldest, shown_by_age, cleared, with_room, next_room, made_known}
 use Rattle.tcp_connections.specs.State.{IsSound, times}
 use Rattle.tcp_connections.proofs.Cases.{room_there, room_made}
-use Rattle.tcp_connections.proofs.Forgotten.{forgotten_known, forgotten_lasts}
 use Rattle.tcp_connections.proofs.Search.{unknown_remove}
+use Rattle.tcp_connections.proofs.Shown.{shown_known, shown_lasts}
 use Rattle.tcp_connections.proofs.Times.{times_at, times_insert, times_own}
 
 either_below : (b : Bool) (m n k : ℕ) → m < k → n < k → cond b m n < k
@@ -32,30 +33,34 @@ eldest_within w zero l = absurd (omega (arith, l))
 eldest_within w (suc n) l = eldest_below w n
 
 -- behind making room there is some, and who isn't known isn't
-pub room_enough : (w : State) (p : EndpointPair) → IsSound w → place_of p w.known ≡ None
-    → (place_of p (with_room w).known ≡ None)
-    × (length (with_room w).known < length (with_room w).lasts)
-room_enough w p h new =
+pub room_enough : (F : Reader) (w : State) (p : EndpointPair) → IsSound w →
+    place_of p w.known ≡ None
+    → (place_of p (with_room F w).known ≡ None)
+    × (length (with_room F w).known < length (with_room F w).lasts)
+room_enough F w p h new =
     elim (cases_lt (length w.known) (length w.lasts)) [
       | inl l ↦ subst (λ (v : State). (place_of p v.known ≡ None)
-          × (length v.known < length v.lasts)) (sym (room_there w l)) (new, l)
+          × (length v.known < length v.lasts)) (sym (room_there F w l)) (new, l)
       | inr g ↦
           (let place : ℕ = eldest w (length w.known) in
-          let side : Side = elder_side (room_at w place) (lives w.events) in
+          let room : ℕ = room_at w place in
+          let first : Side = elder_side room (lives w.events) in
+          let v : State = shown_by_age F w room in
+          let side : Side = elder_side room (lives v.events) in
           let within : place < length w.known =
           eldest_within w (length w.known) (omega (arith, g, h.some)) in
-          let known : (forgotten w place side Room).known ≡ remove w.known place =
-          forgotten_known w place side Room in
+          let known : (cleared F w place).known ≡ remove w.known place =
+          shown_known F w place room first side Room in
           let shorter : length (remove w.known place) + 1 ≡ length w.known =
           length-remove w.known place within in
           subst (λ (v : State). (place_of p v.known ≡ None) × (length v.known < length v.lasts))
-          (sym (room_made w g)) (
+          (sym (room_made F w g)) (
             ap (place_of p) known ∙ unknown_remove p w.known place new,
             omega (
               arith,
               ap length known,
               shorter,
-              ap length (forgotten_lasts w place side Room),
+              ap length (shown_lasts F w place room first side Room),
               h.all,
             ),
           ))

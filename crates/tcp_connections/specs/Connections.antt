@@ -90,6 +90,24 @@ gapped F w id =
       | Some s ↦ with_flow w id (gap F (state s w.held w.events))
     ]
 
+-- whether a flow holds something
+unfoldable pub is_holding : List Payload → Option FlowState → Bool
+is_holding held None = false
+is_holding held (Some s) = is_some (first s.id s.next held)
+
+-- while a flow holds something, a gap of it: at most so many
+unfoldable pub gaps_at : Reader → ℕ → State → ℕ → State
+gaps_at F zero w id = w
+gaps_at F (suc count) w id =
+    elim (is_holding w.held (flow_at w id)) [
+      | true ↦ gaps_at F count (gapped F w id) id
+      | false ↦ w
+    ]
+
+-- what a flow holds is gone on with: each gap leaves less of it
+abbrev pub emptied : Reader → State → ℕ → State
+emptied F w id = gaps_at F (length w.held) w id
+
 -- a flow's live stream closes
 unfoldable pub closed_at : State → ℕ → CloseCause → State
 closed_at w id cause =
@@ -148,6 +166,11 @@ forgotten w place side cause =
       free = v.free ++ room ∷ [];
     }
 
+-- what the flows of a room hold is shown, before its connection is forgotten: first that of the flow
+-- of one side
+unfoldable pub shown : Reader → State → ℕ → Side → State
+shown F w room side = emptied F (emptied F w (flow_id room side)) (flow_id room (opposite side))
+
 -- whether a room's connection has a live stream
 abbrev pub is_live : State → ℕ → Bool
 is_live w room =
@@ -170,12 +193,21 @@ unfoldable pub eldest : State → ℕ → ℕ
 eldest w zero = 0
 eldest w (suc n) = cond (goes_before w n (eldest w n)) n (eldest w n)
 
--- where as many connections as may be are known, the one that goes first is forgotten
-unfoldable pub with_room : State → State
-with_room w =
-    let place : ℕ = eldest w (length w.known) in
-    cond (nat_lt (length w.known) (length w.lasts)) w
-    (forgotten w place (elder_side (room_at w place) (lives w.events)) Room)
+-- what the connection of a room holds is shown, first that of the stream that began first
+abbrev pub shown_by_age : Reader → State → ℕ → State
+shown_by_age F w room = shown F w room (elder_side room (lives w.events))
+
+-- the connection at a place makes room: it shows what it holds, and the stream that began first
+-- closes first
+abbrev pub cleared : Reader → State → ℕ → State
+cleared F w place =
+    let v : State = shown_by_age F w (room_at w place) in
+    forgotten v place (elder_side (room_at w place) (lives v.events)) Room
+
+-- where as many connections as may be are known, the one that goes first makes room
+unfoldable pub with_room : Reader → State → State
+with_room F w =
+    cond (nat_lt (length w.known) (length w.lasts)) w (cleared F w (eldest w (length w.known)))
 
 -- the room that is taken next
 unfoldable pub next_room : List ℕ → ℕ
@@ -277,7 +309,7 @@ fin_taken F w id s = cond s.fin (arrived F w id (End (number_behind s))) w
 -- a segment of a connection that isn't known
 unfoldable pub unknown_taken : Reader → State → Segment → State
 unknown_taken F w s =
-    let v : State = with_room w in
+    let v : State = with_room F w in
     let id : ℕ = flow_id (next_room v.free) (pair_of s.flow).1 in
     cond (is_first w.ports s)
     (fin_taken F (began F (made_known v (pair_of s.flow).0) id (first_number s) s.payload) id s) w
@@ -303,10 +335,14 @@ is_reset flow s = s.reset && is_near_due flow s.sequence
 abbrev pub flow_of_side : State → ℕ → Side → Option FlowState
 flow_of_side w place side = flow_at w (flow_id (room_at w place) side)
 
+-- a connection shows what it holds and is forgotten, by a segment of one side
+abbrev pub ended_by : Reader → State → ℕ → Side → CloseCause → State
+ended_by F w place side cause = forgotten (shown F w (room_at w place) side) place side cause
+
 -- a RST
-unfoldable pub reset_taken : State → ℕ → Side → Segment → State
-reset_taken w place side s =
-    cond (is_reset (flow_of_side w place side) s) (forgotten w place side Reset) w
+unfoldable pub reset_taken : Reader → State → ℕ → Side → Segment → State
+reset_taken F w place side s =
+    cond (is_reset (flow_of_side w place side) s) (ended_by F w place side Reset) w
 
 -- a segment of a known connection, up to its RST
 abbrev pub before_reset : Reader → State → ℕ → Segment → State
@@ -320,7 +356,7 @@ before_reset F w place s =
 
 -- a segment of a known connection
 unfoldable pub known_taken : Reader → State → ℕ → Segment → State
-known_taken F w place s = reset_taken (before_reset F w place s) place (pair_of s.flow).1 s
+known_taken F w place s = reset_taken F (before_reset F w place s) place (pair_of s.flow).1 s
 
 -- one segment more
 unfoldable pub step : Reader → State → Segment → State
@@ -333,7 +369,7 @@ step F w s =
           cond (is_kept (flow_of_side v place side) s)
           (syn_kept v (room_at v place) (flow_id (room_at v place) side) s)
           (cond (is_anew (syn_at v (room_at v place)) (flow_id (room_at v place) side) s)
-          (unknown_taken F (forgotten v place side Syn) s) (known_taken F v place s))
+          (unknown_taken F (ended_by F v place side Syn) s) (known_taken F v place s))
     ]
 
 -- all segments, the first first
@@ -348,11 +384,6 @@ abbrev pub with_capture_event : State → CaptureEvent → State
 with_capture_event w event = record w { events = w.events ++ OfCapture event ∷ [] }
 
 -- ---- The end of the capture.
-
--- whether a flow holds something
-unfoldable pub is_holding : List Payload → Option FlowState → Bool
-is_holding held None = false
-is_holding held (Some s) = is_some (first s.id s.next held)
 
 -- while flows hold something, a gap of the one whose live stream has the least number: those before
 -- a rank hold nothing

@@ -2,14 +2,12 @@
 -- (meaning).
 use Rattle.std.specs.Prelude.{◌≡◌, ◌⊎◌, ℕ, ◌+◌, ◌<◌, ◌≤◌, true, length, get_or, Some, None}
 use Rattle.tcp_segment.specs.Segments.{Segment}
-use Rattle.tcp_flow.specs.declared.flow.CloseCause.TheVariants.{Room}
-use Rattle.tcp_streams.specs.Lives.{lives, elder_side}
 use Rattle.tcp_streams.specs.declared.pair.EndpointPair.{EndpointPair}
 use Rattle.tcp_streams.specs.Pairs.{pair_of, flow_id}
 use Rattle.tcp_flow.specs.declared.flow.FlowState.{FlowState}
 use Rattle.tcp_flow.specs.Flow.{Reader, is_near}
 use Rattle.tcp_connections.specs.declared.syns.KeptSyn.{KeptSyn}
-use Rattle.tcp_connections.specs.Connections.{State, place_of, room_at, is_live, is_first, forgotten, with_room, flow_of_side, syn_at, is_answer, is_following, before_reset}
+use Rattle.tcp_connections.specs.Connections.{State, place_of, room_at, is_live, is_first, cleared, with_room, flow_of_side, syn_at, is_answer, is_following, before_reset}
 
 -- the number of the last segment of the connection at a place
 abbrev pub last_at : State → ℕ → ℕ
@@ -24,12 +22,11 @@ pub record IsEldest (w : State) (place : ℕ) : Type 0 where
   pub oldest : (other : ℕ) → other < length w.known →
       is_live w (room_at w other) ≡ is_live w (room_at w place) → last_at w place ≤ last_at w other
 
--- it is forgotten to make room: the stream that began first closes first
-pub record MakesRoom (w : State) : Type 0 where
+-- it makes room: what it holds is shown, and it is forgotten
+pub record MakesRoom (F : Reader) (w : State) : Type 0 where
   pub place : ℕ
   pub eldest : IsEldest w place
-  pub forgotten :
-      with_room w ≡ forgotten w place (elder_side (room_at w place) (lives w.events)) Room
+  pub cleared : with_room F w ≡ cleared F w place
 
 -- it is the eldest of as many as may be known, where another becomes known
 pub record MakesWay (w : State) (s : Segment) (p : EndpointPair) : Type 0 where

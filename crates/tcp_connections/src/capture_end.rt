@@ -58,7 +58,7 @@ impl Connections {
     }
 
     /// Whether a flow holds a payload.
-    fn is_holding(&self, id: u32) -> bool
+    pub(crate) fn is_holding(&self, id: u32) -> bool
         ensures { result ≡ is_holding self.now.pool.held (get_or self.now.flows.items id None) }
     {
         match self.flow(id) {
@@ -68,7 +68,11 @@ impl Connections {
     }
 
     /// A gap of a flow.
-    fn gap<L: Listener + Drop>(&mut self, id: u32, to: &mut Streams<L>) -> Result<(), ListenerFault>
+    pub(crate) fn gap<L: Listener + Drop>(
+        &mut self,
+        id: u32,
+        to: &mut Streams<L>,
+    ) -> Result<(), ListenerFault>
         requires state { HasState (L.observed to.old.listener) to.old.live.items self.old }
         ensures does { Makes result (λ w. gapped L.faulted w id)
             (L.observed to.old.listener) to.old.live.items self.old

@@ -106,7 +106,7 @@ impl Connections {
             return Ok(());
         }
         if self.is_anew(room, id, segment) {
-            self.forget(place, side, CloseCause::Syn, to)?;
+            self.end_by(place, side, CloseCause::Syn, to)?;
             return self.take_unknown(pair, side, segment, to);
         }
         self.take_known(place, side, segment, to)

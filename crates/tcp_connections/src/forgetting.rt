@@ -1,9 +1,10 @@
 //! Connections are forgotten: by a RST or a SYN, or to make room for another, first those without a
-//! live stream.
+//! live stream. What they hold is shown before.
 
-ghost use Rattle.std.specs.Prelude.{◌≡◌, ◌<◌, ◌^◌, [], cond, OnErr};
+ghost use Rattle.std.specs.Prelude.{◌≡◌, ◌<◌, ◌^◌, [], cond, OnOk, OnErr};
 ghost use Rattle.std.specs.Vec.{vec_len};
 ghost use Rattle.tcp_segment.specs.Segments.{segment_view};
+ghost use Rattle.tcp_waiting.specs.Payload.{count_of};
 
 use crate::connections::Connections;
 use tcp_flow::{CloseCause, Listener, ListenerFault};
@@ -13,6 +14,7 @@ use tcp_streams::{Side, Streams, flow_id, other};
 impl Connections {
     ghost use Rattle.tcp_connections.specs.Connections.{is_live, goes_before, eldest, reset_taken};
     ghost use Rattle.tcp_connections.specs.Connections.{flow_forgotten, forgotten, with_room};
+    ghost use Rattle.tcp_connections.specs.Connections.{cleared, emptied, ended_by, shown};
     ghost use Rattle.tcp_connections.specs.State.{IsSound, HasState, Makes, state_of};
 
     /// A RST comes, where the segment is one that counts: the connection is forgotten.
@@ -25,7 +27,8 @@ impl Connections {
     ) -> Result<(), ListenerFault>
         requires state { HasState (L.observed to.old.listener) to.old.live.items self.old }
         requires place { place < vec_len self.old.table.keys }
-        ensures does { Makes result (λ w. reset_taken w place side (segment_view segment.entry))
+        ensures does { Makes result
+            (λ w. reset_taken L.faulted w place side (segment_view segment.entry))
             (L.observed to.old.listener) to.old.live.items self.old
             (L.observed to.new.listener) to.new.live.items self.new }
         ensures cause { OnErr result (L.failed to.new.listener) }
@@ -37,7 +40,70 @@ impl Connections {
         if !self.is_near_due(id, segment.sequence) {
             return Ok(());
         }
-        self.forget(place, side, CloseCause::Reset, to)
+        self.end_by(place, side, CloseCause::Reset, to)
+    }
+
+    /// A connection shows what it holds and is forgotten, by a segment of one side.
+    pub(crate) fn end_by<L: Listener + Drop>(
+        &mut self,
+        place: usize,
+        side: Side,
+        cause: CloseCause,
+        to: &mut Streams<L>,
+    ) -> Result<(), ListenerFault>
+        requires state { HasState (L.observed to.old.listener) to.old.live.items self.old }
+        requires place { place < vec_len self.old.table.keys }
+        ensures does { Makes result (λ w. ended_by L.faulted w place side cause)
+            (L.observed to.old.listener) to.old.live.items self.old
+            (L.observed to.new.listener) to.new.live.items self.new }
+        ensures cause { OnErr result (L.failed to.new.listener) }
+    {
+        let room = self.table.room(place);
+        self.show(room, side, to)?;
+        self.forget(place, side, cause, to)
+    }
+
+    /// What the flows of a room hold is shown, before its connection is forgotten: first that of the
+    /// flow of one side.
+    fn show<L: Listener + Drop>(
+        &mut self,
+        room: u32,
+        side: Side,
+        to: &mut Streams<L>,
+    ) -> Result<(), ListenerFault>
+        requires state { HasState (L.observed to.old.listener) to.old.live.items self.old }
+        requires room { room < 2 ^ 31 }
+        ensures does { Makes result (λ w. shown L.faulted w room side)
+            (L.observed to.old.listener) to.old.live.items self.old
+            (L.observed to.new.listener) to.new.live.items self.new }
+        ensures cause { OnErr result (L.failed to.new.listener) }
+    {
+        self.empty(flow_id(room, side), to)?;
+        self.empty(flow_id(room, other(side)), to)
+    }
+
+    /// While a flow holds something, a gap of it. It holds nothing then.
+    fn empty<L: Listener + Drop>(
+        &mut self,
+        id: u32,
+        to: &mut Streams<L>,
+    ) -> Result<(), ListenerFault>
+        requires state { HasState (L.observed to.old.listener) to.old.live.items self.old }
+        ensures does { Makes result (λ w. emptied L.faulted w id)
+            (L.observed to.old.listener) to.old.live.items self.old
+            (L.observed to.new.listener) to.new.live.items self.new }
+        ensures none { OnOk result (count_of id self.new.pool.held ≡ 0) }
+        ensures cause { OnErr result (L.failed to.new.listener) }
+    {
+        let mut left = self.pool.len();
+        while left > 0 {
+            if !self.is_holding(id) {
+                return Ok(());
+            }
+            self.gap(id, to)?;
+            left -= 1;
+        }
+        Ok(())
     }
 
     /// A connection is forgotten: first the flow of one side, then the other.
@@ -85,13 +151,13 @@ impl Connections {
         Ok(())
     }
 
-    /// Where as many connections as may be are known, the one that goes first is forgotten.
+    /// Where as many connections as may be are known, the one that goes first makes room.
     pub(crate) fn make_room<L: Listener + Drop>(
         &mut self,
         to: &mut Streams<L>,
     ) -> Result<(), ListenerFault>
         requires state { HasState (L.observed to.old.listener) to.old.live.items self.old }
-        ensures does { Makes result (λ w. with_room w)
+        ensures does { Makes result (λ w. with_room L.faulted w)
             (L.observed to.old.listener) to.old.live.items self.old
             (L.observed to.new.listener) to.new.live.items self.new }
         ensures cause { OnErr result (L.failed to.new.listener) }
@@ -99,9 +165,26 @@ impl Connections {
         if !self.table.is_full() {
             return Ok(());
         }
-        let place = self.eldest();
-        let side = to.elder_side(self.table.room(place));
-        self.forget(place, side, CloseCause::Room, to)
+        self.clear(self.eldest(), to)
+    }
+
+    /// The connection at a place makes room: it shows what it holds, and the stream that began first
+    /// closes first.
+    fn clear<L: Listener + Drop>(
+        &mut self,
+        place: usize,
+        to: &mut Streams<L>,
+    ) -> Result<(), ListenerFault>
+        requires state { HasState (L.observed to.old.listener) to.old.live.items self.old }
+        requires place { place < vec_len self.old.table.keys }
+        ensures does { Makes result (λ w. cleared L.faulted w place)
+            (L.observed to.old.listener) to.old.live.items self.old
+            (L.observed to.new.listener) to.new.live.items self.new }
+        ensures cause { OnErr result (L.failed to.new.listener) }
+    {
+        let room = self.table.room(place);
+        self.show(room, to.elder_side(room), to)?;
+        self.forget(place, to.elder_side(room), CloseCause::Room, to)
     }
 
     /// The place of the connection that makes room.

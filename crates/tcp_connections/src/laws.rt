@@ -42,9 +42,11 @@ pub fn nothing_else_forgets()
 {}
 
 /// Where as many connections are known as may be, the one that makes room for another has no live stream, if there is one
-/// without, and of those alike it is the one whose last segment came first. It has no body, and is called for its contract.
+/// without, and of those alike it is the one whose last segment came first; what it holds is shown before it is forgotten. It
+/// has no body, and is called for its contract.
 pub fn the_eldest_makes_room()
-    ensures { (w : State) → 0 < length w.known → length w.lasts ≤ length w.known → MakesRoom w }
+    ensures { (faulted : Reader) (w : State) → 0 < length w.known
+        → length w.lasts ≤ length w.known → MakesRoom faulted w }
 {}
 
 /// Streams are without a gap, whatever segments come: octets come and a stream closes only while it lives, and they stand one

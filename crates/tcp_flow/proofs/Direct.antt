@@ -11,7 +11,7 @@ use Rattle.tcp_waiting.specs.Payload.{Payload, payload, earlier, first, has_as_m
 use Rattle.tcp_flow.specs.Flow.{Flow, Reader, Setting, first_of, is_due, at, taken, drained_at_most, drained, fin_is_reached, closed, without_stale_fin, ended, gone_on, gap, is_too_much, within_bounds, acknowledgement_came, holding, payload_came, left, fin_came}
 use Rattle.tcp_flow.specs.Laws.{AreLater, IsSettled}
 use Rattle.tcp_waiting.proofs.Firsts.{first_within}
-use Rattle.tcp_flow.proofs.Steps.{length_remove, flowing_none, flowing_takes, relieved_stops, came_held}
+use Rattle.tcp_flow.proofs.Steps.{length_remove, flowing_none, flowing_stays, flowing_takes, due_not, relieved_stops, came_held}
 use Rattle.tcp_flow.proofs.Truth.{reached}
 use Rattle.tcp_flow.proofs.Room.{Stays, taken_stays, first_some, none_some, left_flow, much_some}
 
@@ -365,6 +365,67 @@ due_number next live p q small bound l e h =
           absurd (both_ways (is_to_come next q.number) h (ap (λ (n : ℕ). is_to_come next n) w ∙ x)))
       | inr x ↦ number ∙ reached next p.number small x
     ]
+
+-- ---- What is to come is held, and nothing is due.
+
+either_place : (b : Bool) (i j : ℕ) (P : ℕ → Type 0) → P i → P j → IfSome (cond b (Some i) (Some j)) P
+either_place true i j P p q = p
+either_place false i j P p q = q
+
+least_by : (id next n : ℕ) (p : Payload) (ps : List Payload) (c : Bool) (r : Option ℕ) →
+    nat_eq p.flow id ≡ c → (p.flow ≡ id → n < rank next p.number)
+    → IfSome r (λ i. n < rank next (get_or ps i (payload 0 0 [])).number)
+    → IfSome (cond c (earlier next p ps r) (option_map suc r))
+    (λ i. n < rank next (get_or (p ∷ ps) i (payload 0 0 [])).number)
+unfolding earlier
+least_by id next n p ps true None e own h = own (eqb-true p.flow id e)
+least_by id next n p ps true (Some k) e own h =
+    either_place (nat_lt (rank next (get_or ps k p).number) (rank next p.number)) (suc k) 0
+    (λ i. n < rank next (get_or (p ∷ ps) i (payload 0 0 [])).number) h
+    (own (eqb-true p.flow id e))
+least_by id next n p ps false None e own h = tt
+least_by id next n p ps false (Some k) e own h = h
+
+-- the first of what is later than a rank is later
+least_later : (id next n : ℕ) (ps : List Payload) → AreLater id next n ps →
+    IfSome (first id next ps) (λ i. n < rank next (get_or ps i (payload 0 0 [])).number)
+unfolding AreLater first
+least_later id next n [] h = tt
+least_later id next n (p ∷ ps) h =
+    least_by id next n p ps (nat_eq p.flow id) (first id next ps) refl h.0
+    (least_later id next n ps h.1)
+
+later_push : (id next n : ℕ) (ps : List Payload) (q : Payload) → AreLater id next n ps →
+    n < rank next q.number → AreLater id next n (ps ++ q ∷ [])
+unfolding AreLater
+later_push id next n [] q h l = ((λ o. l), tt)
+later_push id next n (p ∷ ps) q h l = (h.0, later_push id next n ps q h.1 l)
+
+come_by_place : (next n : ℕ) → 2 ^ 31 < rank next n → is_to_come next n ≡ true
+come_by_place next n h =
+    let a : 0 < ahead next n = omega arith in
+    let b : ahead next n < 2 ^ 31 = omega arith in
+    rw (lt-ltb 0 (ahead next n) a, lt-ltb (ahead next n) (2 ^ 31) b) refl
+
+-- a payload to come is held, and going on takes nothing
+pub gone_on_held : (F : Reader) (f : Flow) (q : Payload) → IsSettled f → is_some f.live ≡ true →
+    is_to_come f.next q.number ≡ true
+    → without_stale_fin (ended F (holding f q)) ≡ gone_on F (holding f q)
+unfolding gone_on drained holding first_of at
+gone_on_held F f q t live come =
+    let g : Flow = record f { held = f.held ++ q ∷ [] } in
+    let later : AreLater f.id f.next (2 ^ 31) g.held = later_push f.id f.next (2 ^ 31) f.held q
+    (t.live live) (to_come_place f.next q.number come) in
+    let least = least_later f.id f.next (2 ^ 31) g.held later in
+    let stays : drained_at_most F (length g.held) g ≡ g =
+    elim (first_of g) as (λ (r : Option ℕ). first_of g ≡ r →
+    IfSome r (λ i. 2 ^ 31 < rank f.next (get_or g.held i (payload 0 0 [])).number) →
+    drained_at_most F (length g.held) g ≡ g) [
+      | None ↦ (λ e h. flowing_none F (length g.held) g e)
+      | Some i ↦ (λ e h. flowing_stays F (length g.held) g i e
+          (due_not g i live (come_by_place f.next (get_or g.held i (payload 0 0 [])).number h)))
+    ] refl least in
+    ap (λ (d : Flow). without_stale_fin (ended F d)) (sym stays)
 
 -- where neither a payload nor a FIN is kept, a flow goes on as it is
 not_reached : (next : ℕ) (live : Bool) (fin : Option ℕ) → fin ≡ None →

@@ -190,7 +190,8 @@ impl FlowState {
         }
         let count = pool.len() + 1;
         pool.hold(self.id, number, octets);
-        self.go_on(pool, to)?;
+        // All that is held is to come, and so nothing is looked for.
+        self.end_at_fin(pool, to)?;
         self.keep_within_bounds(count, pool, to)
     }
 

@@ -45,6 +45,22 @@ impl FlowState {
         ensures cause { OnErr result (T.failed to.new) }
     {
         self.drain(pool, to)?;
+        self.end_at_fin(pool, to)
+    }
+
+    /// Going on where nothing that is held is due: the stream closes where the FIN is reached.
+    pub(crate) fn end_at_fin<T: Listener>(
+        &mut self,
+        pool: &mut Pool,
+        to: &mut T,
+    ) -> Result<(), ListenerFault>
+        ensures does { (f : Flow) → IsState (T.observed to.old) self.old pool.old.held f
+            → OnOk result (IsState (T.observed to.new) self.new pool.new.held
+            (spec_without_stale_fin (ended T.faulted f))) }
+        ensures id { self.new.id ≡ self.old.id }
+        ensures blocks { pool.new.blocks ≡ pool.old.blocks }
+        ensures cause { OnErr result (T.failed to.new) }
+    {
         self.end(pool, to)?;
         self.without_stale_fin();
         Ok(())

@@ -51,7 +51,7 @@ impl FlowState {
             (state self.now pool.now.held events) }
     {
         pool.is_far(self.id, self.next)
-            || (pool.first(self.id, self.next).is_some() && pool.blocks() < pool.blocks_in_use())
+            || (pool.blocks() < pool.blocks_in_use() && pool.first(self.id, self.next).is_some())
     }
 
     /// Gaps while too much is held.

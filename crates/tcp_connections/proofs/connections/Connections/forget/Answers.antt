@@ -1,19 +1,20 @@
 use Rattle.std.proofs.Common.{◌≡◌, ◌<◌, ℕ, [], ◌∷◌, ◌++◌, length, get_or, refl, sym, ap, ◌∙◌, arith}
 use Rattle.tcp_streams.specs.Pairs.{flow_id, opposite}
 use Rattle.tcp_connections.specs.Connections.{State, room_at, flow_forgotten}
-use Rattle.tcp_connections.specs.State.{state_of}
 use Rattle.tcp_connections.proofs.Changes.{entered}
 use Rattle.tcp_connections.proofs.Forgotten.{forgot_known}
 use Rattle.tcp_connections.proofs.Sound.{room_below}
-use Rattle.tcp_connections.proofs.States.{sound_of, known_of, forgot_at, connection_forgotten, some_known}
+use Rattle.tcp_connections.proofs.States.{small_room, known_of, forgot_at, connection_forgotten, some_known}
 use Rattle.tcp_connections.proofs.connections.Connections.forget.Goals as goal
 
 pub flow_id-requires : goal.flow_id-requires
 flow_id-requires g c =
-    let sound = sound_of _ _ _ _ c.requires.state.1 in
-    let b = room_below (state_of c.args.self.now []) c.args.place sound
-    (omega (arith, c.requires.place, c.args.self.now.table.keys.ok.0)) in
-    omega (arith, b, c.room-room.ensures, sound.most)
+    omega (
+      arith,
+      c.room-room.ensures,
+      small_room _ _ _ _ c.args.place c.requires.state.1
+          (omega (arith, c.requires.place, c.args.self.now.table.keys.ok.0)),
+    )
 
 pub forget_flow-requires-2 : goal.forget_flow-requires-2
 forget_flow-requires-2 g c = record {

@@ -1,24 +1,24 @@
-use Rattle.std.proofs.Common.{◌≡◌, ◌&&◌, Bool, true, false, [], Option, get_or, sym, ap, ◌∙◌, arith}
+use Rattle.std.proofs.Common.{◌≡◌, ◌&&◌, Bool, true, false, Option, get_or, sym, ap, ◌∙◌, arith}
 use Rattle.tcp_segment.specs.Segments.{segment_view}
 use Rattle.tcp_flow.specs.declared.flow.FlowState.{FlowState}
 use Rattle.tcp_streams.specs.Pairs.{flow_id}
 use Rattle.tcp_connections.specs.Connections.{State, flow_at, flow_of_side, is_near_due, is_reset, room_at}
-use Rattle.tcp_connections.specs.State.{state_of}
 use Rattle.tcp_connections.proofs.Cases.{no_reset, a_reset}
-use Rattle.tcp_connections.proofs.Sound.{room_below}
-use Rattle.tcp_connections.proofs.States.{sound_of, moved, moved_ok}
+use Rattle.tcp_connections.proofs.States.{small_room, moved, moved_ok}
 use Rattle.tcp_connections.proofs.connections.Connections.reset.Goals as goal
 
 pub flow_id-id-requires : goal.flow_id-id-requires
 flow_id-id-requires g c =
-    let sound = sound_of _ _ _ _ c.requires.state.1 in
-    let b = room_below (state_of c.args.self.now []) c.args.place sound
-    (omega (arith, c.requires.place, c.args.self.now.table.keys.ok.0)) in
-    omega (arith, b, c.room.ensures, sound.most)
+    omega (
+      arith,
+      c.room.ensures,
+      small_room _ _ _ _ c.args.place c.requires.state.1
+          (omega (arith, c.requires.place, c.args.self.now.table.keys.ok.0)),
+    )
 
 pub returns-then-not-segment-clause-does : goal.returns-then-not-segment-clause-does
 returns-then-not-segment-clause-does g c w h =
-    moved _ _ _ _ _ (no_reset w c.args.place c.args.side (segment_view c.args.segment)
+    moved _ _ _ _ _ (no_reset g.L.Listener.faulted w c.args.place c.args.side (segment_view c.args.segment)
     (ap (λ (b : Bool). b && is_near_due (flow_of_side w c.args.place c.args.side)
     c.args.segment.sequence) c.if-not-segment.true)) h
 
@@ -35,7 +35,7 @@ returns-then-not-is_near_due-clause-does g c w h =
     let counts : is_reset (flow_of_side w c.args.place c.args.side) S ≡ false =
     ap (λ (b : Bool). b && is_near_due (flow_of_side w c.args.place c.args.side) S.sequence)
     c.if-not-segment.false ∙ near in
-    moved _ _ _ _ _ (no_reset w c.args.place c.args.side S counts) h
+    moved _ _ _ _ _ (no_reset g.L.Listener.faulted w c.args.place c.args.side S counts) h
 
 pub returns-clause-does : goal.returns-clause-does
 returns-clause-does g c w h =
@@ -50,5 +50,5 @@ returns-clause-does g c w h =
     let counts : is_reset (flow_of_side w c.args.place c.args.side) S ≡ true =
     ap (λ (b : Bool). b && is_near_due (flow_of_side w c.args.place c.args.side) S.sequence)
     c.if-not-segment.false ∙ near in
-    moved_ok c.forget.result _ _ _ _ _ (a_reset w c.args.place c.args.side S counts)
-    (c.forget.ensures.does w h)
+    moved_ok c.end_by.result _ _ _ _ _ (a_reset g.L.Listener.faulted w c.args.place c.args.side S counts)
+    (c.end_by.ensures.does w h)

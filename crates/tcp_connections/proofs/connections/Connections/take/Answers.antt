@@ -2,15 +2,15 @@ use Rattle.std.proofs.Common.{◌≡◌, ◌+◌, ℕ, [], true, false, Some, No
 use Rattle.tcp_segment.specs.Segments.{segment_view}
 use Rattle.tcp_flow.specs.declared.flow.CloseCause.TheVariants.{Syn}
 use Rattle.tcp_streams.specs.Pairs.{pair_of, flow_id}
-use Rattle.tcp_connections.specs.Connections.{State, place_of, flow_at, flow_of_side, syn_at, room_at, is_kept, is_anew, forgotten, unknown_taken, syn_kept, step}
+use Rattle.tcp_connections.specs.Connections.{State, place_of, flow_at, flow_of_side, syn_at, room_at, is_kept, is_anew, ended_by, unknown_taken, syn_kept, step}
 use Rattle.tcp_connections.specs.State.{state_of}
 use Rattle.tcp_connections.proofs.Cases.{step_unknown, step_kept, step_anew, step_known}
 use Rattle.tcp_connections.proofs.Changes.{counted, syn_noted}
 use Rattle.tcp_connections.proofs.Counted.{step_segments}
-use Rattle.tcp_connections.proofs.Forgotten.{forgotten_known}
 use Rattle.tcp_connections.proofs.Search.{forgotten_unknown}
+use Rattle.tcp_connections.proofs.Shown.{shown_known}
 use Rattle.tcp_connections.proofs.Sound.{room_below}
-use Rattle.tcp_connections.proofs.States.{sound_of, known_of, moved, moved_ok, segments_of}
+use Rattle.tcp_connections.proofs.States.{small_room, sound_of, known_of, moved, moved_ok, segments_of}
 use Rattle.tcp_connections.proofs.connections.Connections.take.Goals as goal
 
 pub take_unknown-requires-clause-state : goal.take_unknown-requires-clause-state
@@ -38,29 +38,19 @@ returns-in_default-clause-does g c w h =
 
 pub returns-in_default-clause-count : goal.returns-in_default-clause-count
 returns-in_default-clause-count g c =
-    let w = c.requires.state.0 in
-    let h = c.requires.state.1 in
-    let F = g.L.Listener.faulted in
-    let V = segment_view c.args.segment in
-    let pair = c.pair_of-side.result.0 in
-    let known = known_of _ _ _ _ h in
-    let none : place_of (pair_of V.flow).0 w.known ≡ None =
-    ap (λ q. place_of q.0 w.known) (sym c.pair_of-side.ensures) ∙ ap (place_of pair) (sym known)
-    ∙ sym c.place_of.ensures.place ∙ c.in_default.is in
     segments_of c.take_unknown.result _ _ _ _ _
-    (step_segments F w V ∙ ap (λ n. n + 1) (sym (ap (λ (u : State). u.segments) h.same)))
-    (moved_ok c.take_unknown.result _ _ _ _ _ (step_unknown F w V none)
-    (c.take_unknown.ensures.does _ (counted (g.L.Listener.observed c.args.to.now.listener)
-    c.args.to.now.live.items c.args.self.now
-    (record c.args.self.now { segments = c.args.self.now.segments + 1 }) w h (λ e. refl) refl
-    refl)))
+    (step_segments g.L.Listener.faulted c.requires.state.0 (segment_view c.args.segment)
+    ∙ ap (λ n. n + 1) (sym (ap (λ (u : State). u.segments) c.requires.state.1.same)))
+    (returns-in_default-clause-does g c c.requires.state.0 c.requires.state.1)
 
 pub flow_id-id-requires : goal.flow_id-id-requires
 flow_id-id-requires g c =
-    let sound = sound_of _ _ _ _ c.requires.state.1 in
-    let b = room_below (state_of c.args.self.now []) c.in-Some.place sound
-    (omega (arith, c.in-Some.ensures.within, c.args.self.now.table.keys.ok.0)) in
-    omega (arith, b, c.room-room.ensures, sound.most)
+    omega (
+      arith,
+      c.room-room.ensures,
+      small_room _ _ _ _ c.in-Some.place c.requires.state.1
+          (omega (arith, c.in-Some.ensures.within, c.args.self.now.table.keys.ok.0)),
+    )
 
 pub keep_syn-requires : goal.keep_syn-requires
 keep_syn-requires g c =
@@ -105,8 +95,8 @@ unfolding syn_kept
 returns-then-is_kept-clause-count g c =
     ap (λ (u : State). u.segments) (c.keep_syn.ensures.kept [])
 
-pub forget-requires-clause-state : goal.forget-requires-clause-state
-forget-requires-clause-state g c = (
+pub end_by-requires-clause-state : goal.end_by-requires-clause-state
+end_by-requires-clause-state g c = (
   _,
   (counted (g.L.Listener.observed c.args.to.now.listener)
       c.args.to.now.live.items c.args.self.now
@@ -118,7 +108,7 @@ pub take_unknown-requires-then-is_anew-clause-state :
     goal.take_unknown-requires-then-is_anew-clause-state
 take_unknown-requires-then-is_anew-clause-state g c = (
   _,
-  c.in_ok-forget.ensures.does _ (counted (g.L.Listener.observed c.args.to.now.listener)
+  c.in_ok-end_by.ensures.does _ (counted (g.L.Listener.observed c.args.to.now.listener)
       c.args.to.now.live.items c.args.self.now
       (record c.args.self.now { segments = c.args.self.now.segments + 1 }) c.requires.state.0
       c.requires.state.1 (λ e. refl) refl refl),
@@ -131,7 +121,7 @@ take_unknown-requires-then-is_anew-clause-new g c =
     let h = c.requires.state.1 in
     let pair = c.pair_of-side.result.0 in
     let v : State = record w { segments = w.segments + 1 } in
-    let n = c.in_ok-forget.ensures.does _ (counted (g.L.Listener.observed c.args.to.now.listener)
+    let n = c.in_ok-end_by.ensures.does _ (counted (g.L.Listener.observed c.args.to.now.listener)
     c.args.to.now.live.items c.args.self.now
     (record c.args.self.now { segments = c.args.self.now.segments + 1 }) c.requires.state.0
     c.requires.state.1 (λ e. refl) refl refl) in
@@ -139,7 +129,8 @@ take_unknown-requires-then-is_anew-clause-new g c =
     ap (place_of pair) (sym (known_of _ _ _ _ h)) ∙ sym c.place_of.ensures.place
     ∙ c.in-Some.is in
     ap (place_of pair) (known_of _ _ _ _ n
-    ∙ forgotten_known v c.in-Some.place c.pair_of-side.result.1 Syn)
+    ∙ shown_known g.L.Listener.faulted v c.in-Some.place (room_at v c.in-Some.place)
+    c.pair_of-side.result.1 c.pair_of-side.result.1 Syn)
     ∙ forgotten_unknown pair w.known c.in-Some.place h.sound.order some
 
 pub returns-then-is_anew-clause-does : goal.returns-then-is_anew-clause-does
@@ -167,50 +158,20 @@ returns-then-is_anew-clause-does g c w h =
     ∙ sym c.is_anew.ensures ∙ c.if-is_anew.true in
     moved_ok c.take_unknown-then-is_anew.result _ _ _ _ _
     (step_anew F w V place some not_kept anew ∙ ap (λ q.
-    unknown_taken F (forgotten (record w { segments = w.segments + 1 }) place q.1 Syn) V)
+    unknown_taken F (ended_by F (record w { segments = w.segments + 1 }) place q.1 Syn) V)
     (sym c.pair_of-side.ensures))
     (c.take_unknown-then-is_anew.ensures.does _
-    (c.in_ok-forget.ensures.does _ (counted (g.L.Listener.observed c.args.to.now.listener)
+    (c.in_ok-end_by.ensures.does _ (counted (g.L.Listener.observed c.args.to.now.listener)
     c.args.to.now.live.items c.args.self.now
     (record c.args.self.now { segments = c.args.self.now.segments + 1 }) w h (λ e. refl) refl
     refl)))
 
 pub returns-then-is_anew-clause-count : goal.returns-then-is_anew-clause-count
 returns-then-is_anew-clause-count g c =
-    let w = c.requires.state.0 in
-    let h = c.requires.state.1 in
-    let F = g.L.Listener.faulted in
-    let V = segment_view c.args.segment in
-    let pair = c.pair_of-side.result.0 in
-    let known = known_of _ _ _ _ h in
-    let place = c.in-Some.place in
-    let some : place_of (pair_of V.flow).0 w.known ≡ Some place =
-    ap (λ q. place_of q.0 w.known) (sym c.pair_of-side.ensures) ∙ ap (place_of pair) (sym known)
-    ∙ sym c.place_of.ensures.place ∙ c.in-Some.is in
-    let at = c.room-room.ensures ∙ ap (λ (u : State). get_or u.rooms place 0) h.same in
-    let id : c.flow_id-id.result ≡ flow_id (room_at w place) (pair_of V.flow).1 =
-    c.flow_id-id.ensures.id ∙ ap (λ (r : ℕ). flow_id r c.pair_of-side.result.1) at
-    ∙ ap (λ q. flow_id (room_at w place) q.1) c.pair_of-side.ensures in
-    let flow = ap (λ (u : State). flow_at u c.flow_id-id.result) h.same ∙ ap (flow_at w) id in
-    let syn = ap (λ (u : State). syn_at u c.room-room.result) h.same ∙ ap (syn_at w) at in
-    let not_kept : is_kept (flow_of_side w place (pair_of V.flow).1) V ≡ false =
-    ap (λ o. is_kept o V) (sym flow) ∙ sym c.is_kept.ensures ∙ c.if-is_kept.false in
-    let anew : is_anew (syn_at w (room_at w place)) (flow_id (room_at w place)
-    (pair_of V.flow).1) V ≡ true =
-    ap (λ o. is_anew o (flow_id (room_at w place) (pair_of V.flow).1) V) (sym syn)
-    ∙ ap (λ i. is_anew (syn_at (state_of c.args.self.now w.events) c.room-room.result) i V) (sym id)
-    ∙ sym c.is_anew.ensures ∙ c.if-is_anew.true in
     segments_of c.take_unknown-then-is_anew.result _ _ _ _ _
-    (step_segments F w V ∙ ap (λ n. n + 1) (sym (ap (λ (u : State). u.segments) h.same)))
-    (moved_ok c.take_unknown-then-is_anew.result _ _ _ _ _
-    (step_anew F w V place some not_kept anew ∙ ap (λ q.
-    unknown_taken F (forgotten (record w { segments = w.segments + 1 }) place q.1 Syn) V)
-    (sym c.pair_of-side.ensures))
-    (c.take_unknown-then-is_anew.ensures.does _
-    (c.in_ok-forget.ensures.does _ (counted (g.L.Listener.observed c.args.to.now.listener)
-    c.args.to.now.live.items c.args.self.now
-    (record c.args.self.now { segments = c.args.self.now.segments + 1 }) w h (λ e. refl) refl
-    refl))))
+    (step_segments g.L.Listener.faulted c.requires.state.0 (segment_view c.args.segment)
+    ∙ ap (λ n. n + 1) (sym (ap (λ (u : State). u.segments) c.requires.state.1.same)))
+    (returns-then-is_anew-clause-does g c c.requires.state.0 c.requires.state.1)
 
 pub take_known-requires-clause-state : goal.take_known-requires-clause-state
 take_known-requires-clause-state g c = (
@@ -251,33 +212,7 @@ returns-clause-does g c w h =
 
 pub returns-clause-count : goal.returns-clause-count
 returns-clause-count g c =
-    let w = c.requires.state.0 in
-    let h = c.requires.state.1 in
-    let F = g.L.Listener.faulted in
-    let V = segment_view c.args.segment in
-    let pair = c.pair_of-side.result.0 in
-    let known = known_of _ _ _ _ h in
-    let place = c.in-Some.place in
-    let some : place_of (pair_of V.flow).0 w.known ≡ Some place =
-    ap (λ q. place_of q.0 w.known) (sym c.pair_of-side.ensures) ∙ ap (place_of pair) (sym known)
-    ∙ sym c.place_of.ensures.place ∙ c.in-Some.is in
-    let at = c.room-room.ensures ∙ ap (λ (u : State). get_or u.rooms place 0) h.same in
-    let id : c.flow_id-id.result ≡ flow_id (room_at w place) (pair_of V.flow).1 =
-    c.flow_id-id.ensures.id ∙ ap (λ (r : ℕ). flow_id r c.pair_of-side.result.1) at
-    ∙ ap (λ q. flow_id (room_at w place) q.1) c.pair_of-side.ensures in
-    let flow = ap (λ (u : State). flow_at u c.flow_id-id.result) h.same ∙ ap (flow_at w) id in
-    let syn = ap (λ (u : State). syn_at u c.room-room.result) h.same ∙ ap (syn_at w) at in
-    let not_kept : is_kept (flow_of_side w place (pair_of V.flow).1) V ≡ false =
-    ap (λ o. is_kept o V) (sym flow) ∙ sym c.is_kept.ensures ∙ c.if-is_kept.false in
-    let known : is_anew (syn_at w (room_at w place)) (flow_id (room_at w place)
-    (pair_of V.flow).1) V ≡ false =
-    ap (λ o. is_anew o (flow_id (room_at w place) (pair_of V.flow).1) V) (sym syn)
-    ∙ ap (λ i. is_anew (syn_at (state_of c.args.self.now w.events) c.room-room.result) i V) (sym id)
-    ∙ sym c.is_anew.ensures ∙ c.if-is_anew.false in
     segments_of c.take_known.result _ _ _ _ _
-    (step_segments F w V ∙ ap (λ n. n + 1) (sym (ap (λ (u : State). u.segments) h.same)))
-    (moved_ok c.take_known.result _ _ _ _ _ (step_known F w V place some not_kept known)
-    (c.take_known.ensures.does _ (counted (g.L.Listener.observed c.args.to.now.listener)
-    c.args.to.now.live.items c.args.self.now
-    (record c.args.self.now { segments = c.args.self.now.segments + 1 }) w h (λ e. refl) refl
-    refl)))
+    (step_segments g.L.Listener.faulted c.requires.state.0 (segment_view c.args.segment)
+    ∙ ap (λ n. n + 1) (sym (ap (λ (u : State). u.segments) c.requires.state.1.same)))
+    (returns-clause-does g c c.requires.state.0 c.requires.state.1)

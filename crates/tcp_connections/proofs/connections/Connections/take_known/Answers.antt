@@ -7,16 +7,18 @@ use Rattle.tcp_connections.proofs.Cases.{known_is}
 use Rattle.tcp_connections.proofs.Changes.{noted}
 use Rattle.tcp_connections.proofs.Kept.{acknowledgement_kept, payload_kept, fin_kept, half}
 use Rattle.tcp_connections.proofs.Sound.{room_below}
-use Rattle.tcp_connections.proofs.States.{sound_of, known_of, moved_ok}
+use Rattle.tcp_connections.proofs.States.{small_room, sound_of, known_of, moved_ok}
 use Rattle.tcp_connections.proofs.Times.{times_at}
 use Rattle.tcp_connections.proofs.connections.Connections.take_known.Goals as goal
 
 pub flow_id-id-requires : goal.flow_id-id-requires
 flow_id-id-requires g c =
-    let sound = sound_of _ _ _ _ c.requires.state.1 in
-    let b = room_below (state_of c.args.self.now []) c.args.place sound
-    (omega (arith, c.requires.place, c.args.self.now.table.keys.ok.0)) in
-    omega (arith, b, c.room-room.ensures, sound.most)
+    omega (
+      arith,
+      c.room-room.ensures,
+      small_room _ _ _ _ c.args.place c.requires.state.1
+          (omega (arith, c.requires.place, c.args.self.now.table.keys.ok.0)),
+    )
 
 pub note-requires : goal.note-requires
 note-requires g c =

@@ -1,9 +1,6 @@
 use Rattle.tcp_flow.specs.Flow.{gone_on}
-use Rattle.tcp_flow.proofs.States.{stale_state}
 use Rattle.tcp_flow.proofs.flow.FlowState.go_on.Goals as goal
 
 pub returns-clause-does : goal.returns-clause-does
 unfolding gone_on
-returns-clause-does g c f h =
-    stale_state _ _ _ _ _ (c.in_ok-end.ensures.does _ (c.in_ok-drain.ensures.does f h))
-    c.without_stale_fin.ensures.does
+returns-clause-does g c f h = c.end_at_fin.ensures.does _ (c.in_ok-drain.ensures.does f h)

@@ -1,10 +1,10 @@
 use Rattle.std.proofs.Common.{◌≡◌, ◌+◌, ℕ, List, false, true, is_some, nat_eq, not, ◌&&◌, length, refl, sym, ◌∙◌, ap, subst, arith, inl, inr}
 use Rattle.std.specs.Prelude.{OnOk}
-use Rattle.std.proofs.lemmas.Bool.{or_left, or_right, or_from, not-true, and_cases, both_ways}
+use Rattle.std.proofs.lemmas.Bool.{or_left, or_right, or_from, not-true, not-false, and_cases, and_parts, both_ways}
 use Rattle.tcp_waiting.specs.Numbers.{is_to_come}
 use Rattle.tcp_waiting.specs.Payload.{Payload, payload, has_as_much}
-use Rattle.tcp_flow.specs.Flow.{Flow, first_of, setting, within_bounds, gone_on, holding, taken, payload_came}
-use Rattle.tcp_flow.proofs.Direct.{came_direct, due_number, nothing_kept}
+use Rattle.tcp_flow.specs.Flow.{Flow, first_of, setting, within_bounds, without_stale_fin, ended, gone_on, holding, taken, payload_came}
+use Rattle.tcp_flow.proofs.Direct.{came_direct, due_number, gone_on_held, nothing_kept}
 use Rattle.tcp_flow.specs.State.{state, IsState}
 use Rattle.tcp_flow.proofs.Steps.{came_nothing, came_held}
 use Rattle.tcp_flow.proofs.States.{by_state, on_ok_equal, settled_flow}
@@ -59,15 +59,25 @@ returns-clause-does g c f h =
           c.hold.ensures.held;
     } in
     let n = gone_on F (holding S q) in
-    let e = ap (λ (k : ℕ). within_bounds (setting F k) (c.len-count-2.result + 1) n)
-    (c.go_on-2.ensures.blocks ∙ c.hold.ensures.blocks)
+    let due = and_parts (is_some s.live) (is_to_come s.next q.number)
+    (not-false (is_some s.live && is_to_come s.next q.number)
+    (sym c.is_due.ensures ∙ c.if-is_due.false)) in
+    let start : IsState (g.T.Listener.observed c.args.to.now) s held S =
+    record { observed = o; same = refl } in
+    let held_on = gone_on_held F S q (settled_flow _ s held S start c.requires.settled) due.0 due.1
+    in
+    let e = ap (λ (f : Flow). within_bounds (setting F c.end_at_fin.new.pool.blocks)
+    (c.len-count-2.result + 1) f) held_on
+    ∙ ap (λ (k : ℕ). within_bounds (setting F k) (c.len-count-2.result + 1) n)
+    (c.end_at_fin.ensures.blocks ∙ c.hold.ensures.blocks)
     ∙ ap (λ (k : ℕ). within_bounds A (k + 1) n) c.len-count-2.ensures.held
     ∙ sym (came_held A S p q c.left-number.ensures.left
     (or_from (nat_eq (length q.octets) 0) (has_as_much s.id q.number (length q.octets) held)
     (sym c.is_empty.ensures ∙ c.if-is_empty.false)
     (sym c.has_as_much.ensures ∙ c.if-has_as_much.false))) in
-    on_ok_equal r _ _ _ _ _ e (c.keep_within_bounds-2.ensures.does n
-    (c.in_ok-go_on-2.ensures.does (holding S q) H)))
+    on_ok_equal r _ _ _ _ _ e (c.keep_within_bounds-2.ensures.does
+    (without_stale_fin (ended F (holding S q)))
+    (c.in_ok-end_at_fin.ensures.does (holding S q) H)))
 
 pub returns-then-keeps_nothing-clause-does : goal.returns-then-keeps_nothing-clause-does
 unfolding first_of
