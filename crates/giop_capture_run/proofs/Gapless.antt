@@ -6,8 +6,8 @@ use Rattle.capture_file.specs.Reading.{final_fault}
 use Rattle.tcp_segment.specs.Segments.{Segment, segment}
 use Rattle.tcp_flow.specs.Flow.{Reader, PacketArrives, HasFault}
 use Rattle.tcp_connections.specs.Connections.{State, none_known, with_capture_event, step, ended}
-use Rattle.tcp_connections.specs.Gapless.{AreGapless}
-use Rattle.tcp_connections.proofs.Gapless.{At, start_at, step_at, told_at, gapless_of, ended_gapless}
+use Rattle.tcp_connections.specs.Gapless.{AreGapless, AreWhole}
+use Rattle.tcp_connections.proofs.Gapless.{At, start_at, step_at, told_at, gapless_of, ended_gapless, ended_whole}
 use Rattle.giop_capture_run.specs.Packets.{Taken, taken_of}
 use Rattle.giop_capture_run.specs.Arrivals.{with_segment, packet_arrived, after_packets, segment_in, segments_of, with_fault, capture_ended}
 
@@ -48,14 +48,32 @@ packets_gapless F ports blocks most packets some few =
     (packets_at [] F (none_known ports blocks most []) packets
     (start_at ports blocks most some few))
 
+-- the packets of a capture, and its fault, have come
+capture_at : (F : Reader) (ports : List ℕ) (blocks most : ℕ) (octets : List ℕ) → 1 ≤ most →
+    most ≤ 65536
+    → At (segments_of (taken_of octets))
+    (with_fault (after_packets F (none_known ports blocks most []) (taken_of octets))
+    (final_fault octets))
+capture_at F ports blocks most octets some few =
+    fault_at (segments_of (taken_of octets))
+    (after_packets F (none_known ports blocks most []) (taken_of octets)) (final_fault octets)
+    (packets_at [] F (none_known ports blocks most []) (taken_of octets)
+    (start_at ports blocks most some few))
+
 pub capture_gapless : (F : Reader) (ports : List ℕ) (blocks most : ℕ) (octets : List ℕ) → 1 ≤ most →
     most ≤ 65536
     → AreGapless (segments_of (taken_of octets))
     (capture_ended F (none_known ports blocks most []) octets).events
 unfolding capture_ended
 capture_gapless F ports blocks most octets some few =
-    let all : State = after_packets F (none_known ports blocks most []) (taken_of octets) in
-    ended_gapless (segments_of (taken_of octets)) F (with_fault all (final_fault octets))
-    (fault_at (segments_of (taken_of octets)) all (final_fault octets)
-    (packets_at [] F (none_known ports blocks most []) (taken_of octets)
-    (start_at ports blocks most some few)))
+    ended_gapless (segments_of (taken_of octets)) F _
+    (capture_at F ports blocks most octets some few)
+
+pub capture_whole : (F : Reader) (ports : List ℕ) (blocks most : ℕ) (octets : List ℕ) → 1 ≤ most →
+    most ≤ 65536
+    → AreWhole (segments_of (taken_of octets))
+    (capture_ended F (none_known ports blocks most []) octets).events
+unfolding capture_ended
+capture_whole F ports blocks most octets some few =
+    ended_whole (segments_of (taken_of octets)) F _
+    (capture_at F ports blocks most octets some few)
