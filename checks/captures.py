@@ -235,6 +235,7 @@ def cases(folder: Path, known: Dict[str, Row]) -> List[Case]:
     return [Case(name, words, stream, status, b"", GIOPCAP) for name, words, stream, status in given]
 
 
+EMPTY = "total streams 0 messages 0 faults 0 packets 0 octets 24\n"
 IDL = ": IDL: omniidl -bgiopdump_signatures\n"
 
 # Words, the status, and what is written and said; what is wrong with the words is told in the words of clap, and begins so.
@@ -256,13 +257,25 @@ WORDS: List[Tuple[Tuple[str, ...], int, str, str]] = [
     (("--signatures", "empty.pcap"), 3, "", "giopcap: empty.pcap:1: token: a capture\n"),
     (("--signatures", "empty.pcapng"), 3, "", "giopcap: empty.pcapng:3: token: a capture\n"),
     (("--signatures", "wrong.sig", "none.pcap"), 3, "", "giopcap: wrong.sig:2: unknown-type\n"),
+    (("--signatures", "one.sig", "--signatures", "two.sig", "--signatures", "two.sig", "empty.pcap"), 0, EMPTY, ""),
+    (("--signatures", "two.sig", "--signatures", "one.sig", "none.pcap"), 3, "", "giopcap: two.sig:3: unknown-type\n"),
+    (
+        ("--signatures", "one.sig", "--signatures", "two.sig", "--signatures", "other.sig", "none.pcap"),
+        3,
+        "",
+        "giopcap: other.sig:4: duplicate: two.sig:3\n",
+    ),
+    (("--signatures", "one.sig", "--signatures", "second.sig", "none.pcap"), 3, "", "giopcap: second.sig:1: syntax\n"),
+    (("--signatures", "one.sig", "--signatures", "macro.idl", "none.pcap"), 3, "", "giopcap: macro.idl:2: token" + IDL),
+    (("--signatures", "one.sig", "--signatures", "none.sig"), 4, "", "giopcap: none.sig: cannot read: no such file\n"),
+    (("--signatures", "one.sig") * 17, 2, "", "error: more than 16 signature files"),
     (("none.pcap",), 4, "", "giopcap: none.pcap: cannot read: no such file\n"),
     (("no\nne\xe9",), 4, "", "giopcap: no\\x0ane\\xc3\\xa9: cannot read: no such file\n"),
     ((".",), 4, "", "giopcap: .: cannot read: a folder\n"),
     (
         ("--port", "0", "--port", "65535", "empty.pcap"),
         0,
-        "total streams 0 messages 0 faults 0 packets 0 octets 24\n",
+        EMPTY,
         "",
     ),
     (
@@ -289,6 +302,10 @@ WORDS: List[Tuple[Tuple[str, ...], int, str, str]] = [
 def files_of_words(folder: Path) -> None:
     """Makes the files that the words name."""
     (folder / "wrong.sig").write_text("signatures 1;\nstruct A { B b; };\n")
+    (folder / "one.sig").write_text("signatures 1;\nstruct A {\n  long x;\n};\noperation boolean _is_a(in string id);\n")
+    (folder / "two.sig").write_text("signatures 1;\noperation boolean _is_a(in string id);\noperation A get();")
+    (folder / "other.sig").write_text("// Others.\nsignatures 1;\n\noperation long get();\n")
+    (folder / "second.sig").write_text("signatures 2;\noperation long other();\n")
     (folder / "empty.pcap").write_bytes(octets_of("a1b2c3d4 00020004 00*8 00040000 00000065"))
     (folder / "empty.pcapng").write_bytes(octets_of("0a0d0d0a 1c000000 4d3c2b1a 01000000 ff*8 1c000000"))
     (folder / "macro.idl").write_text('// Orders.\n#pragma prefix "shop"\n')

@@ -14,6 +14,7 @@ from failing import TOP
 
 GIOP_JSON = TOP / "crates/giop_json/out/giop_json"
 ROWS = TOP / "checks/data/json-rows.txt"
+CAPTURE = TOP / "examples/session.pcap"
 START = "m1 start 1.2 big Reply size 9"
 MEMBERS = '{"message":1,"version":"1.2","order":"big","type":"Reply","size":9'
 
@@ -110,6 +111,7 @@ CASES: List[Tuple[List[str], int, str]] = [
     (["/"], 4, "giop-json: read failed\n"),
     (["-"], 4, "giop-json: -: cannot read\n"),
     ([str(ROWS)], 3, f"giop-json: {ROWS}:1: no dump has this line\n"),
+    ([str(CAPTURE)], 3, f"giop-json: {CAPTURE}:1: no dump has this line: a capture\n"),
 ]
 WRONG_WORDS = [["--jso"], ["a", "b"], ["--text", "ascii"], ["--hold", "0"], ["--hold", "16777217"], ["--\x1b\n"]]
 

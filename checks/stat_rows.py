@@ -13,6 +13,7 @@ from failing import TOP
 
 GIOP_STAT = TOP / "crates/giop_stat/out/giop_stat"
 ROWS = TOP / "checks/data/stat-rows.txt"
+CAPTURE = TOP / "examples/session.pcap"
 
 Row = Tuple[str, List[str], List[str], List[str]]
 
@@ -72,6 +73,7 @@ CASES: List[Tuple[List[str], int, str]] = [
     (["no/such\x1b\nfile"], 4, "giop-stat: no/such\\x1b\\x0afile: cannot read\n"),
     (["/"], 4, "giop-stat: read failed\n"),
     ([str(ROWS)], 3, f"giop-stat: {ROWS}:1: no dump has this line\n"),
+    ([str(CAPTURE)], 3, f"giop-stat: {CAPTURE}:1: no dump has this line: a capture\n"),
 ]
 KEYS = ("", "body", "exception.a", "header.", "body.a b", "body[", "body[x]", "footer.a", "body\n.a", "Client")
 TIMES = (

@@ -1,5 +1,5 @@
 -- What the steps of the program came to, by their result (meaning).
-use Rattle.std.specs.Prelude.{◌≡◌, ◌≤◌, ◌^◌, ◌⊎◌, ℕ, Bool, List, [], ◌++◌, length, Option, Some, None, IsSome, option_map, Result, Ok, Err}
+use Rattle.std.specs.Prelude.{◌≡◌, ◌≤◌, ◌^◌, ◌⊎◌, ℕ, Bool, List, [], ◌++◌, length, map, Option, Some, None, IsSome, option_map, Result, Ok, Err}
 use Rattle.std.specs.Io.KnownBytes.{Consumes, IsAtEnd}
 use Rattle.capture_file.specs.Reading.{packets, fault, final_fault}
 use Rattle.giop_print.specs.Output.{OutLog}
@@ -11,7 +11,8 @@ use Rattle.giop_run.specs.declared.fault.RunFault.TheVariants as runs
 use Rattle.giop_run.specs.declared.fault.ProgramFault.{ProgramFault}
 use Rattle.giop_run.specs.declared.fault.ProgramFault.TheVariants as faults
 use Rattle.giop_run.specs.Console.{fault_status}
-use Rattle.giop_run.specs.Files.{Folder, CatalogueOf, NoCatalogue, NoStream, stream_of}
+use Rattle.giop_run.specs.Files.{Folder, NoStream, stream_of}
+use Rattle.giop_run.specs.Joint.{CataloguesOf, NoCatalogues}
 use Rattle.giop_capture_run.specs.declared.arguments.Arguments.{Arguments}
 use Rattle.giop_capture_run.specs.declared.ending.Ending.{Ending}
 use Rattle.giop_capture_run.specs.declared.ending.Ending.TheVariants as endings
@@ -28,8 +29,8 @@ capture_status (Ok endings.NoCapture) = 1
 capture_status (Err fault) = fault_status fault
 
 -- the names of the files that are asked for
-abbrev pub signatures_of : Arguments → Option (List ℕ)
-signatures_of asked = option_map (λ name. name.now) asked.signatures
+abbrev pub signatures_of : Arguments → List (List ℕ)
+signatures_of asked = map (λ name. name.now) asked.signatures.items
 
 abbrev pub capture_of : Arguments → Option (List ℕ)
 capture_of asked = option_map (λ name. name.now) asked.capture
@@ -94,8 +95,8 @@ RunFailed begins asked source _ _ = ⊥
 abbrev pub NotDumped : Folder → Option (List ℕ) → (Setup → List ℕ → Type 0) → Arguments →
     ProgramFault → Option OutLog → Type 0
 NotDumped held source begins asked fault log =
-    NoCatalogue held (signatures_of asked) fault
-    ⊎ ((C : Table) × CatalogueOf held (signatures_of asked) C
+    NoCatalogues held (signatures_of asked) fault
+    ⊎ ((C : Table) × CataloguesOf held (signatures_of asked) C
     × (NoStream (capture_of asked) fault ⊎ RunFailed begins asked source fault log))
 
 -- ---- The program's status.

@@ -10,7 +10,8 @@ ghost use Rattle.giop_conversation.specs.Captured.{Setup};
 ghost use Rattle.giop_conversation.specs.DumpTold.{Told};
 ghost use Rattle.giop_conversation.specs.Follows.{Follows};
 ghost use Rattle.giop_conversation.specs.Followed.{reader_faulted};
-ghost use Rattle.giop_run.specs.Files.{CatalogueOf, NoStream, stream_of};
+ghost use Rattle.giop_run.specs.Files.{NoStream, stream_of};
+ghost use Rattle.giop_run.specs.Joint.{CataloguesOf};
 ghost use Rattle.giop_capture_run.specs.PacketState.{HasRead};
 ghost use Rattle.giop_capture_program.specs.Failures.{fault_of, log_of};
 ghost use Rattle.giop_capture_program.specs.Steps.{BeginsAs, CaptureDumped, NotDumped, RunFailed, capture_of, signatures_of};
@@ -21,7 +22,9 @@ use crate::teller::{Beginning, Teller};
 use capture_file::Capture;
 use giop_capture_run::{Arguments, Ending, Notices, PacketReader, dump_capture, packet_reader};
 use giop_conversation::{Conversations, Limits};
-use giop_run::{Flush, Inputs, ProgramFault, Reading, RunFault, catalogue, requests, unreadable};
+use giop_run::{
+    Flush, Inputs, ProgramFault, Reading, RunFault, joint_catalogue, requests, unreadable,
+};
 use giop_sig::{Catalogue, Requests};
 use std::alloc::{AllocError, Global};
 use std::io::Read;
@@ -35,7 +38,7 @@ pub fn perform_capture<
     B: Beginning,
 >(rt: &R, asked: Arguments<'a>, out: O, notices: N) -> Result<(Ending, O), Failure<'a, O>>
     requires told { N.told notices [] }
-    requires begins { (C : Table) → CatalogueOf (R.held rt.now) (signatures_of asked) C
+    requires begins { (C : Table) → CataloguesOf (R.held rt.now) (signatures_of asked) C
         → BeginsAs B.begins asked C (O.log out).written }
     ensures dumped { IfOk result (λ ended. CaptureDumped ended.0 B.begins asked.entry
         (stream_of (R.held rt.now) (R.given rt.now) (capture_of asked.entry))
@@ -45,7 +48,7 @@ pub fn perform_capture<
         (stream_of (R.held rt.now) (R.given rt.now) (capture_of asked.entry))
         B.begins asked.entry (fault_of failure) (log_of O.log failure)) }
 {
-    let catalogue = catalogue(rt, asked.signatures)?;
+    let catalogue = joint_catalogue(rt, asked.signatures.as_slice())?;
     open_and_dump::<R, O, N, B>(rt, asked, &catalogue, out, notices)
 }
 

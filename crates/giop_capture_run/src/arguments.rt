@@ -14,6 +14,9 @@ use std::alloc::{AllocError, Global};
 /// How many ports may be chosen.
 pub const PORTS_ROOM: usize = 64;
 
+/// How many signature files may be given.
+pub const SIGNATURES_ROOM: usize = 16;
+
 /// How many connections may be known, and how many calls may be outstanding in each direction of one.
 const MOST_KNOWN: u32 = 65_536;
 
@@ -33,8 +36,8 @@ const DEFAULT_POOL: u32 = 16_384;
 const ABOUT: &str =
     "Dumps the GIOP conversations of a capture, one text line per value, each reply by its call";
 
-const SIGNATURES_HELP: &str =
-    "The types of the operations; the built-in types alone where it is missing";
+const SIGNATURES_HELP: &str = "\
+The types of the operations, up to 16 times, read as one; the built-in types alone where it is missing";
 
 const PORT_HELP: &str =
     "A port at which GIOP is looked for, up to 64 times; every port where it is missing";
@@ -67,8 +70,8 @@ sources, /usr/share/doc/giopdump/docs of the package).";
 /// What the arguments ask for: each file by its name.
 #[derive(Debug, Drop)]
 pub struct Arguments<'a> {
-    /// The signature file; None for the built-in types alone.
-    pub signatures: Option<&'a str>,
+    /// The signature files, which are read as one; none for the built-in types alone.
+    pub signatures: ArrayVec<&'a str, 16>,
     /// The ports at which GIOP is looked for; every port where it is empty.
     pub ports: ArrayVec<u16, 64>,
     /// How many connections may be known at once.
@@ -128,6 +131,7 @@ fn command<'a>(alloc: Global) -> Result<Command<'a>, AllocError> {
             Arg::new(alloc, "signatures")
                 .long("signatures")
                 .value_name("FILE")
+                .action(ArgAction::Append)
                 .help(SIGNATURES_HELP),
         )?
         .arg(port_option(alloc))?
@@ -154,6 +158,15 @@ fn ports_of(matches: &ArgMatches) -> Option<ArrayVec<u16, 64>> {
         ports.try_push(port.ok()?).ok()?;
     }
     Some(ports)
+}
+
+/// The signature files that are given; None where they are more than may be.
+fn signatures_of<'a>(matches: &ArgMatches<'a>) -> Option<ArrayVec<&'a str, 16>> {
+    let mut files = ArrayVec::new();
+    for file in matches.get_strs("signatures").unwrap_or(&[]) {
+        files.try_push(*file).ok()?;
+    }
+    Some(files)
 }
 
 /// A number by its argument, of which `clap` has checked the range, or the default where there is none.
@@ -192,8 +205,11 @@ impl<'a> Arguments<'a> {
         let Some(ports) = ports_of(&matches) else {
             return Err(command.error(ErrorKind::TooManyValues, "more than 64 ports")?);
         };
+        let Some(signatures) = signatures_of(&matches) else {
+            return Err(command.error(ErrorKind::TooManyValues, "more than 16 signature files")?);
+        };
         Ok(Arguments {
-            signatures: matches.get_str("signatures"),
+            signatures,
             ports,
             connections: number_of(
                 matches.get_one("connections"),

@@ -11,7 +11,7 @@ mod packets;
 mod reading;
 mod room;
 
-pub use arguments::{Arguments, PORTS_ROOM};
+pub use arguments::{Arguments, PORTS_ROOM, SIGNATURES_ROOM};
 pub use ending::{Ending, dump_capture, read_capture};
 pub use laws::no_stream_of_a_capture_has_a_gap;
 pub use links::UnreadLinks;

@@ -10,6 +10,7 @@ pub mod RunSteps
 pub mod Looks
 pub mod Console
 pub mod Files
+pub mod Joint
 pub mod Saving
 pub mod CommandLine
 pub mod Performing

@@ -47,6 +47,7 @@ pub record HasReason (kind : ErrorKind) (why : Reason) : Type 0 where
 abbrev pub look_words : Look → List ℕ
 look_words looks.Capture = codes ": a capture"
 look_words looks.Idl = codes ": IDL: omniidl -bgiopdump_signatures"
+look_words (looks.Declared name line) = []
 look_words looks.Other = []
 
 abbrev pub reason_words : Reason → List ℕ

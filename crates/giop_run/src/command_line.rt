@@ -6,7 +6,8 @@ ghost use Rattle.clap.specs.Values.{kind_of};
 ghost use Rattle.giop_run.specs.Console.{fault_status};
 
 use super::fault::ProgramFault;
-use super::shown::ShownText;
+use super::reason::Look;
+use super::shown::{ShownName, ShownText};
 use clap::Error;
 use clap::error::ErrorKind;
 use std::env;
@@ -40,11 +41,17 @@ pub fn failed(rt: &HostRuntime, program: &str, fault: &ProgramFault) -> u8
     fault.status()
 }
 
-/// The same, with why a file can't be read, or what a refused signature file looks like.
+/// The same, with why a file can't be read, what a refused signature file looks like, or where its name is declared before.
 pub fn explained(rt: &HostRuntime, program: &str, fault: &ProgramFault) -> u8
     ensures { result ≡ fault_status fault.now }
 {
-    let _ = eprintln!(rt; "{program}: {fault}{}", fault.words());
+    let _ = match fault {
+        ProgramFault::Signatures {
+            look: Look::Declared { name, line },
+            ..
+        } => eprintln!(rt; "{program}: {fault}: {}:{line}", ShownName(name)),
+        _ => eprintln!(rt; "{program}: {fault}{}", fault.words()),
+    };
     fault.status()
 }
 

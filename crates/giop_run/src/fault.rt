@@ -46,7 +46,7 @@ pub enum ProgramFault<'a> {
     Signatures {
         name: &'a str,
         fault: SigFault,
-        look: Look,
+        look: Look<'a>,
     },
     /// The request list is refused.
     #[error("{}:{}: {fault}", ShownName(.name), .fault.line)]

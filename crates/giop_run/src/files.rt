@@ -20,7 +20,7 @@ use std::io;
 use std::io::{ErrorKind, Read};
 
 /// The greatest number of octets of a signature file. A longer text is refused by its parser.
-const SIGNATURES_MOST: u64 = 1_048_576;
+pub(crate) const SIGNATURES_MOST: u64 = 1_048_576;
 
 /// The greatest number of octets of a request list. A longer text is refused by its parser.
 const REQUESTS_MOST: u64 = 16_777_216;

@@ -51,19 +51,24 @@ impl Reason {
 
 /// What a text looks like that is refused as a signature file.
 #[derive(Clone, Copy, Debug, Drop, PartialEq, Eq)]
-pub enum Look {
+pub enum Look<'a> {
     /// It begins as a capture does.
     Capture,
     /// It begins as IDL does.
     Idl,
+    /// Its line declares a name that this line of this file declares before.
+    Declared {
+        name: &'a str,
+        line: u32,
+    },
     /// Any other.
     Other,
 }
 
-impl Look {
+impl<'a> Look<'a> {
     /// What this text looks like.
     #[tactic(auto, unfolding(crate::specs::Looks::looks_of))]
-    pub fn of(text: &[u8]) -> Look
+    pub fn of(text: &[u8]) -> Look<'a>
         ensures { result ≡ looks_of text.now }
     {
         if begins_capture(text) {
@@ -84,7 +89,7 @@ impl Look {
         match self {
             Look::Capture => ": a capture",
             Look::Idl => ": IDL: omniidl -bgiopdump_signatures",
-            Look::Other => "",
+            Look::Declared { .. } | Look::Other => "",
         }
     }
 }

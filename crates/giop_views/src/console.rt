@@ -5,7 +5,7 @@ ghost use Rattle.std.specs.Prelude.{◌≤◌, IfErr};
 use crate::run::{Report, run};
 use crate::watching::Watching;
 use giop_run::{
-    Inputs, Lines, ProgramFault, Reading, Retrying, RunFault, ShownName, failed, unreadable,
+    Inputs, Lines, Look, ProgramFault, Reading, Retrying, RunFault, ShownName, failed, unreadable,
 };
 use giop_view_parts::{View, ViewFault};
 use std::io::Read;
@@ -64,9 +64,11 @@ impl Report {
             return;
         };
         let name = file.unwrap_or("standard input");
+        let look = if self.is_capture { Look::Capture } else { Look::Other };
         let _ = eprintln!(rt;
-            "{program}: {}:{number}: no dump has this line",
-            ShownName(name)
+            "{program}: {}:{number}: no dump has this line{}",
+            ShownName(name),
+            look.words()
         );
     }
 

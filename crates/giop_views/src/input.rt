@@ -3,7 +3,7 @@
 ghost use Rattle.std.specs.Prelude.{◌≤◌, length};
 
 use giop_lines::LINE_MAX;
-use giop_run::{Source, SourceFault};
+use giop_run::{Look, Source, SourceFault};
 use memchr::memchr;
 use std::alloc::{AllocError, Global};
 
@@ -35,6 +35,11 @@ impl Input {
     /// The number of the last line that was given, from 1.
     pub fn number(&self) -> u64 {
         self.number
+    }
+
+    /// Whether what was read begins as a capture, where no line but the first was given.
+    pub fn begins_capture(&self) -> bool {
+        self.number == 1 && Look::of(&self.room[..self.end]) == Look::Capture
     }
 
     /// Reads once. Answers whether octets came.

@@ -11,6 +11,8 @@ use std::alloc::Global;
 pub struct Report {
     /// The number of the line that no dump has, if one came.
     pub(crate) unknown: Option<u64>,
+    /// Whether the first line is one, and begins as a capture.
+    pub(crate) is_capture: bool,
     /// Whether the source failed.
     pub(crate) is_unread: bool,
 }
@@ -26,6 +28,7 @@ pub(crate) fn run<S: Source, O: Flush, V: View>(
     let mut input = Input::new(alloc)?;
     let mut report = Report {
         unknown: None,
+        is_capture: false,
         is_unread: false,
     };
     for _ in 0..u64::MAX {
@@ -40,6 +43,7 @@ pub(crate) fn run<S: Source, O: Flush, V: View>(
         }
         if !take_lines(&mut input, out, view)? {
             report.unknown = Some(input.number());
+            report.is_capture = input.begins_capture();
             break;
         }
     }

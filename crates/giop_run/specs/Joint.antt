@@ -1,0 +1,70 @@
+-- What is taken from several signature files, which are read as one text (docs/FORMATS.md, Several signature files; meaning).
+use Rattle.std.specs.Prelude.{◌≡◌, ℕ, ◌<◌, ◌≤◌, ◌⊎◌, List, [], ◌∷◌, length, map}
+use Rattle.std.specs.List.{All, Contains}
+use Rattle.giop_sig.specs.Builtin.{builtin_table}
+use Rattle.giop_sig.specs.Table.{Table}
+use Rattle.giop_sig.specs.FileReading.{text_too_long, IsFirstRefusal}
+use Rattle.giop_tokens.specs.declared.fault.SigFault.{SigFault}
+use Rattle.giop_sig_files.specs.declared.places.SignatureText.{SignatureText}
+use Rattle.giop_sig_files.specs.Joined.{joined}
+use Rattle.giop_sig_files.specs.Places.{place}
+use Rattle.giop_sig_files.specs.Names.{DeclareSame}
+use Rattle.giop_run.specs.Looks.{looks_of}
+use Rattle.giop_run.specs.Files.{Folder, signatures_most, IsFront, Declares}
+use Rattle.giop_run.specs.declared.reason.Look.{Look}
+use Rattle.giop_run.specs.declared.reason.Look.TheVariants as looks
+use Rattle.giop_run.specs.declared.fault.ProgramFault.{ProgramFault}
+use Rattle.giop_run.specs.declared.fault.ProgramFault.TheVariants as faults
+
+-- these are the files of these names, each with what is read of it
+pub record AreRead (held : Folder) (names : List (List ℕ)) (files : List SignatureText) : Type 0
+  where
+    pub names_are : map (λ f. f.name.now) files ≡ names
+    pub texts : All (λ f. IsFront signatures_most (held f.name.now) f.text.items) files
+
+-- the text that they are read as
+abbrev pub text_of : List SignatureText → List ℕ
+text_of files = joined (map (λ f. f.text.items) files)
+
+-- the catalogue of the signature files of these names, or without one the built-in types
+abbrev pub CataloguesOf : Folder → List (List ℕ) → Table → Type 0
+CataloguesOf held [] C = C ≡ builtin_table
+CataloguesOf held (name ∷ names) C =
+    (files : List SignatureText) × AreRead held (name ∷ names) files × Declares (text_of files) C
+
+-- What is said behind the refusal of a line of the text that these files are read as: what its file
+-- looks like, or which line above declares its name.
+abbrev pub IsLook : SignatureText → List SignatureText → SigFault → Look → Type 0
+IsLook first others fault look =
+    (look ≡ looks_of ((place first others fault.line).0.text.items))
+    ⊎ ((above : ℕ) × (above < fault.line)
+    × DeclareSame (text_of (first ∷ others)) above fault.line
+    × (look ≡ looks.Declared ((place first others above).0.name) ((place first others above).1)))
+
+-- the refusal is that of the text, by the file and the line that the line of the text is from
+pub record IsRefusal (first : SignatureText) (others : List SignatureText) (fault why : SigFault)
+    (name : List ℕ) (look : Look) : Type 0 where
+  pub kind : why.kind ≡ fault.kind
+  pub line : why.line ≡ (place first others fault.line).1
+  pub named : name ≡ (place first others fault.line).0.name.now
+  pub look_is : IsLook first others fault look
+  pub long : signatures_most < length (text_of (first ∷ others)) → fault ≡ text_too_long
+  pub refused : length (text_of (first ∷ others)) ≤ signatures_most
+      → IsFirstRefusal (text_of (first ∷ others)) fault
+
+-- the text of these files is refused
+abbrev pub IsRefused : List SignatureText → ProgramFault → Type 0
+IsRefused (first ∷ others) (faults.Signatures name why look) =
+    (fault : SigFault) × IsRefusal first others fault why name.now look
+IsRefused files fault = ⊥
+
+-- a file of these names can't be read
+abbrev pub IsUnreadable : List (List ℕ) → ProgramFault → Type 0
+IsUnreadable names (faults.Unreadable name why) = Contains names name.now
+IsUnreadable names fault = ⊥
+
+-- why there is no catalogue: no memory, or one of the files can't be read, or their text is refused
+abbrev pub NoCatalogues : Folder → List (List ℕ) → ProgramFault → Type 0
+NoCatalogues held names fault =
+    (fault ≡ faults.OutOfMemory) ⊎ IsUnreadable names fault
+    ⊎ ((files : List SignatureText) × AreRead held names files × IsRefused files fault)

@@ -1,0 +1,123 @@
+//! The catalogue of several signature files, which are read as one text (docs/FORMATS.md, Several signature files).
+
+ghost use Rattle.std.specs.Prelude.{◌≡◌, ◌≢◌, ◌<◌, ◌≤◌, ◌⊎◌, ◌∷◌, [], length, map, None, IfOk, IfErr};
+ghost use Rattle.std.specs.List.{Contains};
+ghost use Rattle.giop_sig.specs.Builtin.{builtin_table};
+ghost use Rattle.giop_sig.specs.FileReading.{text_too_long, IsFirstRefusal};
+ghost use Rattle.giop_run.specs.Console.{run_fault};
+ghost use Rattle.giop_run.specs.Files.{signatures_most, Declares};
+ghost use Rattle.giop_run.specs.Joint.{AreRead, text_of, CataloguesOf, IsLook, IsRefusal, IsRefused, IsUnreadable, NoCatalogues};
+
+use super::fault::ProgramFault;
+use super::files::{SIGNATURES_MOST, contents};
+use super::inputs::Inputs;
+use super::reason::Look;
+use giop_sig::{Catalogue, SigFault, SigFaultKind};
+use giop_sig_files::{SignatureText, declared_above, joined, place};
+use std::alloc::Global;
+
+/// What the signature files of these names hold, each up to the first octet past the limit.
+fn signature_texts<'a, R: Inputs + AllocGlobal>(
+    rt: &R,
+    names: &[&'a str],
+) -> Result<Vec<SignatureText<'a>>, ProgramFault<'a>>
+    ensures ok { IfOk result (λ files.
+        AreRead (R.held rt.now) (map (λ name. name.now) names.now) files.items) }
+    ensures err { IfErr result (λ fault. (fault ≡ ProgramFault.OutOfMemory)
+        ⊎ IsUnreadable (map (λ name. name.now) names.now) fault) }
+{
+    let mut files = Vec::new(rt.alloc());
+    for name in names {
+        let text = contents(rt, name, SIGNATURES_MOST)?;
+        if files.push(SignatureText { name, text }).is_err() {
+            return Err(ProgramFault::OutOfMemory);
+        }
+    }
+    Ok(files)
+}
+
+/// What is said behind the refusal of a line of the text that these files are read as.
+fn look_in<'a>(
+    first: &SignatureText<'a>,
+    others: &[SignatureText<'a>],
+    text: &[u8],
+    fault: SigFault,
+) -> Look<'a>
+    requires { text.now ≡ text_of (first.now ∷ others.now) }
+    ensures { IsLook first.now others.now fault result }
+{
+    let is_twice = fault.kind == SigFaultKind::Duplicate && !others.is_empty();
+    if is_twice && let Some(above) = declared_above(text, fault.line) {
+        let (file, line) = place(first, others, above);
+        return Look::Declared {
+            name: file.name,
+            line,
+        };
+    }
+    let (file, _) = place(first, others, fault.line);
+    Look::of(file.text.as_slice())
+}
+
+/// The refusal of the text that these files are read as, by the file and the line.
+fn refusal<'a>(
+    first: &SignatureText<'a>,
+    others: &[SignatureText<'a>],
+    text: &[u8],
+    fault: SigFault,
+) -> ProgramFault<'a>
+    requires text { text.now ≡ text_of (first.now ∷ others.now) }
+    requires long { signatures_most < length text.now → fault ≡ text_too_long }
+    requires refused { length text.now ≤ signatures_most → IsFirstRefusal text.now fault }
+    ensures { (result ≡ ProgramFault.OutOfMemory) ⊎ IsRefused (first.now ∷ others.now) result }
+{
+    if fault.kind == SigFaultKind::OutOfMemory {
+        return ProgramFault::OutOfMemory;
+    }
+    let (file, line) = place(first, others, fault.line);
+    ProgramFault::Signatures {
+        name: file.name,
+        fault: SigFault {
+            line,
+            kind: fault.kind,
+        },
+        look: look_in(first, others, text, fault),
+    }
+}
+
+/// The catalogue of the text that these files are read as; without one, of the built-in types.
+fn catalogue_of_files<'a>(
+    alloc: Global,
+    files: &[SignatureText<'a>],
+) -> Result<Catalogue, ProgramFault<'a>>
+    ensures builtin { files.now ≡ [] → IfOk result (λ C. C ≡ builtin_table) }
+    ensures ok { files.now ≢ [] → IfOk result (Declares (text_of files.now)) }
+    ensures err { IfErr result (λ fault. (fault ≡ ProgramFault.OutOfMemory)
+        ⊎ IsRefused files.now fault) }
+{
+    let Some((first, others)) = files.split_first() else {
+        return match Catalogue::builtin(alloc) {
+            Ok(catalogue) => Ok(catalogue),
+            Err(_) => Err(ProgramFault::OutOfMemory),
+        };
+    };
+    let Ok(text) = joined(alloc, files) else {
+        return Err(ProgramFault::OutOfMemory);
+    };
+    match Catalogue::parse(alloc, text.as_slice()) {
+        Ok(catalogue) => Ok(catalogue),
+        Err(fault) => Err(refusal(first, others, text.as_slice(), fault)),
+    }
+}
+
+/// The catalogue of the signature files of these names, which are read as one text; without one, of the built-in types.
+pub fn joint_catalogue<'a, R: Inputs + AllocGlobal>(
+    rt: &R,
+    names: &[&'a str],
+) -> Result<Catalogue, ProgramFault<'a>>
+    ensures ok { IfOk result (CataloguesOf (R.held rt.now) (map (λ name. name.now) names.now)) }
+    ensures err { IfErr result (NoCatalogues (R.held rt.now) (map (λ name. name.now) names.now)) }
+    ensures file { IfErr result (λ fault. run_fault fault ≡ None) }
+{
+    let files = signature_texts(rt, names)?;
+    catalogue_of_files(rt.alloc(), files.as_slice())
+}

@@ -1,0 +1,68 @@
+//! The blocks of a text: its lines, where those of a declaration are one.
+
+ghost use Rattle.std.specs.Prelude.{◌≡◌, ◌∷◌, ◌++◌, [], IfOk};
+ghost use Rattle.std.specs.List.{count_by};
+ghost use Rattle.giop_sig_files.specs.Blocks.{begins, is_declared, opens, closes, goes_on};
+
+use std::alloc::{AllocError, Global};
+
+/// Whether a text begins with these octets.
+fn begins(text: &[u8], word: &[u8]) -> bool
+    ensures { result ≡ begins word.now text.now }
+{
+    text.starts_with(word)
+}
+
+/// Whether a block begins as a declaration does, or the version.
+#[tactic(auto, unfolding(crate::specs::Blocks::is_declared))]
+pub(crate) fn is_declared(block: &[u8]) -> bool
+    ensures { result ≡ is_declared block.now }
+{
+    begins(block, b"operation ")
+        || begins(block, b"exception ")
+        || begins(block, b"struct ")
+        || begins(block, b"union ")
+        || begins(block, b"enum ")
+        || begins(block, b"signatures ")
+}
+
+/// The front of a block, with how many braces and parentheses open and close in it.
+#[derive(Drop)]
+pub(crate) struct Front {
+    pub(crate) octets: Vec<u8>,
+    opening: usize,
+    closing: usize,
+    ghost opened: { opening ≡ count_by opens octets.items },
+    ghost closed: { closing ≡ count_by closes octets.items },
+}
+
+impl Front {
+    /// The front that has no octet.
+    pub(crate) fn new(alloc: Global) -> Front
+        ensures { result.octets.items ≡ [] }
+    {
+        Front {
+            octets: Vec::new(alloc),
+            opening: 0,
+            closing: 0,
+        }
+    }
+
+    /// Adds an octet.
+    pub(crate) fn push(&mut self, octet: u8) -> Result<(), AllocError>
+        ensures { IfOk result (λ _. self.new.octets.items ≡ self.old.octets.items ++ octet ∷ []) }
+    {
+        self.octets.push(octet)?;
+        self.opening += usize::from(octet == b'{' || octet == b'(');
+        self.closing += usize::from(octet == b'}' || octet == b')');
+        Ok(())
+    }
+
+    /// Whether it is a declaration of which there is more in the next line.
+    pub(crate) fn goes_on(&self) -> bool
+        ensures { result ≡ goes_on self.now.octets.items }
+    {
+        let is_over = self.octets.as_slice().ends_with(b";") && self.opening == self.closing;
+        is_declared(self.octets.as_slice()) && !is_over
+    }
+}

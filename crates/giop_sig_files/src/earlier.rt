@@ -1,0 +1,106 @@
+//! The line above that declares the same name.
+
+ghost use Rattle.std.specs.Prelude.{◌≡◌, ◌<◌, ◌≤◌, ℕ, [], IfSome, IfNone, option_map};
+ghost use Rattle.giop_sig_files.specs.Names.{first_line, after_line, line_at, word_before, name_behind, declared_name, is_operation, declare_same, DeclareSame};
+
+/// The first line, and what follows it.
+fn first_line(text: &[u8]) -> (&[u8], &[u8])
+    ensures line { result.0.now ≡ first_line text.now }
+    ensures after { result.1.now ≡ after_line text.now }
+{
+    match text.iter().position(|octet| *octet == b'\n') {
+        None => (text, &[]),
+        Some(end) => (&text[..end], &text[end + 1..]),
+    }
+}
+
+/// A line by its number, from 1.
+fn line_at(text: &[u8], line: u32) -> &[u8]
+    ensures { result.now ≡ line_at text.now line }
+{
+    let mut rest = text;
+    for _ in 0..line.saturating_sub(1) {
+        (_, rest) = first_line(rest);
+    }
+    first_line(rest).0
+}
+
+/// The word in front of the first octet that is this.
+#[tactic(auto, unfolding(crate::specs::Names::word_before))]
+fn word_before(text: &[u8], stop: u8) -> Option<&[u8]>
+    ensures { option_map (λ w. w.now) result ≡ word_before stop [] text.now }
+{
+    let mut start = 0;
+    for end in 0..text.len() {
+        if text[end] == stop {
+            return Some(&text[start..end]);
+        }
+        if text[end] == b' ' {
+            start = end + 1;
+        }
+    }
+    None
+}
+
+/// The name behind this word of a line, in front of the first octet that is this.
+#[tactic(auto, unfolding(crate::specs::Names::name_behind))]
+fn name_behind<'a>(line: &'a [u8], word: &[u8], stop: u8) -> Option<&'a [u8]>
+    ensures { option_map (λ w. w.now) result ≡ name_behind word.now stop line.now }
+{
+    match line.strip_prefix(word) {
+        None => None,
+        Some(rest) => word_before(rest, stop),
+    }
+}
+
+/// The name that a line declares.
+fn declared_name(line: &[u8]) -> Option<&[u8]>
+    ensures { option_map (λ w. w.now) result ≡ declared_name line.now }
+{
+    name_behind(line, b"operation ", b'(')
+        .or(name_behind(line, b"exception ", b' '))
+        .or(name_behind(line, b"struct ", b' '))
+        .or(name_behind(line, b"union ", b' '))
+        .or(name_behind(line, b"enum ", b' '))
+}
+
+/// Whether a line declares an operation.
+fn is_operation(line: &[u8]) -> bool
+    ensures { result ≡ is_operation line.now }
+{
+    line.starts_with(b"operation ")
+}
+
+/// Whether both lines declare the same name.
+#[tactic(auto, unfolding(crate::specs::Names::declare_same))]
+fn declare_same(above: &[u8], line: &[u8]) -> bool
+    ensures { result ≡ declare_same above.now line.now }
+{
+    if is_operation(above) != is_operation(line) {
+        return false;
+    }
+    match (declared_name(above), declared_name(line)) {
+        (Some(one), Some(other)) => one == other,
+        _ => false,
+    }
+}
+
+/// The first line above a line that declares the name that this declares.
+pub fn declared_above(text: &[u8], line: u32) -> Option<u32>
+    ensures same { IfSome result (λ above. DeclareSame text.now above line) }
+    ensures above { IfSome result (λ above. (1 ≤ above) × (above < line)) }
+    ensures first { IfSome result (λ above. (k : ℕ) → 1 ≤ k → k < above
+        → DeclareSame text.now k line → ⊥) }
+    ensures none { IfNone result ((k : ℕ) → 1 ≤ k → k < line → DeclareSame text.now k line → ⊥) }
+{
+    let declared = line_at(text, line);
+    let mut rest = text;
+    for above in 1..line {
+        let (first, after) = first_line(rest);
+        if declare_same(first, declared) {
+            return Some(above);
+        }
+        rest = after;
+    }
+    None
+}

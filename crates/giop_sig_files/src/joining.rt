@@ -1,0 +1,79 @@
+//! The text that several signature files are read as.
+
+ghost use Rattle.std.specs.Prelude.{◌≡◌, ◌∷◌, ◌++◌, [], map, flat_map, IfOk};
+ghost use Rattle.giop_sig_files.specs.Blocks.{blocks};
+ghost use Rattle.giop_sig_files.specs.Joined.{is_taken, joined, once, with_line_feed};
+
+use crate::block::{Front, is_declared};
+use crate::places::SignatureText;
+use std::alloc::{AllocError, Global};
+
+/// The blocks of a text.
+fn blocks(alloc: Global, text: &[u8]) -> Result<Vec<Vec<u8>>, AllocError>
+    ensures { IfOk result (λ bs. map (λ b. b.items) bs.items ≡ blocks text.now) }
+{
+    let mut blocks = Vec::new(alloc);
+    let mut front = Front::new(alloc);
+    for octet in text {
+        if *octet == b'\n' && !front.goes_on() {
+            blocks.push(front.octets)?;
+            front = Front::new(alloc);
+        } else {
+            front.push(*octet)?;
+        }
+    }
+    blocks.push(front.octets)?;
+    Ok(blocks)
+}
+
+/// Whether a block is a declaration that stands among the blocks of the files before its own.
+fn is_taken(before: &[Vec<u8>], block: &Vec<u8>) -> bool
+    ensures { result ≡ is_taken (map (λ b. b.items) before.now) block.now.items }
+{
+    is_declared(block.as_slice()) && before.contains(block)
+}
+
+/// Adds what is taken of a block to a text, behind the blocks of the files before its own.
+fn take(text: &mut Vec<u8>, before: &[Vec<u8>], block: &Vec<u8>) -> Result<(), AllocError>
+    ensures { IfOk result (λ _. text.new.items ≡ text.old.items
+        ++ 10 ∷ once (map (λ b. b.items) before.now) block.now.items) }
+{
+    text.push(b'\n')?;
+    if !is_taken(before, block) {
+        return text.extend_from_slice(block.as_slice());
+    }
+    for octet in block {
+        if *octet == b'\n' {
+            text.push(b'\n')?;
+        }
+    }
+    Ok(())
+}
+
+/// Adds what is taken of blocks to a text, behind the blocks of the files before their own.
+fn take_all(text: &mut Vec<u8>, before: &[Vec<u8>], blocks: &[Vec<u8>]) -> Result<(), AllocError>
+    ensures { IfOk result (λ _. text.new.items ≡ text.old.items ++ flat_map with_line_feed
+        (map (once (map (λ b. b.items) before.now)) (map (λ b. b.items) blocks.now))) }
+{
+    for block in blocks {
+        take(text, before, block)?;
+    }
+    Ok(())
+}
+
+/// The text that these files are read as.
+pub fn joined(alloc: Global, files: &[SignatureText]) -> Result<Vec<u8>, AllocError>
+    ensures { IfOk result (λ text. text.items ≡ joined (map (λ f. f.text.items) files.now)) }
+{
+    let mut text = Vec::new(alloc);
+    let mut before = Vec::new(alloc);
+    for file in files {
+        let mut blocks = blocks(alloc, file.text.as_slice())?;
+        take_all(&mut text, before.as_slice(), blocks.as_slice())?;
+        before.append(&mut blocks)?;
+    }
+    match text.as_slice() {
+        [] => Ok(text),
+        [_, rest @ ..] => Vec::from_slice(alloc, rest),
+    }
+}
