@@ -3,7 +3,7 @@
     python3 bench/lines.py [OCTETS]
 
 The lines are those of scripts/tests/session.lines again and again, 100 MB where OCTETS is missing, each time of further
-streams; giop-chart reads a tenth. It looks through all of them for a time that none has.
+streams; giop-chart reads a tenth. It looks through all of them for a time that none has, over a giop-json of its own.
 """
 
 from __future__ import annotations
@@ -16,7 +16,7 @@ from pathlib import Path
 from typing import BinaryIO, List
 
 TOP = Path(__file__).resolve().parent.parent
-PROGRAMS = [TOP / f"crates/{name}/out/{name}" for name in ("giop_json", "giop_stat")]
+JSON, STAT = (str(TOP / f"crates/{name}/out/{name}") for name in ("giop_json", "giop_stat"))
 STREAMS = 8  # of session.lines
 MOST = 100_000_000
 
@@ -39,7 +39,9 @@ def measure(words: List[str], octets: int) -> None:
     _, status, used = os.wait4(process, 0)
     assert status == 0, words
     spent = used.ru_utime + used.ru_stime
-    print(f"{Path(words[0]).name}: {octets / spent / 1e6:.1f} MB/s, {used.ru_maxrss / 1024:.0f} MB of memory")
+    print(
+        f"{' '.join([Path(words[0]).name, *words[1:-1]])}: {octets / spent / 1e6:.1f} MB/s, {used.ru_maxrss / 1024:.0f} MB of memory"
+    )
 
 
 def main() -> int:
@@ -48,8 +50,8 @@ def main() -> int:
         write_lines(file, octets)  # type: ignore[arg-type]
         file.flush()
         measure(["wc", "-l", file.name], file.tell())
-        for program in PROGRAMS:
-            measure([str(program), file.name], file.tell())
+        for words in ([JSON], [JSON, "--calls"], [STAT]):
+            measure([*words, file.name], file.tell())
     with tempfile.NamedTemporaryFile() as file:
         write_lines(file, octets // 10)  # type: ignore[arg-type]
         file.flush()

@@ -1,7 +1,7 @@
 #!/usr/bin/env bash
 # The manual pages have no fault that mandoc finds, name each option of their programs and each of their exit statuses, and
 # their examples run. All programs have one version, which CHANGES.md begins with.
-# Installs mandoc, jq, mscgen and omniidl where they are missing.
+# Installs mandoc, jq, mscgen, omniidl, libjs-chart.js and python3-jinja2 where they are missing.
 set -euo pipefail
 cd "$(dirname "$0")/.."
 . checks/packages.sh
@@ -10,6 +10,8 @@ need_program mandoc mandoc
 need_program jq jq
 need_program mscgen mscgen
 need_program omniidl omniidl
+need_file /usr/share/javascript/chart.js/chart.min.js libjs-chart.js
+need_file /usr/lib/python3/dist-packages/jinja2 python3-jinja2
 need_giopdump
 need_giopcap
 need_giop_json
@@ -52,13 +54,14 @@ statuses=$(sed -nE 's/^\| ([0-5]) \|.*/\1/p' docs/FORMATS.md | sort -u)
 [ "$(echo $statuses)" = "0 1 2 3 4 5" ]
 check_page giopdump $statuses
 check_page giopcap $statuses
-check_page giop-json 0 2 3 4 5
+check_page giop-json 0 1 2 3 4 5
 check_page giop-stat 0 2 3 4 5
 check_page giop-chart 0 2 3 4
+check_page giop-report 0 2 3 4
 ls "$folder"/naming.svg "$folder"/orders.png > /dev/null
 
 version=$(sed -nE '/^## /{s/^## ([^ ]+).*/\1/p; q}' CHANGES.md)
-for program in giopdump giopcap giop-stat giop-chart; do
+for program in giopdump giopcap giop-stat giop-chart giop-report; do
     [ "$("$program" --version)" = "$program $version" ] || { echo "$program --version isn't $version" >&2; exit 1; }
 done
 omniidl -p idl -bgiopdump_signatures -u | grep -cx "giopdump_signatures $version" > /dev/null

@@ -1,9 +1,9 @@
 #!/usr/bin/env bash
 # The Debian package: lintian finds no error, and dpkg installs it into an empty folder, where the programs dump an example
-# and a capture, the three that read dumps read these, and omniidl finds the converter among Python's packages.
+# and a capture, the four that read dumps read these, and omniidl finds the converter among Python's packages.
 # Completion in bash offers the words of the programs. And what is released of a tag: its checksums hold, and the package is the
 # one of the tag's sources, which are in the archive.
-# Installs lintian, omniidl, binutils and bash-completion where they are missing.
+# Installs lintian, omniidl, binutils, bash-completion, libjs-chart.js and python3-jinja2 where they are missing.
 set -euo pipefail
 cd "$(dirname "$0")/.."
 . checks/packages.sh
@@ -12,6 +12,8 @@ need_program lintian lintian
 need_program objdump binutils
 need_program omniidl omniidl
 need_file /usr/share/bash-completion/bash_completion bash-completion
+need_file /usr/share/javascript/chart.js/chart.min.js libjs-chart.js
+need_file /usr/lib/python3/dist-packages/jinja2 python3-jinja2
 need_giopdump
 need_giopcap
 need_giop_json
@@ -23,7 +25,7 @@ mkdir "$work/again"
 package=$(scripts/package "$work")
 cmp "$package" "$(scripts/package "$work/again")"
 lintian --allow-root --fail-on error --tag-display-limit 0 "$package"
-for page in giopdump giopcap giop-json giop-stat giop-chart; do
+for page in giopdump giopcap giop-json giop-stat giop-chart giop-report; do
     dpkg-deb --fsys-tarfile "$package" | tar -t | grep -c "^./usr/share/man/man1/$page.1.gz$" > /dev/null
 done
 
@@ -50,6 +52,7 @@ giopdump examples/naming.giop > "$folder/lines"
 grep -q '"operation":"resolve"' <(giop-json "$folder/lines")
 grep -q '^resolve ' <(giop-stat "$folder/lines")
 grep -q '=> "server" \[label="resolve"\]' <(giop-chart "$folder/lines")
+grep -q '<canvas id="latency">' <(giop-report "$folder/lines")
 giopcap --signatures examples/naming.sig examples/session.pcap > "$folder/lines"
 grep -qE '^s6 m2 answers s5 m2 resolve after 0\.[0-9]{9}$' "$folder/lines"
 grep -q '"operation":"resolve"' <(giop-json "$folder/lines")

@@ -366,7 +366,7 @@ def main() -> int:
             values += check_json(dump)
             parts += check_parts(dump)
             messages += check_counts(dump)
-            arrows += check_chart(dump, picture=seed < 10)
+            arrows += check_chart(dump, picture=seed < 10) if seed < 40 else 0
     session = SESSION.read_text().splitlines()
     values += check_json(session)
     cuts = check_cuts(session)

@@ -15,4 +15,4 @@ _giopdump() {
         _filedir
     fi
 }
-complete -F _giopdump giopdump giopcap giop-json giop-stat giop-chart
+complete -F _giopdump giopdump giopcap giop-json giop-stat giop-chart giop-report

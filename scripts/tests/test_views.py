@@ -12,7 +12,7 @@ from fcntl import ioctl
 from termios import FIONREAD
 from typing import Any, Dict, List, Tuple
 
-from in_process import MODULES, PROGRAMS, SCRIPTS, SESSION, Refused, printed
+from in_process import PROGRAMS, SCRIPTS, SESSION, Refused, printed
 
 # Lines that a dump has, each by itself.
 LINES = """\
@@ -203,8 +203,8 @@ class Lines(unittest.TestCase):
 
     def test_each_form_of_a_line_is_taken(self) -> None:
         for line in LINES.splitlines(True):
-            for program in PROGRAMS:
-                printed(program, line)
+            printed("giop-stat", line)
+        printed("giop-chart", LINES)
 
     def test_a_line_that_no_dump_writes_is_refused_with_its_number(self) -> None:
         for line in REFUSED:
@@ -428,16 +428,16 @@ class Chart(unittest.TestCase):
 
     def test_a_conversation(self) -> None:
         lines = "".join(line for line in SESSION.read_text().splitlines(True) if line.startswith(("s1 ", "s2 ")))
-        a, b = '"127.0.0.1:33490"', '"127.0.0.1:12809"'
+        a, b = '"127.0.0.1"', '"127.0.0.1:12809"'
         self.assertEqual(
             printed("giop-chart", lines),
             f"""\
 msc {{
-  width="600";
+  width="924";
   {a}, {b};
-  {a} => {b} [label="_is_a\\n08:13:25.580272"];
-  {b} >> {a} [label="_is_a\\n0.000095 s"];
-  {a} => {b} [label="bind\\n08:13:25.580401"];
+  {a} => {b} [label="_is_a('IDL:omg.org/CosNaming/NamingContext:1.0')\\n08:13:25.580272"];
+  {b} >> {a} [label="_is_a = true\\n0.000095 s"];
+  {a} => {b} [label="bind('shop', '', 'orders', '', 'IDL:omg.org/CosNami..)\\n08:13:25.580401"];
   {b} >> {a} [label="bind raises AlreadyBound\\n0.000110 s"];
 }}
 """,
@@ -469,6 +469,18 @@ msc {{
             m5 header.reply_status enum SYSTEM_EXCEPTION
             m5 body.exception_id string @0 "IDL:omg.org/CORBA/INTERNAL:1.0"
             m5 end
+            m15 start 1.2 big Request size 9
+            m15 call 15 put
+            m15 body.a count 2
+            m15 body.a[0] long -1
+            m15 body.a[1] long 2
+            m15 body.b string @0 "x\\x22y"
+            m15 body.c boolean true
+            m15 end
+            m16 start 1.2 big Reply size 9
+            m16 header.reply_status enum USER_EXCEPTION
+            m16 exception string @0 "IDL:a.org/Some/:1.0"
+            m16 end
             m6 start 1.2 big LocateRequest size 9 more
             m7 start 1.2 big Fragment size 9
             m7 continues m6
@@ -509,6 +521,8 @@ msc {{
                 'client => server [label="Request: cancelled"];',
                 'client -> server [label="CancelRequest"];',
                 f'client -x server [label="Request: unfinished"{red}];',
+                "client => server [label=\"put(-1, 2, 'x\\x22y', true)\"];",
+                'server >> client [label="Reply raises IDL:a.org/Some/:1.0"];',
                 f'client box server [label="stream fault truncated"{red}];',
             ],
         )
@@ -527,8 +541,8 @@ msc {{
         self.assertEqual(
             drawn(lines),
             [
-                '10.0.0.1:7 -> 10.0.0.2:9 [label="CloseConnection"];',
-                '10.0.0.1:7 box 10.0.0.2:9 [label="octets are missing", linecolour="red", textcolour="red"];',
+                '10.0.0.1 -> 10.0.0.2:9 [label="CloseConnection"];',
+                '10.0.0.1 box 10.0.0.2:9 [label="octets are missing", linecolour="red", textcolour="red"];',
                 'server of s2 -> client of s2 [label="CloseConnection"];',
             ],
         )
@@ -537,6 +551,8 @@ msc {{
         lines = SESSION.read_text()
         self.assertEqual(len(drawn(lines)), 25)
         self.assertEqual(len(drawn(lines, "--stream", "3", "--stream", "4")), 4)
+        self.assertEqual(drawn(lines, "--connection", "3"), drawn(lines, "--stream", "3", "--stream", "4"))
+        self.assertIn('"127.0.0.1:33490"', printed("giop-chart", lines, "--ports"))
         self.assertEqual(len(drawn(lines, "--from", "08:13:25.6")), 17)
         self.assertEqual(
             len(drawn(lines, "--from", "2026-11-23T08:13:25.594263Z", "--to", "2026-11-23T08:13:25.608")), 6
@@ -547,8 +563,9 @@ msc {{
         self.assertEqual(
             drawn(lines, "--most", "2"),
             [
-                '127.0.0.1:33490 => 127.0.0.1:12809 [label="_is_a\\n08:13:25.580272"];',
-                '127.0.0.1:12809 >> 127.0.0.1:33490 [label="_is_a\\n0.000095 s"];',
+                "127.0.0.1 => 127.0.0.1:12809 "
+                "[label=\"_is_a('IDL:omg.org/CosNaming/NamingContext:1.0')\\n08:13:25.580272\"];",
+                '127.0.0.1:12809 >> 127.0.0.1 [label="_is_a = true\\n0.000095 s"];',
                 "...;",
                 '--- [label="only 2 messages are drawn"];',
             ],

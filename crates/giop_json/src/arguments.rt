@@ -16,6 +16,8 @@ const ABOUT: &str = "Writes the lines of a dump as JSON, an object in a line for
 
 const TEXT_HELP: &str = "What stands for the octets of texts outside ASCII";
 
+const CALLS_HELP: &str = "An object for each call, flat, with its request and its reply";
+
 const STRINGS_HELP: &str = "Numbers of eight octets are text";
 
 const TYPES_HELP: &str = "All that a TypeCode has; its id and name alone where it is missing";
@@ -38,6 +40,8 @@ FORMATS.md has every member (docs/ of the sources, /usr/share/doc/giopdump/docs 
 pub(crate) struct Arguments<'a> {
     /// How messages are written.
     pub(crate) settings: Settings,
+    /// Whether each call is an object, in the place of each message.
+    pub(crate) are_calls: bool,
     /// The file with the lines; None for standard input. No name has a special meaning.
     pub(crate) file: Option<&'a str>,
 }
@@ -75,6 +79,7 @@ fn command<'a>(alloc: Global) -> Result<Command<'a>, AllocError> {
         .version("1.0.0")
         .about(ABOUT)
         .after_help(EXAMPLES)
+        .arg(flag(alloc, "calls", CALLS_HELP))?
         .arg(text_option(alloc))?
         .arg(flag(alloc, "strings", STRINGS_HELP))?
         .arg(flag(alloc, "types", TYPES_HELP))?
@@ -91,6 +96,7 @@ impl<'a> Arguments<'a> {
         let matches = command(alloc)?.try_get_matches_from(words)?;
         Ok(Arguments {
             settings: settings_of(&matches),
+            are_calls: matches.get_flag("calls"),
             file: matches.get_str("FILE"),
         })
     }

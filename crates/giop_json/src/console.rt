@@ -3,8 +3,8 @@
 ghost use Rattle.std.specs.Prelude.{◌≤◌};
 
 use crate::arguments::Arguments;
-use giop_json_messages::Dump;
-use giop_run::{ProgramFault, failed, refused, words};
+use giop_json_messages::{Calls, Messages};
+use giop_run::{failed, refused, words};
 use giop_views::viewed;
 
 /// The program's name, which stands in front of what it says on standard error.
@@ -28,28 +28,10 @@ pub(crate) fn program(rt: &HostRuntime) -> u8
 fn view(rt: &HostRuntime, asked: Arguments<'_>) -> u8
     ensures { result ≤ 5 }
 {
-    let Ok(mut dump) = Dump::new(rt.alloc(), asked.settings) else {
-        return failed(rt, PROGRAM, &ProgramFault::OutOfMemory);
-    };
-    match viewed(rt, PROGRAM, asked.file, &mut dump) {
-        Err(status) => status,
-        Ok(report) => {
-            report.say_unknown(rt, PROGRAM, asked.file);
-            say_parts(rt, dump.in_parts());
-            report.status(rt, PROGRAM)
-        }
+    if asked.are_calls {
+        let calls = Calls::new(rt.alloc(), asked.settings);
+        return viewed(rt, PROGRAM, asked.file, calls);
     }
-}
-
-/// Says how many messages were written in parts, if some were.
-fn say_parts(rt: &HostRuntime, in_parts: u64) {
-    match in_parts {
-        0 => {}
-        1 => {
-            let _ = eprintln!(rt; "{PROGRAM}: 1 message in parts: --hold");
-        }
-        many => {
-            let _ = eprintln!(rt; "{PROGRAM}: {many} messages in parts: --hold");
-        }
-    }
+    let messages = Messages::new(rt.alloc(), asked.settings);
+    viewed(rt, PROGRAM, asked.file, messages)
 }

@@ -1,13 +1,16 @@
-//! The messages, streams and captures of a dump as JSON: an object in a line for each, once it is over.
+//! Makes an object of each message, stream and capture of a dump once it is over, or of each call (docs/FORMATS.md, JSON).
 #![tactic(auto)]
 
-mod dump;
-mod facts;
+mod calls;
+mod half;
 mod message;
+mod messages;
 mod objects;
-mod streams;
+mod rows;
 
-pub use dump::{Dump, HOLD_MAX, Settings};
+pub use calls::Calls;
+pub use messages::Messages;
+pub use objects::{HOLD_MAX, Settings};
 
 #[cfg(test)]
 mod tests;

@@ -1,136 +1,87 @@
 //! Objects on an out, each in a line of ASCII.
 
-use crate::facts::{Faulted, put_flag, put_number, put_total};
-use crate::message::{Message, put_later, put_later_line};
-use crate::streams::Stream;
-use giop_json_values::{Text, shown_text};
-use giop_lines::CaptureTotal;
+ghost use Rattle.std.specs.Prelude.{◌<◌, ◌*◌, ◌↔◌, IsTrue};
+
+use giop_json_values::{Options, Text, shown_text};
 use giop_print::Out;
-use giop_view_parts::{Key, ViewFault};
-use std::alloc::Global;
+use giop_view_parts::ViewFault;
+use std::alloc::{AllocError, Global};
 use std::mem;
 
-/// Writes objects. Its room is kept for the next one.
+/// The greatest number of KiB of text that may be held.
+pub const HOLD_MAX: u32 = 16_777_216;
+
+/// What a user chooses.
+#[derive(Clone, Copy, Debug, Drop)]
+pub struct Settings {
+    /// How values are written.
+    pub options: Options,
+    /// How many KiB of text may be held, 1 to 16,777,216.
+    pub hold: u32,
+}
+
+impl Settings {
+    /// Whether more octets are held than may be.
+    #[inline]
+    pub(crate) fn is_full(&self, held: u64) -> bool
+        ensures { IsTrue result ↔ self.now.hold * 1024 < held }
+    {
+        held > u64::from(self.hold) * 1_024
+    }
+}
+
+/// Room for objects, which is kept for the next one.
 #[derive(Drop)]
-pub(crate) struct Objects {
+pub(crate) struct Room {
     alloc: Global,
-    room: Vec<u8>,
+    octets: Vec<u8>,
 }
 
-impl Objects {
-    pub(crate) fn new(alloc: Global) -> Objects {
-        Objects {
+impl Room {
+    pub(crate) fn new(alloc: Global) -> Room {
+        Room {
             alloc,
-            room: Vec::new(alloc),
+            octets: Vec::new(alloc),
         }
     }
 
-    fn text(&mut self) -> Text {
-        Text::new(mem::replace(&mut self.room, Vec::new(self.alloc)))
+    /// A text with nothing written.
+    pub(crate) fn text(&mut self) -> Text {
+        Text::new(mem::replace(&mut self.octets, Vec::new(self.alloc)))
     }
 
-    /// Writes the object of a message, or of the part of it that is held.
-    pub(crate) fn put_message<O: Out>(
-        &mut self,
-        out: &mut O,
-        stream: Option<&Stream>,
-        message: &mut Message,
-        is_last: bool,
-    ) -> Result<(), ViewFault> {
-        let mut front = self.text();
-        front.open(false)?;
-        if let Some(stream) = stream {
-            stream.put_ends(&mut front)?;
-        }
-        message.put_front(&mut front, is_last)?;
-        let mut values = message.put_values(self.alloc, is_last)?;
-        let mut front = front.into_octets();
-        if let Some(b'"') = values.first() {
-            push(&mut front, b',')?;
-        }
-        push(&mut values, b'\n')?;
-        out.put_all(&front)?;
-        put_ascii(out, &values)?;
-        self.room = front;
-        message.values.give_room(values);
-        Ok(())
+    /// Takes back the room of a text.
+    pub(crate) fn give(&mut self, octets: Vec<u8>) {
+        self.octets = octets;
     }
 
-    /// Writes the object of a stream, if a line tells of it.
-    pub(crate) fn put_stream<O: Out>(
-        &mut self,
-        out: &mut O,
-        stream: &Stream,
-    ) -> Result<(), ViewFault> {
-        let mut text = self.text();
-        let is_told = stream.put(&mut text)?;
-        self.put_text(out, text, is_told)
-    }
-
-    /// Writes a line of a stream that a later version has.
-    pub(crate) fn put_later_line<O: Out>(
-        &mut self,
-        out: &mut O,
-        stream: &Stream,
-        key: Key,
-        later: &[u8],
-    ) -> Result<(), ViewFault> {
-        let mut line = Vec::new(self.alloc);
-        put_later_line(&mut line, key, later)?;
-        let mut text = self.text();
-        text.open(false)?;
-        stream.put_ends(&mut text)?;
-        put_later(&mut text, &line)?;
-        text.close(false)?;
-        self.put_text(out, text, true)
-    }
-
-    /// Writes the object of a capture, with its totals unless they are missing.
-    pub(crate) fn put_capture<O: Out>(
-        &mut self,
-        out: &mut O,
-        total: Option<CaptureTotal>,
-        fault: &Faulted,
-    ) -> Result<(), ViewFault> {
-        let mut text = self.text();
-        text.open(false)?;
-        if let Some(total) = total {
-            put_total(&mut text, "streams", total.streams)?;
-            put_total(&mut text, "messages", total.messages)?;
-            put_total(&mut text, "faults", total.faults)?;
-            put_total(&mut text, "packets", total.packets)?;
-            put_total(&mut text, "octets", total.octets)?;
-            if let Some(other) = total.other {
-                put_total(&mut text, "other", other)?;
-            }
-        }
-        fault.put(&mut text)?;
-        put_flag(&mut text, "cut", total.is_none())?;
-        text.close(false)?;
-        self.put_text(out, text, true)
-    }
-
-    /// Writes a text with its LF, if it is due.
-    fn put_text<O: Out>(&mut self, out: &mut O, text: Text, is_due: bool) -> Result<(), ViewFault> {
+    /// Writes a text with its LF.
+    pub(crate) fn put<O: Out>(&mut self, out: &mut O, text: Text) -> Result<(), ViewFault> {
         let mut octets = text.into_octets();
-        if is_due {
-            push(&mut octets, b'\n')?;
-            out.put_all(&octets)?;
-        }
-        self.room = octets;
+        octets.push(b'\n')?;
+        put_ascii(out, &octets)?;
+        self.octets = octets;
         Ok(())
     }
 }
 
-fn push(octets: &mut Vec<u8>, octet: u8) -> Result<(), ViewFault> {
-    match octets.push(octet) {
-        Ok(()) => Ok(()),
-        Err(_) => Err(ViewFault::OutOfMemory),
+/// Writes the list of lines of later versions, if there are any, each of which ends with its LF.
+pub(crate) fn put_later(text: &mut Text, lines: &[u8]) -> Result<(), AllocError> {
+    if lines.is_empty() {
+        return Ok(());
     }
+    text.key("later")?;
+    text.open(true)?;
+    for line in lines.split(|octet| *octet == b'\n') {
+        if !line.is_empty() {
+            text.octets(line)?;
+        }
+    }
+    text.close(true)
 }
 
 /// Writes a text of JSON, each character outside ASCII, which stands in its strings alone, as its escape.
-fn put_ascii<O: Out>(out: &mut O, text: &[u8]) -> Result<(), ViewFault> {
+pub(crate) fn put_ascii<O: Out>(out: &mut O, text: &[u8]) -> Result<(), ViewFault> {
     if text.is_ascii() {
         out.put_all(text)?;
         return Ok(());

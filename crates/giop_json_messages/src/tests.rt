@@ -1,10 +1,10 @@
 //! A dump as JSON, by hand.
 
-use crate::{Dump, Settings};
+use crate::{Calls, Messages, Settings};
 use giop_json_values::{Characters, Options};
 use giop_lines::read;
 use giop_print::Written;
-use giop_view_parts::{View, ViewFault};
+use giop_view_parts::{Dump, Maker, View, ViewFault};
 use std::alloc::Global;
 
 const LINES: &str = "\
@@ -20,13 +20,21 @@ const OBJECTS: &str = "\
 {\"messages\":1,\"faults\":0,\"octets\":16}
 ";
 
-fn objects_of(alloc: Global, lines: &str) -> Result<Vec<u8>, ViewFault> {
-    let options = Options {
+const CALL: &str = "\
+{\"request_time\":null,\"seconds\":null,\"client\":null,\"client_port\":null,\"server\":null,\"server_port\":null,\"object\":null,\"interface\":null,\"operation\":\"ask\",\"outcome\":null,\"exception\":null,\"arguments\":{\"n\":[{\"x\":5}]},\"result\":null,\"raised\":null,\"forward\":null,\"request_rest\":null,\"reply_rest\":null,\"request_fault\":null,\"reply_fault\":null,\"request_id\":1,\"version\":\"1.0\",\"connection\":null,\"request_stream\":null,\"request_message\":1,\"request_packet\":null,\"request_octets\":16,\"reply_stream\":null,\"reply_message\":null,\"reply_packet\":null,\"reply_octets\":null,\"reply_time\":null,\"cut\":false}
+";
+
+const SETTINGS: Settings = Settings {
+    options: Options {
         characters: Characters::Escapes,
         are_strings: false,
         has_types: false,
-    };
-    let mut dump = Dump::new(alloc, Settings { options, hold: 64 })?;
+    },
+    hold: 64,
+};
+
+fn objects_of<V: Maker + Drop>(alloc: Global, maker: V, lines: &str) -> Result<Vec<u8>, ViewFault> {
+    let mut dump = Dump::new(alloc, maker)?;
     let mut octets = Vec::new(alloc);
     let mut out = Written::new(&mut octets);
     for line in lines.as_bytes().split(|octet| *octet == b'\n') {
@@ -40,7 +48,16 @@ fn objects_of(alloc: Global, lines: &str) -> Result<Vec<u8>, ViewFault> {
 
 #[test]
 fn a_message_is_an_object(rt: HostRuntime) -> Result<(), ViewFault> {
-    let objects = objects_of(rt.alloc(), LINES)?;
+    let messages = Messages::new(rt.alloc(), SETTINGS);
+    let objects = objects_of(rt.alloc(), messages, LINES)?;
     assert_eq!(rt; objects.as_slice(), OBJECTS.as_bytes());
+    Ok(())
+}
+
+#[test]
+fn a_call_is_an_object(rt: HostRuntime) -> Result<(), ViewFault> {
+    let calls = Calls::new(rt.alloc(), SETTINGS);
+    let objects = objects_of(rt.alloc(), calls, LINES)?;
+    assert_eq!(rt; objects.as_slice(), CALL.as_bytes());
     Ok(())
 }

@@ -2,6 +2,7 @@
 #![tactic(auto)]
 
 mod frames;
+mod members;
 mod options;
 mod pieces;
 mod shown;
@@ -9,6 +10,7 @@ mod text;
 mod values;
 
 pub use options::{Characters, Options};
+pub use shown::put_shown;
 pub use text::{Text, shown_text};
 pub use values::Values;
 

@@ -2,7 +2,7 @@
 //! by the user's choice.
 
 use crate::options::Characters;
-use crate::text::shown_size;
+use crate::text::{Text, shown_size};
 use arrayvec::ArrayVec;
 use giop_lines::first_octet;
 use std::alloc::{AllocError, Global};
@@ -145,6 +145,19 @@ impl Letters {
         }
         Ok(())
     }
+}
+
+/// Writes the text of a line as text.
+pub fn put_shown(
+    alloc: Global,
+    text: &mut Text,
+    octets: &[u8],
+    characters: Characters,
+) -> Result<(), AllocError> {
+    let mut letters = Letters::new(alloc);
+    letters.add(octets, characters)?;
+    letters.end()?;
+    text.string(letters.text())
 }
 
 /// Whether an octet stands for itself in the text of a line.

@@ -55,14 +55,8 @@ fn refused_time(rt: &HostRuntime, word: &str) -> u8
 fn view(rt: &HostRuntime, asked: Arguments<'_>) -> u8
     ensures { result ≤ 5 }
 {
-    let Ok(mut stat) = Stat::new(rt.alloc(), asked.settings) else {
+    let Ok(stat) = Stat::new(rt.alloc(), asked.settings) else {
         return failed(rt, PROGRAM, &ProgramFault::OutOfMemory);
     };
-    match viewed(rt, PROGRAM, asked.file, &mut stat) {
-        Err(status) => status,
-        Ok(report) => {
-            report.say_unknown(rt, PROGRAM, asked.file);
-            report.status(rt, PROGRAM)
-        }
-    }
+    viewed(rt, PROGRAM, asked.file, stat)
 }

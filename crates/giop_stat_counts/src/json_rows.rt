@@ -1,16 +1,14 @@
 //! The tables as one JSON object (RFC 8259).
 
-use crate::capture::Capture;
 use crate::choice::By;
 use crate::row::Row;
 use crate::seconds::put_seconds;
 use crate::sorted::{sorted, sorted_ids};
-use crate::streams::text_of;
 use crate::table::Table;
-use crate::tables::{Tables, address_of};
+use crate::tables::Tables;
 use crate::times::Times;
-use giop_json_values::Text;
-use giop_lines::number;
+use giop_json_values::{Text, shown_text};
+use giop_view_parts::{Capture, Endpoint};
 use std::alloc::{AllocError, Global};
 
 /// The object, with its line feed.
@@ -44,7 +42,11 @@ pub(crate) fn json_of(
     put_others(alloc, &mut text, "connections", tables.talks.others())?;
     text.close(false)?;
     text.key("capture")?;
-    capture.put_json(&mut text)?;
+    if capture.is_empty() {
+        text.null()?;
+    } else {
+        capture.put(&mut text, false)?;
+    }
     text.close(false)?;
     let mut octets = text.into_octets();
     octets.push(b'\n')?;
@@ -80,16 +82,14 @@ fn put_talks(alloc: Global, text: &mut Text, tables: &Tables) -> Result<(), Allo
     text.open(true)?;
     for talk in talks.iter().rev() {
         text.open(false)?;
-        text.key("connection")?;
-        text.unsigned(talk.number)?;
+        text.total("connection", talk.number)?;
         put_end(text, ["client", "client_port"], talk.end(false))?;
         put_end(text, ["server", "server_port"], talk.end(true))?;
-        put_known(text, "opened", &talk.opened)?;
-        put_known(text, "last", &talk.last)?;
-        put_known(text, "client_closed", talk.word(false))?;
-        put_known(text, "server_closed", talk.word(true))?;
-        text.key("streams")?;
-        text.unsigned(talk.streams)?;
+        text.known_or_null("opened", &talk.opened)?;
+        text.known_or_null("last", &talk.last)?;
+        text.known_or_null("client_closed", talk.word(false))?;
+        text.known_or_null("server_closed", talk.word(true))?;
+        text.total("streams", talk.streams)?;
         put_row(alloc, text, &talk.row)?;
         text.close(false)?;
     }
@@ -98,28 +98,10 @@ fn put_talks(alloc: Global, text: &mut Text, tables: &Tables) -> Result<(), Allo
 
 /// Writes the address and the port of an endpoint.
 fn put_end(text: &mut Text, names: [&str; 2], end: &[u8]) -> Result<(), AllocError> {
-    let [address_name, port_name] = names;
-    let end = text_of(end);
-    text.key(address_name)?;
-    text.string(address_of(end))?;
-    text.key(port_name)?;
-    let port = match end.rsplit_once(':') {
-        None => None,
-        Some((_, port)) => number(port.as_bytes()),
-    };
-    match port {
-        None => text.null(),
-        Some(port) => text.unsigned(port),
-    }
-}
-
-/// Writes a text, or null where nothing is known.
-fn put_known(text: &mut Text, name: &str, known: &[u8]) -> Result<(), AllocError> {
-    text.key(name)?;
-    if known.is_empty() {
-        return text.null();
-    }
-    text.octets(known)
+    let end = Endpoint::of(shown_text(end));
+    text.key(names[0])?;
+    text.string(end.address)?;
+    text.total_or_null(names[1], end.port)
 }
 
 /// Writes the row of all others, or null where there are none.
@@ -141,18 +123,15 @@ fn put_others(
 /// Writes the members of a row after its names.
 fn put_row(alloc: Global, text: &mut Text, row: &Row) -> Result<(), AllocError> {
     for (name, count) in counts(row) {
-        text.key(name)?;
-        text.unsigned(count)?;
+        text.total(name, count)?;
     }
     text.key("seconds")?;
     put_times(alloc, text, &row.times)?;
-    text.key("octets")?;
-    text.unsigned(row.octets)?;
+    text.total("octets", row.octets)?;
     text.key("raised")?;
     text.open(false)?;
     for (id, count) in sorted_ids(alloc, row)? {
-        text.key(text_of(id))?;
-        text.unsigned(count)?;
+        text.total(shown_text(id), count)?;
     }
     text.close(false)
 }

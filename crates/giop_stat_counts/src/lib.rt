@@ -3,7 +3,6 @@
 #![tactic(auto)]
 
 mod buckets;
-mod capture;
 mod choice;
 mod columns;
 mod json_rows;
@@ -12,7 +11,6 @@ mod row;
 mod seconds;
 mod sorted;
 mod stat;
-mod streams;
 mod table;
 mod tables;
 mod talks;

@@ -3,8 +3,10 @@
 ghost use Rattle.std.specs.Prelude.{◌≡◌, ◌-◌, ◌&&◌, true, not};
 ghost use Rattle.giop_stat_counts.specs.Counts.{plus};
 
-use crate::message::{Kind, Message, Raised};
+use crate::message::Counted;
+use crate::seconds::nanoseconds;
 use crate::times::Times;
+use giop_view_parts::{Facts, Kind, Message, Status};
 use std::alloc::{AllocError, Global};
 
 /// How many repository ids a row counts apart; all others are one.
@@ -66,39 +68,41 @@ impl Row {
     }
 
     /// Counts a message.
-    pub(crate) fn add(&mut self, message: &Message, is_captured: bool) -> Result<(), AllocError> {
+    pub(crate) fn add(&mut self, message: &Message<Counted>) -> Result<(), AllocError> {
+        let facts = &message.facts;
         self.octets = self.octets.saturating_add(message.octets);
-        self.faults = plus(self.faults, message.is_faulty);
-        match message.kind {
-            Kind::Request if !message.operation.is_empty() => self.add_call(message, is_captured),
-            Kind::Reply => self.add_reply(message)?,
+        self.faults = plus(self.faults, !facts.fault.is_none());
+        match facts.kind() {
+            Kind::Request if !facts.operation.is_empty() => {
+                self.add_call(message.key.stream > 0, facts.is_oneway)
+            }
+            Kind::Reply => self.add_reply(facts)?,
             _ => {}
         }
-        if message.id.is_empty() {
+        if facts.raises.is_empty() {
             return Ok(());
         }
-        self.add_id(&message.id, 1)
+        self.add_id(&facts.raises, 1)
     }
 
-    fn add_call(&mut self, message: &Message, is_captured: bool)
+    fn add_call(&mut self, is_captured: bool, is_oneway: bool)
         ensures calls { self.new.calls ≡ plus self.old.calls true }
-        ensures oneways { self.new.oneways ≡ plus self.old.oneways message.now.is_oneway }
-        ensures awaited { self.new.awaited
-            ≡ plus self.old.awaited (is_captured && not message.now.is_oneway) }
+        ensures oneways { self.new.oneways ≡ plus self.old.oneways is_oneway }
+        ensures awaited { self.new.awaited ≡ plus self.old.awaited (is_captured && not is_oneway) }
     {
         self.calls = plus(self.calls, true);
-        self.oneways = plus(self.oneways, message.is_oneway);
-        self.awaited = plus(self.awaited, is_captured && !message.is_oneway);
+        self.oneways = plus(self.oneways, is_oneway);
+        self.awaited = plus(self.awaited, is_captured && !is_oneway);
     }
 
-    fn add_reply(&mut self, message: &Message) -> Result<(), AllocError>
+    fn add_reply(&mut self, reply: &Facts) -> Result<(), AllocError>
         ensures { self.new.replies ≡ plus self.old.replies true }
     {
         self.replies = plus(self.replies, true);
-        self.answered = plus(self.answered, message.answers.is_some());
-        self.user = plus(self.user, message.raised == Raised::User);
-        self.system = plus(self.system, message.raised == Raised::System);
-        match message.time_since {
+        self.answered = plus(self.answered, reply.answers.is_some());
+        self.user = plus(self.user, reply.status == Status::User);
+        self.system = plus(self.system, reply.status == Status::System);
+        match nanoseconds(&reply.seconds) {
             None => Ok(()),
             Some(time) => self.times.add(time),
         }

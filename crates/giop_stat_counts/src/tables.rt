@@ -1,11 +1,12 @@
 //! The tables, and the rows in which a message counts.
 
 use crate::choice::By;
-use crate::message::Message;
+use crate::message::Counted;
 use crate::row::{Row, plus};
-use crate::streams::{Stream, text_of};
 use crate::table::Table;
 use crate::talks::Talks;
+use giop_json_values::shown_text;
+use giop_view_parts::{Endpoint, Message, Stream};
 use std::alloc::{AllocError, Global};
 
 /// What stands for the operation of messages that have none. No operation has a space.
@@ -39,24 +40,24 @@ impl Tables {
         &mut self,
         by: Option<By<'_>>,
         stream: &Stream,
-        message: &Message,
+        message: &Message<Counted>,
     ) -> Result<Option<usize>, AllocError> {
-        let operation = if message.operation.is_empty() {
+        let operation = if message.facts.operation.is_empty() {
             NONE
         } else {
-            text_of(&message.operation)
+            shown_text(&message.facts.operation)
         };
         self.names.clear();
-        self.names.push_str(text_of(&message.interface))?;
+        self.names.push_str(shown_text(&message.facts.interface))?;
         self.names.push('\n')?;
         self.names.push_str(operation)?;
         if let Some(by) = by {
             let (client, server) = stream.ends();
             self.names.push('\n')?;
             self.names.push_str(match by {
-                By::Client => known(address_of(text_of(client))),
-                By::Server => known(text_of(server)),
-                By::Object | By::Path(_) => text_of(&message.value),
+                By::Client => known(Endpoint::of(shown_text(client)).address),
+                By::Server => known(shown_text(server)),
+                By::Object | By::Path(_) => shown_text(&message.own.value),
             })?;
         }
         self.operations.place(&self.names)
@@ -77,9 +78,10 @@ impl Tables {
     fn place_of_ends(&mut self, stream: &Stream) -> Result<Option<usize>, AllocError> {
         let (client, server) = stream.ends();
         self.names.clear();
-        self.names.push_str(known(address_of(text_of(client))))?;
+        self.names
+            .push_str(known(Endpoint::of(shown_text(client)).address))?;
         self.names.push('\n')?;
-        self.names.push_str(known(text_of(server)))?;
+        self.names.push_str(known(shown_text(server)))?;
         self.pairs.place(&self.names)
     }
 
@@ -88,13 +90,12 @@ impl Tables {
         &mut self,
         place: Option<usize>,
         stream: &Stream,
-        message: &Message,
-        is_captured: bool,
+        message: &Message<Counted>,
     ) -> Result<(), AllocError> {
         let pair = self.place_of_ends(stream)?;
-        add_to(self.operations.row(place), message, is_captured)?;
-        add_to(self.pairs.row(pair), message, is_captured)?;
-        add_to(self.talks.row(stream.connection), message, is_captured)
+        add_to(self.operations.row(place), message)?;
+        add_to(self.pairs.row(pair), message)?;
+        add_to(self.talks.row(stream.connection), message)
     }
 
     /// Counts a fault of a stream, or a gap.
@@ -113,10 +114,10 @@ impl Tables {
     }
 }
 
-fn add_to(row: Option<&mut Row>, message: &Message, is_captured: bool) -> Result<(), AllocError> {
+fn add_to(row: Option<&mut Row>, message: &Message<Counted>) -> Result<(), AllocError> {
     match row {
         None => Ok(()),
-        Some(row) => row.add(message, is_captured),
+        Some(row) => row.add(message),
     }
 }
 
@@ -130,16 +131,4 @@ fn add_loss_to(row: Option<&mut Row>, is_gap: bool) {
 /// A name, or what stands for none.
 fn known(name: &str) -> &str {
     if name.is_empty() { UNKNOWN } else { name }
-}
-
-/// The address of an endpoint, without the brackets around one of IPv6.
-pub(crate) fn address_of(end: &str) -> &str {
-    let address = match end.rsplit_once(':') {
-        None => end,
-        Some((address, _)) => address,
-    };
-    match address.strip_prefix('[') {
-        None => address,
-        Some(address) => address.strip_suffix(']').unwrap_or(address),
-    }
 }

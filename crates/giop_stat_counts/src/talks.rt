@@ -2,11 +2,9 @@
 
 ghost use Rattle.std.specs.Prelude.{◌<◌};
 
-use crate::message::{Kind, replace};
 use crate::row::Row;
-use crate::streams::Stream;
 use crate::table::ROWS_MAX;
-use giop_view_parts::Of;
+use giop_view_parts::{Kind, Of, Stream, replace};
 use lru::LruCache;
 use std::alloc::{AllocError, Global};
 use std::collections::VecDeque;
@@ -27,7 +25,6 @@ pub(crate) struct Talk {
     pub(crate) last: Vec<u8>,
     /// How many streams it has.
     pub(crate) streams: u64,
-    is_over: bool,
     is_ended: bool,
     pub(crate) row: Row,
 }
@@ -45,7 +42,6 @@ impl Talk {
             opened: Vec::from_slice(alloc, &stream.time)?,
             last: Vec::new(alloc),
             streams: 0,
-            is_over: false,
             is_ended: false,
             row: Row::new(alloc, false),
         })
@@ -215,32 +211,23 @@ impl Talks {
         }
     }
 
-    /// Notes the word that a stream closed with, and whether its connection is over.
-    pub(crate) fn close(
-        &mut self,
-        stream: &Stream,
-        word: &[u8],
-        is_over: bool,
-    ) -> Result<(), AllocError> {
+    /// Notes the word that a stream closed with.
+    pub(crate) fn close(&mut self, stream: &Stream, word: &[u8]) -> Result<(), AllocError> {
         let Some(of) = stream.connection else {
             return Ok(());
         };
         match self.rows.peek_mut(&of.id) {
             None => Ok(()),
-            Some(talk) => {
-                talk.is_over |= is_over;
-                talk.note_word(stream, word)
-            }
+            Some(talk) => talk.note_word(stream, word),
         }
     }
 
-    /// Notes that a stream is over, with which its connection may have ended.
+    /// Notes that a connection has ended.
     pub(crate) fn end(&mut self, of: Option<Of>) -> Result<(), AllocError> {
         let Some(of) = of else {
             return Ok(());
         };
         if let Some(talk) = self.rows.peek_mut(&of.id)
-            && talk.is_over
             && !talk.is_ended
         {
             talk.is_ended = true;

@@ -3,7 +3,7 @@
 use crate::{Settings, Stat, Window};
 use giop_lines::read;
 use giop_print::Written;
-use giop_view_parts::{View, ViewFault};
+use giop_view_parts::{Dump, View, ViewFault};
 use std::alloc::Global;
 
 const LINES: &str = "\
@@ -34,7 +34,7 @@ fn counts_of(alloc: Global, lines: &str) -> Result<Vec<u8>, ViewFault> {
         is_json: false,
         has_connections: false,
     };
-    let mut stat = Stat::new(alloc, settings)?;
+    let mut stat = Dump::new(alloc, Stat::new(alloc, settings)?)?;
     let mut octets = Vec::new(alloc);
     let mut out = Written::new(&mut octets);
     for line in lines.as_bytes().split(|octet| *octet == b'\n') {

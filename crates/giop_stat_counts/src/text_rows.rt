@@ -1,6 +1,5 @@
 //! The tables as text.
 
-use crate::capture::Capture;
 use crate::choice::Settings;
 use crate::columns::Sheet;
 use crate::json_rows::{counts, named_times};
@@ -9,6 +8,7 @@ use crate::seconds::put_short_seconds;
 use crate::sorted::{sorted, sorted_ids};
 use crate::table::Table;
 use crate::tables::Tables;
+use giop_view_parts::Capture;
 use std::alloc::{AllocError, Global};
 
 /// How many exceptions are named below a row.

@@ -1,9 +1,10 @@
 //! The connections that streams are of, by their two endpoints.
 
-ghost use Rattle.std.specs.Prelude.{◌<◌};
+ghost use Rattle.std.specs.Prelude.{◌≡◌, ◌<◌, ◌-◌, ◌↔◌, IsTrue};
 
 use lru::LruCache;
 use std::alloc::{AllocError, Global};
+use std::collections::HashMap;
 
 /// How many connections are known; the one that began first is forgotten where there is one more.
 const CONNECTIONS_MAX: usize = 131_072;
@@ -38,25 +39,81 @@ pub struct Of {
     pub number: u64,
 }
 
+/// How many streams of a connection live, and whether it is over.
+#[derive(Clone, Copy, Debug, Drop)]
+struct Life {
+    streams: u64,
+    is_over: bool,
+}
+
+impl Life {
+    /// Counts one of its streams that is over.
+    fn end(&mut self) -> Ending
+        ensures streams { self.new.streams ≡ self.old.streams - 1 }
+        ensures over { result.is_over ≡ self.old.is_over }
+        ensures last { IsTrue result.is_last ↔ (self.new.streams ≡ 0) }
+    {
+        self.streams = self.streams.saturating_sub(1);
+        Ending {
+            is_over: self.is_over,
+            is_last: self.streams == 0,
+        }
+    }
+}
+
+/// How the connection of a stream is after the stream's end.
+#[derive(Clone, Copy, Debug, Drop, PartialEq, Eq)]
+pub struct Ending {
+    /// Whether the connection is over, so that a stream between its ends is of another one.
+    pub is_over: bool,
+    /// Whether none of its streams lives.
+    pub is_last: bool,
+}
+
 /// The connections that are known.
 #[derive(Drop)]
-pub struct Connections {
+pub(crate) struct Connections {
+    // By their two ends, the last between them.
     known: LruCache<String, Connection>,
+    // Those with a stream that lives, by which they are of all.
+    lives: HashMap<u64, Life>,
     begun: u64,
 }
 
 impl Connections {
     /// No connections.
-    pub fn new(alloc: Global) -> Result<Connections, AllocError> {
+    pub(crate) fn new(alloc: Global) -> Result<Connections, AllocError> {
         Ok(Connections {
             known: LruCache::unbounded(alloc)?,
+            lives: HashMap::new(alloc),
             begun: 0,
         })
     }
 
     /// The connection of a stream that begins: that of the stream that it is with, else the last of its endpoints, unless that
     /// is over; else a new one.
-    pub fn begin(
+    pub(crate) fn begin(
+        &mut self,
+        alloc: Global,
+        stream: u64,
+        ends: (&str, &str),
+        with: Option<Of>,
+    ) -> Result<Of, AllocError> {
+        let of = self.find(alloc, stream, ends, with)?;
+        let streams = match self.lives.get(&of.id) {
+            None => 0,
+            Some(life) => life.streams,
+        };
+        let life = Life {
+            streams: streams.saturating_add(1),
+            is_over: false,
+        };
+        self.lives.insert(of.id, life)?;
+        Ok(of)
+    }
+
+    /// The connection of a stream that begins.
+    fn find(
         &mut self,
         alloc: Global,
         stream: u64,
@@ -94,30 +151,47 @@ impl Connections {
         })
     }
 
-    /// Notes the word that a stream of a connection closed with. Answers whether the connection is over.
-    pub fn close(
+    /// Notes the word that a stream of a connection closed with.
+    pub(crate) fn close(
         &mut self,
         alloc: Global,
         of: Of,
         ends: (&str, &str),
         word: &[u8],
-    ) -> Result<bool, AllocError> {
+    ) -> Result<(), AllocError> {
         let key = key_of(alloc, ends)?;
-        let Some(known) = self.known.peek_mut(&key) else {
-            return Ok(false);
-        };
-        if known.id != of.id {
-            return Ok(false);
+        let mut is_over = matches!(word, b"reset" | b"syn" | b"room");
+        if let Some(known) = self.known.peek_mut(&key)
+            && known.id == of.id
+        {
+            let is_finished = word == b"fin".as_slice();
+            known.flows[side_of(ends)] = if is_finished {
+                Flow::Finished
+            } else {
+                Flow::Closed
+            };
+            known.is_over |= is_over || known.flows == [Flow::Finished, Flow::Finished];
+            is_over = known.is_over;
         }
-        let is_finished = word == b"fin".as_slice();
-        known.flows[side_of(ends)] = if is_finished {
-            Flow::Finished
-        } else {
-            Flow::Closed
+        if let Some(life) = self.lives.get_mut(&of.id) {
+            life.is_over |= is_over;
+        }
+        Ok(())
+    }
+
+    /// Counts a stream of a connection that is over.
+    pub(crate) fn end(&mut self, of: Of) -> Ending {
+        let Some(life) = self.lives.get_mut(&of.id) else {
+            return Ending {
+                is_over: false,
+                is_last: true,
+            };
         };
-        known.is_over |= matches!(word, b"reset" | b"syn" | b"room")
-            || known.flows == [Flow::Finished, Flow::Finished];
-        Ok(known.is_over)
+        let ending = life.end();
+        if ending.is_last {
+            let _ = self.lives.remove(&of.id);
+        }
+        ending
     }
 }
 

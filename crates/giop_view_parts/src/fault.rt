@@ -1,7 +1,7 @@
 //! Why a view of lines can't go on.
 
 use giop_print::OutFault;
-use std::alloc::AllocError;
+use std::alloc::{AllocError, AllocFailed};
 use thiserror::Error;
 
 /// Why a view of lines can't go on.
@@ -17,6 +17,12 @@ pub enum ViewFault {
 
 impl From<AllocError> for ViewFault {
     fn from(_fault: AllocError) -> ViewFault {
+        ViewFault::OutOfMemory
+    }
+}
+
+impl<T: Drop> From<AllocFailed<T>> for ViewFault {
+    fn from(_fault: AllocFailed<T>) -> ViewFault {
         ViewFault::OutOfMemory
     }
 }

@@ -1,12 +1,27 @@
-//! What the views of dumps share: which messages are open, which connections streams are of, and what a view is.
+//! What the views of dumps share: which messages are open and what their lines say, which streams and connections they are of,
+//! and when each is over.
 #![tactic(auto)]
 
+mod capture;
 mod connections;
+mod dump;
+mod ends;
+mod facts;
 mod fault;
+mod message;
 mod open;
+mod pool;
+mod streams;
 mod view;
 
-pub use connections::{Connections, Of};
+pub use capture::Capture;
+pub use connections::{Ending, Of};
+pub use dump::{Dump, Maker};
+pub use ends::{Endpoint, object_text};
+pub use facts::{Facts, Faulted, Header, Kind, Status, replace, replace_known};
 pub use fault::ViewFault;
-pub use open::{Key, OPEN_MAX, Open, OpenMessage};
-pub use view::{View, is_after_end, is_last};
+pub use message::{Key, Message, Own};
+pub use open::{OPEN_MAX, Open, greater};
+pub use pool::{Pool, Rank};
+pub use streams::{Stream, Streams};
+pub use view::{Notice, View};

@@ -4,6 +4,19 @@ use crate::fault::ViewFault;
 use giop_lines::{Line, Said};
 use giop_print::Out;
 
+/// What is said once at the end of what had no room.
+#[derive(Clone, Copy, Debug, Drop)]
+pub struct Notice {
+    /// How many of them there are.
+    pub count: u64,
+    /// What they are: `message` or `call`.
+    pub noun: &'static str,
+    /// What became of them.
+    pub fate: &'static str,
+    /// Whether something that was due is missing.
+    pub is_loss: bool,
+}
+
 /// What takes the lines of a dump, and writes what it makes of them.
 pub trait View {
     /// Takes a line, and writes what is due then.
@@ -11,10 +24,13 @@ pub trait View {
 
     /// Writes all that is left: no more lines come.
     fn finish<O: Out>(&mut self, out: &mut O) -> Result<(), ViewFault>;
+
+    /// What had no room, if something can have none.
+    fn notice(&self) -> Option<Notice>;
 }
 
 /// Whether a line ends its message.
-pub fn is_last(said: Said<'_>) -> bool {
+pub(crate) fn is_last(said: Said<'_>) -> bool {
     matches!(
         said,
         Said::End | Said::Fault(_) | Said::Cancelled(_) | Said::Continues(_) | Said::Unfinished
@@ -22,6 +38,6 @@ pub fn is_last(said: Said<'_>) -> bool {
 }
 
 /// Whether a line may tell of a message that has ended.
-pub fn is_after_end(said: Said<'_>) -> bool {
+pub(crate) fn is_after_end(said: Said<'_>) -> bool {
     matches!(said, Said::Time(_) | Said::Answers(_) | Said::Raises(_))
 }

@@ -1,13 +1,13 @@
 //! A view of a file or of standard input, and what is said of it.
 
-ghost use Rattle.std.specs.Prelude.{◌≤◌, IfErr};
+ghost use Rattle.std.specs.Prelude.{◌≤◌};
 
 use crate::run::{Report, run};
 use crate::watching::Watching;
 use giop_run::{
     Inputs, Lines, Look, ProgramFault, Reading, Retrying, RunFault, ShownName, failed, unreadable,
 };
-use giop_view_parts::{View, ViewFault};
+use giop_view_parts::{Dump, Maker, Notice, View, ViewFault};
 use std::io::Read;
 
 /// The status where a line is none of a dump.
@@ -16,22 +16,20 @@ const UNKNOWN: u8 = 3;
 /// The status where nobody reads what is written.
 const UNREAD: u8 = 4;
 
-/// Hands the lines of a file, or of standard input, to a view of the program of this name, which writes to standard output.
-/// An `Err` is the status of a run that wrote no more, after what is said of it.
-pub fn viewed<V: View>(
-    rt: &HostRuntime,
-    program: &str,
-    file: Option<&str>,
-    view: &mut V,
-) -> Result<Report, u8>
-    ensures { IfErr result (λ status. status ≤ 5) }
+/// Makes of the lines of a file, or of standard input, what the program of this name makes of them, on standard output;
+/// returns the status of the program, after what is said of the run.
+pub fn viewed<V: Maker + Drop>(rt: &HostRuntime, program: &str, file: Option<&str>, maker: V) -> u8
+    ensures { result ≤ 5 }
 {
+    let Ok(mut view) = Dump::new(rt.alloc(), maker) else {
+        return failed(rt, program, &ProgramFault::OutOfMemory);
+    };
     let Some(name) = file else {
-        return view_source(rt, program, rt.standard_input(), view);
+        return view_source(rt, program, file, rt.standard_input(), &mut view);
     };
     match rt.open(name) {
-        Ok(file) => view_source(rt, program, file, view),
-        Err(error) => Err(failed(rt, program, &unreadable(name, &error))),
+        Ok(source) => view_source(rt, program, file, source, &mut view),
+        Err(error) => failed(rt, program, &unreadable(name, &error)),
     }
 }
 
@@ -39,46 +37,67 @@ pub fn viewed<V: View>(
 fn view_source<R: Read + Drop, V: View>(
     rt: &HostRuntime,
     program: &str,
+    file: Option<&str>,
     reader: R,
     view: &mut V,
-) -> Result<Report, u8>
-    ensures { IfErr result (λ status. status ≤ 5) }
+) -> u8
+    ensures { result ≤ 5 }
 {
     let writer = Watching::new(Retrying::new(rt.stdout()));
     let Ok(mut out) = Lines::new(rt.alloc(), writer) else {
-        return Err(failed(rt, program, &ProgramFault::OutOfMemory));
+        return failed(rt, program, &ProgramFault::OutOfMemory);
     };
     let mut source = Reading::new(reader);
     match run(rt.alloc(), &mut source, &mut out, view) {
-        Ok(report) => Ok(report),
-        Err(ViewFault::OutOfMemory) => Err(failed(rt, program, &ProgramFault::OutOfMemory)),
-        Err(ViewFault::Out) if out.writer().is_unread() => Err(UNREAD),
-        Err(ViewFault::Out) => Err(failed(rt, program, &ProgramFault::Run(RunFault::Out))),
+        Ok(report) => {
+            say_unknown(rt, program, file, report);
+            let is_lost = say_notice(rt, program, view.notice());
+            status(rt, program, report, is_lost)
+        }
+        Err(ViewFault::OutOfMemory) => failed(rt, program, &ProgramFault::OutOfMemory),
+        Err(ViewFault::Out) if out.writer().is_unread() => UNREAD,
+        Err(ViewFault::Out) => failed(rt, program, &ProgramFault::Run(RunFault::Out)),
     }
 }
 
-impl Report {
-    /// Says which line no dump has, if one came.
-    pub fn say_unknown(&self, rt: &HostRuntime, program: &str, file: Option<&str>) {
-        let Some(number) = self.unknown else {
-            return;
-        };
-        let name = file.unwrap_or("standard input");
-        let look = if self.is_capture { Look::Capture } else { Look::Other };
-        let _ = eprintln!(rt;
-            "{program}: {}:{number}: no dump has this line{}",
-            ShownName(name),
-            look.words()
-        );
-    }
+/// Says which line no dump has, if one came.
+fn say_unknown(rt: &HostRuntime, program: &str, file: Option<&str>, report: Report) {
+    let Some(number) = report.unknown else {
+        return;
+    };
+    let name = file.unwrap_or("standard input");
+    let look = if report.is_capture { Look::Capture } else { Look::Other };
+    let _ = eprintln!(rt;
+        "{program}: {}:{number}: no dump has this line{}",
+        ShownName(name),
+        look.words()
+    );
+}
 
-    /// The status of a program whose view has nothing to say, after what is said of a source that failed.
-    pub fn status(&self, rt: &HostRuntime, program: &str) -> u8
-        ensures { result ≤ 5 }
-    {
-        if self.is_unread {
-            return failed(rt, program, &ProgramFault::Run(RunFault::Read));
+/// Says how many had no room, if some had not. Answers whether something that was due is missing.
+fn say_notice(rt: &HostRuntime, program: &str, notice: Option<Notice>) -> bool {
+    match notice {
+        Some(notice) if notice.count > 0 => {
+            let ending = if notice.count == 1 { "" } else { "s" };
+            let _ = eprintln!(rt;
+                "{program}: {} {}{ending} {}: --hold",
+                notice.count, notice.noun, notice.fate
+            );
+            notice.is_loss
         }
-        if self.unknown.is_some() { UNKNOWN } else { 0 }
+        _ => false,
     }
+}
+
+/// The status of a run, after what is said of a source that failed.
+fn status(rt: &HostRuntime, program: &str, report: Report, is_lost: bool) -> u8
+    ensures { result ≤ 5 }
+{
+    if report.is_unread {
+        return failed(rt, program, &ProgramFault::Run(RunFault::Read));
+    }
+    if report.unknown.is_some() {
+        return UNKNOWN;
+    }
+    u8::from(is_lost)
 }

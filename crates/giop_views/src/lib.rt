@@ -7,4 +7,3 @@ mod run;
 mod watching;
 
 pub use console::viewed;
-pub use run::Report;

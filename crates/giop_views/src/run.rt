@@ -8,7 +8,7 @@ use std::alloc::Global;
 
 /// How a run ended.
 #[derive(Clone, Copy, Debug, Drop, PartialEq, Eq)]
-pub struct Report {
+pub(crate) struct Report {
     /// The number of the line that no dump has, if one came.
     pub(crate) unknown: Option<u64>,
     /// Whether the first line is one, and begins as a capture.

@@ -1,56 +1,104 @@
-//! A dump: its lines by stream and message, and what is written after each.
+//! A dump: its lines by stream and message, and when each of these is over.
 
-use crate::facts::Faulted;
-use crate::message::Message;
-use crate::objects::Objects;
-use crate::streams::Streams;
-use giop_json_values::Options;
-use giop_lines::{Line, Said, Start};
+use crate::connections::Ending;
+use crate::fault::ViewFault;
+use crate::message::{Key, Message, Own};
+use crate::open::Open;
+use crate::streams::{Stream, Streams};
+use crate::view::{Notice, View, is_after_end, is_last};
+use giop_lines::{Line, Said, Start, Value};
 use giop_print::Out;
-use giop_view_parts::{Key, OPEN_MAX, Open, View, ViewFault, is_after_end, is_last};
 use std::alloc::{AllocError, Global};
 
-/// The greatest number of KiB of text that may be held.
-pub const HOLD_MAX: u32 = 16_777_216;
+/// What is made of messages and streams.
+pub trait Maker {
+    /// What is kept of a message beside its facts.
+    type Own: Own;
 
-/// What a user chooses.
-#[derive(Clone, Copy, Debug, Drop)]
-pub struct Settings {
-    /// How values are written.
-    pub options: Options,
-    /// How many KiB of text may be held, 1 to 16,777,216.
-    pub hold: u32,
+    /// Takes a value of a message.
+    fn take_value(
+        &mut self,
+        message: &mut Message<Self::Own>,
+        path: &[u8],
+        value: Value<'_>,
+    ) -> Result<(), AllocError>;
+
+    /// Takes a line of a message that is neither of a value nor of a fact.
+    fn take_more(
+        &mut self,
+        _message: &mut Message<Self::Own>,
+        _said: Said<'_>,
+    ) -> Result<(), AllocError> {
+        Ok(())
+    }
+
+    /// Takes a message that is over, which was one of the open ones.
+    fn end_message<O: Out>(
+        &mut self,
+        out: &mut O,
+        streams: &Streams,
+        open: &mut Open<Self::Own>,
+        message: Box<Message<Self::Own>>,
+    ) -> Result<(), ViewFault>;
+
+    /// Takes a line of a stream or of a capture, which the stream has noted.
+    fn take_of_stream<O: Out>(
+        &mut self,
+        out: &mut O,
+        stream: &Stream,
+        said: Said<'_>,
+    ) -> Result<(), ViewFault>;
+
+    /// Takes a stream that is over, after its messages, and how its connection is then.
+    fn end_stream<O: Out>(
+        &mut self,
+        out: &mut O,
+        stream: &Stream,
+        ending: Ending,
+        open: &mut Open<Self::Own>,
+    ) -> Result<(), ViewFault>;
+
+    /// Writes all that is left, after the last stream.
+    fn finish<O: Out>(&mut self, out: &mut O, open: &mut Open<Self::Own>) -> Result<(), ViewFault>;
+
+    /// Whether more is held than may be, with what the open messages hold.
+    #[inline]
+    fn is_full(&self, _open: u64) -> bool {
+        false
+    }
+
+    /// Makes room.
+    fn make_room<O: Out>(
+        &mut self,
+        out: &mut O,
+        streams: &Streams,
+        open: &mut Open<Self::Own>,
+    ) -> Result<(), ViewFault>;
+
+    /// What had no room.
+    fn notice(&self) -> Option<Notice> {
+        None
+    }
 }
 
 /// A dump whose lines come.
 #[derive(Drop)]
-pub struct Dump {
+pub struct Dump<V: Maker + Drop> {
     alloc: Global,
-    settings: Settings,
     streams: Streams,
-    open: Open<Message>,
-    objects: Objects,
-    fault: Faulted,
-    in_parts: u64,
+    open: Open<V::Own>,
+    maker: V,
 }
 
-impl Dump {
+impl<V: Maker + Drop> Dump<V> {
     /// A dump of which no line came.
-    pub fn new(alloc: Global, settings: Settings) -> Result<Dump, AllocError> {
+    pub fn new(alloc: Global, maker: V) -> Result<Dump<V>, AllocError> {
         Ok(Dump {
             alloc,
-            settings,
             streams: Streams::new(alloc)?,
             open: Open::new(alloc),
-            objects: Objects::new(alloc),
-            fault: Faulted::new(alloc),
-            in_parts: 0,
+            maker,
         })
-    }
-
-    /// How many messages were written in parts.
-    pub fn in_parts(&self) -> u64 {
-        self.in_parts
     }
 
     /// Takes a line that isn't of a value of the same message as the line before.
@@ -69,12 +117,12 @@ impl Dump {
         if let Some(first) = self.streams.first_without_room(key.stream) {
             self.end_stream(out, first)?;
         }
-        self.streams.enter(self.alloc, key.stream)?;
+        self.streams.enter(key.stream)?;
         if key.number == 0 {
-            return self.take_of_stream(out, key, said);
+            return self.take_of_stream(out, key.stream, said);
         }
         self.take_of_message(out, key, said)?;
-        self.put_parts(out)
+        self.make_room(out)
     }
 
     /// Takes a line that tells of a message that has ended.
@@ -86,15 +134,15 @@ impl Dump {
     ) -> Result<(), ViewFault> {
         self.note_time(key, said)?;
         if let Some(message) = self.open.current() {
-            message.take(self.settings.options, said)?;
-            if message.may_wait() {
-                return self.put_parts(out);
+            message.take(said)?;
+            if message.facts.may_wait() {
+                return Ok(());
             }
         }
         self.end_current(out)
     }
 
-    /// Writes the message that the last line was of, which is over.
+    /// Ends the message that the last line was of.
     fn end_current<O: Out>(&mut self, out: &mut O) -> Result<(), ViewFault> {
         match self.open.current_key() {
             None => Ok(()),
@@ -102,18 +150,19 @@ impl Dump {
         }
     }
 
-    /// Writes a message that is over, if it is open.
+    /// Ends a message, if it is open.
     fn end_message<O: Out>(&mut self, out: &mut O, key: Key) -> Result<(), ViewFault> {
-        let Some(mut message) = self.open.remove(key) else {
+        let Some(message) = self.open.remove(key) else {
             return Ok(());
         };
-        self.objects
-            .put_message(out, self.streams.get(key.stream), &mut message, true)?;
-        self.open.give_room(message)?;
-        Ok(())
+        if let Some(stream) = self.streams.get_mut(key.stream) {
+            stream.turn(message.facts.kind());
+        }
+        self.maker
+            .end_message(out, &self.streams, &mut self.open, message)
     }
 
-    /// Writes an open message that is cut.
+    /// Ends an open message whose end is missing.
     fn cut_message<O: Out>(&mut self, out: &mut O, key: Key) -> Result<(), ViewFault> {
         if let Some(stream) = self.streams.get_mut(key.stream) {
             stream.remove(key.number);
@@ -138,7 +187,14 @@ impl Dump {
         let Some(message) = self.open.current() else {
             return Ok(());
         };
-        message.take(self.settings.options, said)?;
+        match said {
+            Said::Value(path, value) => {
+                message.facts.note(path, value);
+                self.maker.take_value(message, path, value)?;
+            }
+            Said::Rest(_, _) | Said::Later(_) => self.maker.take_more(message, said)?,
+            _ => message.take(said)?,
+        }
         if is_last(said) {
             return self.take_last(out, key, said);
         }
@@ -155,10 +211,9 @@ impl Dump {
         let Some(stream) = self.streams.get_mut(key.stream) else {
             return Ok(());
         };
-        let alone = stream.alone;
         let is_alone = !start.more || start.kind == b"Fragment".as_slice();
-        stream.alone = if is_alone { key.number } else { 0 };
-        for number in [alone, key.number] {
+        let before = stream.begin_alone(if is_alone { key.number } else { 0 });
+        for number in [before, key.number] {
             let other = Key {
                 stream: key.stream,
                 number,
@@ -176,10 +231,7 @@ impl Dump {
             self.cut_message(out, first)?;
         }
         if let Some(stream) = self.streams.get_mut(key.stream) {
-            match stream.open.push(key.number) {
-                Ok(()) => {}
-                Err(_) => return Err(ViewFault::OutOfMemory),
-            }
+            stream.enter(key.number)?;
         }
         self.open.begin(self.alloc, key)?;
         Ok(())
@@ -206,11 +258,11 @@ impl Dump {
             stream.remove(key.number);
         }
         if let Said::Continues(number) = said {
-            self.join(key, number);
+            self.open.join(number);
         }
         if let Some(message) = self.open.current()
             && key.stream > 0
-            && message.may_wait()
+            && message.facts.may_wait()
         {
             message.is_waiting = true;
             return Ok(());
@@ -218,102 +270,54 @@ impl Dump {
         self.end_message(out, key)
     }
 
-    /// Counts the current message as a Fragment of the one that it continues.
-    fn join(&mut self, key: Key, number: u64) {
-        let initial = Key {
-            stream: key.stream,
-            number,
-        };
-        let octets = match self.open.current() {
-            None => 0,
-            Some(message) => message.octets,
-        };
-        if self.open.join(initial, octets)
-            && let Some(message) = self.open.current()
-        {
-            message.octets = 0;
-        }
-    }
-
     /// Takes a line of a stream or a capture.
     fn take_of_stream<O: Out>(
         &mut self,
         out: &mut O,
-        key: Key,
+        number: u64,
         said: Said<'_>,
     ) -> Result<(), ViewFault> {
-        match said {
-            Said::CaptureFault(fault) => Ok(self.fault.take(fault)?),
-            Said::CaptureTotal(total) => {
-                self.objects.put_capture(out, Some(total), &self.fault)?;
-                self.fault.clear();
-                Ok(())
-            }
-            Said::Later(later) => match self.streams.get(key.stream) {
-                None => Ok(()),
-                Some(stream) => self.objects.put_later_line(out, stream, key, later),
-            },
-            Said::Total(_) => {
-                self.streams.take(self.alloc, key.stream, said)?;
-                self.end_stream(out, key.stream)
-            }
-            _ => Ok(self.streams.take(self.alloc, key.stream, said)?),
+        self.streams.take(number, said)?;
+        if let Some(stream) = self.streams.get(number) {
+            self.maker.take_of_stream(out, stream, said)?;
         }
+        if let Said::Total(_) = said {
+            return self.end_stream(out, number);
+        }
+        Ok(())
     }
 
-    /// Writes a stream that is over, after its open messages.
+    /// Ends a stream, after its open messages.
     fn end_stream<O: Out>(&mut self, out: &mut O, number: u64) -> Result<(), ViewFault> {
         let Some(stream) = self.streams.get_mut(number) else {
             return Ok(());
         };
-        let open = std::mem::replace(&mut stream.open, Vec::new(self.alloc));
-        for message in open {
+        for message in stream.take_open(self.alloc) {
             let key = Key {
                 stream: number,
                 number: message,
             };
             self.end_message(out, key)?;
         }
-        match self.streams.remove(number) {
+        match self.streams.end(number) {
             None => Ok(()),
-            Some(stream) => self.objects.put_stream(out, &stream),
-        }
-    }
-
-    /// Writes what is held of the messages with the most text, while all hold more than they may.
-    #[inline]
-    fn put_parts<O: Out>(&mut self, out: &mut O) -> Result<(), ViewFault> {
-        let hold = u64::from(self.settings.hold) * 1_024;
-        if self.open.held() <= hold {
-            return Ok(());
-        }
-        for _ in 0..=OPEN_MAX {
-            match self.open.most() {
-                Some(key) if self.open.held() > hold => self.put_part(out, key)?,
-                _ => break,
+            Some((stream, ending)) => {
+                self.maker.end_stream(out, &stream, ending, &mut self.open)
             }
         }
-        Ok(())
     }
 
-    /// Writes what is held of a message, which goes on with nothing held.
-    fn put_part<O: Out>(&mut self, out: &mut O, key: Key) -> Result<(), ViewFault> {
-        let is_current = self.open.current_key() == Some(key);
-        let Some(mut message) = self.open.remove(key) else {
+    /// Makes room, if more is held than may be.
+    #[inline]
+    fn make_room<O: Out>(&mut self, out: &mut O) -> Result<(), ViewFault> {
+        if !self.maker.is_full(self.open.held()) {
             return Ok(());
-        };
-        if message.parts == 1 {
-            self.in_parts = self.in_parts.saturating_add(1);
         }
-        let stream = self.streams.get(key.stream);
-        self.objects.put_message(out, stream, &mut message, false)?;
-        message.next_part();
-        self.open.put_back(message, is_current)?;
-        Ok(())
+        self.maker.make_room(out, &self.streams, &mut self.open)
     }
 }
 
-impl View for Dump {
+impl<V: Maker + Drop> View for Dump<V> {
     #[inline]
     fn take<O: Out>(&mut self, out: &mut O, line: Line<'_>) -> Result<(), ViewFault> {
         let key = Key {
@@ -325,8 +329,9 @@ impl View for Dump {
             && message.key == key
             && !message.is_waiting
         {
-            message.take_value(self.settings.options, path, value)?;
-            return self.put_parts(out);
+            message.facts.note(path, value);
+            self.maker.take_value(message, path, value)?;
+            return self.make_room(out);
         }
         self.take_other(out, key, line.said)
     }
@@ -341,9 +346,10 @@ impl View for Dump {
                 Some(number) => self.end_stream(out, number)?,
             }
         }
-        if !self.fault.is_none() {
-            self.objects.put_capture(out, None, &self.fault)?;
-        }
-        Ok(())
+        self.maker.finish(out, &mut self.open)
+    }
+
+    fn notice(&self) -> Option<Notice> {
+        self.maker.notice()
     }
 }

@@ -1,77 +1,67 @@
 //! What a capture says of itself.
 
-use crate::message::replace;
+use crate::facts::Faulted;
 use giop_json_values::Text;
-use giop_lines::{CaptureTotal, Fault};
+use giop_lines::{CaptureTotal, Said};
 use std::alloc::{AllocError, Global};
 
 /// The totals of a capture and its fault, as far as their lines came.
 #[derive(Drop)]
-pub(crate) struct Capture {
-    total: Option<CaptureTotal>,
-    // The word of the fault; empty where there is none.
-    word: Vec<u8>,
-    place: u64,
+pub struct Capture {
+    /// The totals, if they came.
+    pub total: Option<CaptureTotal>,
+    /// The fault, if one came.
+    pub fault: Faulted,
 }
 
 impl Capture {
     /// No line came.
-    pub(crate) fn new(alloc: Global) -> Capture {
+    pub fn new(alloc: Global) -> Capture {
         Capture {
             total: None,
-            word: Vec::new(alloc),
-            place: 0,
+            fault: Faulted::new(alloc),
         }
     }
 
-    pub(crate) fn take_total(&mut self, total: CaptureTotal) {
-        self.total = Some(total);
-    }
-
-    pub(crate) fn take_fault(&mut self, fault: Fault<'_>) -> Result<(), AllocError> {
-        self.place = fault.place;
-        replace(&mut self.word, fault.word)
+    /// Takes a line of a capture.
+    pub fn take(&mut self, said: Said<'_>) -> Result<(), AllocError> {
+        match said {
+            Said::CaptureTotal(total) => {
+                self.total = Some(total);
+                Ok(())
+            }
+            Said::CaptureFault(fault) => self.fault.take(fault),
+            _ => Ok(()),
+        }
     }
 
     /// Whether no line came.
-    pub(crate) fn is_empty(&self) -> bool {
-        self.total.is_none() && self.word.is_empty()
+    pub fn is_empty(&self) -> bool {
+        self.total.is_none() && self.fault.is_none()
     }
 
-    /// Writes its object, or null where no line came.
-    pub(crate) fn put_json(&self, text: &mut Text) -> Result<(), AllocError> {
-        if self.is_empty() {
-            return text.null();
-        }
+    /// Writes its object, which says whether the totals are missing.
+    pub fn put(&self, text: &mut Text, says_cut: bool) -> Result<(), AllocError> {
         text.open(false)?;
         if let Some(total) = self.total {
             for (name, number) in numbers(total) {
-                text.key(name)?;
-                text.unsigned(number)?;
+                text.total(name, number)?;
             }
             if let Some(other) = total.other {
-                text.key("other")?;
-                text.unsigned(other)?;
+                text.total("other", other)?;
             }
         }
-        if !self.word.is_empty() {
-            text.key("fault")?;
-            text.open(false)?;
-            text.key("word")?;
-            text.octets(&self.word)?;
-            text.key("at")?;
-            text.unsigned(self.place)?;
-            text.close(false)?;
-        }
+        self.fault.put(text)?;
+        text.flag("cut", says_cut && self.total.is_none())?;
         text.close(false)
     }
 
     /// Appends its lines.
-    pub(crate) fn put_lines(&self, text: &mut Vec<u8>) -> Result<(), AllocError> {
-        if !self.word.is_empty() {
+    pub fn put_lines(&self, text: &mut Vec<u8>) -> Result<(), AllocError> {
+        if !self.fault.is_none() {
             text.extend_from_slice(b"capture fault ")?;
-            text.extend_from_slice(&self.word)?;
-            put_named(text, "at", self.place)?;
+            text.extend_from_slice(&self.fault.word)?;
+            put_named(text, "at", self.fault.place)?;
             text.push(b'\n')?;
         }
         let Some(total) = self.total else {

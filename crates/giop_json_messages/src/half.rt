@@ -1,0 +1,173 @@
+//! What is kept of a Request or a Reply for the object of its call.
+
+use giop_json_values::{Options, Values};
+use giop_lines::{Content, Said, Value};
+use giop_view_parts::{Of, Own, Stream, replace};
+use std::alloc::{AllocError, Global};
+
+/// How many octets of an object key are written.
+const OBJECT_MAX: usize = 128;
+
+/// The body and the rest of a message, and whose it is.
+#[derive(Drop)]
+pub struct Half {
+    alloc: Global,
+    values: Values,
+    /// The value of the body, once the message is over; empty where there is none.
+    pub(crate) body: Vec<u8>,
+    /// What the message has after its body, in hexadecimal digits.
+    pub(crate) rest: Vec<u8>,
+    // The offset at which the rest goes on.
+    rest_end: u64,
+    // The object key in hexadecimal digits, no more of it than tells that it is too long.
+    object: Vec<u8>,
+    lacks: bool,
+    /// Whether its text had no room.
+    pub(crate) is_dropped: bool,
+    pub(crate) source: Vec<u8>,
+    pub(crate) target: Vec<u8>,
+    pub(crate) connection: Option<Of>,
+}
+
+impl Own for Half {
+    fn new(alloc: Global) -> Half {
+        Half {
+            alloc,
+            values: Values::new(alloc),
+            body: Vec::new(alloc),
+            rest: Vec::new(alloc),
+            rest_end: 0,
+            object: Vec::new(alloc),
+            lacks: false,
+            is_dropped: false,
+            source: Vec::new(alloc),
+            target: Vec::new(alloc),
+            connection: None,
+        }
+    }
+
+    fn clear(&mut self) {
+        self.values.forget();
+        self.body = Vec::new(self.alloc);
+        self.rest = Vec::new(self.alloc);
+        self.rest_end = 0;
+        self.object.clear();
+        self.lacks = false;
+        self.is_dropped = false;
+        self.source.clear();
+        self.target.clear();
+        self.connection = None;
+    }
+
+    fn size(&self) -> u64 {
+        let texts = self.body.len().saturating_add(self.rest.len());
+        self.values.size().saturating_add(texts as u64)
+    }
+}
+
+impl Half {
+    /// Takes a value.
+    #[inline]
+    pub(crate) fn take_value(
+        &mut self,
+        options: Options,
+        path: &[u8],
+        value: Value<'_>,
+    ) -> Result<(), AllocError> {
+        if path.starts_with(b"body") {
+            if self.is_dropped {
+                return Ok(());
+            }
+            self.rest_end = 0;
+            return self.values.take(options, path, value);
+        }
+        if let Value::Piece(piece) = value
+            && !matches!(piece.content, Content::Text | Content::Rest)
+            && matches!(path, b"header.object_key" | b"header.target.object_key")
+            && self.object.len() <= 2 * OBJECT_MAX
+        {
+            self.object.extend_from_slice(piece.octets)?;
+        }
+        Ok(())
+    }
+
+    /// Takes a piece of what the message has after its body.
+    pub(crate) fn take_rest(&mut self, said: Said<'_>) -> Result<(), AllocError> {
+        let Said::Rest(offset, octets) = said else {
+            return Ok(());
+        };
+        if self.is_dropped {
+            return Ok(());
+        }
+        if offset == 0 || offset != self.rest_end {
+            self.lacks |= offset > 0;
+            self.rest.clear();
+        }
+        self.rest_end = offset.saturating_add(octets.len() as u64 / 2);
+        self.rest.extend_from_slice(octets)
+    }
+
+    /// Takes the end of the message, which is of a stream: its body is whole as far as it came.
+    pub(crate) fn end(&mut self, stream: Option<&Stream>) -> Result<(), AllocError> {
+        if let Some(stream) = stream {
+            replace(&mut self.source, &stream.source)?;
+            replace(&mut self.target, &stream.target)?;
+            self.connection = stream.connection;
+        }
+        self.lacks |= self.values.lacks();
+        let _ = self.values.close()?;
+        let text = self.values.take_text(self.alloc);
+        self.body = Vec::from_slice(self.alloc, last_value(&text))?;
+        self.values.give_room(text);
+        Ok(())
+    }
+
+    /// Keeps no room but that of what it holds: the message waits.
+    pub(crate) fn wait(&mut self) {
+        self.values = Values::new(self.alloc);
+    }
+
+    /// Drops the text.
+    pub(crate) fn drop_text(&mut self) {
+        self.is_dropped = true;
+        self.values = Values::new(self.alloc);
+        self.body = Vec::new(self.alloc);
+        self.rest = Vec::new(self.alloc);
+    }
+
+    /// Whether values are missing.
+    pub(crate) fn is_cut(&self) -> bool {
+        self.is_dropped || self.lacks
+    }
+
+    /// The object key in hexadecimal digits; empty where none came or it is too long.
+    pub(crate) fn object(&self) -> &[u8] {
+        if self.object.len() > 2 * OBJECT_MAX {
+            return b"";
+        }
+        &self.object
+    }
+}
+
+/// The value of the last of some members: lines told twice have more than one.
+fn last_value(members: &[u8]) -> &[u8] {
+    let mut depth: u64 = 0;
+    let mut is_text = false;
+    let mut is_escaped = false;
+    let mut start = members.len();
+    for (place, octet) in members.iter().enumerate() {
+        if is_text {
+            is_text = is_escaped || *octet != b'"';
+            is_escaped = !is_escaped && *octet == b'\\';
+            continue;
+        }
+        match *octet {
+            b'"' => is_text = true,
+            b'{' | b'[' => depth = depth.saturating_add(1),
+            b'}' | b']' => depth = depth.saturating_sub(1),
+            b':' if depth == 0 => start = place.saturating_add(1),
+            _ => {}
+        }
+    }
+    members.get(start..).unwrap_or_default()
+}

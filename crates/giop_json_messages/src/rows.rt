@@ -1,0 +1,247 @@
+//! The members of a call.
+
+use crate::half::Half;
+use crate::message::version;
+use giop_json_values::{Characters, Text, put_shown, shown_text};
+use giop_view_parts::{Endpoint, Message, Status, object_text};
+use std::alloc::{AllocError, Global};
+
+/// What came of a call.
+#[derive(Clone, Copy, Debug, Drop, PartialEq, Eq)]
+pub(crate) enum Outcome {
+    Unknown,
+    Result,
+    User,
+    System,
+    Forward,
+    Addressing,
+    Oneway,
+    Cancelled,
+    NoReply,
+}
+
+impl Outcome {
+    /// Its word; empty where it can't be told.
+    fn word(self) -> &'static str {
+        match self {
+            Outcome::Unknown => "",
+            Outcome::Result => "result",
+            Outcome::User => "user_exception",
+            Outcome::System => "system_exception",
+            Outcome::Forward => "forward",
+            Outcome::Addressing => "addressing",
+            Outcome::Oneway => "oneway",
+            Outcome::Cancelled => "cancelled",
+            Outcome::NoReply => "no_reply",
+        }
+    }
+}
+
+/// A Request and the Reply that answers it, each if it is known.
+#[derive(Clone, Copy)]
+pub(crate) struct Call<'a> {
+    pub(crate) request: Option<&'a Message<Half>>,
+    pub(crate) reply: Option<&'a Message<Half>>,
+}
+
+impl<'a> Call<'a> {
+    /// What came of it.
+    fn outcome(self) -> Outcome {
+        if let Some(request) = self.request {
+            if request.facts.is_oneway && self.reply.is_none() {
+                return Outcome::Oneway;
+            }
+            if request.facts.cancelled_by > 0 {
+                return Outcome::Cancelled;
+            }
+        }
+        match (self.request, self.reply) {
+            (_, Some(reply)) => match reply.facts.status {
+                Status::Unknown => Outcome::Unknown,
+                Status::Result => Outcome::Result,
+                Status::User => Outcome::User,
+                Status::System => Outcome::System,
+                Status::Forward => Outcome::Forward,
+                Status::Addressing => Outcome::Addressing,
+            },
+            (Some(request), None) if request.key.stream > 0 => Outcome::NoReply,
+            _ => Outcome::Unknown,
+        }
+    }
+
+    /// Whether lines or room were missing.
+    fn is_cut(self) -> bool {
+        is_cut(self.request) || is_cut(self.reply)
+    }
+
+    /// Whether a text had no room.
+    pub(crate) fn is_dropped(self) -> bool {
+        self.request.is_some_and(|message| message.own.is_dropped)
+            || self.reply.is_some_and(|message| message.own.is_dropped)
+    }
+
+    /// The client's endpoint and the server's.
+    fn ends(self) -> (&'a [u8], &'a [u8]) {
+        match (self.request, self.reply) {
+            (Some(request), _) => (&request.own.source, &request.own.target),
+            (None, Some(reply)) => (&reply.own.target, &reply.own.source),
+            (None, None) => (b"", b""),
+        }
+    }
+
+    /// Writes the members before those of the bodies.
+    pub(crate) fn put_front(
+        self,
+        alloc: Global,
+        text: &mut Text,
+        characters: Characters,
+    ) -> Result<(), AllocError> {
+        let (request, reply) = (self.request, self.reply);
+        let (client, server) = self.ends();
+        text.open(false)?;
+        text.known_or_null("request_time", request.map_or(b"", |m| &m.facts.time))?;
+        text.key("seconds")?;
+        match reply {
+            Some(reply) if !reply.facts.seconds.is_empty() => text.number(&reply.facts.seconds)?,
+            _ => text.null()?,
+        }
+        put_end(text, ["client", "client_port"], client)?;
+        put_end(text, ["server", "server_port"], server)?;
+        text.key("object")?;
+        put_object(
+            alloc,
+            text,
+            request.map_or(b"", |m| m.own.object()),
+            characters,
+        )?;
+        text.known_or_null("interface", request.map_or(b"", |m| &m.facts.interface))?;
+        let called = request.map_or(b"".as_slice(), |m| &m.facts.operation);
+        let answered = reply.map_or(b"".as_slice(), |m| &m.facts.operation);
+        text.known_or_null(
+            "operation",
+            if called.is_empty() { answered } else { called },
+        )?;
+        text.known_or_null("outcome", self.outcome().word().as_bytes())?;
+        text.known_or_null("exception", reply.map_or(b"", |m| &m.facts.raises))
+    }
+
+    /// The bodies by the names of their members; empty where there is none.
+    pub(crate) fn bodies(self) -> [(&'static str, &'a [u8]); 4] {
+        let arguments = self.request.map_or(b"".as_slice(), |m| &m.own.body);
+        let answer = self.reply.map_or(b"".as_slice(), |m| &m.own.body);
+        let status = self.reply.map_or(Status::Unknown, |m| m.facts.status);
+        let none = b"".as_slice();
+        let (result, raised, forward) = match status {
+            Status::User | Status::System => (none, answer, none),
+            Status::Forward => (none, none, answer),
+            _ => (answer, none, none),
+        };
+        [
+            ("arguments", arguments),
+            ("result", result),
+            ("raised", raised),
+            ("forward", forward),
+        ]
+    }
+
+    /// Writes the members after those of the bodies.
+    pub(crate) fn put_back(self, text: &mut Text) -> Result<(), AllocError> {
+        let (request, reply) = (self.request, self.reply);
+        text.known_or_null("request_rest", request.map_or(b"", |m| &m.own.rest))?;
+        text.known_or_null("reply_rest", reply.map_or(b"", |m| &m.own.rest))?;
+        text.known_or_null("request_fault", request.map_or(b"", fault_of))?;
+        text.known_or_null("reply_fault", reply.map_or(b"", fault_of))?;
+        let id = request.and_then(|m| m.facts.call);
+        text.total_or_null("request_id", id.map(u64::from))?;
+        let some = if request.is_some() { request } else { reply };
+        let header = some.and_then(|m| m.facts.header);
+        text.known_or_null("version", header.map_or("", version).as_bytes())?;
+        let connection = some.and_then(|m| m.own.connection);
+        text.total_or_null("connection", connection.map(|of| of.number))?;
+        put_message(
+            text,
+            [
+                "request_stream",
+                "request_message",
+                "request_packet",
+                "request_octets",
+            ],
+            request,
+        )?;
+        put_message(
+            text,
+            [
+                "reply_stream",
+                "reply_message",
+                "reply_packet",
+                "reply_octets",
+            ],
+            reply,
+        )?;
+        text.known_or_null("reply_time", reply.map_or(b"", |m| &m.facts.time))?;
+        text.key("cut")?;
+        text.boolean(self.is_cut())?;
+        text.close(false)
+    }
+}
+
+/// Whether lines or room were missing.
+fn is_cut(message: Option<&Message<Half>>) -> bool {
+    message.is_some_and(|m| m.own.is_cut() || m.facts.header.is_none() || !m.has_ended)
+}
+
+/// The word of a message's fault, or that it ended in the middle.
+fn fault_of(message: &Message<Half>) -> &[u8] {
+    if message.facts.fault.is_none() && message.facts.is_unfinished {
+        return b"unfinished";
+    }
+    &message.facts.fault.word
+}
+
+/// Writes the address and the port of an endpoint.
+fn put_end(text: &mut Text, names: [&str; 2], end: &[u8]) -> Result<(), AllocError> {
+    let end = Endpoint::of(shown_text(end));
+    text.known_or_null(names[0], end.address.as_bytes())?;
+    text.total_or_null(names[1], end.port)
+}
+
+/// Writes an object key as text.
+fn put_object(
+    alloc: Global,
+    text: &mut Text,
+    digits: &[u8],
+    characters: Characters,
+) -> Result<(), AllocError> {
+    if digits.is_empty() {
+        return text.null();
+    }
+    let mut object = Vec::new(alloc);
+    object_text(&mut object, digits)?;
+    put_shown(alloc, text, &object, characters)
+}
+
+/// Writes which message it is, its packet and its octets.
+fn put_message(
+    text: &mut Text,
+    names: [&str; 4],
+    message: Option<&Message<Half>>,
+) -> Result<(), AllocError> {
+    let numbers = match message {
+        None => [None, None, None, None],
+        Some(message) => [
+            ordinal(message.key.stream),
+            Some(message.key.number),
+            ordinal(message.facts.packet),
+            Some(message.octets),
+        ],
+    };
+    for (name, number) in names.iter().zip(numbers) {
+        text.total_or_null(name, number)?;
+    }
+    Ok(())
+}
+
+/// A number from 1; None for 0, which says that nothing is known.
+fn ordinal(number: u64) -> Option<u64> {
+    if number == 0 { None } else { Some(number) }
+}

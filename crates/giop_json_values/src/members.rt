@@ -1,0 +1,56 @@
+//! Members of an object, whole.
+
+use crate::text::Text;
+use std::alloc::AllocError;
+
+impl Text {
+    /// A member that is text, if it is known: not empty.
+    pub fn known(&mut self, name: &str, octets: &[u8]) -> Result<(), AllocError> {
+        if octets.is_empty() {
+            return Ok(());
+        }
+        self.key(name)?;
+        self.octets(octets)
+    }
+
+    /// A member that is text; null where it isn't known.
+    pub fn known_or_null(&mut self, name: &str, octets: &[u8]) -> Result<(), AllocError> {
+        self.key(name)?;
+        if octets.is_empty() {
+            return self.null();
+        }
+        self.octets(octets)
+    }
+
+    /// A member that is a number.
+    pub fn total(&mut self, name: &str, number: u64) -> Result<(), AllocError> {
+        self.key(name)?;
+        self.unsigned(number)
+    }
+
+    /// A member that is a number from 1, if it is known: not 0.
+    pub fn ordinal(&mut self, name: &str, number: u64) -> Result<(), AllocError> {
+        if number == 0 {
+            return Ok(());
+        }
+        self.total(name, number)
+    }
+
+    /// A member that is a number; null where there is none.
+    pub fn total_or_null(&mut self, name: &str, number: Option<u64>) -> Result<(), AllocError> {
+        self.key(name)?;
+        match number {
+            None => self.null(),
+            Some(number) => self.unsigned(number),
+        }
+    }
+
+    /// A member that is true, if it is.
+    pub fn flag(&mut self, name: &str, is_true: bool) -> Result<(), AllocError> {
+        if !is_true {
+            return Ok(());
+        }
+        self.key(name)?;
+        self.boolean(true)
+    }
+}

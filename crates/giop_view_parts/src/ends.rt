@@ -1,0 +1,57 @@
+//! Names of ends and of objects, as users read them.
+
+ghost use Rattle.std.specs.Prelude.{◌<◌};
+
+use giop_lines::number;
+use std::alloc::AllocError;
+
+/// An endpoint.
+#[derive(Clone, Copy, Debug, Drop)]
+pub struct Endpoint<'a> {
+    /// Its address, without the brackets around one of IPv6; empty where nothing is known.
+    pub address: &'a str,
+    /// Its port.
+    pub port: Option<u64>,
+}
+
+impl<'a> Endpoint<'a> {
+    /// The endpoint that a text of a line names.
+    pub fn of(end: &'a str) -> Endpoint<'a> {
+        let (address, port) = match end.rsplit_once(':') {
+            None => (end, None),
+            Some((address, port)) => (address, number(port.as_bytes())),
+        };
+        let address = match address.strip_prefix('[') {
+            None => address,
+            Some(inner) => inner.strip_suffix(']').unwrap_or(inner),
+        };
+        Endpoint { address, port }
+    }
+}
+
+/// Appends octets, of each of which two hexadecimal digits are given, as the text of a line.
+pub fn object_text(text: &mut Vec<u8>, digits: &[u8]) -> Result<(), AllocError> {
+    for pair in digits.chunks(2) {
+        let [high, low] = pair else {
+            break;
+        };
+        let octet = digit(*high) * 16 + digit(*low);
+        if (0x20..=0x7e).contains(&octet) && octet != b'"' && octet != b'\\' {
+            text.push(octet)?;
+        } else {
+            text.extend_from_slice(&[b'\\', b'x', *high, *low])?;
+        }
+    }
+    Ok(())
+}
+
+/// The number of a hexadecimal digit.
+fn digit(octet: u8) -> u8
+    ensures { result < 16 }
+{
+    match octet {
+        b'0'..=b'9' => octet - b'0',
+        b'a'..=b'f' => octet - b'a' + 10,
+        _ => 0,
+    }
+}

@@ -1,0 +1,325 @@
+//! What the lines of a message say beside its values.
+
+use crate::message::Key;
+use giop_cdr::Order;
+use giop_json_values::Text;
+use giop_lines::{Answers, Call, Fault, Said, Start, Time, Value};
+use std::alloc::{AllocError, Global};
+
+/// What a message is, as far as a view tells them apart.
+#[derive(Clone, Copy, Debug, Drop, PartialEq, Eq)]
+pub enum Kind {
+    /// A Request.
+    Request,
+    /// A Reply.
+    Reply,
+    /// Another that a client sends.
+    OfClient,
+    /// Another that a server sends.
+    OfServer,
+    /// One that either may send, or whose beginning is missing.
+    Other,
+}
+
+impl Kind {
+    /// What the word of a message type says.
+    fn of(word: &[u8]) -> Kind {
+        match word {
+            b"Request" => Kind::Request,
+            b"Reply" => Kind::Reply,
+            b"LocateRequest" | b"CancelRequest" => Kind::OfClient,
+            b"LocateReply" => Kind::OfServer,
+            _ => Kind::Other,
+        }
+    }
+
+    /// Whether a server sent it; None where either may have.
+    pub fn is_of_server(self) -> Option<bool> {
+        match self {
+            Kind::Request | Kind::OfClient => Some(false),
+            Kind::Reply | Kind::OfServer => Some(true),
+            Kind::Other => None,
+        }
+    }
+}
+
+/// What the status of a Reply says of its body (GIOP ReplyStatusType).
+#[derive(Clone, Copy, Debug, Drop, PartialEq, Eq)]
+pub enum Status {
+    /// No status came.
+    Unknown,
+    /// A result.
+    Result,
+    /// A user exception.
+    User,
+    /// A system exception.
+    System,
+    /// A reference to which the call is to go.
+    Forward,
+    /// How the object is to be named.
+    Addressing,
+}
+
+impl Status {
+    /// What the name of a status says.
+    fn of(name: &[u8]) -> Status {
+        match name {
+            b"NO_EXCEPTION" => Status::Result,
+            b"USER_EXCEPTION" => Status::User,
+            b"SYSTEM_EXCEPTION" => Status::System,
+            b"LOCATION_FORWARD" | b"LOCATION_FORWARD_PERM" => Status::Forward,
+            b"NEEDS_ADDRESSING_MODE" => Status::Addressing,
+            _ => Status::Unknown,
+        }
+    }
+}
+
+/// The header of a message, without the word of its type.
+#[derive(Clone, Copy, Drop)]
+pub struct Header {
+    /// The minor version.
+    pub minor: u8,
+    /// The order of its octets.
+    pub order: Order,
+    /// Its size without the header, in octets.
+    pub size: u32,
+    /// Whether Fragments go on with it.
+    pub more: bool,
+}
+
+/// What the lines of a message say beside its values. What is empty, or 0, isn't known.
+#[derive(Drop)]
+pub struct Facts {
+    /// The header, if the message's beginning was seen.
+    pub header: Option<Header>,
+    /// The word of its type.
+    pub word: Vec<u8>,
+    has_time: bool,
+    /// When it began.
+    pub time: Vec<u8>,
+    /// The packet in which it began.
+    pub packet: u64,
+    /// The request id of a call.
+    pub call: Option<u32>,
+    /// The operation of a call, or of the call that it answers.
+    pub operation: Vec<u8>,
+    /// The interface of a call.
+    pub interface: Vec<u8>,
+    /// The call that it answers.
+    pub answers: Option<Key>,
+    /// The seconds since that call.
+    pub seconds: Vec<u8>,
+    /// Whether it is a Request that wants no reply.
+    pub is_oneway: bool,
+    /// The status of a Reply.
+    pub status: Status,
+    has_exception: bool,
+    /// The repository id of what it raises.
+    pub raises: Vec<u8>,
+    /// The message that it, a Fragment, goes on with.
+    pub continues: u64,
+    /// The message that cancelled it.
+    pub cancelled_by: u64,
+    /// Whether it ended in the middle.
+    pub is_unfinished: bool,
+    /// Why it isn't read to its end.
+    pub fault: Faulted,
+}
+
+impl Facts {
+    pub(crate) fn new(alloc: Global) -> Facts {
+        Facts {
+            header: None,
+            word: Vec::new(alloc),
+            has_time: false,
+            time: Vec::new(alloc),
+            packet: 0,
+            call: None,
+            operation: Vec::new(alloc),
+            interface: Vec::new(alloc),
+            answers: None,
+            seconds: Vec::new(alloc),
+            is_oneway: false,
+            status: Status::Unknown,
+            has_exception: false,
+            raises: Vec::new(alloc),
+            continues: 0,
+            cancelled_by: 0,
+            is_unfinished: false,
+            fault: Faulted::new(alloc),
+        }
+    }
+
+    pub(crate) fn clear(&mut self) {
+        self.header = None;
+        self.word.clear();
+        self.has_time = false;
+        self.time.clear();
+        self.packet = 0;
+        self.call = None;
+        self.operation.clear();
+        self.interface.clear();
+        self.answers = None;
+        self.seconds.clear();
+        self.is_oneway = false;
+        self.status = Status::Unknown;
+        self.has_exception = false;
+        self.raises.clear();
+        self.continues = 0;
+        self.cancelled_by = 0;
+        self.is_unfinished = false;
+        self.fault.clear();
+    }
+
+    /// What the message is.
+    pub fn kind(&self) -> Kind {
+        Kind::of(&self.word)
+    }
+
+    /// Whether, after its end, a line may still tell its time, what it answers or what it raises.
+    pub(crate) fn may_wait(&self) -> bool {
+        let is_other = self.header.is_some() && self.word.as_slice() != b"Reply".as_slice();
+        let is_whole = self.has_time && (is_other || self.answers.is_some());
+        let has_raised = self.has_exception || matches!(self.status, Status::User | Status::System);
+        !is_whole || has_raised && self.raises.is_empty()
+    }
+
+    /// Notes what the header says of replies, and that an exception's id came.
+    #[inline]
+    pub(crate) fn note(&mut self, path: &[u8], value: Value<'_>) {
+        match value {
+            Value::Octet(flags) if path == b"header.response_flags".as_slice() => {
+                self.is_oneway = flags % 2 == 0;
+            }
+            Value::Boolean(is_expected) if path == b"header.response_expected".as_slice() => {
+                self.is_oneway = !is_expected;
+            }
+            Value::Enum(status) if path == b"header.reply_status".as_slice() => {
+                self.status = Status::of(status);
+            }
+            Value::Piece(_) if path == b"exception".as_slice() => self.has_exception = true,
+            _ => {}
+        }
+    }
+
+    /// Takes a line that is of no value.
+    pub(crate) fn take(&mut self, said: Said<'_>) -> Result<(), AllocError> {
+        match said {
+            Said::Start(start) => self.take_start(start),
+            Said::Time(time) => self.take_time(time),
+            Said::Call(call) => self.take_call(call),
+            Said::Answers(answers) => self.take_answers(answers),
+            Said::Raises(id) => replace(&mut self.raises, id),
+            Said::Fault(fault) => self.fault.take(fault),
+            _ => {
+                self.take_end(said);
+                Ok(())
+            }
+        }
+    }
+
+    fn take_end(&mut self, said: Said<'_>) {
+        match said {
+            Said::Continues(message) => self.continues = message,
+            Said::Cancelled(message) => self.cancelled_by = message,
+            Said::Unfinished => self.is_unfinished = true,
+            _ => {}
+        }
+    }
+
+    fn take_start(&mut self, start: Start<'_>) -> Result<(), AllocError> {
+        self.header = Some(Header {
+            minor: start.minor,
+            order: start.order,
+            size: start.size,
+            more: start.more,
+        });
+        replace(&mut self.word, start.kind)
+    }
+
+    fn take_time(&mut self, time: Time<'_>) -> Result<(), AllocError> {
+        self.has_time = true;
+        if let Some(packet) = time.packet {
+            self.packet = packet;
+        }
+        replace_known(&mut self.time, time.time)
+    }
+
+    fn take_call(&mut self, call: Call<'_>) -> Result<(), AllocError> {
+        self.call = Some(call.id);
+        if let Some(interface) = call.interface {
+            replace(&mut self.interface, interface)?;
+        }
+        replace(&mut self.operation, call.operation)
+    }
+
+    fn take_answers(&mut self, answers: Answers<'_>) -> Result<(), AllocError> {
+        self.answers = Some(Key {
+            stream: answers.stream,
+            number: answers.message,
+        });
+        replace(&mut self.operation, answers.operation)?;
+        replace_known(&mut self.seconds, answers.seconds)
+    }
+}
+
+/// A fault, if there is one.
+#[derive(Drop)]
+pub struct Faulted {
+    /// Its word; empty where there is none.
+    pub word: Vec<u8>,
+    /// The octet at which reading ended.
+    pub place: u64,
+}
+
+impl Faulted {
+    /// No fault.
+    pub fn new(alloc: Global) -> Faulted {
+        Faulted {
+            word: Vec::new(alloc),
+            place: 0,
+        }
+    }
+
+    /// No fault from now on.
+    pub fn clear(&mut self) {
+        self.word.clear();
+    }
+
+    /// Whether there is none.
+    pub fn is_none(&self) -> bool {
+        self.word.is_empty()
+    }
+
+    /// Notes a fault.
+    pub fn take(&mut self, fault: Fault<'_>) -> Result<(), AllocError> {
+        self.place = fault.place;
+        replace(&mut self.word, fault.word)
+    }
+
+    /// Writes the member `fault`, if there is one.
+    pub fn put(&self, text: &mut Text) -> Result<(), AllocError> {
+        if self.is_none() {
+            return Ok(());
+        }
+        text.key("fault")?;
+        text.open(false)?;
+        text.known("word", &self.word)?;
+        text.total("at", self.place)?;
+        text.close(false)
+    }
+}
+
+/// Puts octets in the place of others.
+pub fn replace(kept: &mut Vec<u8>, octets: &[u8]) -> Result<(), AllocError> {
+    kept.clear();
+    kept.extend_from_slice(octets)
+}
+
+/// Puts a text in the place of another, unless it says that nothing is known.
+pub fn replace_known(kept: &mut Vec<u8>, octets: &[u8]) -> Result<(), AllocError> {
+    if octets == b"-".as_slice() {
+        return Ok(());
+    }
+    replace(kept, octets)
+}

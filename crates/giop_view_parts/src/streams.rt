@@ -1,0 +1,265 @@
+//! The streams that aren't over.
+
+use crate::connections::{Connections, Ending, Of};
+use crate::facts::{Faulted, Kind, replace, replace_known};
+use giop_lines::{Said, StreamStart, Total};
+use lru::LruCache;
+use std::alloc::{AllocError, Global};
+
+/// How many streams are known; the one that began first ends where there is one more.
+const STREAMS_MAX: usize = 131_072;
+
+/// A stream, as far as its lines came. What is empty, or 0, isn't known.
+#[derive(Drop)]
+pub struct Stream {
+    /// Its number; 0 in a dump of one stream.
+    pub number: u64,
+    /// Its connection.
+    pub connection: Option<Of>,
+    /// The endpoint that sends it.
+    pub source: Vec<u8>,
+    /// The endpoint that receives it.
+    pub target: Vec<u8>,
+    /// When it began.
+    pub time: Vec<u8>,
+    /// The last time of a message.
+    pub last: Vec<u8>,
+    /// The stream of the other direction that lived when it began.
+    pub with: u64,
+    /// The packet behind which it began.
+    pub behind: u64,
+    /// Whether its beginning was found in the middle of a flow.
+    pub is_found: bool,
+    /// The word that it closed with.
+    pub closed: Vec<u8>,
+    /// Why it isn't read to its end.
+    pub fault: Faulted,
+    /// Its totals.
+    pub total: Option<Total>,
+    /// Whether a line tells of the stream itself.
+    pub is_told: bool,
+    /// Whether a server sends it, by the last message that tells.
+    pub is_of_server: bool,
+    // The last message that began, if it has no `more` or is a Fragment; else 0.
+    alone: u64,
+    // The open messages, in the order in which they began.
+    open: Vec<u64>,
+}
+
+impl Stream {
+    fn new(alloc: Global, number: u64) -> Stream {
+        Stream {
+            number,
+            connection: None,
+            source: Vec::new(alloc),
+            target: Vec::new(alloc),
+            time: Vec::new(alloc),
+            last: Vec::new(alloc),
+            with: 0,
+            behind: 0,
+            is_found: false,
+            closed: Vec::new(alloc),
+            fault: Faulted::new(alloc),
+            total: None,
+            is_told: false,
+            is_of_server: false,
+            alone: 0,
+            open: Vec::new(alloc),
+        }
+    }
+
+    /// The client's endpoint and the server's.
+    pub fn ends(&self) -> (&[u8], &[u8]) {
+        if self.is_of_server {
+            (&self.target, &self.source)
+        } else {
+            (&self.source, &self.target)
+        }
+    }
+
+    /// Notes who sends it, if a message of this kind tells.
+    pub(crate) fn turn(&mut self, kind: Kind) {
+        if let Some(is_of_server) = kind.is_of_server() {
+            self.is_of_server = is_of_server;
+        }
+    }
+
+    /// Notes the time of a message.
+    pub(crate) fn take_time(&mut self, time: &[u8]) -> Result<(), AllocError> {
+        replace_known(&mut self.last, time)
+    }
+
+    /// Notes the last message that began, which stands alone or is 0. Gives the one before.
+    pub(crate) fn begin_alone(&mut self, message: u64) -> u64 {
+        let before = self.alone;
+        self.alone = message;
+        before
+    }
+
+    /// Knows an open message.
+    pub(crate) fn enter(&mut self, message: u64) -> Result<(), AllocError> {
+        self.open.push(message)?;
+        Ok(())
+    }
+
+    /// Forgets an open message.
+    pub(crate) fn remove(&mut self, message: u64) {
+        if let Some(place) = self.open.iter().position(|open| *open == message) {
+            if place < self.open.len() {
+                self.open.remove(place);
+            }
+        }
+    }
+
+    /// The open messages, which it forgets.
+    pub(crate) fn take_open(&mut self, alloc: Global) -> Vec<u64> {
+        std::mem::replace(&mut self.open, Vec::new(alloc))
+    }
+
+    fn take_start(&mut self, start: StreamStart<'_>) -> Result<(), AllocError> {
+        self.is_told = true;
+        if let Some(with) = start.with {
+            self.with = with;
+        }
+        if let Some(behind) = start.behind {
+            self.behind = behind;
+        }
+        self.is_found |= start.found;
+        replace(&mut self.source, start.source)?;
+        replace(&mut self.target, start.target)?;
+        replace_known(&mut self.time, start.time)
+    }
+}
+
+/// The streams that aren't over, and the connections that they are of.
+#[derive(Drop)]
+pub struct Streams {
+    alloc: Global,
+    streams: LruCache<u64, Stream>,
+    connections: Connections,
+}
+
+impl Streams {
+    pub(crate) fn new(alloc: Global) -> Result<Streams, AllocError> {
+        Ok(Streams {
+            alloc,
+            streams: LruCache::unbounded(alloc)?,
+            connections: Connections::new(alloc)?,
+        })
+    }
+
+    /// The stream of a number.
+    pub fn get(&self, number: u64) -> Option<&Stream> {
+        self.streams.peek(&number)
+    }
+
+    /// The stream of a number.
+    pub(crate) fn get_mut(&mut self, number: u64) -> Option<&mut Stream> {
+        self.streams.peek_mut(&number)
+    }
+
+    /// The stream that began first, where there is no room for one of this number.
+    pub(crate) fn first_without_room(&self, number: u64) -> Option<u64> {
+        if self.streams.len() < STREAMS_MAX || self.streams.contains(&number) {
+            return None;
+        }
+        self.first()
+    }
+
+    /// The stream that began first.
+    pub(crate) fn first(&self) -> Option<u64> {
+        let (number, _) = self.streams.peek_lru()?;
+        Some(*number)
+    }
+
+    /// How many there are.
+    pub(crate) fn len(&self) -> usize {
+        self.streams.len()
+    }
+
+    /// Knows a stream.
+    pub(crate) fn enter(&mut self, number: u64) -> Result<(), AllocError> {
+        if !self.streams.contains(&number) {
+            self.streams.put(number, Stream::new(self.alloc, number))?;
+        }
+        Ok(())
+    }
+
+    /// Forgets a stream. Answers how its connection is then.
+    pub(crate) fn end(&mut self, number: u64) -> Option<(Stream, Ending)> {
+        let stream = self.streams.pop(&number)?;
+        let ending = match stream.connection {
+            None => Ending {
+                is_over: false,
+                is_last: true,
+            },
+            Some(of) => self.connections.end(of),
+        };
+        Some((stream, ending))
+    }
+
+    /// Takes a line of a stream itself.
+    pub(crate) fn take(&mut self, number: u64, said: Said<'_>) -> Result<(), AllocError> {
+        match said {
+            Said::Stream(start) => self.begin(number, start),
+            Said::Closed(word) => self.close(number, word),
+            Said::StreamFault(fault) => match self.streams.peek_mut(&number) {
+                None => Ok(()),
+                Some(stream) => {
+                    stream.is_told = true;
+                    stream.fault.take(fault)
+                }
+            },
+            Said::Total(total) => {
+                if let Some(stream) = self.streams.peek_mut(&number) {
+                    stream.is_told = true;
+                    stream.total = Some(total);
+                }
+                Ok(())
+            }
+            _ => Ok(()),
+        }
+    }
+
+    /// Takes the beginning of a stream.
+    fn begin(&mut self, number: u64, start: StreamStart<'_>) -> Result<(), AllocError> {
+        let with = match start.with {
+            None => None,
+            Some(other) => match self.streams.peek(&other) {
+                None => None,
+                Some(other) => other.connection,
+            },
+        };
+        let ends = (text_of(start.source), text_of(start.target));
+        let of = self.connections.begin(self.alloc, number, ends, with)?;
+        let Some(stream) = self.streams.peek_mut(&number) else {
+            return Ok(());
+        };
+        if let Some(before) = stream.connection {
+            let _ = self.connections.end(before);
+        }
+        stream.connection = Some(of);
+        stream.take_start(start)
+    }
+
+    /// Notes the word that a stream closed with.
+    fn close(&mut self, number: u64, word: &[u8]) -> Result<(), AllocError> {
+        let Some(stream) = self.streams.peek_mut(&number) else {
+            return Ok(());
+        };
+        stream.is_told = true;
+        replace(&mut stream.closed, word)?;
+        match stream.connection {
+            None => Ok(()),
+            Some(of) => {
+                let ends = (text_of(&stream.source), text_of(&stream.target));
+                self.connections.close(self.alloc, of, ends, word)
+            }
+        }
+    }
+}
+
+/// Octets of a line, which are text; none where they are no text.
+fn text_of(octets: &[u8]) -> &str {
+    str::from_utf8(octets).unwrap_or_default()
+}
