@@ -86,7 +86,8 @@ module _ (C : Table) (d : Decoder) (of : TypeId) (octets : List ℕ) (count : �
       ((n : ℕ) → StringGoesOn (tree C of.0) None s.transition s.output n) →
       ((coding : Coding) (path : List PathSegment) (here : ℕ) →
       TransitionGives C (tree C of.0) s.transition s.output kept [] path here
-      (after_leading_number (tree C of.0) (λ xs at rest. after coding path (tree C of.0) (num order xs) at rest)
+      (after_leading_number (tree C of.0) (λ xs at rest.
+      after coding path (tree C of.0) (num order xs) at rest)
       (block_of whole all here))) →
       TakenTogether C d octets of count s [] kept d.piece.items
   of_number order at coded whole kept all s stands ahead fits has string on gives =
@@ -269,7 +270,8 @@ module _ (C : Table) (d : Decoder) (of : TypeId) (total offset : ℕ) (octets : 
       HasOutput T s.output → OutputFitsString T (is_text T) s.transition s.output →
       StringGoesOn T (string_offset T content_leaf) s.transition s.output (length (kept ++ rest)) →
       (lines : List PathSegment → ℕ → List Line) →
-      ((path : List PathSegment) (here : ℕ) → content_step T path total offset here held_before last_octet
+      ((path : List PathSegment) (here : ℕ) →
+      content_step T path total offset here held_before last_octet
       ≡ after_transition C T s.transition d.carry (still_held s.output kept) (lines path here)
       (here + 1)) →
       ((path : List PathSegment) (here : ℕ) →
@@ -322,7 +324,8 @@ module _ (C : Table) (d : Decoder) (of : TypeId) (total offset : ℕ) (octets : 
       (refl, refl, held_size count within ∙ omega (arith, counted, room))
       (λ path here. line (here + 1) path
       (Piece T offset (d.piece.items ++ take count octets) true) ∷ [])
-      (λ path here. rw (← with_last some within) (full_whole T path total offset here held_before last_octet large
+      (λ path here. rw (← with_last some within) (full_whole T path total offset here held_before
+      last_octet large
       (omega (arith, size, counted, room))))
       (λ path here. refl)
 
@@ -366,7 +369,8 @@ module _ (C : Table) (d : Decoder) (of : TypeId) (total offset : ℕ) (octets : 
       (Done (line (here + 1) path (Piece T offset (d.piece.items ++ take size octets) false) ∷ [])
       (here + 1) []) =
       λ path here. rw (← is, ← all, ← with_last some within) (last_whole T path total offset here
-      held_before last_octet small (omega (arith, before_size within, counted, sized, room, one))) in
+      held_before last_octet small
+      (omega (arith, before_size within, counted, sized, room, one))) in
       go why some parted short come
     where
       go : (why : Option Kind) → 0 < count → IsParted C content_leaf d.piece.items (count - 1) →

@@ -172,42 +172,21 @@ impl Decoder {
         ensures { TakesSome catalogue.now self.old self.new octets.now
             (O.log out.old) (O.log out.new) result }
     {
-        let ahead = self.held_number(catalogue, coded, of, octets);
-        self.finish(catalogue, octets, ahead, out)
-    }
-
-    /// Holds octets of the number that comes next, and answers what they do: it is taken from what is held once it is
-    /// whole.
-    #[inline(always)]
-    fn held_number(
-        &mut self,
-        catalogue: &Catalogue,
-        coded: (Order, u8),
-        of: TypeId,
-        octets: &[u8],
-    ) -> Lookahead<'static>
-        requires fits { Fits catalogue.now self.old }
-        requires leaf { self.old.leaf ≡ Some (Leaf.Number of) }
-        requires coded { coding_by self.old.order self.old.at self.old.outer.items ≡ coded }
-        requires ahead { HaveOctetsLeft (ticked_by (length octets.now - 1) self.old.outer.items) }
-        requires some { 0 < length octets.now }
-        ensures { IsHeldOf catalogue.now self.old self.new octets.now result.of result.count
-            result.step result.rest.now }
-    {
         let (order, at) = coded;
         let width = width(catalogue, of);
         let count = hold_number(&mut self.carry, at, width, octets);
         if self.carry.len() < usize::from(width) {
-            return held(of, count, Leaf::Number(of));
+            return self.finish(catalogue, octets, held(of, count, Leaf::Number(of)), out);
         }
         let step = take_value(catalogue, order, of, self.carry.as_slice());
         self.carry.clear();
-        Lookahead {
+        let ahead = Lookahead {
             of,
             count,
             step,
             rest: &[],
-        }
+        };
+        self.finish(catalogue, octets, ahead, out)
     }
 
     /// Holds octets of a piece of a content that isn't whole with them.

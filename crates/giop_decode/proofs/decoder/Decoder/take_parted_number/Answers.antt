@@ -1,7 +1,160 @@
+use Rattle.std.proofs.Common.{◌≡◌, ℕ, ◌-◌, ◌<◌, List, [], length, false, Some, None, ◌∙◌, ap, arith, ne_eqb}
+use Rattle.std.specs.Prelude.{eqb}
+use Rattle.std.proofs.lemmas.Bool.{eq-eqb}
+use Rattle.giop_cdr.specs.Numbers.{num}
+use Rattle.giop_cdr.specs.declared.order.Order.{Order}
+use Rattle.giop_decode.specs.declared.decoder.Decoder.{Decoder}
+use Rattle.giop_decode.specs.declared.leaf.Leaf.TheVariants as innermost
+use Rattle.giop_decode.specs.declared.leaf.Output.TheVariants as outputs
+use Rattle.giop_decode.specs.declared.leaf.Step.{Step}
+use Rattle.giop_decode.specs.declared.leaf.Transition.TheVariants as transitions
+use Rattle.giop_decode.specs.DecoderState.{Fits}
+use Rattle.giop_decode.specs.NotingSteps.{OutputFitsString, StringGoesOn}
+use Rattle.giop_decode.specs.ReadResult.{Coding, PathSegment}
+use Rattle.giop_decode.specs.ReadingSteps.{after, leading_width}
+use Rattle.giop_decode.specs.Runs.{IsHeldOf}
+use Rattle.giop_decode.specs.Transitions.{HasOutput, HaveOctetsLeft, NumberStands, TransitionFits, TransitionGives, coding_by, ticked_by}
+use Rattle.giop_decode.proofs.Advancing.{stands_at}
+use Rattle.giop_decode.proofs.Counting.{coding_small}
+use Rattle.giop_decode.proofs.PartialBlocks.{held_in}
+use Rattle.giop_decode.proofs.Whole.{comes_head, held_now, number_waits}
+use Rattle.giop_sig.specs.Table.{Table}
+use Rattle.giop_sig.specs.Trees.{tree}
+use Rattle.giop_sig.specs.declared.types.TypeId.{TypeId}
 use Rattle.giop_decode.proofs.decoder.Decoder.take_parted_number.Goals as goal
 
+pub hold_number-count-requires-clause-room : goal.hold_number-count-requires-clause-room
+hold_number-count-requires-clause-room g c =
+    let head = (stands_at c.args.catalogue.now c.args.self.now c.requires.fits
+    (innermost.Number c.args.of) c.requires.leaf).fits in
+    rw (c.width-width.ensures.width head.kind) head.room
+
+pub hold_number-count-requires-clause-small : goal.hold_number-count-requires-clause-small
+hold_number-count-requires-clause-small g c =
+    let d = c.args.self.now in
+    rw c.requires.coded at (coding_small d.order d.at d.outer.items c.requires.fits.at)
+
+-- a number that isn't whole yet
+waits : (C : Table) (d : Decoder) (of : TypeId) (octets : List ℕ) (order : Order)
+    (width at count : ℕ) (all : List ℕ) → (f : Fits C d) →
+    (e : d.leaf ≡ Some (innermost.Number of)) →
+    coding_by d.order d.at d.outer.items ≡ (order, at) →
+    HaveOctetsLeft (ticked_by (length octets - 1) d.outer.items) →
+    width ≡ leading_width (tree C of.0) →
+    NumberStands width at d.carry octets count (eqb (length all) width) all →
+    length all < width → IsHeldOf C d (held_in d all d.piece) octets of count (record {
+      transition = transitions.More (innermost.Number of);
+      output = outputs.Nothing;
+    }) []
+waits C d of octets order width at count all f e coded ahead is stands short =
+    let part = ne_eqb (length all) width (λ k. omega (arith, k, short)) in
+    held_now C d octets of count _ [] all d.piece f
+    (number_waits C d of octets count f e order at coded all (rw (part, is) at stands) ahead)
+
+-- a number whose last octet has come
+comes : (C : Table) (d : Decoder) (of : TypeId) (octets : List ℕ) (order : Order)
+    (width at count : ℕ) (all kept : List ℕ) (s : Step) → (f : Fits C d) →
+    (e : d.leaf ≡ Some (innermost.Number of)) →
+    coding_by d.order d.at d.outer.items ≡ (order, at) →
+    HaveOctetsLeft (ticked_by (length octets - 1) d.outer.items) →
+    width ≡ leading_width (tree C of.0) →
+    NumberStands width at d.carry octets count (eqb (length all) width) all →
+    length all ≡ width → kept ≡ [] → TransitionFits (tree C of.0) of.0 s.transition [] [] →
+    HasOutput (tree C of.0) s.output →
+    OutputFitsString (tree C of.0) false s.transition s.output →
+    ((n : ℕ) → StringGoesOn (tree C of.0) None s.transition s.output n) →
+    ((coding : Coding) (path : List PathSegment) (here : ℕ) →
+    TransitionGives C (tree C of.0) s.transition s.output [] [] path here
+    (after coding path (tree C of.0) (num order all) here [])) →
+    IsHeldOf C d (held_in d kept d.piece) octets of count s []
+comes C d of octets order width at count all kept s f e coded ahead is stands whole none fits has
+    string on gives =
+    held_now C d octets of count s [] kept d.piece f
+    (comes_head C d of octets count f e order at coded kept all s none
+    (rw (eq-eqb (length all) width whole, is) at stands) ahead fits has string on gives)
+
 pub finish-requires : goal.finish-requires
-finish-requires g c = (c.args.self.now, c.held_number-ahead.ensures)
+finish-requires g c =
+    let C = c.args.catalogue.now in
+    let d = c.args.self.now in
+    let e = c.held.ensures in
+    let s = c.hold_number-count in
+    let number = innermost.Number c.args.of in
+    let head = (stands_at C d c.requires.fits number c.requires.leaf).fits in (
+      d,
+      rw (e.of, e.count, e.step, e.rest) (waits C d c.args.of c.args.octets.now c.args.coded.0
+          c.width-width.result c.args.coded.1 s.result s.new.carry c.requires.fits c.requires.leaf
+          c.requires.coded c.requires.ahead (c.width-width.ensures.width head.kind) s.ensures.stands
+          (omega (arith, c.if-len-from.true, c.len.ensures.value, c.from.ensures))),
+    )
+
+pub returns-then-len-from : goal.returns-then-len-from
+returns-then-len-from g c =
+    let C = c.args.catalogue.now in
+    let d = c.args.self.now in
+    let e = c.held.ensures in
+    let s = c.hold_number-count in
+    let head = (stands_at C d c.requires.fits (innermost.Number c.args.of) c.requires.leaf).fits in
+    c.finish.ensures d (rw (e.of, e.count, e.step, e.rest) (waits C d c.args.of c.args.octets.now
+    c.args.coded.0 c.width-width.result c.args.coded.1 s.result s.new.carry c.requires.fits
+    c.requires.leaf c.requires.coded c.requires.ahead (c.width-width.ensures.width head.kind)
+    s.ensures.stands (omega (arith, c.if-len-from.true, c.len.ensures.value, c.from.ensures))))
+
+pub take_value-step-requires-clause-head : goal.take_value-step-requires-clause-head
+take_value-step-requires-clause-head g c =
+    (stands_at c.args.catalogue.now c.args.self.now c.requires.fits (innermost.Number c.args.of)
+    c.requires.leaf).fits.kind
+
+pub take_value-step-requires-clause-fit : goal.take_value-step-requires-clause-fit
+take_value-step-requires-clause-fit g c = (
+  _,
+  (stands_at c.args.catalogue.now c.args.self.now c.requires.fits (innermost.Number c.args.of)
+      c.requires.leaf).fit,
+)
+
+pub take_value-step-requires-clause-whole : goal.take_value-step-requires-clause-whole
+take_value-step-requires-clause-whole g c =
+    let head = (stands_at c.args.catalogue.now c.args.self.now c.requires.fits
+    (innermost.Number c.args.of) c.requires.leaf).fits in
+    let all : length c.hold_number-count.new.carry ≡ c.width-width.result =
+    omega (
+      arith,
+      c.if-len-from.false,
+      c.len.ensures.value,
+      c.from.ensures,
+      c.hold_number-count.ensures.size,
+    ) in
+    ap length c.as_slice.ensures.value ∙ (all ∙ c.width-width.ensures.width head.kind)
+
+pub finish-requires-2 : goal.finish-requires-2
+finish-requires-2 g c =
+    let C = c.args.catalogue.now in
+    let d = c.args.self.now in
+    let s = c.hold_number-count in
+    let v = c.take_value-step.ensures in
+    let number = innermost.Number c.args.of in
+    let head = (stands_at C d c.requires.fits number c.requires.leaf).fits in (
+      d,
+      comes C d c.args.of c.args.octets.now c.args.coded.0 c.width-width.result c.args.coded.1
+          s.result s.new.carry c.clear.new.self c.take_value-step.result c.requires.fits
+          c.requires.leaf c.requires.coded c.requires.ahead
+          (c.width-width.ensures.width head.kind) s.ensures.stands
+          (omega (arith, c.if-len-from.false, c.len.ensures.value, c.from.ensures, s.ensures.size))
+          c.clear.ensures v.transition_fits v.has_output v.output_fits_string v.string_goes_on
+          (rw c.as_slice.ensures.value at v.transitions),
+    )
 
 pub returns : goal.returns
-returns g c = c.finish.ensures c.args.self.now c.held_number-ahead.ensures
+returns g c =
+    let C = c.args.catalogue.now in
+    let d = c.args.self.now in
+    let s = c.hold_number-count in
+    let v = c.take_value-step.ensures in
+    let head = (stands_at C d c.requires.fits (innermost.Number c.args.of) c.requires.leaf).fits in
+    c.finish-2.ensures d (comes C d c.args.of c.args.octets.now c.args.coded.0 c.width-width.result
+    c.args.coded.1 s.result s.new.carry c.clear.new.self c.take_value-step.result c.requires.fits
+    c.requires.leaf c.requires.coded c.requires.ahead
+    (c.width-width.ensures.width head.kind) s.ensures.stands
+    (omega (arith, c.if-len-from.false, c.len.ensures.value, c.from.ensures, s.ensures.size))
+    c.clear.ensures v.transition_fits v.has_output v.output_fits_string v.string_goes_on
+    (rw c.as_slice.ensures.value at v.transitions))
