@@ -1,5 +1,5 @@
 -- All that is written is whole lines.
-use Rattle.std.proofs.Common.{arith, ◌≡◌, ℕ, Bool, true, List, [], ◌∷◌, ◌++◌, length, drop, flat_map, Option, Some, None, refl, sym, ap, ◌∙◌, codes, decimal, if◌then◌else◌}
+use Rattle.std.proofs.Common.{arith, ◌≡◌, ℕ, Bool, true, List, [], ◌∷◌, ◌++◌, length, drop, flat_map, Option, Some, None, refl, sym, ap, ◌∙◌, codes, decimal}
 use Rattle.giop_print.specs.Text.{joined}
 use Rattle.giop_print.specs.Lines.{order_word, type_word, more_word, start_line, fault_line, stream_fault_line, continues_line, cancelled_line, total_line}
 use Rattle.giop_message.specs.Headers.{minor, order, kind, size, has_more}
@@ -97,7 +97,7 @@ content_ends place number (Stopped fault) = search (arith, stream_fault_ends)
 
 all_end : (ls : List Line) → is_due (flat_map stream.line_text ls) ≡ true
 all_end [] = none_ends
-all_end (l ∷ ls) = search (arith, ends_both, flat_map, content_ends, all_end ls)
+all_end (l ∷ ls) = search (arith, ends_both, content_ends, all_end ls)
 
 text_ends : (R : Rules) (p : List ℕ) → is_due (text R p) ≡ true
 unfolding text stream.lines_text

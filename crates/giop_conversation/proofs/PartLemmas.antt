@@ -1,5 +1,5 @@
 -- Lines of a stream in a capture as parts of its text.
-use Rattle.std.proofs.Common.{arith, ◌≡◌, ℕ, ◌==◌, true, false, List, [], ◌∷◌, ◌++◌, drop, map, flat_map, Option, Some, None, refl, subst, ◌∙◌, append-nil}
+use Rattle.std.proofs.Common.{arith, ◌≡◌, ℕ, ◌==◌, true, false, List, [], ◌∷◌, ◌++◌, drop, map, flat_map, Option, Some, None, refl, subst, append-nil}
 use Rattle.std.specs.List.{AllByRecursion as Each}
 use Rattle.std.proofs.Math.Seq.{drop-length}
 use Rattle.std.proofs.lemmas.Bool.{eq-eqb}
@@ -7,7 +7,7 @@ use Rattle.std.proofs.lemmas.Grind.{flat_map-append}
 use Rattle.giop_sig.specs.Table.{Table}
 use Rattle.giop_message.specs.Signatures.{Answers}
 use Rattle.giop_stream.specs.Rules.{Rules, rules_by}
-use Rattle.giop_stream.specs.Stream.{text, closing}
+use Rattle.giop_stream.specs.Stream.{closing}
 use Rattle.giop_stream.specs.EngineHolds.{added}
 use Rattle.giop_stream.proofs.StreamLaws.{added_both_by}
 use Rattle.tcp_flow.specs.declared.flow.CloseCause.{CloseCause}

@@ -1,5 +1,5 @@
 -- Where each stream that lives closes in the end, each that has a room has closed.
-use Rattle.std.proofs.Common.{arith, ◌≡◌, ℕ, ◌/◌, ◌==◌, ◌⊎◌, inl, inr, Bool, true, false, List, [], ◌∷◌, Option, Some, None, is_some, refl, sym, ap, ◌∙◌, nat_lt, if◌then◌else◌}
+use Rattle.std.proofs.Common.{arith, ◌≡◌, ℕ, ◌==◌, ◌⊎◌, inl, inr, Bool, true, false, List, [], ◌∷◌, Option, Some, None, is_some, refl, sym, ap, ◌∙◌, if◌then◌else◌}
 use Rattle.std.proofs.lemmas.Bool.{eqb-true, eq-eqb, cases_eq, false≢true}
 use Rattle.giop_print.specs.Output.{counted}
 use Rattle.giop_message.specs.Signatures.{Answers}
@@ -182,7 +182,7 @@ module _ (S : Setup) (h : History) (due behind : ℕ → Option ℕ) (t : AreLas
 
   event_last : (a : Answers) (e : Event) → FollowsBy e → AreLast (happened S a h e) behind
   event_last a (Opens id flow) follows = opened_last id flow follows
-  event_last a (Begins id n) follows = search (arith, begun_last, nat_lt)
+  event_last a (Begins id n) follows = search (arith, begun_last)
   event_last a (Delivers id octets) follows = search (arith, delivered_last)
   event_last a (Closes id cause) follows = closed_last id cause follows
   event_last a (OfCapture event) follows = λ m room closes.

@@ -375,10 +375,10 @@ module _ (S : Setup) (written : List ℕ)
   pub on_event : (a : Answers) (h : History) (d : Dump) (e : Event) → Answered S a d e →
       AreShown S written h d →
       AreShown S written (happened S a h e) (stepped S a d e)
-  on_event a h d (Opens id flow) answered b = search (arith, on_opened, slice_get)
-  on_event a h d (Begins id number) answered b = search (arith, on_begun, slice_get)
-  on_event a h d (Delivers id octets) answered b = search (arith, on_delivered, slice_get)
-  on_event a h d (Closes id cause) answered b = search (arith, on_closed, slice_get)
+  on_event a h d (Opens id flow) answered b = search (arith, on_opened)
+  on_event a h d (Begins id number) answered b = search (arith, on_begun)
+  on_event a h d (Delivers id octets) answered b = search (arith, on_delivered)
+  on_event a h d (Closes id cause) answered b = search (arith, on_closed)
   on_event a h d (OfCapture (PacketArrives time)) answered b = search (arith)
   on_event a h d (OfCapture (HasFault word at)) answered b = search (arith, more_fault)
 

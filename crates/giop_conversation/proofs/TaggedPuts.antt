@@ -1,5 +1,5 @@
 -- A put to an out with tags, as an `Out` tells it.
-use Rattle.std.proofs.Common.{◌≡◌, ℕ, ◌+◌, ◌-◌, ◌^◌, ◌==◌, min, true, false, List, [], ◌++◌, length, take, Option, Some, None, option_and_then, refl, sym, ap, ◌∙◌, arith, append-nil, append_assoc}
+use Rattle.std.proofs.Common.{◌≡◌, ℕ, ◌==◌, min, true, false, List, [], ◌++◌, length, take, Option, Some, None, option_and_then, refl, sym, ap, ◌∙◌, arith, append-nil, append_assoc}
 use Rattle.std.proofs.lemmas.Bool.{or_left, or_right, eq-eqb, ne_eqb, not_from_false}
 use Rattle.std.specs.Io.KnownBytes.{Appends, Keeps}
 use Rattle.giop_print.specs.Output.{counted, Took, Failed}

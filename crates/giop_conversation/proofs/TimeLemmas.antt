@@ -1,5 +1,5 @@
 -- The years and months that days make, and how long a number of seconds is.
-use Rattle.std.proofs.Common.{◌≡◌, ℕ, zero, suc, ◌+◌, ◌-◌, ◌*◌, ◌/◌, ◌%◌, ◌^◌, ◌≤◌, ◌<◌, List, [], ◌∷◌, ◌++◌, length, decimal, get_or, codes, nat_lt, Some, subst, Bool, true, false, ◌&&◌, T, eqb, eqb→eq, eq-zero-or-pos, nat_le, inl, inr, refl, sym, ◌∙◌, arith, append-nil, append_assoc, add-one}
+use Rattle.std.proofs.Common.{◌≡◌, ℕ, zero, suc, ◌+◌, ◌-◌, ◌*◌, ◌/◌, ◌%◌, ◌^◌, ◌≤◌, ◌<◌, List, [], ◌∷◌, ◌++◌, length, decimal, get_or, codes, nat_lt, Some, subst, Bool, true, false, ◌&&◌, T, eqb, eqb→eq, eq-zero-or-pos, nat_le, inl, inr, refl, sym, arith, append-nil, append_assoc, add-one}
 use lib.Ieee.Fits.{and_l, and_r}
 use Rattle.giop_conversation.specs.declared.times.TheConstants.{PAIRS}
 use Rattle.httpdate.specs.Text.{two_digits}

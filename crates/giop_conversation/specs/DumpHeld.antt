@@ -1,6 +1,6 @@
 -- Which dump the connections of a capture hold: what is written of them, and what they know of
 -- their streams and calls (state).
-use Rattle.std.specs.Prelude.{◌≡◌, ℕ, List, [], ◌∷◌, ◌++◌, Bool, ◌||◌, nat_lt, Option, Result, MatchResult}
+use Rattle.std.specs.Prelude.{◌≡◌, ℕ, List, [], ◌∷◌, ◌++◌, Bool, ◌||◌, nat_lt, Result, MatchResult}
 use Rattle.tcp_flow.specs.Flow.{Event}
 use Rattle.giop_message.specs.Signatures.{Answers}
 use Rattle.giop_stream.specs.EngineHolds.{HoldsBy}

@@ -1,5 +1,5 @@
 -- What calls of a direction do with octets of its stream, and what they write (state).
-use Rattle.std.specs.Prelude.{◌≡◌, ℕ, true, false, List, ◌++◌, Option, None, Result, MatchResult}
+use Rattle.std.specs.Prelude.{◌≡◌, ℕ, true, false, List, ◌++◌, None, Result, MatchResult}
 use Rattle.giop_print.specs.Output.{Wrote}
 use Rattle.giop_message.specs.Signatures.{Answers}
 use Rattle.giop_stream.specs.EngineView.{EngineView}

@@ -1,5 +1,5 @@
 -- Answers that agree, or a header that has not ended: a message then follows the same octets.
-use Rattle.std.proofs.Common.{arith, ◌≡◌, ℕ, ◌+◌, List, [], ◌++◌, length, Option, Some, None, refl, sym, ap, ◌∙◌, ◌⊎◌, inl, inr}
+use Rattle.std.proofs.Common.{arith, ◌≡◌, ℕ, ◌+◌, List, [], length, Option, Some, None, refl, sym, ap, ◌∙◌, ◌⊎◌, inl, inr}
 use Rattle.giop_sig.specs.Table.{Table}
 use Rattle.giop_decode.specs.declared.decoder.Decoder.{Decoder}
 use Rattle.giop_decode.specs.ReadResult.{plain, Read, Done, Short, Fault}
@@ -12,7 +12,7 @@ use Rattle.giop_message.specs.declared.part.Section.{Section}
 use Rattle.giop_message.specs.declared.part.Section.TheVariants as sections
 use Rattle.giop_message.specs.Headers.{order}
 use Rattle.giop_message.specs.Signatures.{Answer, Answers, signatures_of}
-use Rattle.giop_message.specs.Messages.{section_then, section_and_rest, after_exception, members_of, with_front, message}
+use Rattle.giop_message.specs.Messages.{section_then, section_and_rest, after_exception, members_of, with_front}
 use Rattle.giop_message.specs.MessageState.{Decodes, Stands, Follows}
 use Rattle.giop_message.specs.HeaderEnds.{noted_if_whole, header_noted}
 use Rattle.giop_message.proofs.HeaderEndLaws.{unended_agree}
@@ -45,22 +45,6 @@ unfolding section_then after_exception
 through_exception C x y header (Done lines at rest) = search (arith, members_agree)
 through_exception C x y header (Short lines at outer leaf) = refl
 through_exception C x y header (Fault lines at why T) = refl
-
-through_system : (C : Table) (x y : Answer) (header : List ℕ) (r : Read) →
-    section_and_rest (signatures_of C x) header sections.SystemException nothing_noted r
-    ≡ section_and_rest (signatures_of C y) header sections.SystemException nothing_noted r
-unfolding section_then
-through_system C x y header (Done lines at rest) = refl
-through_system C x y header (Short lines at outer leaf) = refl
-through_system C x y header (Fault lines at why T) = refl
-
-through_body : (C : Table) (x y : Answer) (header : List ℕ) (r : Read) →
-    section_and_rest (signatures_of C x) header sections.Body nothing_noted r
-    ≡ section_and_rest (signatures_of C y) header sections.Body nothing_noted r
-unfolding section_then
-through_body C x y header (Done lines at rest) = refl
-through_body C x y header (Short lines at outer leaf) = refl
-through_body C x y header (Fault lines at why T) = refl
 
 module _ (C : Table) (a b : Answers) (number : ℕ) (header s : List ℕ) where
   -- where the answers agree
@@ -96,8 +80,8 @@ module _ (C : Table) (a b : Answers) (number : ℕ) (header s : List ℕ) where
       go sections.Header d' k none' = through_header C (a number) (b number) header _
           (sym (header_read C (a number) number header s d' k) ∙ none')
       go sections.Exception d' k none' = search (arith, through_exception)
-      go sections.SystemException d' k none' = search (arith, through_system)
-      go sections.Body d' k none' = search (arith, through_body)
+      go sections.SystemException d' k none' = search (arith)
+      go sections.Body d' k none' = search (arith)
 
   stands_new : (d : Decoder) (p : Part) → header_noted header s ≡ None →
       Stands C a number header s d p → Stands C b number header s d p

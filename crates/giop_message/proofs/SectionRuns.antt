@@ -536,7 +536,7 @@ module _ {t : Standing} {octets : List ℕ} {n : ℕ} {d' : Decoder} where
   -- octets that end no section end no header and no name
   pub none_ends : {p : Progress} → Took t octets n d' p → IsNoEnd p →
       header_ends number header s (take n octets) ≡ []
-  none_ends {p} k other = search (arith, ends_none, take, last)
+  none_ends {p} k other = search (arith, ends_none, last)
 
   -- nor do those before the last of a run
   none_sooner : {p : Progress} → Took t octets n d' p → (k : ℕ) → k < n →
@@ -684,8 +684,4 @@ module _ {C : Table} {answers : Answers} {number : ℕ} {header : List ℕ} {m :
       TakesFront (λ went. went.0) (λ xs. header_ends number header s xs ≡ [])
       (λ xs. Writes result a b (due_text (signatures_of C (answers number)) number place header s
       xs)) result octets
-  rest_front is octets place result n a b counted within some wrote = search (
-    arith,
-    rest_none,
-    take,
-  )
+  rest_front is octets place result n a b counted within some wrote = search (arith, rest_none)
