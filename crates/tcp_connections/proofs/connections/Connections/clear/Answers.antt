@@ -9,30 +9,21 @@ use Rattle.tcp_connections.proofs.connections.Connections.clear.Goals as goal
 
 pub elder_side-requires : goal.elder_side-requires
 elder_side-requires g c =
-    omega (
-      arith,
-      c.room-room.ensures,
-      small_room _ _ _ _ c.args.place c.requires.state.1
-          (omega (arith, c.requires.place, c.args.self.now.table.keys.ok.0)),
-    )
+    let b = small_room _ _ _ _ c.args.place c.requires.state.1
+    (omega (arith, c.requires.place, c.args.self.now.table.keys.ok.0)) in
+    omega (arith, c.room-room.ensures, b)
 
 pub show-requires-clause-room : goal.show-requires-clause-room
 show-requires-clause-room g c =
-    omega (
-      arith,
-      c.room-room.ensures,
-      small_room _ _ _ _ c.args.place c.requires.state.1
-          (omega (arith, c.requires.place, c.args.self.now.table.keys.ok.0)),
-    )
+    let b = small_room _ _ _ _ c.args.place c.requires.state.1
+    (omega (arith, c.requires.place, c.args.self.now.table.keys.ok.0)) in
+    omega (arith, c.room-room.ensures, b)
 
 pub elder_side-requires-2 : goal.elder_side-requires-2
 elder_side-requires-2 g c =
-    omega (
-      arith,
-      c.room-room.ensures,
-      small_room _ _ _ _ c.args.place c.requires.state.1
-          (omega (arith, c.requires.place, c.args.self.now.table.keys.ok.0)),
-    )
+    let b = small_room _ _ _ _ c.args.place c.requires.state.1
+    (omega (arith, c.requires.place, c.args.self.now.table.keys.ok.0)) in
+    omega (arith, c.room-room.ensures, b)
 
 pub forget-requires-clause-state : goal.forget-requires-clause-state
 forget-requires-clause-state g c = (

@@ -9,12 +9,9 @@ use Rattle.tcp_connections.proofs.connections.Connections.forget.Goals as goal
 
 pub flow_id-requires : goal.flow_id-requires
 flow_id-requires g c =
-    omega (
-      arith,
-      c.room-room.ensures,
-      small_room _ _ _ _ c.args.place c.requires.state.1
-          (omega (arith, c.requires.place, c.args.self.now.table.keys.ok.0)),
-    )
+    let b = small_room _ _ _ _ c.args.place c.requires.state.1
+    (omega (arith, c.requires.place, c.args.self.now.table.keys.ok.0)) in
+    omega (arith, c.room-room.ensures, b)
 
 pub forget_flow-requires-2 : goal.forget_flow-requires-2
 forget_flow-requires-2 g c = record {

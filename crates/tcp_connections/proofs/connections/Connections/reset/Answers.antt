@@ -9,12 +9,9 @@ use Rattle.tcp_connections.proofs.connections.Connections.reset.Goals as goal
 
 pub flow_id-id-requires : goal.flow_id-id-requires
 flow_id-id-requires g c =
-    omega (
-      arith,
-      c.room.ensures,
-      small_room _ _ _ _ c.args.place c.requires.state.1
-          (omega (arith, c.requires.place, c.args.self.now.table.keys.ok.0)),
-    )
+    let b = small_room _ _ _ _ c.args.place c.requires.state.1
+    (omega (arith, c.requires.place, c.args.self.now.table.keys.ok.0)) in
+    omega (arith, c.room.ensures, b)
 
 pub returns-then-not-segment-clause-does : goal.returns-then-not-segment-clause-does
 returns-then-not-segment-clause-does g c w h =

@@ -45,12 +45,9 @@ returns-in_default-clause-count g c =
 
 pub flow_id-id-requires : goal.flow_id-id-requires
 flow_id-id-requires g c =
-    omega (
-      arith,
-      c.room-room.ensures,
-      small_room _ _ _ _ c.in-Some.place c.requires.state.1
-          (omega (arith, c.in-Some.ensures.within, c.args.self.now.table.keys.ok.0)),
-    )
+    let b = small_room _ _ _ _ c.in-Some.place c.requires.state.1
+    (omega (arith, c.in-Some.ensures.within, c.args.self.now.table.keys.ok.0)) in
+    omega (arith, c.room-room.ensures, b)
 
 pub keep_syn-requires : goal.keep_syn-requires
 keep_syn-requires g c =

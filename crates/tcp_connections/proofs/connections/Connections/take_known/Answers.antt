@@ -13,12 +13,9 @@ use Rattle.tcp_connections.proofs.connections.Connections.take_known.Goals as go
 
 pub flow_id-id-requires : goal.flow_id-id-requires
 flow_id-id-requires g c =
-    omega (
-      arith,
-      c.room-room.ensures,
-      small_room _ _ _ _ c.args.place c.requires.state.1
-          (omega (arith, c.requires.place, c.args.self.now.table.keys.ok.0)),
-    )
+    let b = small_room _ _ _ _ c.args.place c.requires.state.1
+    (omega (arith, c.requires.place, c.args.self.now.table.keys.ok.0)) in
+    omega (arith, c.room-room.ensures, b)
 
 pub note-requires : goal.note-requires
 note-requires g c =
