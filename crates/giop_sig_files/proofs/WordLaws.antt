@@ -13,7 +13,8 @@ between_more : (start end : ℕ) (text : List ℕ) → start ≤ end → end < l
 between_more start end text order inside =
     let more : take (end - start + 1) (drop start text)
     ≡ take (end - start) (drop start text) ++ get_or (drop start text) (end - start) 0 ∷ [] =
-    take_more (drop start text) (end - start) 0 (omega (arith, order, inside, length-drop start text))
+    take_more (drop start text) (end - start) 0
+    (omega (arith, order, inside, length-drop start text))
     in let at : get_or (drop start text) (end - start) 0 ≡ get_or text end 0 =
     get_or-drop start text (end - start) 0 ∙ ap (λ (n : ℕ). get_or text n 0) (omega (arith, order))
     in ap (λ (n : ℕ). take n (drop start text)) (omega (arith, order)) ∙ more

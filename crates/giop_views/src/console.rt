@@ -64,7 +64,11 @@ impl Report {
             return;
         };
         let name = file.unwrap_or("standard input");
-        let look = if self.is_capture { Look::Capture } else { Look::Other };
+        let look = if self.is_capture {
+            Look::Capture
+        } else {
+            Look::Other
+        };
         let _ = eprintln!(rt;
             "{program}: {}:{number}: no dump has this line{}",
             ShownName(name),
