@@ -1,4 +1,4 @@
-use Rattle.std.proofs.Common.{◌≡◌, sym, ◌∙◌, arith}
+use Rattle.std.proofs.Common.{sym, ◌∙◌, arith}
 use Rattle.giop_sig_files.proofs.WordLaws.{breaks, goes_on}
 use Rattle.giop_sig_files.proofs.earlier.word_before.Goals as goal
 use Rattle.giop_sig_files.proofs.earlier.word_before.Goals.{then-text-end-eq32, else-text-end-eq32}
