@@ -57,10 +57,7 @@ pub enum Look<'a> {
     /// It begins as IDL does.
     Idl,
     /// Its line declares a name that this line of this file declares before.
-    Declared {
-        name: &'a str,
-        line: u32,
-    },
+    Declared { name: &'a str, line: u32 },
     /// Any other.
     Other,
 }

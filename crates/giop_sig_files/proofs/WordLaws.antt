@@ -1,5 +1,5 @@
 -- The words of a line, as they are read from the front.
-use Rattle.std.proofs.Common.{◌≡◌, ℕ, suc, ◌+◌, ◌-◌, ◌<◌, ◌≤◌, Bool, true, false, cond, eqb, List, [], ◌∷◌, ◌++◌, length, get_or, drop, take, Option, Some, None, refl, sym, ap, ◌∙◌, add-one, arith}
+use Rattle.std.proofs.Common.{◌≡◌, ℕ, ◌+◌, ◌-◌, ◌<◌, ◌≤◌, Bool, true, false, cond, eqb, List, [], ◌∷◌, ◌++◌, length, get_or, drop, take, Some, refl, sym, ap, ◌∙◌, add-one, arith}
 use Rattle.std.proofs.lemmas.List.{take_more, get_or-drop, length-drop}
 use Rattle.std.proofs.Math.Seq.{drop-cons}
 use Rattle.giop_sig_files.specs.Names.{word_before}
@@ -13,7 +13,8 @@ between_more : (start end : ℕ) (text : List ℕ) → start ≤ end → end < l
 between_more start end text order inside =
     let more : take (end - start + 1) (drop start text)
     ≡ take (end - start) (drop start text) ++ get_or (drop start text) (end - start) 0 ∷ [] =
-    take_more (drop start text) (end - start) 0 (omega (arith, order, inside, length-drop start text))
+    take_more (drop start text) (end - start) 0
+    (omega (arith, order, inside, length-drop start text))
     in let at : get_or (drop start text) (end - start) 0 ≡ get_or text end 0 =
     get_or-drop start text (end - start) 0 ∙ ap (λ (n : ℕ). get_or text n 0) (omega (arith, order))
     in ap (λ (n : ℕ). take n (drop start text)) (omega (arith, order)) ∙ more

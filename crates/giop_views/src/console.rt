@@ -66,7 +66,11 @@ fn say_unknown(rt: &HostRuntime, program: &str, file: Option<&str>, report: Repo
         return;
     };
     let name = file.unwrap_or("standard input");
-    let look = if report.is_capture { Look::Capture } else { Look::Other };
+    let look = if report.is_capture {
+        Look::Capture
+    } else {
+        Look::Other
+    };
     let _ = eprintln!(rt;
         "{program}: {}:{number}: no dump has this line{}",
         ShownName(name),

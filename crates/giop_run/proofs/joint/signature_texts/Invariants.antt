@@ -5,4 +5,5 @@ use Rattle.giop_run.proofs.joint.signature_texts.Given as goal
 -- the files of the names so far
 abbrev pub invariant-loop-name : goal.invariant-loop-name
 invariant-loop-name g l =
-    AreRead (g.R.Inputs.held l.rt) (map (λ name. name.now) (take l.name-index l.names)) l.files.items
+    AreRead (g.R.Inputs.held l.rt) (map (λ name. name.now) (take l.name-index l.names))
+    l.files.items

@@ -1,4 +1,4 @@
-use Rattle.std.proofs.Common.{◌≡◌, ℕ, suc, ◌+◌, List, ◌∷◌, ◌++◌, map, drop, append_assoc, sym, ap, ◌∙◌, add-one, arith, Vec, Global}
+use Rattle.std.proofs.Common.{◌≡◌, ℕ, suc, ◌+◌, List, ◌∷◌, ◌++◌, map, drop, append_assoc, sym, ap, ◌∙◌, add-one, Vec, Global}
 use Rattle.std.specs.Prelude.{flat_map}
 use Rattle.std.proofs.lemmas.Grind.{flat_map-append}
 use Rattle.std.proofs.lemmas.List.{map-append}
@@ -36,9 +36,15 @@ loop-file-preserved c =
     let bs = items c.in_ok-blocks.blocks.items in
     let before = items c.loop-file.before.items in
     let m = more c.loop-file.text.items before bs f (drop (i + 1) fs) _
-    (c.in_ok-blocks.ensures ∙ ap blocks c.as_slice.ensures.value) (rw next at c.loop-file.invariant) in
+    (c.in_ok-blocks.ensures ∙ ap blocks c.as_slice.ensures.value)
+    (rw next at c.loop-file.invariant) in
     let longer : items c.append.new.self.items ≡ before ++ bs =
     ap items c.in_ok-append.ensures.items
     ∙ map-append (λ (b : Vec ℕ Global). b.items) c.loop-file.before.items
     c.in_ok-blocks.blocks.items in
-    rw (longer, c.in_ok-take_all.ensures, c.as_slice-in-loop-file.ensures.value, c.as_slice-in-loop-file-2.ensures.value) m
+    rw (
+      longer,
+      c.in_ok-take_all.ensures,
+      c.as_slice-in-loop-file.ensures.value,
+      c.as_slice-in-loop-file-2.ensures.value,
+    ) m
