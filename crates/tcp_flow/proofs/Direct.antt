@@ -368,7 +368,8 @@ due_number next live p q small bound l e h =
 
 -- ---- What is to come is held, and nothing is due.
 
-either_place : (b : Bool) (i j : ℕ) (P : ℕ → Type 0) → P i → P j → IfSome (cond b (Some i) (Some j)) P
+either_place : (b : Bool) (i j : ℕ) (P : ℕ → Type 0)
+    → P i → P j → IfSome (cond b (Some i) (Some j)) P
 either_place true i j P p q = p
 either_place false i j P p q = q
 

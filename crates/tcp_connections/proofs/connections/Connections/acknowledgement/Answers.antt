@@ -36,18 +36,26 @@ returns-clause-does g c w h =
     makes_by _ _ _ _ c.args.self.now _ (λ w. acknowledgement_taken g.L.Listener.faulted w c.args.id
     (segment_view c.args.segment)) (λ es h0.
     let S : State = state_of c.args.self.now es in
-    let e : flow_at S c.args.id ≡ Some c.in-Some-flow.flow = sym c.flow.ensures ∙ c.in-Some-flow.is in
+    let e : flow_at S c.args.id ≡ Some c.in-Some-flow.flow =
+    sym c.flow.ensures ∙ c.in-Some-flow.is in
     let f : Flow = state c.in-Some-flow.flow S.held es in
     let start = flow_start _ _ c.args.self.now es c.in-Some-flow.flow h0 in
     let fewer : blocks_of c.acknowledged.new.pool.held ≤ c.args.self.now.pool.blocks =
-    omega (arith, h0.sound.blocks, c.acknowledged.ensures.blocks, c.in_ok-acknowledged.ensures.room f start) in
+    omega (
+      arith,
+      h0.sound.blocks,
+      c.acknowledged.ensures.blocks,
+      c.in_ok-acknowledged.ensures.room f start,
+    ) in
     moved _ _ _ _ _
     (acknowledged_some g.L.Listener.faulted S c.args.id (segment_view c.args.segment)
     c.in-Some.number c.in-Some.is ∙ arrived_some g.L.Listener.faulted S c.args.id
     (Acknowledged c.in-Some.number) c.in-Some-flow.flow e)
-    (flow_turned _ _ _ _ c.args.self.now _ es c.args.id c.in-Some-flow.flow c.acknowledged.new.self _ h0 e
+    (flow_turned _ _ _ _ c.args.self.now _ es c.args.id c.in-Some-flow.flow
+    c.acknowledged.new.self _ h0 e
     (c.in_ok-acknowledged.ensures.does f start) c.acknowledged.ensures.id
     (c.in_ok-acknowledged.ensures.beside f start) fewer
     (c.in_ok-acknowledged.ensures.settled f start
     (h0.sound.settled c.args.id c.in-Some-flow.flow e))
-    (λ l t. step_turn _ c.args.id es f _ l t) (λ es. refl) refl c.acknowledged.ensures.blocks refl refl)) w h
+    (λ l t. step_turn _ c.args.id es f _ l t) (λ es. refl) refl
+    c.acknowledged.ensures.blocks refl refl)) w h

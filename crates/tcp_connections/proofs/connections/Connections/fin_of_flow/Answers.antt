@@ -19,7 +19,8 @@ returns-in_default-clause-does g c w h =
 
 pub returns-clause-does : goal.returns-clause-does
 returns-clause-does g c w h =
-    makes_by _ _ _ _ c.args.self.now _ (λ w. arrived g.L.Listener.faulted w c.args.id (End c.args.number)) (λ es h0.
+    makes_by _ _ _ _ c.args.self.now _
+    (λ w. arrived g.L.Listener.faulted w c.args.id (End c.args.number)) (λ es h0.
     let S : State = state_of c.args.self.now es in
     let e : flow_at S c.args.id ≡ Some c.in-Some.flow = sym c.flow.ensures ∙ c.in-Some.is in
     let f : Flow = state c.in-Some.flow S.held es in

@@ -32,7 +32,12 @@ returns-clause-does g c w h =
     let f : Flow = state c.in-Some.flow S.held es in
     let start = flow_start _ _ c.args.self.now es c.in-Some.flow h0 in
     let fewer : blocks_of c.payload.new.pool.held ≤ c.args.self.now.pool.blocks =
-    omega (arith, h0.sound.blocks, c.payload.ensures.blocks, c.in_ok-payload.ensures.room f start) in
+    omega (
+      arith,
+      h0.sound.blocks,
+      c.payload.ensures.blocks,
+      c.in_ok-payload.ensures.room f start,
+    ) in
     moved _ _ _ _ _
     (payload_later g.L.Listener.faulted S c.args.id (segment_view c.args.segment) c.in-Some.flow
     e c.if-segment.false ∙ arrived_some g.L.Listener.faulted S c.args.id
@@ -44,4 +49,5 @@ returns-clause-does g c w h =
     (c.in_ok-payload.ensures.does f start) c.payload.ensures.id
     (c.in_ok-payload.ensures.beside f start) fewer
     (c.in_ok-payload.ensures.settled f start)
-    (λ l t. step_turn _ c.args.id es f _ l t) (λ es. refl) refl c.payload.ensures.blocks refl refl)) w h
+    (λ l t. step_turn _ c.args.id es f _ l t) (λ es. refl) refl
+    c.payload.ensures.blocks refl refl)) w h

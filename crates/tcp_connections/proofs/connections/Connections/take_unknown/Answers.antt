@@ -94,7 +94,8 @@ begin-requires-clause-taken g c =
     let id = ap (λ (k : ℕ). k / 2) c.flow_id-id.ensures.id ∙ half _ c.args.side ∙ room in
     subst (λ (rs : List ℕ). 0 < times (c.flow_id-id.result / 2) rs)
     (sym (ap (λ (u : State). u.rooms) m.same))
-    (subst (λ (k : ℕ). 0 < times k (made_known (with_room g.L.Listener.faulted w) c.args.pair).rooms) (sym id)
+    (subst (λ (k : ℕ).
+    0 < times k (made_known (with_room g.L.Listener.faulted w) c.args.pair).rooms) (sym id)
     (next_taken (with_room g.L.Listener.faulted w) c.args.pair))
 
 pub begin-requires-clause-vacant : goal.begin-requires-clause-vacant
