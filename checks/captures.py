@@ -302,7 +302,9 @@ WORDS: List[Tuple[Tuple[str, ...], int, str, str]] = [
 def files_of_words(folder: Path) -> None:
     """Makes the files that the words name."""
     (folder / "wrong.sig").write_text("signatures 1;\nstruct A { B b; };\n")
-    (folder / "one.sig").write_text("signatures 1;\nstruct A {\n  long x;\n};\noperation boolean _is_a(in string id);\n")
+    (folder / "one.sig").write_text(
+        "signatures 1;\nstruct A {\n  long x;\n};\noperation boolean _is_a(in string id);\n"
+    )
     (folder / "two.sig").write_text("signatures 1;\noperation boolean _is_a(in string id);\noperation A get();")
     (folder / "other.sig").write_text("// Others.\nsignatures 1;\n\noperation long get();\n")
     (folder / "second.sig").write_text("signatures 2;\noperation long other();\n")
@@ -320,7 +322,7 @@ def run_words(folder: Path, seen: Differences) -> None:
     files_of_words(folder)
     for words, status, lines, said in WORDS:
         run = run_in(folder, words)
-        is_said = run.said.startswith(said.encode()) if said == "error: " else run.said == said.encode()
+        is_said = run.said.startswith(said.encode()) if said.startswith("error: ") else run.said == said.encode()
         as_wanted = (run.status, run.lines) == (status, lines.encode()) and is_said
         seen.note(as_wanted, f"words {words}", run)
     run = run_in(folder, ("empty.pcap",), limit=40_000_000)
