@@ -1,11 +1,11 @@
-use Rattle.std.proofs.Common.{Ok, Err, None, inl}
+use Rattle.std.proofs.Common.{Ok, Err, None, inl, refl}
 use Rattle.giop_run.specs.declared.fault.ProgramFault.TheVariants as faults
 use Rattle.giop_capture_program.specs.Failures.{fault_of}
 use Rattle.giop_capture_program.proofs.console.print_capture.Goals as goal
 
 pub returns-in_default-clause-status : goal.returns-in_default-clause-status
 returns-in_default-clause-status c =
-    (Err faults.OutOfMemory, (None, inl tt), c.failed.ensures)
+    (Err faults.OutOfMemory, (None, inl (inl refl)), c.failed.ensures)
 
 pub returns-in-Ok-perform_capture-clause-status : goal.returns-in-Ok-perform_capture-clause-status
 returns-in-Ok-perform_capture-clause-status c = (
