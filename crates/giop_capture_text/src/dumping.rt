@@ -25,8 +25,8 @@ pub fn text_of(alloc: Global, capture: &[u8]) -> Option<(Ending, Vec<u8>)>
     ensures { IfSome result (λ dump. IsDumpOf capture.now dump.0 dump.1.items) }
 {
     let asked = Arguments {
-        signatures: ArrayVec::new(),
         ports: ArrayVec::new(),
+        signatures: ArrayVec::new(),
         connections: 256,
         messages: 16,
         calls: 128,
