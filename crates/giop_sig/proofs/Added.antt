@@ -14,8 +14,7 @@ use Rattle.indexmap.specs.IndexMap.{insert_entry}
 use Rattle.giop_sig.specs.declared.types.TypeId.{TypeId}
 use Rattle.giop_sig.specs.declared.catalogue.Signature.{Signature}
 use Rattle.giop_sig.specs.Table.{Node, Operation, Exception, Table, op_id, operation_in, exception_in, members_at, no_operation, no_exception, with_type, with_operation, with_exception}
-use Rattle.giop_sig.specs.Trees.{AreTypes}
-use Rattle.giop_sig.specs.HeaderTypes.{IsOperation, IsException, AreDistinct, IsTable}
+use Rattle.giop_sig.specs.HeaderTypes.{IsOperation, IsException, AreDistinct, TableOf}
 use Rattle.giop_sig.specs.Entries.{operation_view, exception_view, table_view}
 
 -- ---- a type
@@ -28,18 +27,9 @@ raised_stays : (types : List Node) (n : Node) (e : Exception) → IsException ty
     → IsException (types ++ n ∷ []) e
 raised_stays types n e is = search (arith, length-append)
 
-pub type_added : (t : Table) (n : Node) → IsTable t → AreTypes (t.types ++ n ∷ [])
-    → IsTable (with_type t n)
+pub type_added : {Types : List Node → Type 0} (t : Table) (n : Node) → TableOf Types t
+    → Types (t.types ++ n ∷ []) → TableOf Types (with_type t n)
 type_added t n laws are = search (arith, append_assoc, call_stays, get_or, raised_stays)
-
--- the fields after a type is added
-pub type_put : (types new : List Node) (os : List (ArrayVec ℕ × Signature))
-    (es : List (ArrayVec ℕ × TypeId)) (declared : ℕ) (n : Node)
-    → IsTable (table_view types os es declared) → new ≡ types ++ n ∷ [] → AreTypes new
-    → IsTable (table_view new os es declared)
-type_put types new os es declared n laws is are =
-    subst (λ ts. IsTable (table_view ts os es declared)) (sym is)
-    (type_added (table_view types os es declared) n laws (subst AreTypes is are))
 
 -- ---- a new key goes last
 
@@ -154,8 +144,9 @@ distinct_push name_in d xs x before none i j li lj e =
 
 -- ---- an operation
 
-pub operation_added : (t : Table) (o : Operation) → IsTable t → IsOperation t.types o
-    → operation_in t o.name ≡ None → length t.operations < 4096 → IsTable (with_operation t o)
+pub operation_added : {Types : List Node → Type 0} (t : Table) (o : Operation) → TableOf Types t
+    → IsOperation t.types o → operation_in t o.name ≡ None → length t.operations < 4096
+    → TableOf Types (with_operation t o)
 operation_added t o laws call new few = record {
   types = laws.types;
   begins = laws.begins;
@@ -193,8 +184,9 @@ operation_put types os new es declared t key s name view same none is =
 
 -- ---- an exception
 
-pub exception_added : (t : Table) (e : Exception) → IsTable t → IsException t.types e
-    → exception_in t e.repository ≡ None → length t.exceptions < 4096 → IsTable (with_exception t e)
+pub exception_added : {Types : List Node → Type 0} (t : Table) (e : Exception) → TableOf Types t
+    → IsException t.types e → exception_in t e.repository ≡ None → length t.exceptions < 4096
+    → TableOf Types (with_exception t e)
 exception_added t e laws raised new few = record {
   types = laws.types;
   begins = laws.begins;

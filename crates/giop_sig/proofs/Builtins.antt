@@ -4,7 +4,7 @@ use Rattle.std.specs.Prelude.{slice_get, IfSome}
 use Rattle.std.specs.Option.{option_map}
 use Rattle.std.specs.List.{AllByRecursion}
 use Rattle.std.proofs.lemmas.Bool.{ltb-true, leb-true}
-use Rattle.std.proofs.lemmas.List.{length-append, length-take, take_more, take-append-drop, get_or-take}
+use Rattle.std.proofs.lemmas.List.{append-nil, length-append, length-take, take_more, take-append-drop, get_or-take}
 use Rattle.std.proofs.lemmas.List.Elements.{All-from_recursion}
 use Rattle.giop_cdr.specs.declared.prim.Primitive.TheVariants.{Octet}
 use Rattle.giop_sig.specs.declared.types.Selected.TheVariants as selecteds
@@ -16,7 +16,7 @@ use Rattle.giop_sig.specs.Fits.{IsFit}
 use Rattle.giop_sig.specs.Table.{Node, Part, Case, Table, node_in, IsFormed, IsInner, IsPart, IsSwitch, TakesOctet, IsScalarNode}
 use Rattle.giop_sig.specs.Table as nodes
 use Rattle.giop_sig.specs.Trees.{grow, trees_after, type_in, tree, depth_of, AreTypes}
-use Rattle.giop_sig.specs.Builtin.{builtin_types}
+use Rattle.giop_sig.specs.Builtin.{builtin_table, builtin_types}
 use Rattle.giop_sig.specs.HeaderTypes.{fixed_number, header_number, cell_of, cell_in, IsTable}
 use Rattle.giop_sig.proofs.TreeLaws.{tree_stays, tree_added}
 use Rattle.giop_sig.proofs.Formed.{formed_moved}
@@ -177,10 +177,16 @@ builtin_test = refl
 pub builtin_are : AreTypes builtin_types
 unfolding builtin_types
 builtin_are = record {
-  few = lit< tt;
-  formed = λ i lt. table_by builtin_types 0 builtin_types i i builtin_test lt (omega arith);
+  placed = record {
+    few = lit< tt;
+    formed = λ i lt. table_by builtin_types 0 builtin_types i i builtin_test lt (omega arith);
+  };
   shallow = omega (arith, builtin_depth);
 }
+
+-- and that of a catalogue without declarations
+pub builtin_is : IsTable builtin_table
+builtin_is = search (arith, builtin_are, append-nil)
 
 all_take_test : List Node → Bool
 all_take_test [] = true
@@ -222,26 +228,6 @@ builtin_formed n types node lt front is = search (
 pub builtin_few : (n : ℕ) (types : List Node) → n < BUILTIN_LEN → types ≡ take n builtin_types
     → length types + 1 < 2 ^ 32
 builtin_few n types lt front = search (arith, length-take)
-
-pub builtin_shallow : (n : ℕ) (types : List Node) (node : Node) → n < BUILTIN_LEN
-    → types ≡ take n builtin_types → node ≡ node_in builtin_types n
-    → depth (grow (type_in types) node) ≤ 24
-unfolding builtin_types
-builtin_shallow n types node lt front is =
-    let len : length types ≡ n = ap length front ∙ omega (arith, length-take n builtin_types) in
-    let next : types ++ node ∷ [] ≡ take (n + 1) builtin_types =
-    ap (λ ts. ts ++ node ∷ []) front ∙ ap (λ m. take n builtin_types ++ m ∷ []) is
-    ∙ sym (next_builtin n lt) in
-    let whole : (types ++ node ∷ []) ++ drop (n + 1) builtin_types ≡ builtin_types =
-    ap (λ ts. ts ++ drop (n + 1) builtin_types) next ∙ take-append-drop (n + 1) builtin_types in
-    let there : length types < length (types ++ node ∷ []) =
-    omega (arith, length-append types (node ∷ [])) in
-    let tree : grow (type_in types) node ≡ type_in builtin_types n =
-    sym (tree_added types node) ∙ sym (tree_stays (types ++ node ∷ []) (drop (n + 1) builtin_types)
-    (length types) there)
-    ∙ ap (λ ts. type_in ts (length types)) whole ∙ ap (type_in builtin_types) len in
-    let within = depth_within builtin_types n lt in
-    omega (arith, ap depth tree, builtin_depth)
 
 -- ---- in every catalogue
 

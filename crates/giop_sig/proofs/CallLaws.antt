@@ -19,16 +19,16 @@ use Rattle.giop_sig.specs.declared.read_calls.Direction.TheVariants as direction
 use Rattle.giop_sig.specs.Table.{Node, Part, operation_in}
 use Rattle.giop_sig.specs.Table as nodes
 use Rattle.giop_sig.specs.Grammar.{TypeExpr, Base, Text, Reference, Named, SequenceOf, EncapsulationOf, Param, base_word, direction_word, spell_type, spell_item, spell_param, spell_more_params, spell_params, spell_return, Call}
-use Rattle.giop_sig.specs.Scopes.{Names, Scope, part, item_part, with_node, with_call, add_item, add_params, add_return, onto_request, onto_reply, declare}
+use Rattle.giop_sig.specs.Scopes.{Names, Scope, part, item_part, with_node, add_item, add_params, add_return, onto_request, onto_reply, declare}
 use Rattle.giop_sig.specs.Validity.{Kind, OfItem, OfItems, OfType, OfReturn, OfOperation, OfDeclaration, items_of}
-use Rattle.giop_sig.specs.TypeReading.{added, type_at}
-use Rattle.giop_sig.specs.ItemReading.{item_at, Declared}
-use Rattle.giop_sig.specs.CallReading.{ReturnRead, return_at, new_operation_at, direction_of, direction_at, in_request, in_reply, with_param, Params, ParameterLists, param_end, param_step, too_many_params, ParamsRead, params_read, params_run, no_parameters, params_at, operation_at}
-use Rattle.giop_sig.proofs.PlaceLaws.{size, within_same, within_on, node_more, item_more, item_names, params_more, return_more, return_names, return_operations, structs_more}
+use Rattle.giop_sig.specs.TypeReading.{type_at}
+use Rattle.giop_sig.specs.ItemReading.{item_at, Declared, end_of}
+use Rattle.giop_sig.specs.CallReading.{ReturnRead, return_at, new_operation_at, direction_of, direction_at, in_request, in_reply, with_param, Params, ParameterLists, param_end, param_step, too_many_params, ParamsRead, params_read, params_run, no_parameters, params_at, call_of, operation_at}
+use Rattle.giop_sig.proofs.PlaceLaws.{within_same, within_on, item_names, params_more, return_more, return_names, return_operations, structs_more}
 use Rattle.giop_sig.proofs.ReadingLaws.{Out, good, broken, out_bind, out_more, Apart, if_apart}
-use Rattle.giop_sig.proofs.TypeLaws.{added_bind, is_not, type_reads}
-use Rattle.giop_sig.proofs.ItemLaws.{made_item, item_reads, some_none, unused_reads}
-use Rattle.giop_sig.proofs.ItemTaken.{none_of}
+use Rattle.giop_sig.proofs.TypeLaws.{is_not, type_reads}
+use Rattle.giop_sig.proofs.ItemLaws.{made_item, item_reads, some_none, unused_reads, end_reads}
+use Rattle.giop_sig.proofs.ItemTaken.{none_of, TakenEnd, end_takes}
 use Rattle.giop_sig.proofs.RepeatLaws.{step_first}
 use Rattle.giop_sig.proofs.CallTaken.{TakenReturn, return_takes, then_run, OperationTaken, new_operation_takes, TakenList, list_takes}
 use Rattle.giop_sig.proofs.DeclaredLaws.{TakenDeclaration}
@@ -78,18 +78,18 @@ type_no_void (EncapsulationOf e) names text more free h = search (arith, if_no_v
 abbrev made_return : Scope → Option TypeExpr → List ℕ → ReturnRead
 made_return s o rest = ((add_return s o).0, (add_return s o).1, rest)
 
-return_reads : (at : ℕ) (s : Scope) (o : Option TypeExpr) (text : List ℕ) (more : List Token)
-    → 0 < size s → OfReturn kinds.Syntax s.names o → Apart marks.OpenAngle more
+return_reads : (s : Scope) (o : Option TypeExpr) (text : List ℕ) (more : List Token)
+    → OfReturn kinds.Syntax s.names o → Apart marks.OpenAngle more
     → AreTokens text (spell_return o more)
     → Out (made_return s o) (λ k. OfReturn k s.names o) (add_return s o).0.table.types
-    more (return_at at s text)
+    more (return_at s text)
 unfolding return_at
-return_reads at s None text more some free apart h =
+return_reads s None text more free apart h =
     rw (keyword_if_again (codes "void") text more h) (good h.0 h.2 (λ k. tt))
-return_reads at s (Some e) text more some free apart h =
+return_reads s (Some e) text more free apart h =
     rw (type_no_void e s.names text more free h)
-    (out_bind (type_at at 25 s text) (λ t. Ok (t.0, part (codes "return") t.1 ∷ [], t.2))
-    (type_reads at s e text more some free apart h)
+    (out_bind (type_at s text) (λ t. Ok (t.0, part (codes "return") t.1 ∷ [], t.2))
+    (type_reads s e text more free apart h)
     (λ rest m keeps. good rest m keeps) (λ k w. w) within_same)
 
 -- ---- the name
@@ -176,18 +176,18 @@ behind_reads w s p (q ∷ qs) rule types rest more h keeps =
     rw (mark_if_again marks.Comma rest (spell_param q (spell_more_params qs more)) h)
     (good h.0 h.2 keeps)
 
-param_reads : (at : ℕ) (w : ParameterLists) (s : Scope) (p : Param) (ps : List Param)
+param_reads : (w : ParameterLists) (s : Scope) (p : Param) (ps : List Param)
     (text : List ℕ)
-    (more : List Token) → 0 < size s → OfItem kinds.Syntax s.names 255 w.seen p.item
+    (more : List Token) → OfItem kinds.Syntax s.names 255 w.seen p.item
     → AreTokens text (spell_param p (spell_more_params ps more))
     → Out (made_param w s p ps) (λ k. OfItem k s.names 255 w.seen p.item)
-    (add_item s p.item).0.table.types (after_param ps more) (param_step at (s, w, text))
+    (add_item s p.item).0.table.types (after_param ps more) (param_step (s, w, text))
 unfolding param_step
-param_reads at w s p ps text more some free h =
+param_reads w s p ps text more free h =
     rw (direction_again p.direction text (spell_item p.item (spell_more_params ps more)) h)
-    (out_bind (item_at at 255 w.seen s h.0)
+    (out_bind (item_at 255 w.seen s h.0)
     (λ i. mark_if marks.Comma i.2 >>= λ c. param_end w p.direction i c)
-    (item_reads at 255 w.seen s p.item h.0 (spell_more_params ps more) some free
+    (item_reads 255 w.seen s p.item h.0 (spell_more_params ps more) free
     (more_apart ps more) h.2)
     (λ rest m keeps. behind_reads w s p ps (λ k. OfItem k s.names 255 w.seen p.item)
     (add_item s p.item).0.table.types rest more m
@@ -219,61 +219,61 @@ unfolding add_params
 made_on w s p ps rule types more r o = search (arith, request_on, reply_on)
 
 -- the last parameter ends the reading
-last_reads : (at n : ℕ) (w : ParameterLists) (s : Scope) (p : Param) (rule : Kind → Type 0)
+last_reads : (n : ℕ) (w : ParameterLists) (s : Scope) (p : Param) (rule : Kind → Type 0)
     (rest : List ℕ)
     (more : List Token) → AreTokens rest more → ((k : Kind) → rule k)
     → Out (made_params (way_on w s p) (add_item s p.item).0 []) rule
     (add_params (add_item s p.item).0 []).0.table.types more
-    (then_run at n (made_param w s p [] rest))
+    (then_run n (made_param w s p [] rest))
 unfolding add_params
-last_reads at n w s p rule rest more m keeps = search (arith, append-nil, good)
+last_reads n w s p rule rest more m keeps = search (arith, append-nil, good)
 
-param_named : (at : ℕ) (w : ParameterLists) (s : Scope) (names : Names) (p : Param)
+param_named : (w : ParameterLists) (s : Scope) (names : Names) (p : Param)
     (ps : List Param)
-    (text : List ℕ) (more : List Token) → s.names ≡ names → 0 < size s
+    (text : List ℕ) (more : List Token) → s.names ≡ names 
     → OfItem kinds.Syntax names 255 w.seen p.item
     → AreTokens text (spell_param p (spell_more_params ps more))
     → Out (made_param w s p ps) (λ k. OfItem k names 255 w.seen p.item)
-    (add_item s p.item).0.table.types (after_param ps more) (param_step at (s, w, text))
-param_named at w s names p ps text more same some free h =
+    (add_item s p.item).0.table.types (after_param ps more) (param_step (s, w, text))
+param_named w s names p ps text more same free h =
     subst (λ ns. Out (made_param w s p ps) (λ k. OfItem k ns 255 w.seen p.item)
     (add_item s p.item).0.table.types (after_param ps more)
-    (param_step at (s, w, text))) same
-    (param_reads at w s p ps text more some
+    (param_step (s, w, text))) same
+    (param_reads w s p ps text more
     (subst (λ ns. OfItem kinds.Syntax ns 255 w.seen p.item) (sym same) free) h)
 
-pub params_reads : (ps : List Param) (p : Param) (at n : ℕ) (w : ParameterLists) (s : Scope)
+pub params_reads : (ps : List Param) (p : Param) (n : ℕ) (w : ParameterLists) (s : Scope)
     (names : Names)
-    (text : List ℕ) (more : List Token) → s.names ≡ names → 0 < size s
+    (text : List ℕ) (more : List Token) → s.names ≡ names 
     → n + length w.seen ≡ 256 → length w.seen ≤ 255
     → OfItems kinds.Syntax names 255 w.seen (items_of (p ∷ ps))
     → AreTokens text (spell_param p (spell_more_params ps more))
     → Out (made_params w s (p ∷ ps)) (λ k. OfItems k names 255 w.seen (items_of (p ∷ ps)))
-    (add_params s (p ∷ ps)).0.table.types more (params_run at n (s, w, text))
+    (add_params s (p ∷ ps)).0.table.types more (params_run n (s, w, text))
 unfolding OfItems add_params
-params_reads ps p at zero w s names text more same some fuel few free h = absurd (omega arith)
-params_reads [] p at (suc n) w s names text more same some fuel few free h =
-    rw (step_first (param_step at) too_many_params params_read n (s, w, text))
-    (out_bind (param_step at (s, w, text)) (then_run at n)
-    (param_named at w s names p [] text more same some free.0 h)
+params_reads ps p zero w s names text more same fuel few free h = absurd (omega arith)
+params_reads [] p (suc n) w s names text more same fuel few free h =
+    rw (step_first param_step too_many_params params_read n (s, w, text))
+    (out_bind (param_step (s, w, text)) (then_run n)
+    (param_named w s names p [] text more same free.0 h)
     (λ rest m keeps. made_on w s p [] (λ k. OfItems k names 255 w.seen (items_of (p ∷ [])))
     (add_params s (p ∷ [])).0.table.types more
-    (then_run at n (made_param w s p [] rest))
-    (last_reads at n w s p (λ k. OfItems k names 255 w.seen (items_of (p ∷ []))) rest more m
+    (then_run n (made_param w s p [] rest))
+    (last_reads n w s p (λ k. OfItems k names 255 w.seen (items_of (p ∷ []))) rest more m
     (λ k. (keeps k, tt))))
     (λ k h. h.0) within_same)
-params_reads (q ∷ qs) p at (suc n) w s names text more same some fuel few free h =
-    rw (step_first (param_step at) too_many_params params_read n (s, w, text))
-    (out_bind (param_step at (s, w, text)) (then_run at n)
-    (param_named at w s names p (q ∷ qs) text more same some free.0 h)
+params_reads (q ∷ qs) p (suc n) w s names text more same fuel few free h =
+    rw (step_first param_step too_many_params params_read n (s, w, text))
+    (out_bind (param_step (s, w, text)) (then_run n)
+    (param_named w s names p (q ∷ qs) text more same free.0 h)
     (λ rest m keeps.
     let lt = (keeps kinds.Limit).1.1 in
     let v = way_on w s p in
     made_on w s p (q ∷ qs) (λ k. OfItems k names 255 w.seen (items_of (p ∷ q ∷ qs)))
     (add_params s (p ∷ q ∷ qs)).0.table.types more
-    (params_run at n ((add_item s p.item).0, v, rest))
-    (out_more (params_reads qs q at n v (add_item s p.item).0 names rest more
-    (item_names s p.item ∙ same) (omega (arith, (item_more s p.item).longer))
+    (params_run n ((add_item s p.item).0, v, rest))
+    (out_more (params_reads qs q n v (add_item s p.item).0 names rest more
+    (item_names s p.item ∙ same)
     (omega (arith, length-append w.seen (p.item.name ∷ [])))
     (omega (arith, length-append w.seen (p.item.name ∷ []))) free.1 m)
     (λ k h. (keeps k, h)) (λ k h. h.1)))
@@ -286,79 +286,67 @@ none_reads : (returned : List Part) (s : Scope) (names : Names) (rest : List ℕ
 unfolding OfItems add_params
 none_reads returned s names rest more m = search (arith, append-nil, good)
 
-pub list_reads : (ps : List Param) (at : ℕ) (returned : List Part) (s : Scope) (names : Names)
-    (text : List ℕ) (more : List Token) → s.names ≡ names → 0 < size s
+pub list_reads : (ps : List Param) (returned : List Part) (s : Scope) (names : Names)
+    (text : List ℕ) (more : List Token) → s.names ≡ names 
     → OfItems kinds.Syntax names 255 [] (items_of ps) → AreTokens text (spell_params ps more)
     → Out (made_params (no_parameters returned) s ps) (λ k. OfItems k names 255 [] (items_of ps))
-    (add_params s ps).0.table.types more (params_at at returned s text)
+    (add_params s ps).0.table.types more (params_at returned s text)
 unfolding params_at
-list_reads [] at returned s names text more same some free h =
+list_reads [] returned s names text more same free h =
     rw (mark_if_again marks.CloseParenthesis text more h) (none_reads returned s names h.0 more h.2)
-list_reads (p ∷ ps) at returned s names text more same some free h =
+list_reads (p ∷ ps) returned s names text more same free h =
     rw (if_apart marks.CloseParenthesis text (spell_param p (spell_more_params ps more)) refl h)
-    (params_reads ps p at 256 (no_parameters returned) s names text more same some (omega arith)
+    (params_reads ps p 256 (no_parameters returned) s names text more same (omega arith)
     (omega arith) free h)
 
 -- ---- operations
 
 pub operation_reads : (s : Scope) (o : Option TypeExpr) (w : List ℕ) (ps : List Param)
-    (text : List ℕ) (more : List Token) → 0 < size s → OfDeclaration kinds.Syntax s (Call o w ps)
+    (text : List ℕ) (more : List Token) → OfDeclaration kinds.Syntax s (Call o w ps)
     → AreTokens text (spell_return o
     (word w ∷ mark marks.OpenParenthesis ∷ spell_params ps (mark marks.Semicolon ∷ more)))
     → Out {X = Declared} (λ rest. (declare s (Call o w ps), rest))
     (λ k. OfDeclaration k s (Call o w ps)) (declare s (Call o w ps)).table.types
     more (operation_at s text)
 unfolding operation_at declare OfDeclaration
-operation_reads s o w ps text more some free h =
+operation_reads s o w ps text more free h =
     let t = add_return s o in
     let x = add_params t.0 ps in
     let request = nodes.members x.1 in
     let reply = nodes.members (t.1 ++ x.2) in
-    let struct = (with_node x.0 request).0 in
     let structs = structs_more x.0 request reply in
     let behind = within_on (params_more t.0 ps) structs in
-    out_bind (return_at (left_of text) s text)
+    out_bind (return_at s text)
     (λ t. new_operation_at t.0 t.2 >>= λ n. mark_at marks.OpenParenthesis n.1
-    >>= λ o. params_at (left_of t.2) t.1 t.0 o >>= λ m. mark_at marks.Semicolon m.3 >>= λ r.
-    added (left_of t.2) m.0 (nodes.members m.1)
-    >>= λ q. added (left_of t.2) q.0 (nodes.members m.2) >>= λ p. Ok (with_call n.0 q.1 p, r))
-    (return_reads (left_of text) s o text (word w ∷ mark marks.OpenParenthesis ∷ spell_params ps
-    (mark marks.Semicolon ∷ more)) some free.0 refl h)
+    >>= λ o. params_at t.1 t.0 o
+    >>= λ m. end_of (left_of t.2) (call_of n.0 m.2 (with_node m.0 (nodes.members m.1))) m.3)
+    (return_reads s o text (word w ∷ mark marks.OpenParenthesis ∷ spell_params ps
+    (mark marks.Semicolon ∷ more)) free.0 refl h)
     (λ a ta ka.
-    let at = left_of a in
     out_bind (new_operation_at t.0 a) (λ n. mark_at marks.OpenParenthesis n.1 >>= λ o.
-    params_at at t.1 t.0 o >>= λ m. mark_at marks.Semicolon m.3
-    >>= λ r. added at m.0 (nodes.members m.1) >>= λ q. added at q.0 (nodes.members m.2) >>= λ p.
-    Ok (with_call n.0 q.1 p, r))
+    params_at t.1 t.0 o
+    >>= λ m. end_of (left_of a) (call_of n.0 m.2 (with_node m.0 (nodes.members m.1))) m.3)
     (name_reads t.0.table.types t.0 a w (mark marks.OpenParenthesis ∷ spell_params ps
     (mark marks.Semicolon ∷ more)) ta)
     (λ b tb kb. rw (mark_again marks.OpenParenthesis b
     (spell_params ps (mark marks.Semicolon ∷ more)) tb)
-    (out_bind (params_at at t.1 t.0 tb.0) (λ m. mark_at marks.Semicolon m.3 >>= λ r.
-    added at m.0 (nodes.members m.1) >>= λ q. added at q.0 (nodes.members m.2)
-    >>= λ p. Ok (with_call w q.1 p, r))
-    (list_reads ps at t.1 t.0 s.names tb.0 (mark marks.Semicolon ∷ more) (return_names s o)
-    (omega (arith, (return_more s o).longer)) free.2 tb.2)
-    (λ c tc kc. rw (mark_again marks.Semicolon c more tc)
-    (added_bind at x.0 request (λ q. added at q.0 reply >>= λ p. Ok (with_call w q.1 p, tc.0))
-    (node_more struct reply)
-    (added_bind at struct reply (λ p. Ok (with_call w (length x.0.table.types) p, tc.0)) within_same
-    (good tc.0 tc.2 (λ k. (
-      ka k,
-      operation_same t.0 s w (sym (return_operations s o)) k (kb k),
-      kc k,
-    ))))))
+    (out_bind (params_at t.1 t.0 tb.0)
+    (λ m. end_of (left_of a) (call_of w m.2 (with_node m.0 (nodes.members m.1))) m.3)
+    (list_reads ps t.1 t.0 s.names tb.0 (mark marks.Semicolon ∷ more) (return_names s o)
+    free.2 tb.2)
+    (λ c tc kc. end_reads (left_of a) (call_of w (t.1 ++ x.2) (with_node x.0 request))
+    (λ k. OfDeclaration k s (Call o w ps)) c more tc
+    (λ k. (ka k, operation_same t.0 s w (sym (return_operations s o)) k (kb k), kc k)))
     (λ k h. h.2) structs))
     (λ k h. operation_same s t.0 w (return_operations s o) k h.1) behind)
     (λ k h. h.0) behind
 
-operation_made : (s : Scope) (whole text o : List ℕ) (t : ReturnRead) (n : List ℕ × List ℕ)
-    (m : ParamsRead) (r : List ℕ) (last : Scope) → Takes whole (word (codes "operation")) text
+operation_made : (s last : Scope) (whole text o : List ℕ) (t : ReturnRead) (n : List ℕ × List ℕ)
+    (m : ParamsRead) (x : Declared) → Takes whole (word (codes "operation")) text
     → TakenReturn s text t → OperationTaken t.0 t.2 n → mark_at marks.OpenParenthesis n.1 ≡ Ok o
-    → TakenList t.1 t.0 o m → mark_at marks.Semicolon m.3 ≡ Ok r
-    → TakenDeclaration s whole (last, r)
+    → TakenList t.1 t.0 o m → TakenEnd last m.3 x → TakenDeclaration s whole x
 unfolding OfDeclaration
-operation_made s whole text o t n m r last before a b c k e = record {
+operation_made s last whole text o t n m x before a b c k e = record {
   declaration = Call a.returned n.0 k.params;
   took = record {
     free = (
@@ -370,13 +358,14 @@ operation_made s whole text o t n m r last before a b c k e = record {
     front = λ more h.
         let list = spell_params k.params (mark marks.Semicolon ∷ more) in
         let inner : AreTokens o list = k.took.front (mark marks.Semicolon ∷ more)
-        (mark_takes marks.Semicolon m.3 r e more h) in
+        (mark_takes marks.Semicolon m.3 x.1 e.rest more h) in
         let behind : AreTokens t.2 (word n.0 ∷ mark marks.OpenParenthesis ∷ list) =
         b.front (mark marks.OpenParenthesis ∷ list)
         (mark_takes marks.OpenParenthesis n.1 o c list inner) in
         before (spell_return a.returned (word n.0 ∷ mark marks.OpenParenthesis ∷ list))
         (a.took.front (word n.0 ∷ mark marks.OpenParenthesis ∷ list) behind);
   };
+  shallow = e.shallow;
 }
 
 pub operation_takes : (s : Scope) (whole text : List ℕ) (x : Declared)
@@ -385,18 +374,10 @@ pub operation_takes : (s : Scope) (whole text : List ℕ) (x : Declared)
 unfolding operation_at
 operation_takes s whole text x before e =
     let t = bind_ok _ _ x e in
-    let at = left_of (t.0).2 in
     let n = bind_ok _ _ x t.2 in
     let o = bind_ok _ _ x n.2 in
     let m = bind_ok _ _ x o.2 in
-    let r = bind_ok _ _ x m.2 in
-    let q = bind_ok (added at (m.0).0 (nodes.members (m.0).1))
-    (λ q. added at q.0 (nodes.members (m.0).2) >>= λ p. Ok (with_call (n.0).0 q.1 p, r.0)) x r.2
-    in
-    let p = bind_ok (added at (q.0).0 (nodes.members (m.0).2))
-    (λ p. Ok (with_call (n.0).0 (q.0).1 p, r.0)) x q.2 in
-    subst (TakenDeclaration s whole) (ok_is (with_call (n.0).0 (q.0).1 p.0, r.0) x p.2)
-    (operation_made s whole text o.0 t.0 n.0 m.0 r.0 (with_call (n.0).0 (q.0).1 p.0) before
-    (return_takes (left_of text) s text t.0 t.1)
-    (new_operation_takes (t.0).0 (t.0).2 n.0 n.1) o.1 (list_takes at (t.0).1 (t.0).0 o.0 m.0 m.1)
-    r.1)
+    let last = call_of (n.0).0 (m.0).2 (with_node (m.0).0 (nodes.members (m.0).1)) in
+    operation_made s last whole text o.0 t.0 n.0 m.0 x before (return_takes s text t.0 t.1)
+    (new_operation_takes (t.0).0 (t.0).2 n.0 n.1) o.1 (list_takes (t.0).1 (t.0).0 o.0 m.0 m.1)
+    (end_takes (left_of (t.0).2) last (m.0).3 x m.2)

@@ -20,16 +20,16 @@ use Rattle.giop_sig.specs.declared.read_calls.Direction.TheVariants as direction
 use Rattle.giop_sig.specs.Table.{Node, Part, IsPart, operation_in}
 use Rattle.giop_sig.specs.Table as nodes
 use Rattle.giop_sig.specs.Grammar.{TypeExpr, Param, direction_word, spell_item, spell_param, spell_params, spell_more_params, spell_return}
-use Rattle.giop_sig.specs.Scopes.{Scope, AddedType, part}
+use Rattle.giop_sig.specs.Scopes.{Scope, part, with_node}
 use Rattle.giop_sig.specs.Validity.{OfItems, OfReturn, items_of}
 use Rattle.giop_sig.specs.ScopeViews.{IsScope}
-use Rattle.giop_sig.specs.TypeReading.{TypeRead, added}
+use Rattle.giop_sig.specs.TypeReading.{TypeRead}
 use Rattle.giop_sig.specs.ItemReading.{ItemRead}
 use Rattle.giop_sig.specs.CallReading.{ReturnRead, return_after, return_at, new_operation_at, direction_of, as_direction, direction_at, in_request, in_reply, with_param, Params, ParameterLists, param_end, param_step, too_many_params, ParamsRead, params_read, params_run, no_parameters, params_after, params_at}
 use Rattle.giop_sig.specs.Repeats.{in_steps}
 use Rattle.giop_sig.proofs.ReadingLaws.{Took}
 use Rattle.giop_sig.proofs.RepeatLaws.{step_first}
-use Rattle.giop_sig.proofs.TypeTaken.{Grows, grows_none, grows_on, type_takes, added_grows}
+use Rattle.giop_sig.proofs.TypeTaken.{Grows, grows_none, grows_on, node_grows, type_takes}
 use Rattle.giop_sig.proofs.ItemTaken.{none_of, unused_is, AreParts, no_parts, parts_stay, TakenItem, item_takes}
 
 -- ---- what an operation returns
@@ -41,18 +41,18 @@ pub record TakenReturn (s : Scope) (text : List ℕ) (x : ReturnRead) : Type 0 w
   pub few : length x.1 ≤ 1
   pub sound : IsScope s → IsScope x.0 × AreParts x.0 x.1
 
-return_by : (at : ℕ) (s : Scope) (text : List ℕ) (x : ReturnRead) (c : Option (List ℕ))
-    → keyword_if (codes "void") text ≡ Ok c → return_after at s text c ≡ Ok x → TakenReturn s text x
-return_by at s text x (Some r) h e = subst (TakenReturn s text) (ok_is (s, [], r) x e) (record {
+return_by : (s : Scope) (text : List ℕ) (x : ReturnRead) (c : Option (List ℕ))
+    → keyword_if (codes "void") text ≡ Ok c → return_after s text c ≡ Ok x → TakenReturn s text x
+return_by s text x (Some r) h e = subst (TakenReturn s text) (ok_is (s, [], r) x e) (record {
   returned = None;
   took = record { free = tt; front = keyword_if_takes (codes "void") text r h };
   grows = grows_none s;
   few = lit≤ tt;
   sound = λ is. (is, no_parts s);
 })
-return_by at s text x None h e =
+return_by s text x None h e =
     let t = bind_ok {A = TypeRead} _ _ x e in
-    let k = type_takes at 25 s text t.0 t.1 in
+    let k = type_takes s text t.0 t.1 in
     subst (TakenReturn s text) (ok_is ((t.0).0, part (codes "return") (t.0).1 ∷ [], (t.0).2) x t.2)
     (record {
       returned = Some k.expr;
@@ -68,10 +68,10 @@ return_by at s text x None h e =
           );
     })
 
-pub return_takes : (at : ℕ) (s : Scope) (text : List ℕ) (x : ReturnRead)
-    → return_at at s text ≡ Ok x → TakenReturn s text x
+pub return_takes : (s : Scope) (text : List ℕ) (x : ReturnRead)
+    → return_at s text ≡ Ok x → TakenReturn s text x
 unfolding return_at
-return_takes at s text x e = search (arith, bind_ok, return_by)
+return_takes s text x e = search (arith, bind_ok, return_by)
 
 -- ---- the name
 
@@ -227,37 +227,37 @@ param_on w s text r d i x t a e k = record {
       (reply_parts i.0 d.0 i.1 w.reply (parts_stay s i.0 w.reply a.grows r) p);
 }
 
-abbrev pub then_run : ℕ → ℕ → Bool × Params → Result ParamsRead Refusal
-then_run at n x = cond x.0 (Ok x.1) (in_steps (param_step at) too_many_params n x.1) >>= params_read
+abbrev pub then_run : ℕ → Bool × Params → Result ParamsRead Refusal
+then_run n x = cond x.0 (Ok x.1) (in_steps param_step too_many_params n x.1) >>= params_read
 
-behind_by : (at n : ℕ) (w : ParameterLists) (s : Scope) (text : List ℕ) (d : Direction × List ℕ)
+behind_by : (n : ℕ) (w : ParameterLists) (s : Scope) (text : List ℕ) (d : Direction × List ℕ)
     (i : ItemRead)
     (m : Bool × Params) (x : ParamsRead) (c : Option (List ℕ))
     → Takes text (word (direction_word d.0)) d.1
     → TakenItem s 255 w.seen d.1 i → mark_if marks.Comma i.2 ≡ Ok c
-    → param_end w d.0 i c ≡ Ok m → then_run at n m ≡ Ok x
-    → ((w : ParameterLists) (s : Scope) (text : List ℕ) → params_run at n (s, w, text) ≡ Ok x
+    → param_end w d.0 i c ≡ Ok m → then_run n m ≡ Ok x
+    → ((w : ParameterLists) (s : Scope) (text : List ℕ) → params_run n (s, w, text) ≡ Ok x
     → TakenParams w s text x) → TakenParams w s text x
-behind_by at n w s text d i m x (Some r) t a h e run on =
+behind_by n w s text d i m x (Some r) t a h e run on =
     let v = with_param w d.0 i.1 in
-    let last : params_run at n (i.0, v, r) ≡ Ok x =
-    ap (then_run at n) (ok_is (false, (i.0, v, r)) m e) ∙ run in
+    let last : params_run n (i.0, v, r) ≡ Ok x =
+    ap (then_run n) (ok_is (false, (i.0, v, r)) m e) ∙ run in
     param_on w s text r d i x t a h (on v i.0 r last)
-behind_by at n w s text d i m x None t a h e run on = search (arith, bind_ok, ok_is, last_param)
+behind_by n w s text d i m x None t a h e run on = search (arith, bind_ok, ok_is, last_param)
 
-pub params_takes : (at n : ℕ) (w : ParameterLists) (s : Scope) (text : List ℕ) (x : ParamsRead)
-    → params_run at n (s, w, text) ≡ Ok x → TakenParams w s text x
+pub params_takes : (n : ℕ) (w : ParameterLists) (s : Scope) (text : List ℕ) (x : ParamsRead)
+    → params_run n (s, w, text) ≡ Ok x → TakenParams w s text x
 unfolding in_steps param_step
-params_takes at zero w s text x e = absurd cc
-params_takes at (suc n) w s text x e =
-    let m = bind_ok (param_step at (s, w, text)) (then_run at n) x
-    (sym (step_first (param_step at) too_many_params params_read n (s, w, text)) ∙ e) in
+params_takes zero w s text x e = absurd cc
+params_takes (suc n) w s text x e =
+    let m = bind_ok (param_step (s, w, text)) (then_run n) x
+    (sym (step_first param_step too_many_params params_read n (s, w, text)) ∙ e) in
     let d = bind_ok {A = Direction × List ℕ} _ _ m.0 m.1 in
     let i = bind_ok {A = ItemRead} _ _ m.0 d.2 in
     let c = bind_ok (mark_if marks.Comma (i.0).2) (λ c. param_end w (d.0).0 i.0 c) m.0 i.2 in
-    behind_by at n w s text d.0 i.0 m.0 x c.0 (direction_takes text d.0 d.1)
-    (item_takes at 255 w.seen s (d.0).1 i.0 i.1) c.1 c.2 m.2
-    (λ w s text run. params_takes at n w s text x run)
+    behind_by n w s text d.0 i.0 m.0 x c.0 (direction_takes text d.0 d.1)
+    (item_takes 255 w.seen s (d.0).1 i.0 i.1) c.1 c.2 m.2
+    (λ w s text run. params_takes n w s text x run)
 
 -- ---- all parameters
 
@@ -271,11 +271,11 @@ pub record TakenList (returned : List Part) (s : Scope) (text : List ℕ)
   pub grows : Grows s x.0
   pub sound : IsScope s → AreParts s returned → SoundWays x
 
-list_by : (at : ℕ) (returned : List Part) (s : Scope) (text : List ℕ) (x : ParamsRead)
+list_by : (returned : List Part) (s : Scope) (text : List ℕ) (x : ParamsRead)
     (c : Option (List ℕ)) → mark_if marks.CloseParenthesis text ≡ Ok c
-    → params_after at returned s text c ≡ Ok x → TakenList returned s text x
+    → params_after returned s text c ≡ Ok x → TakenList returned s text x
 unfolding OfItems
-list_by at returned s text x (Some r) h e =
+list_by returned s text x (Some r) h e =
     subst (TakenList returned s text) (ok_is (s, [], returned, r) x e) (record {
       params = [];
       took = record { free = tt; front = mark_if_takes marks.CloseParenthesis text r h };
@@ -284,8 +284,8 @@ list_by at returned s text x (Some r) h e =
       grows = grows_none s;
       sound = λ is all. record { scope = is; request = no_parts s; reply = all };
     })
-list_by at returned s text x None h e =
-    let k = params_takes at 256 (no_parameters returned) s text x e in
+list_by returned s text x None h e =
+    let k = params_takes 256 (no_parameters returned) s text x e in
     record {
       params = k.first ∷ k.others;
       took = record { free = k.free; front = k.front };
@@ -295,10 +295,10 @@ list_by at returned s text x None h e =
       sound = λ is all. k.sound is (no_parts s) all;
     }
 
-pub list_takes : (at : ℕ) (returned : List Part) (s : Scope) (text : List ℕ) (x : ParamsRead)
-    → params_at at returned s text ≡ Ok x → TakenList returned s text x
+pub list_takes : (returned : List Part) (s : Scope) (text : List ℕ) (x : ParamsRead)
+    → params_at returned s text ≡ Ok x → TakenList returned s text x
 unfolding params_at
-list_takes at returned s text x e = search (arith, bind_ok, list_by)
+list_takes returned s text x e = search (arith, bind_ok, list_by)
 
 -- ---- what the code asks
 
@@ -312,11 +312,11 @@ pub record CallReady (s : Scope) (m : ParamsRead) : Type 0 where
   pub reply : (length m.2 ≤ 256) × AreParts m.0 m.2
   pub grows : Grows s m.0
 
-pub call_ready : (a b : ℕ) (s : Scope) (text o : List ℕ) (t : ReturnRead) (m : ParamsRead)
-    → return_at a s text ≡ Ok t → params_at b t.1 t.0 o ≡ Ok m → IsScope s → CallReady t.0 m
-call_ready a b s text o t m e f is =
-    let k = return_takes a s text t e in
-    let l = list_takes b t.1 t.0 o m f in
+pub call_ready : (s : Scope) (text o : List ℕ) (t : ReturnRead) (m : ParamsRead)
+    → return_at s text ≡ Ok t → params_at t.1 t.0 o ≡ Ok m → IsScope s → CallReady t.0 m
+call_ready s text o t m e f is =
+    let k = return_takes s text t e in
+    let l = list_takes t.1 t.0 o m f in
     let both = k.sound is in
     let h = l.sound both.0 both.1 in
     record {
@@ -327,16 +327,13 @@ call_ready a b s text o t m e f is =
     }
 
 -- what could be added can be added after another struct
-pub parts_on : (at : ℕ) (s : Scope) (n : Node) (p : AddedType) (ps : List Part) →
-    added at s n ≡ Ok p
-    → (length ps ≤ 256) × AreParts s ps → (length ps ≤ 256) × AreParts p.0 ps
-parts_on at s n p ps e both = search (arith, parts_stay, added_grows)
+pub parts_on : (s : Scope) (n : Node) (ps : List Part) → (length ps ≤ 256) × AreParts s ps
+    → (length ps ≤ 256) × AreParts (with_node s n).0 ps
+parts_on s n ps both = search (arith, parts_stay, node_grows)
 
-pub calls_grow : (at : ℕ) (s : Scope) (m : ParamsRead) (q p : AddedType) (n : Node) → CallReady s m
-    → added at m.0 (nodes.members m.1) ≡ Ok q → added at q.0 n ≡ Ok p → Grows s p.0
-calls_grow at s m q p n ready e f = search (arith, grows_on, added_grows)
-
--- a type that was there is there after another is added
-pub below_on : (at : ℕ) (s : Scope) (n : Node) (p : AddedType) (i : ℕ) → added at s n ≡ Ok p
-    → i < length s.table.types → i < length (p.0).table.types
-below_on at s n p i e lt = search (arith, added_grows, length-append)
+pub calls_grow : (s : Scope) (m : ParamsRead) (n : Node) → CallReady s m
+    → Grows s (with_node (with_node m.0 (nodes.members m.1)).0 n).0
+calls_grow s m n ready =
+    let q = (with_node m.0 (nodes.members m.1)).0 in
+    grows_on s q (with_node q n).0
+    (grows_on s m.0 q ready.grows (node_grows m.0 (nodes.members m.1))) (node_grows q n)

@@ -12,17 +12,16 @@ use Rattle.giop_tokens.specs.Readers.{mark_at}
 use Rattle.giop_tokens.proofs.ReaderLaws.{bind_ok, ok_is, Takes, mark_again, mark_if_again, mark_takes, repository_again, repository_few}
 use Rattle.giop_sig.specs.Table.{Node, exception_in}
 use Rattle.giop_sig.specs.Table as nodes
+use Rattle.giop_sig.specs.Trees.{depth_of}
 use Rattle.giop_sig.specs.Grammar.{Item, spell_items, Declaration, Structure, DeclaredException, spell}
-use Rattle.giop_sig.specs.Scopes.{Scope, AddedType, with_named, with_raised, add_items, add_struct_type, declare}
+use Rattle.giop_sig.specs.Scopes.{Scope, AddedType, with_node, with_named, with_raised, add_items, add_struct_type, declare}
 use Rattle.giop_sig.specs.Validity.{Kind, OfSome, OfItems, OfRepository, OfDeclaration}
 use Rattle.giop_sig.specs.Outcomes.{refused}
-use Rattle.giop_sig.specs.TypeReading.{added}
-use Rattle.giop_sig.specs.ItemReading.{declared_at, members_at, filled_at, Declared, structure_at, new_repository_at, exception_at, MembersRead}
-use Rattle.giop_sig.proofs.PlaceLaws.{size, within_same, within_on, Grown, node_more, struct_more}
+use Rattle.giop_sig.specs.ItemReading.{declared_at, members_at, filled_at, Declared, end_of, type_end_at, structure_at, new_repository_at, exception_at, MembersRead}
+use Rattle.giop_sig.proofs.PlaceLaws.{within_same, within_on, Grown, node_more, struct_more}
 use Rattle.giop_sig.proofs.ReadingLaws.{Out, good, broken, out_bind, if_apart, Took}
-use Rattle.giop_sig.proofs.TypeLaws.{added_bind}
-use Rattle.giop_sig.proofs.ItemLaws.{declared_reads, members_reads, some_keeps, filled_end, filled_on, type_apart, some_none, unused_reads}
-use Rattle.giop_sig.proofs.ItemTaken.{none_of, DeclaredTaken, declared_takes, filled_takes, members_takes, TakenMembers, RepositoryTaken, new_repository_takes}
+use Rattle.giop_sig.proofs.ItemLaws.{declared_reads, members_reads, some_keeps, filled_end, filled_on, type_apart, some_none, unused_reads, end_reads}
+use Rattle.giop_sig.proofs.ItemTaken.{none_of, DeclaredTaken, declared_takes, filled_takes, members_takes, TakenMembers, TakenEnd, end_takes, RepositoryTaken, new_repository_takes}
 
 -- reading a text that begins with members
 filled_reads : (types : List Node) (is : List Item) (text : List ℕ) (more : List Token)
@@ -43,49 +42,44 @@ filled_reads types (i ∷ is) text more h = search (
 
 -- ---- structs
 
--- the members of a struct, and the struct
+-- the members of a struct, and the end of the declaration that they make
 closed_reads : (at : ℕ) (s : Scope) (is : List Item) (h : AddedType → Scope) (rule : Kind → Type 0)
-    (text : List ℕ) (more : List Token) → 0 < size s → OfItems kinds.Syntax s.names 256 [] is
+    (text : List ℕ) (more : List Token) → OfItems kinds.Syntax s.names 256 [] is
     → AreTokens text (spell_items is (mark marks.Semicolon ∷ more))
     → (((k : Kind) → OfItems k s.names 256 [] is) → (k : Kind) → rule k)
     → ((k : Kind) → rule k → OfItems k s.names 256 [] is)
     → Grown (add_struct_type (add_items s is)).0 (h (add_struct_type (add_items s is)))
     → Out {X = Declared} (λ rest. (h (add_struct_type (add_items s is)), rest)) rule
     (h (add_struct_type (add_items s is))).table.types more
-    (members_at at s text >>= λ m. mark_at marks.Semicolon m.2
-    >>= λ r. added at m.0 (nodes.members m.1) >>= λ p. Ok (h p, r))
-closed_reads at s is h rule text more some free t on up le =
+    (members_at s text >>= λ m. end_of at (h (with_node m.0 (nodes.members m.1))) m.2)
+closed_reads at s is h rule text more free t on up le =
     let made = add_items s is in
-    out_bind (members_at at s text) (λ m. mark_at marks.Semicolon m.2 >>= λ r.
-    added at m.0 (nodes.members m.1) >>= λ p. Ok (h p, r))
-    (members_reads is at 257 [] [] s s.names text (mark marks.Semicolon ∷ more) refl some
+    out_bind (members_at s text) (λ m. end_of at (h (with_node m.0 (nodes.members m.1))) m.2)
+    (members_reads is 257 [] [] s s.names text (mark marks.Semicolon ∷ more) refl
     (omega arith) (omega arith) free t)
-    (λ rest m keeps. rw (mark_again marks.Semicolon rest more m)
-    (added_bind at made.0 (nodes.members made.1) (λ p. Ok (h p, m.0)) le (good m.0 m.2 (on keeps))))
+    (λ rest m keeps. end_reads at (h (add_struct_type made)) rule rest more m (on keeps))
     up (within_on (node_more made.0 (nodes.members made.1)) le)
 
 pub structure_reads : (s : Scope) (w : List ℕ) (is : List Item) (text : List ℕ) (more : List Token)
-    → 0 < size s → OfDeclaration kinds.Syntax s (Structure w is)
+    → OfDeclaration kinds.Syntax s (Structure w is)
     → AreTokens text (word w ∷ mark marks.OpenBrace ∷ spell_items is (mark marks.Semicolon ∷ more))
     → Out {X = Declared} (λ rest. (declare s (Structure w is), rest))
     (λ k. OfDeclaration k s (Structure w is)) (declare s (Structure w is)).table.types
     more (structure_at s text)
 unfolding structure_at declare OfDeclaration
-structure_reads s w is text more some free t =
+structure_reads s w is text more free t =
     let at = left_of text in
     out_bind (declared_at s s.table.declared text)
-    (λ n. mark_at marks.OpenBrace n.1 >>= λ o. filled_at o >>= λ f. members_at at s f
-    >>= λ m. mark_at marks.Semicolon m.2 >>= λ r. added at m.0 (nodes.members m.1) >>= λ p.
-    Ok (with_named n.0 p, r))
+    (λ n. mark_at marks.OpenBrace n.1 >>= λ o. filled_at o >>= λ f. members_at s f
+    >>= λ m. type_end_at at n.0 m.0 (nodes.members m.1) m.2)
     (declared_reads s.table.types s s.table.declared text w
     (mark marks.OpenBrace ∷ spell_items is (mark marks.Semicolon ∷ more)) free.0 t)
     (λ a ta ka. rw (mark_again marks.OpenBrace a (spell_items is (mark marks.Semicolon ∷ more)) ta)
-    (out_bind (filled_at ta.0) (λ f. members_at at s f >>= λ m. mark_at marks.Semicolon m.2 >>= λ r.
-    added at m.0 (nodes.members m.1)
-    >>= λ p. Ok (with_named w p, r))
+    (out_bind (filled_at ta.0) (λ f. members_at s f
+    >>= λ m. type_end_at at w m.0 (nodes.members m.1) m.2)
     (filled_reads s.table.types is ta.0 (mark marks.Semicolon ∷ more) ta.2)
     (λ b tb kb. closed_reads at s is (with_named w) (λ k. OfDeclaration k s (Structure w is)) b more
-    some free.2 tb (λ keeps k. (ka k, kb k, keeps k))
+    free.2 tb (λ keeps k. (ka k, kb k, keeps k))
     (λ k h. h.2) within_same)
     (λ k h. h.1) (struct_more s is)))
     (λ k h. h.0) (struct_more s is)
@@ -96,26 +90,27 @@ structure_reads s w is text more some free t =
 pub record TakenDeclaration (s : Scope) (text : List ℕ) (x : Declared) : Type 0 where
   pub declaration : Declaration
   pub took : Took (spell declaration) (OfDeclaration kinds.Syntax s declaration) text x.1
+  pub shallow : depth_of (x.0).table.types ≤ 24
 
-structure_made : (s : Scope) (whole text o f : List ℕ) (n : List ℕ × List ℕ) (m : MembersRead)
-    (r : List ℕ) (t : Scope) → Takes whole (word (codes "struct")) text
+structure_made : (s last : Scope) (whole text o f : List ℕ) (n : List ℕ × List ℕ)
+    (m : MembersRead) (x : Declared) → Takes whole (word (codes "struct")) text
     → DeclaredTaken s s.table.declared text n → mark_at marks.OpenBrace n.1 ≡ Ok o → o ≡ f
-    → TakenMembers 257 [] [] s f m → mark_at marks.Semicolon m.2 ≡ Ok r
-    → TakenDeclaration s whole (t, r)
+    → TakenMembers 257 [] [] s f m → TakenEnd last m.2 x → TakenDeclaration s whole x
 unfolding OfDeclaration
-structure_made s whole text o f n m r t before a b same k e = record {
+structure_made s last whole text o f n m x before a b same k e = record {
   declaration = Structure n.0 k.items;
   took = record {
     free = (a.free, tt, k.took.free);
     front = λ more h.
         let behind : AreTokens f (spell_items k.items (mark marks.Semicolon ∷ more)) =
-        k.took.front (mark marks.Semicolon ∷ more) (mark_takes marks.Semicolon m.2 r e more h) in
+        k.took.front (mark marks.Semicolon ∷ more) (mark_takes marks.Semicolon m.2 x.1 e.rest more h) in
         let members = spell_items k.items (mark marks.Semicolon ∷ more) in
         before (word n.0 ∷ mark marks.OpenBrace ∷ members)
         (a.front (mark marks.OpenBrace ∷ members)
         (mark_takes marks.OpenBrace n.1 o b members
         (subst (λ z. AreTokens z members) (sym same) behind)));
   };
+  shallow = e.shallow;
 }
 
 pub structure_takes : (s : Scope) (whole text : List ℕ) (x : Declared)
@@ -123,18 +118,15 @@ pub structure_takes : (s : Scope) (whole text : List ℕ) (x : Declared)
     → TakenDeclaration s whole x
 unfolding structure_at
 structure_takes s whole text x before e =
-    let at = left_of text in
     let n = bind_ok _ _ x e in
     let o = bind_ok _ _ x n.2 in
     let f = bind_ok _ _ x o.2 in
     let m = bind_ok _ _ x f.2 in
-    let r = bind_ok {A = List ℕ} _ _ x m.2 in
-    let p = bind_ok (added at (m.0).0 (nodes.members (m.0).1)) (λ p. Ok (with_named (n.0).0 p, r.0))
-    x r.2 in
-    subst (TakenDeclaration s whole) (ok_is (with_named (n.0).0 p.0, r.0) x p.2)
-    (structure_made s whole text o.0 f.0 n.0 m.0 r.0 (with_named (n.0).0 p.0) before
+    let last = with_named (n.0).0 (with_node (m.0).0 (nodes.members (m.0).1)) in
+    structure_made s last whole text o.0 f.0 n.0 m.0 x before
     (declared_takes s s.table.declared text n.0 n.1) o.1
-    (filled_takes o.0 f.0 f.1).0 (members_takes at 257 [] [] s f.0 m.0 m.1) r.1)
+    (filled_takes o.0 f.0 f.1).0 (members_takes 257 [] [] s f.0 m.0 m.1)
+    (end_takes (left_of text) last (m.0).2 x m.2)
 
 -- ---- exceptions
 
@@ -157,54 +149,52 @@ repository_reads types s text r more h =
     (λ q k. false≢true q) (λ q f. repository_keeps s r few (none_of known q)))
 
 pub raise_reads : (s : Scope) (w i : List ℕ) (is : List Item) (text : List ℕ) (more : List Token)
-    → 0 < size s → OfDeclaration kinds.Syntax s (DeclaredException w i is)
+    → OfDeclaration kinds.Syntax s (DeclaredException w i is)
     → AreTokens text (word w ∷ repository i ∷ mark marks.OpenBrace
     ∷ spell_items is (mark marks.Semicolon ∷ more))
     → Out {X = Declared} (λ rest. (declare s (DeclaredException w i is), rest))
     (λ k. OfDeclaration k s (DeclaredException w i is))
     (declare s (DeclaredException w i is)).table.types more (exception_at s text)
 unfolding exception_at declare OfDeclaration
-raise_reads s w i is text more some free t =
+raise_reads s w i is text more free t =
     let at = left_of text in
     out_bind (declared_at s (length s.table.exceptions) text)
-    (λ n. new_repository_at s n.1 >>= λ i. mark_at marks.OpenBrace i.1 >>= λ o.
-    members_at at s o >>= λ m. mark_at marks.Semicolon m.2
-    >>= λ r. added at m.0 (nodes.members m.1) >>= λ p. Ok (with_raised n.0 i.0 p, r))
+    (λ n. new_repository_at s n.1 >>= λ i. mark_at marks.OpenBrace i.1 >>= λ o. members_at s o
+    >>= λ m. end_of at (with_raised n.0 i.0 (with_node m.0 (nodes.members m.1))) m.2)
     (declared_reads s.table.types s (length s.table.exceptions) text w
     (repository i ∷ mark marks.OpenBrace ∷ spell_items is (mark marks.Semicolon ∷ more)) free.0 t)
     (λ a ta ka.
-    out_bind (new_repository_at s a) (λ i. mark_at marks.OpenBrace i.1 >>= λ o.
-    members_at at s o >>= λ m. mark_at marks.Semicolon m.2
-    >>= λ r. added at m.0 (nodes.members m.1) >>= λ p. Ok (with_raised w i.0 p, r))
+    out_bind (new_repository_at s a) (λ i. mark_at marks.OpenBrace i.1 >>= λ o. members_at s o
+    >>= λ m. end_of at (with_raised w i.0 (with_node m.0 (nodes.members m.1))) m.2)
     (repository_reads s.table.types s a i (mark marks.OpenBrace ∷ spell_items is
     (mark marks.Semicolon ∷ more)) ta)
     (λ b tb kb. rw (mark_again marks.OpenBrace b (spell_items is (mark marks.Semicolon ∷ more)) tb)
     (closed_reads at s is (with_raised w i) (λ k. OfDeclaration k s (DeclaredException w i is)) tb.0
-    more some free.2 tb.2 (λ keeps k. (ka k, kb k, keeps k))
+    more free.2 tb.2 (λ keeps k. (ka k, kb k, keeps k))
     (λ k h. h.2) within_same))
     (λ k h. h.1) (struct_more s is))
     (λ k h. h.0) (struct_more s is)
 
-raise_made : (s : Scope) (whole text o : List ℕ) (n i : List ℕ × List ℕ) (m : MembersRead)
-    (r : List ℕ) (t : Scope) → Takes whole (word (codes "exception")) text
+raise_made : (s last : Scope) (whole text o : List ℕ) (n i : List ℕ × List ℕ) (m : MembersRead)
+    (x : Declared) → Takes whole (word (codes "exception")) text
     → DeclaredTaken s (length s.table.exceptions) text n → RepositoryTaken s n.1 i
     → mark_at marks.OpenBrace i.1 ≡ Ok o
-    → TakenMembers 257 [] [] s o m → mark_at marks.Semicolon m.2 ≡ Ok r
-    → TakenDeclaration s whole (t, r)
+    → TakenMembers 257 [] [] s o m → TakenEnd last m.2 x → TakenDeclaration s whole x
 unfolding OfDeclaration
-raise_made s whole text o n i m r t before a d b k e = record {
+raise_made s last whole text o n i m x before a d b k e = record {
   declaration = DeclaredException n.0 i.0 k.items;
   took = record {
     free = (a.free, tt, k.took.free);
     front = λ more h.
         let members = spell_items k.items (mark marks.Semicolon ∷ more) in
         let behind : AreTokens o members = k.took.front (mark marks.Semicolon ∷ more)
-        (mark_takes marks.Semicolon m.2 r e more h) in
+        (mark_takes marks.Semicolon m.2 x.1 e.rest more h) in
         before (word n.0 ∷ repository i.0 ∷ mark marks.OpenBrace ∷ members)
         (a.front (repository i.0 ∷ mark marks.OpenBrace ∷ members)
         (d.front (mark marks.OpenBrace ∷ members)
         (mark_takes marks.OpenBrace i.1 o b members behind)));
   };
+  shallow = e.shallow;
 }
 
 pub raise_takes : (s : Scope) (whole text : List ℕ) (x : Declared)
@@ -212,15 +202,12 @@ pub raise_takes : (s : Scope) (whole text : List ℕ) (x : Declared)
     → TakenDeclaration s whole x
 unfolding exception_at
 raise_takes s whole text x before e =
-    let at = left_of text in
     let n = bind_ok _ _ x e in
     let i = bind_ok _ _ x n.2 in
     let o = bind_ok _ _ x i.2 in
     let m = bind_ok _ _ x o.2 in
-    let r = bind_ok {A = List ℕ} _ _ x m.2 in
-    let p = bind_ok (added at (m.0).0 (nodes.members (m.0).1))
-    (λ p. Ok (with_raised (n.0).0 (i.0).0 p, r.0)) x r.2 in
-    subst (TakenDeclaration s whole) (ok_is (with_raised (n.0).0 (i.0).0 p.0, r.0) x p.2)
-    (raise_made s whole text o.0 n.0 i.0 m.0 r.0 (with_raised (n.0).0 (i.0).0 p.0) before
+    let last = with_raised (n.0).0 (i.0).0 (with_node (m.0).0 (nodes.members (m.0).1)) in
+    raise_made s last whole text o.0 n.0 i.0 m.0 x before
     (declared_takes s (length s.table.exceptions) text n.0 n.1)
-    (new_repository_takes s (n.0).1 i.0 i.1) o.1 (members_takes at 257 [] [] s o.0 m.0 m.1) r.1)
+    (new_repository_takes s (n.0).1 i.0 i.1) o.1 (members_takes 257 [] [] s o.0 m.0 m.1)
+    (end_takes (left_of text) last (m.0).2 x m.2)

@@ -13,19 +13,18 @@ use Rattle.giop_tokens.specs.Readers.{mark_at, mark_if}
 use Rattle.giop_tokens.proofs.ReaderLaws.{bind_ok, ok_is, Takes, mark_again, mark_if_again, mark_takes, mark_if_takes}
 use Rattle.giop_sig.specs.Table.{Node}
 use Rattle.giop_sig.specs.Table as nodes
+use Rattle.giop_sig.specs.Trees.{depth_of}
 use Rattle.giop_sig.specs.Grammar.{spell_more_names, spell_names, Enumeration}
-use Rattle.giop_sig.specs.Scopes.{Scope, with_named, declare}
+use Rattle.giop_sig.specs.Scopes.{Scope, with_node, with_named, declare}
 use Rattle.giop_sig.specs.Validity.{Kind, IsFree, OfNewName, OfSome, OfNames, OfDeclaration}
 use Rattle.giop_sig.specs.Outcomes.{refused}
-use Rattle.giop_sig.specs.TypeReading.{added}
-use Rattle.giop_sig.specs.ItemReading.{new_name_at, declared_at, Declared}
+use Rattle.giop_sig.specs.ItemReading.{new_name_at, declared_at, Declared, type_end_at}
 use Rattle.giop_sig.specs.Repeats.{in_steps}
 use Rattle.giop_sig.specs.EnumReading.{NamesRead, enumerator_at, names_end, names_step, too_many_names, names_at, enumeration_at}
 use Rattle.giop_sig.proofs.PlaceLaws.{Within, within_same, node_more}
 use Rattle.giop_sig.proofs.ReadingLaws.{lift, Out, good, broken, out_bind, if_apart, Took}
-use Rattle.giop_sig.proofs.TypeLaws.{added_bind}
-use Rattle.giop_sig.proofs.ItemTaken.{new_name_takes, declared_takes, filled_takes}
-use Rattle.giop_sig.proofs.ItemLaws.{new_name_reads, declared_reads, some_keeps, filled_end, filled_on}
+use Rattle.giop_sig.proofs.ItemTaken.{new_name_takes, declared_takes, filled_takes, end_takes}
+use Rattle.giop_sig.proofs.ItemLaws.{new_name_reads, declared_reads, some_keeps, filled_end, filled_on, end_reads}
 
 -- what is read, in another form
 pub out_as : {X : Type 0} {made made2 : List ℕ → X} {rule rule2 : Kind → Type 0}
@@ -126,21 +125,19 @@ pub enumeration_reads : (n : List ℕ) (names : List (List ℕ)) (s : Scope) (te
     more (enumeration_at s text)
 unfolding enumeration_at OfDeclaration declare
 enumeration_reads n names s text more free h =
+    let at = left_of text in
     let node = nodes.enumeration names in
     let tail = spell_names names (mark marks.Semicolon ∷ more) in
     out_bind (declared_at s s.table.declared text)
-    (λ d. mark_at marks.OpenBrace d.1 >>= λ o. names_at o >>= λ ns.
-    mark_at marks.Semicolon ns.1 >>= λ r. added (left_of text) s (nodes.enumeration ns.0)
-    >>= λ p. Ok (with_named d.0 p, r))
+    (λ d. mark_at marks.OpenBrace d.1 >>= λ o. names_at o
+    >>= λ ns. type_end_at at d.0 s (nodes.enumeration ns.0) ns.1)
     (declared_reads s.table.types s s.table.declared text n (mark marks.OpenBrace ∷ tail) free.0 h)
     (λ a ta ka.
     rw (mark_again marks.OpenBrace a tail ta)
-    (out_bind (names_at ta.0) (λ ns. mark_at marks.Semicolon ns.1 >>= λ r.
-    added (left_of text) s (nodes.enumeration ns.0) >>= λ p. Ok (with_named n p, r))
+    (out_bind (names_at ta.0) (λ ns. type_end_at at n s (nodes.enumeration ns.0) ns.1)
     (all_names_reads names ta.0 s.table.types (mark marks.Semicolon ∷ more) free.2 ta.2)
-    (λ b tb kb. rw (mark_again marks.Semicolon b more tb)
-    (added_bind (left_of text) s node (λ p. Ok (with_named n p, tb.0)) within_same
-    (good tb.0 tb.2 (λ k. (ka k, (kb k).0, (kb k).1)))))
+    (λ b tb kb. end_reads at (with_named n (with_node s node))
+    (λ k. OfDeclaration k s (Enumeration n names)) b more tb (λ k. (ka k, (kb k).0, (kb k).1)))
     (λ k w. (w.1, w.2)) (node_more s node)))
     (λ k w. w.0) (node_more s node)
 
@@ -277,6 +274,7 @@ pub record TakenEnumeration (s : Scope) (text : List ℕ) (x : Declared) : Type 
   pub took : Took (λ more. word name ∷ mark marks.OpenBrace
       ∷ spell_names names (mark marks.Semicolon ∷ more))
       (OfDeclaration kinds.Syntax s (Enumeration name names)) text x.1
+  pub shallow : depth_of (x.0).table.types ≤ 24
 
 pub enumeration_takes : (s : Scope) (text : List ℕ) (x : Declared) → enumeration_at s text ≡ Ok x
     → TakenEnumeration s text x
@@ -285,12 +283,11 @@ enumeration_takes s text x e =
     let d = bind_ok _ _ x e in
     let o = bind_ok _ _ x d.2 in
     let ns = bind_ok _ _ x o.2 in
-    let r = bind_ok _ _ x ns.2 in
-    let p = bind_ok (added (left_of text) s (nodes.enumeration (ns.0).0))
-    (λ p. Ok (with_named (d.0).0 p, r.0)) x r.2 in
+    let last = with_named (d.0).0 (with_node s (nodes.enumeration (ns.0).0)) in
+    let r = end_takes (left_of text) last (ns.0).1 x ns.2 in
     let a = declared_takes s s.table.declared text d.0 d.1 in
     let b = (all_names_taken o.0 ns.0 ns.1).took in
-    subst (TakenEnumeration s text) (ok_is (with_named (d.0).0 p.0, r.0) x p.2) (record {
+    record {
       name = (d.0).0;
       names = (ns.0).0;
       took = record {
@@ -300,6 +297,7 @@ enumeration_takes s text x e =
             (mark_takes marks.OpenBrace (d.0).1 o.0 o.1
             (spell_names (ns.0).0 (mark marks.Semicolon ∷ more))
             (b.front (mark marks.Semicolon ∷ more)
-            (mark_takes marks.Semicolon (ns.0).1 r.0 r.1 more m)));
+            (mark_takes marks.Semicolon (ns.0).1 x.1 r.rest more m)));
       };
-    })
+      shallow = r.shallow;
+    }

@@ -1,6 +1,6 @@
 -- Signature files, both ways: reading the spelling of one gives it or a rule that it breaks, and
 -- the text that was read spells it.
-use Rattle.std.proofs.Common.{◌≡◌, ℕ, zero, suc, ◌<◌, ◌≤◌, Bool, true, false, cond, List, [], ◌∷◌, ◌++◌, length, Option, Some, None, Result, Ok, Err, refl, ap, subst, ◌∙◌, lit<, arith}
+use Rattle.std.proofs.Common.{◌≡◌, ℕ, zero, suc, ◌<◌, ◌≤◌, Bool, true, false, cond, List, [], ◌∷◌, ◌++◌, length, Option, Some, None, Result, Ok, Err, refl, ap, subst, ◌∙◌, arith}
 use Rattle.std.specs.Prelude.{MatchResult, codes}
 use Rattle.std.specs.Str.{bytes_eq}
 use Rattle.std.proofs.lemmas.Slice.Eq.{bytes_eq-Decides}
@@ -13,6 +13,7 @@ use Rattle.giop_tokens.specs.Readers.{misplaced, mark_at, is_end, end_at}
 use Rattle.giop_tokens.proofs.ReaderLaws.{bind_ok, ok_is, Takes, word_again, number_again, mark_again, keyword_again, end_again, end_other, word_takes, number_takes, mark_takes, keyword_takes}
 use Rattle.giop_sig.specs.Grammar.{TypeExpr, Item, UnionCase, spell_type, spell_names, spell_items, spell_cases, spell_params, spell_return, Declaration, Enumeration, Structure, DeclaredUnion, DeclaredException, Call, spell, spell_all, SignatureFile, is_version, spell_file}
 use Rattle.giop_sig.specs.Scopes.{Scope, first_scope, declare, scope_after}
+use Rattle.giop_sig.specs.Trees.{depth_of}
 use Rattle.giop_sig.specs.Validity.{Kind, OfDeclaration, HasItsWords, Each, Spells}
 use Rattle.giop_sig.specs.ItemReading.{Declared, structure_at, exception_at}
 use Rattle.giop_sig.specs.CallReading.{operation_at}
@@ -20,14 +21,13 @@ use Rattle.giop_sig.specs.EnumReading.{enumeration_at}
 use Rattle.giop_sig.specs.UnionReading.{union_at}
 use Rattle.giop_sig.specs.Repeats.{in_steps}
 use Rattle.giop_sig.specs.FileReading.{declaration_at, declaration_or_end, declarations_step, misplaced_after, version_at, head_at, file_at}
-use Rattle.giop_sig.proofs.PlaceLaws.{size, declare_more}
 use Rattle.giop_sig.proofs.ReadingLaws.{Breaks, Out}
 use Rattle.giop_sig.proofs.DeclaredLaws.{TakenDeclaration, structure_reads, structure_takes, raise_reads, raise_takes}
 use Rattle.giop_sig.proofs.CallLaws.{operation_reads, operation_takes}
 use Rattle.giop_sig.proofs.EnumLaws.{enumeration_reads, TakenEnumeration, enumeration_takes}
 use Rattle.giop_sig.proofs.TokensFew.{tokens_few, next_none}
 use Rattle.giop_sig.proofs.SpellLaws.{spelled_few}
-use Rattle.giop_sig.specs.Builtin.{builtin_types}
+use Rattle.giop_sig.proofs.Builtins.{builtin_are}
 
 -- ---- a declaration
 
@@ -44,7 +44,7 @@ DeclarationOut s d more r =
 abbrev pub UnionReads : Type 0
 UnionReads =
     (s : Scope) (n : List ℕ) (e : TypeExpr) (cs : List UnionCase) (text : List ℕ)
-    (more : List Token) → 0 < size s → OfDeclaration kinds.Syntax s (DeclaredUnion n e cs)
+    (more : List Token) → OfDeclaration kinds.Syntax s (DeclaredUnion n e cs)
     → AreTokens text (word n ∷ word (codes "switch") ∷ mark marks.OpenParenthesis
     ∷ spell_type e (mark marks.CloseParenthesis ∷ mark marks.OpenBrace
     ∷ spell_cases cs (mark marks.Semicolon ∷ more)))
@@ -56,30 +56,30 @@ UnionTakes =
     → union_at s text ≡ Ok x → TakenDeclaration s whole x
 
 declaration_reads : UnionReads → (d : Declaration) (s : Scope) (text : List ℕ) (more : List Token)
-    → 0 < size s → OfDeclaration kinds.Syntax s d → AreTokens text (spell d more)
+    → OfDeclaration kinds.Syntax s d → AreTokens text (spell d more)
     → DeclarationOut s d more (declaration_at s text)
 unfolding declaration_at
-declaration_reads union (Enumeration n names) s text more some free h =
+declaration_reads union (Enumeration n names) s text more free h =
     rw (word_again text (codes "enum") (word n ∷ mark marks.OpenBrace ∷ spell_names names
     (mark marks.Semicolon ∷ more)) h)
     (enumeration_reads n names s h.0 more free h.2)
-declaration_reads union (Structure n is) s text more some free h =
+declaration_reads union (Structure n is) s text more free h =
     rw (word_again text (codes "struct") (word n ∷ mark marks.OpenBrace ∷ spell_items is
     (mark marks.Semicolon ∷ more)) h)
-    (structure_reads s n is h.0 more some free h.2)
-declaration_reads union (DeclaredUnion n e cs) s text more some free h =
+    (structure_reads s n is h.0 more free h.2)
+declaration_reads union (DeclaredUnion n e cs) s text more free h =
     rw (word_again text (codes "union") (word n ∷ word (codes "switch") ∷ mark marks.OpenParenthesis
     ∷ spell_type e (mark marks.CloseParenthesis ∷ mark marks.OpenBrace ∷ spell_cases cs
     (mark marks.Semicolon ∷ more))) h)
-    (union s n e cs h.0 more some free h.2)
-declaration_reads union (DeclaredException n r is) s text more some free h =
+    (union s n e cs h.0 more free h.2)
+declaration_reads union (DeclaredException n r is) s text more free h =
     rw (word_again text (codes "exception") (spell_raise n r is more) h)
-    (raise_reads s n r is h.0 more some free h.2)
-declaration_reads union (Call o n ps) s text more some free h =
+    (raise_reads s n r is h.0 more free h.2)
+declaration_reads union (Call o n ps) s text more free h =
     rw (word_again text (codes "operation")
     (spell_return o (word n ∷ mark marks.OpenParenthesis ∷ spell_params ps
     (mark marks.Semicolon ∷ more))) h)
-    (operation_reads s o n ps h.0 more some free h.2)
+    (operation_reads s o n ps h.0 more free h.2)
 
 enumeration_taken : (s : Scope) (whole text : List ℕ) (x : Declared)
     → Takes whole (word (codes "enum")) text → TakenEnumeration s text x
@@ -92,6 +92,7 @@ enumeration_taken s whole text x before t = record {
         (word t.name ∷ mark marks.OpenBrace ∷ spell_names t.names (mark marks.Semicolon ∷ more))
         (t.took.front more m);
   };
+  shallow = t.shallow;
 }
 
 after_by : UnionTakes → (s : Scope) (text w rest : List ℕ) (x : Declared) (a b c d e : Bool)
@@ -194,18 +195,17 @@ not_over (DeclaredException n r is) text more h = search (arith, end_other)
 not_over (Call o n ps) text more h = search (arith, end_other)
 
 declarations_read : UnionReads → (ds : List Declaration) (n : ℕ) (s : Scope) (text : List ℕ)
-    → length ds < n → 0 < size s → Each HasItsWords s ds → AreTokens text (spell_all ds)
+    → length ds < n → Each HasItsWords s ds → AreTokens text (spell_all ds)
     → FileOut s ds (in_steps declarations_step misplaced_after n (s, text) >>= scope_of)
 unfolding Each in_steps declarations_step
-declarations_read union [] zero s text lt some free h = absurd (omega arith)
-declarations_read union (d ∷ ds) zero s text lt some free h = absurd (omega arith)
-declarations_read union [] (suc n) s text lt some free h = search (arith, end_again)
-declarations_read union (d ∷ ds) (suc n) s text lt some free h =
+declarations_read union [] zero s text lt free h = absurd (omega arith)
+declarations_read union (d ∷ ds) zero s text lt free h = absurd (omega arith)
+declarations_read union [] (suc n) s text lt free h = search (arith, end_again)
+declarations_read union (d ∷ ds) (suc n) s text lt free h =
     rw (not_over d text (spell_all ds) h)
     (file_on n s d ds (declaration_at s text)
-    (declaration_reads union d s text (spell_all ds) some free.0 h)
-    (λ rest m. declarations_read union ds n (declare s d) rest (omega arith)
-    (omega (arith, (declare_more s d).longer)) free.1 m))
+    (declaration_reads union d s text (spell_all ds) free.0 h)
+    (λ rest m. declarations_read union ds n (declare s d) rest (omega arith) free.1 m))
 
 -- ---- the whole file
 
@@ -213,10 +213,6 @@ version_again : (text : List ℕ) (n : ℕ) (more : List Token) (h : AreTokens t
     → is_version n ≡ true → version_at text ≡ Ok (n, h.0)
 unfolding version_at
 version_again text n more h is = rw (number_again text n more h, is) refl
-
-built_in : (version : ℕ) → 0 < size (first_scope version)
-unfolding builtin_types
-built_in version = lit< tt
 
 -- what reading gives of a file
 pub file_reads : UnionReads → (text : List ℕ) (file : SignatureFile) → Spells text file
@@ -233,13 +229,13 @@ file_reads union text file spells =
       mark_again marks.Semicolon (h.2).0 (spell_all ds) (h.2).2,
     )
     (declarations_read union ds (length text) (first_scope file.version) ((h.2).2).0
-    (omega (arith, few, spelled_few ds)) (built_in file.version) spells.words ((h.2).2).2)
+    (omega (arith, few, spelled_few ds)) spells.words ((h.2).2).2)
 
 -- ---- what was read
 
 pub record TakenAll (s : Scope) (text : List ℕ) : Type 0 where
   pub declarations : List Declaration
-  pub words : 0 < size s → Each HasItsWords s declarations
+  pub words : Each HasItsWords s declarations
   pub tokens : AreTokens text (spell_all declarations)
 
 end_none : (text : List ℕ) (o : Option Token) (rest : List ℕ) → next text ≡ Ok (o, rest)
@@ -253,14 +249,10 @@ end_from text e = search (arith, bind_ok, end_none, ok_is)
 
 -- the scope after a declaration that was read is that of the declaration which the text spells
 declared_is : UnionReads
-    → (s : Scope) (d : Declaration) (text : List ℕ) (more : List Token) (x : Declared) → 0 < size s
+    → (s : Scope) (d : Declaration) (text : List ℕ) (more : List Token) (x : Declared) 
     → HasItsWords s d → AreTokens text (spell d more) → declaration_at s text ≡ Ok x
     → x.0 ≡ declare s d
-declared_is union s d text more x some words h e = search (arith, declaration_reads)
-
-more_words : (s t : Scope) (d : Declaration) (ds : List Declaration) → 0 < size s → t ≡ declare s d
-    → (0 < size t → Each HasItsWords t ds) → Each HasItsWords (declare s d) ds
-more_words s t d ds some is words = search (arith, declare_more, size)
+declared_is union s d text more x words h e = search (arith, declaration_reads)
 
 over_by : (n : ℕ) (s : Scope) (text : List ℕ) (v : Bool) (x : Bool × Declared) (t : Declared)
     → end_at text ≡ Ok v → declaration_or_end (s, text) v ≡ Ok x → then_declarations n x ≡ Ok t
@@ -270,7 +262,7 @@ over_by : (n : ℕ) (s : Scope) (text : List ℕ) (v : Bool) (x : Bool × Declar
     → TakenAll s text
 unfolding Each
 over_by n s text true x t over e run reads takes on =
-    record { declarations = []; words = λ some. tt; tokens = end_from text over }
+    record { declarations = []; words = tt; tokens = end_from text over }
 over_by n s text false x t over e run reads takes on =
     let d = bind_ok (declaration_at s text) (λ d. Ok (false, d)) x e in
     let k = declaration_takes takes s text d.0 d.1 in
@@ -279,11 +271,10 @@ over_by n s text false x t over e run reads takes on =
     let tokens : AreTokens text (spell k.declaration more) = k.took.front more rest.tokens in
     record {
       declarations = k.declaration ∷ rest.declarations;
-      words = λ some. (
+      words = (
         k.took.free,
-        more_words s (d.0).0 k.declaration rest.declarations some
-            (declared_is reads s k.declaration text more d.0 some k.took.free tokens d.1)
-            rest.words,
+        subst (λ t. Each HasItsWords t rest.declarations)
+            (declared_is reads s k.declaration text more d.0 k.took.free tokens d.1) rest.words,
       );
       tokens = tokens;
     }
@@ -297,6 +288,43 @@ declarations_take reads takes (suc n) s text t e =
     let o = bind_ok (end_at text) (declaration_or_end (s, text)) x.0 x.1 in
     over_by n s text o.0 x.0 t o.1 o.2 x.2 reads takes
     (λ s text run. declarations_take reads takes n s text t run)
+
+-- what was read of declarations is not too deep
+
+shallow_by : UnionTakes → (n : ℕ) (s : Scope) (text : List ℕ) (v : Bool) (x : Bool × Declared)
+    (t : Declared) → declaration_or_end (s, text) v ≡ Ok x → then_declarations n x ≡ Ok t
+    → depth_of s.table.types ≤ 24
+    → ((s : Scope) (text : List ℕ) → in_steps declarations_step misplaced_after n (s, text) ≡ Ok t
+    → depth_of s.table.types ≤ 24 → depth_of (t.0).table.types ≤ 24)
+    → depth_of (t.0).table.types ≤ 24
+shallow_by takes n s text true x t e run le on = search (arith, ok_is)
+shallow_by takes n s text false x t e run le on =
+    let d = bind_ok (declaration_at s text) (λ d. Ok (false, d)) x e in
+    on (d.0).0 (d.0).1 (ap (then_declarations n) (ok_is (false, d.0) x d.2) ∙ run)
+    (declaration_takes takes s text d.0 d.1).shallow
+
+declarations_shallow : UnionTakes → (n : ℕ) (s : Scope) (text : List ℕ) (t : Declared)
+    → in_steps declarations_step misplaced_after n (s, text) ≡ Ok t
+    → depth_of s.table.types ≤ 24 → depth_of (t.0).table.types ≤ 24
+unfolding in_steps declarations_step
+declarations_shallow takes zero s text t e le = absurd cc
+declarations_shallow takes (suc n) s text t e le =
+    let x = bind_ok (declarations_step (s, text)) (then_declarations n) t e in
+    let o = bind_ok (end_at text) (declaration_or_end (s, text)) x.0 x.1 in
+    shallow_by takes n s text o.0 x.0 t o.2 x.2 le
+    (λ s text run le. declarations_shallow takes n s text t run le)
+
+pub file_shallow : UnionTakes → (text : List ℕ) (t : Scope) → file_at text ≡ Ok t
+    → depth_of t.table.types ≤ 24
+unfolding file_at
+file_shallow takes text t e =
+    let h = bind_ok (head_at text)
+    (λ h. in_steps declarations_step misplaced_after (length text) (first_scope h.0, h.1)
+    >>= scope_of) t e in
+    let d = bind_ok {A = Declared} _ scope_of t h.2 in
+    subst (λ (s : Scope). depth_of s.table.types ≤ 24) (ok_is (d.0).0 t d.2)
+    (declarations_shallow takes (length text) (first_scope (h.0).0) (h.0).1 d.0 d.1
+    builtin_are.shallow)
 
 -- the version that a file begins with
 record TakenHead (text : List ℕ) (x : ℕ × List ℕ) : Type 0 where
@@ -342,6 +370,6 @@ file_takes reads takes text t short e =
         short = short;
         tokens = head.front (spell_all all.declarations) all.tokens;
         version = head.version;
-        words = all.words (built_in (h.0).0);
+        words = all.words;
       },
     )

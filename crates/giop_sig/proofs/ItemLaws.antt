@@ -1,5 +1,5 @@
 -- Reading the spelling of members gives them, or a rule that they break.
-use Rattle.std.proofs.Common.{◌≡◌, inl, ℕ, zero, suc, ◌+◌, ◌<◌, ◌≤◌, Bool, true, false, ltb, leb, List, [], ◌∷◌, ◌++◌, length, Option, Some, None, Result, Ok, Err, append_assoc, refl, sym, subst, ◌∙◌, arith}
+use Rattle.std.proofs.Common.{◌≡◌, inl, ℕ, zero, suc, ◌+◌, ◌<◌, ◌≤◌, Bool, true, false, cond, ltb, leb, List, [], ◌∷◌, ◌++◌, length, Option, Some, None, Result, Ok, Err, append_assoc, refl, sym, subst, ◌∙◌, arith}
 use Rattle.std.specs.Map.{lookup}
 use Rattle.std.specs.Option.{is_some}
 use Rattle.std.specs.Str.{bytes_eq}
@@ -14,16 +14,17 @@ use Rattle.giop_tokens.specs.Readers.{mark_at, mark_if}
 use Rattle.giop_tokens.specs.Names.{too_long, identifier_at}
 use Rattle.giop_tokens.proofs.ReaderLaws.{mark_again, mark_if_again, identifier_again, identifier_long}
 use Rattle.giop_sig.specs.Table.{Node, Part}
+use Rattle.giop_sig.specs.Trees.{depth_of}
 use Rattle.giop_sig.specs.Grammar.{TypeExpr, Base, Item, spell_length, spell_type, spell_item, spell_items}
 use Rattle.giop_sig.specs.Scopes.{Names, Scope, part, item_part, place, add_array, add_item, add_items}
 use Rattle.giop_sig.specs.Validity.{Kind, IsFree, is_among, OfNewName, OfSome, OfItem, OfItems, OfDeclared}
 use Rattle.giop_sig.specs.Outcomes.{refused}
 use Rattle.giop_sig.specs.TypeReading.{enclosed_at, type_at}
-use Rattle.giop_sig.specs.ItemReading.{new_name_at, declared_at, array_type, ItemRead, item_at, Members, member_at, member_step, MembersRead, members_run, filled_at}
-use Rattle.giop_sig.proofs.PlaceLaws.{size, within_same, length_more, item_more, item_names, items_more}
+use Rattle.giop_sig.specs.ItemReading.{new_name_at, declared_at, ItemRead, read_item, item_at, Members, member_at, member_step, MembersRead, members_run, filled_at, Declared, too_deep, end_of}
+use Rattle.giop_sig.proofs.PlaceLaws.{Within, within_same, length_more, item_names, items_more}
 use Rattle.giop_sig.proofs.ReadingLaws.{Out, good, broken, out_bind, out_more, Apart, if_apart}
 use Rattle.giop_sig.proofs.SizeReads.{enclosed_reads}
-use Rattle.giop_sig.proofs.TypeLaws.{added_bind, type_reads}
+use Rattle.giop_sig.proofs.TypeLaws.{type_reads}
 use Rattle.giop_sig.proofs.ItemTaken.{none_of, unused, then_run}
 use Rattle.giop_sig.proofs.RepeatLaws.{step_first}
 use Rattle.giop_sig.specs.Repeats.{in_steps}
@@ -120,43 +121,32 @@ declared_reads types s count text w more free h =
 
 -- ---- items
 
-array_reads : (at : ℕ) (s : Scope) (e : ℕ) (o : Option ℕ) (rule : Kind → Type 0) (w rest : List ℕ)
-    (more : List Token) → AreTokens rest more → ((k : Kind) → rule k)
-    → Out {X = ItemRead} (λ rest.
-    ((add_array o (s, e)).0, part w (add_array o (s, e)).1, rest)) rule
-    (add_array o (s, e)).0.table.types more
-    (array_type at s e o >>= λ p. Ok (p.0, part w p.1, rest))
-array_reads at s e None rule w rest more m keeps = good rest m keeps
-array_reads at s e (Some n) rule w rest more m keeps = search (arith, added_bind, within_same, good)
-
 abbrev pub made_item : Scope → Item → List ℕ → ItemRead
 made_item s i rest = ((add_item s i).0, item_part i (add_item s i), rest)
 
-pub item_reads : (at most : ℕ) (seen : List (List ℕ)) (s : Scope) (i : Item) (text : List ℕ)
-    (more : List Token) → 0 < size s → OfItem kinds.Syntax s.names most seen i
+pub item_reads : (most : ℕ) (seen : List (List ℕ)) (s : Scope) (i : Item) (text : List ℕ)
+    (more : List Token) → OfItem kinds.Syntax s.names most seen i
     → Apart marks.OpenBracket more → AreTokens text (spell_item i more)
     → Out (made_item s i) (λ k. OfItem k s.names most seen i) (add_item s i).0.table.types more
-    (item_at at most seen s text)
+    (item_at most seen s text)
 unfolding item_at
-item_reads at most seen s i text more some free apart h =
-    out_bind (type_at at 25 s text) (λ t. new_name_at most seen t.2 >>= λ n.
+item_reads most seen s i text more free apart h =
+    let p = place s i.type in
+    out_bind (type_at s text) (λ t. new_name_at most seen t.2 >>= λ n.
     enclosed_at marks.OpenBracket marks.CloseBracket n.1
-    >>= λ l. array_type at t.0 t.1 l.0 >>= λ p. Ok (p.0, part n.0 p.1, l.1))
-    (type_reads at s i.type text (word i.name ∷ spell_length i.length more) some free.0 refl h)
+    >>= λ l. Ok (read_item (add_array l.0 (t.0, t.1)) n.0 l.1))
+    (type_reads s i.type text (word i.name ∷ spell_length i.length more) free.0 refl h)
     (λ a ta ka.
     out_bind (new_name_at most seen a) (λ n. enclosed_at marks.OpenBracket marks.CloseBracket n.1
-    >>= λ l. array_type at (place s i.type).0 (place s i.type).1 l.0 >>= λ p.
-    Ok (p.0, part n.0 p.1, l.1))
+    >>= λ l. Ok (read_item (add_array l.0 p) n.0 l.1))
     (new_name_reads (place s i.type).0.table.types most seen a i.name (spell_length i.length more)
     free.1 ta)
     (λ b tb kb.
     out_bind (enclosed_at marks.OpenBracket marks.CloseBracket b)
-    (λ l. array_type at (place s i.type).0 (place s i.type).1 l.0 >>= λ p.
-    Ok (p.0, part i.name p.1, l.1))
+    (λ l. Ok (read_item (add_array l.0 p) i.name l.1))
     (enclosed_reads (place s i.type).0.table.types marks.OpenBracket marks.CloseBracket b i.length
     more apart tb)
-    (λ c tc kc. array_reads at (place s i.type).0 (place s i.type).1 i.length
-    (λ k. OfItem k s.names most seen i) i.name c more tc (λ k. (ka k, kb k, kc k)))
+    (λ c tc kc. good c tc (λ k. (ka k, kb k, kc k)))
     (λ k w. w.2) (length_more i.length (place s i.type)))
     (λ k w. w.1) (length_more i.length (place s i.type)))
     (λ k w. w.0) (length_more i.length (place s i.type))
@@ -179,31 +169,31 @@ made_member seen parts s i rest = (
   ),
 )
 
-member_reads : (at : ℕ) (seen : List (List ℕ)) (parts : List Part) (s : Scope) (i : Item)
-    (text : List ℕ) (more : List Token) → 0 < size s → OfItem kinds.Syntax s.names 256 seen i
+member_reads : (seen : List (List ℕ)) (parts : List Part) (s : Scope) (i : Item)
+    (text : List ℕ) (more : List Token) → OfItem kinds.Syntax s.names 256 seen i
     → AreTokens text (spell_item i (mark marks.Semicolon ∷ more))
     → Out (made_member seen parts s i) (λ k. OfItem k s.names 256 seen i)
-    (add_item s i).0.table.types more (member_at at (s, seen, parts, text))
+    (add_item s i).0.table.types more (member_at (s, seen, parts, text))
 unfolding member_at
-member_reads at seen parts s i text more some free h =
-    out_bind (item_at at 256 seen s text) (λ i. mark_at marks.Semicolon i.2
+member_reads seen parts s i text more free h =
+    out_bind (item_at 256 seen s text) (λ i. mark_at marks.Semicolon i.2
     >>= λ r. Ok (false, (i.0, seen ++ (i.1).name ∷ [], parts ++ i.1 ∷ [], r)))
-    (item_reads at 256 seen s i text (mark marks.Semicolon ∷ more) some free refl h)
+    (item_reads 256 seen s i text (mark marks.Semicolon ∷ more) free refl h)
     (λ rest m keeps. rw (mark_again marks.Semicolon rest more m) (good m.0 m.2 keeps)) (λ k w. w)
     within_same
 
 abbrev pub made_members : List Part → Scope → List Item → List ℕ → MembersRead
 made_members parts s is rest = ((add_items s is).0, parts ++ (add_items s is).1, rest)
 
-run_on : (at n : ℕ) (m : Members) → mark_if marks.CloseBrace m.3 ≡ Ok None
-    → members_run at (suc n) m ≡ (member_at at m >>= then_run at n)
+run_on : (n : ℕ) (m : Members) → mark_if marks.CloseBrace m.3 ≡ Ok None
+    → members_run (suc n) m ≡ (member_at m >>= then_run n)
 unfolding member_step
-run_on at n m h = search (arith, then_run, step_first)
+run_on n m h = search (arith, then_run, step_first)
 
-run_end : (at n : ℕ) (m : Members) (rest : List ℕ) → mark_if marks.CloseBrace m.3 ≡ Ok (Some rest)
-    → members_run at (suc n) m ≡ Ok (m.0, m.2, rest)
+run_end : (n : ℕ) (m : Members) (rest : List ℕ) → mark_if marks.CloseBrace m.3 ≡ Ok (Some rest)
+    → members_run (suc n) m ≡ Ok (m.0, m.2, rest)
 unfolding in_steps member_step
-run_end at n m rest h = rw h refl
+run_end n m rest h = rw h refl
 
 closes : (seen : List (List ℕ)) (parts : List Part) (s : Scope) (names : Names) (rest : List ℕ)
     (more : List Token) → AreTokens rest more
@@ -231,7 +221,7 @@ made_on parts s i is names seen more r first o =
     (λ k w. (first k, w)) (λ k w. w.1)
 
 -- a member, and then the others
-member_on : (at n : ℕ) (seen : List (List ℕ)) (parts : List Part) (s : Scope) (names : Names)
+member_on : (n : ℕ) (seen : List (List ℕ)) (parts : List Part) (s : Scope) (names : Names)
     (i : Item) (is : List Item) (more : List Token) → s.names ≡ names
     → (r : Result (Bool × Members) Refusal)
     → Out (made_member seen parts s i) (λ k. OfItem k names 256 seen i)
@@ -241,7 +231,7 @@ member_on : (at n : ℕ) (seen : List (List ℕ)) (parts : List Part) (s : Scope
     → Out (made_members (parts ++ item_part i (add_item s i) ∷ []) (add_item s i).0 is)
     (λ k. OfItems k names 256 (seen ++ i.name ∷ []) is)
     (add_items (add_item s i).0 is).0.table.types more
-    (members_run at n (
+    (members_run n (
       (add_item s i).0,
       seen ++ i.name ∷ [],
       parts ++ item_part i (add_item s i) ∷ [],
@@ -249,12 +239,12 @@ member_on : (at n : ℕ) (seen : List (List ℕ)) (parts : List Part) (s : Scope
     )))
     → Out (made_members parts s (i ∷ is)) (λ k. OfItems k names 256 seen (i ∷ is))
     (add_items s (i ∷ is)).0.table.types more
-    (r >>= then_run at n)
+    (r >>= then_run n)
 unfolding OfItems add_items
-member_on at n seen parts s names i is more same r o on =
-    out_bind r (then_run at n) o
+member_on n seen parts s names i is more same r o on =
+    out_bind r (then_run n) o
     (λ rest m keeps. made_on parts s i is names seen more
-    (members_run at n (
+    (members_run n (
       (add_item s i).0,
       seen ++ i.name ∷ [],
       parts ++ item_part i (add_item s i) ∷ [],
@@ -262,34 +252,52 @@ member_on at n seen parts s names i is more same r o on =
     )) keeps (on rest m keeps))
     (λ k w. w.0) (items_more (add_item s i).0 is)
 
-pub members_reads : (is : List Item) (at n : ℕ) (seen : List (List ℕ)) (parts : List Part)
-    (s : Scope) (names : Names) (text : List ℕ) (more : List Token) → s.names ≡ names → 0 < size s
+pub members_reads : (is : List Item) (n : ℕ) (seen : List (List ℕ)) (parts : List Part)
+    (s : Scope) (names : Names) (text : List ℕ) (more : List Token) → s.names ≡ names
     → n + length seen ≡ 257 → length seen ≤ 256
     → OfItems kinds.Syntax names 256 seen is → AreTokens text (spell_items is more)
     → Out (made_members parts s is) (λ k. OfItems k names 256 seen is)
-    (add_items s is).0.table.types more (members_run at n (s, seen, parts, text))
+    (add_items s is).0.table.types more (members_run n (s, seen, parts, text))
 unfolding OfItems
-members_reads [] at zero seen parts s names text more same some n few free h = absurd (omega arith)
-members_reads (i ∷ is) at zero seen parts s names text more same some n few free h =
+members_reads [] zero seen parts s names text more same n few free h = absurd (omega arith)
+members_reads (i ∷ is) zero seen parts s names text more same n few free h =
     absurd (omega arith)
-members_reads [] at (suc n) seen parts s names text more same some fuel few free h =
-    rw (run_end at n (s, seen, parts, text) h.0 (mark_if_again marks.CloseBrace text more h))
+members_reads [] (suc n) seen parts s names text more same fuel few free h =
+    rw (run_end n (s, seen, parts, text) h.0 (mark_if_again marks.CloseBrace text more h))
     (closes seen parts s names h.0 more h.2)
-members_reads (i ∷ is) at (suc n) seen parts s names text more same some fuel few free h =
+members_reads (i ∷ is) (suc n) seen parts s names text more same fuel few free h =
     let apart = if_apart marks.CloseBrace text
     (spell_item i (mark marks.Semicolon ∷ spell_items is more))
     (type_apart i.type (word i.name ∷ spell_length i.length
     (mark marks.Semicolon ∷ spell_items is more))) h in
-    rw (run_on at n (s, seen, parts, text) apart)
-    (member_on at n seen parts s names i is more same (member_at at (s, seen, parts, text))
+    rw (run_on n (s, seen, parts, text) apart)
+    (member_on n seen parts s names i is more same (member_at (s, seen, parts, text))
     (subst (λ ns. Out (made_member seen parts s i) (λ k. OfItem k ns 256 seen i)
     (add_item s i).0.table.types (spell_items is more)
-    (member_at at (s, seen, parts, text))) same
-    (member_reads at seen parts s i text (spell_items is more) some
+    (member_at (s, seen, parts, text))) same
+    (member_reads seen parts s i text (spell_items is more)
     (subst (λ ns. OfItem kinds.Syntax ns 256 seen i) (sym same) free.0) h))
     (λ rest m keeps.
     let lt = (keeps kinds.Limit).1.1 in
-    members_reads is at n (seen ++ i.name ∷ []) (parts ++ item_part i (add_item s i) ∷ [])
+    members_reads is n (seen ++ i.name ∷ []) (parts ++ item_part i (add_item s i) ∷ [])
     (add_item s i).0 names rest more (item_names s i ∙ same)
-    (omega (arith, (item_more s i).longer)) (omega (arith, length-append seen (i.name ∷ [])))
+    (omega (arith, length-append seen (i.name ∷ [])))
     (omega (arith, length-append seen (i.name ∷ []))) free.1 m))
+
+-- ---- the end of a declaration
+
+end_by : (at : ℕ) (s : Scope) (rule : Kind → Type 0) (rest : List ℕ) (more : List Token) (v : Bool)
+    → leb (depth_of s.table.types) 24 ≡ v → AreTokens rest more → ((k : Kind) → rule k)
+    → Out {X = Declared} (λ rest. (s, rest)) rule s.table.types more
+    (cond v (Ok (s, rest)) (Err (too_deep at)))
+end_by at s rule rest more true d m keeps = good rest m keeps
+end_by at s rule rest more false d m keeps = search (arith, broken, leb-false)
+
+-- the end of a declaration that keeps the other rules
+pub end_reads : (at : ℕ) (s : Scope) (rule : Kind → Type 0) (text : List ℕ) (more : List Token)
+    → AreTokens text (mark marks.Semicolon ∷ more) → ((k : Kind) → rule k)
+    → Out {X = Declared} (λ rest. (s, rest)) rule s.table.types more (end_of at s text)
+unfolding end_of
+end_reads at s rule text more h keeps =
+    rw (mark_again marks.Semicolon text more h)
+    (end_by at s rule h.0 more (leb (depth_of s.table.types) 24) refl h.2 keeps)

@@ -6,7 +6,7 @@ use Rattle.std.specs.Option.{is_some}
 use Rattle.std.specs.Str.{bytes_eq}
 use Rattle.std.proofs.lemmas.List.{length-append}
 use Rattle.std.proofs.lemmas.List.Elements.{All-push}
-use Rattle.std.proofs.lemmas.Bool.{leb-false}
+use Rattle.std.proofs.lemmas.Bool.{leb-true, leb-false}
 use Rattle.giop_tokens.specs.declared.fault.Refusal.{Refusal}
 use Rattle.giop_tokens.specs.declared.fault.SigFaultKind.TheVariants as kinds
 use Rattle.giop_tokens.specs.declared.marks.Mark.TheVariants as marks
@@ -17,16 +17,17 @@ use Rattle.giop_tokens.proofs.ReaderLaws.{bind_ok, ok_is, Takes, word_takes, mar
 use Rattle.giop_sig.specs.Table.{Node, Part, IsPart, TakesOctet, exception_in}
 use Rattle.giop_sig.specs.Table as nodes
 use Rattle.giop_sig.specs.Grammar.{Item, spell_length, spell_item, spell_items}
-use Rattle.giop_sig.specs.Scopes.{Scope, AddedType, part}
+use Rattle.giop_sig.specs.Trees.{depth_of}
+use Rattle.giop_sig.specs.Scopes.{Scope, AddedType, with_node, add_array}
 use Rattle.giop_sig.specs.Validity.{IsFree, is_among, OfItem, OfItems}
 use Rattle.giop_sig.specs.ScopeViews.{IsScope}
 use Rattle.giop_sig.specs.Outcomes.{refused}
-use Rattle.giop_sig.specs.TypeReading.{TypeRead, added}
-use Rattle.giop_sig.specs.ItemReading.{new_name_at, declared_at, array_type, ItemRead, item_at, Members, member_at, member_after, member_step, too_many_members, MembersRead, members_read, members_run, members_at, unless_closed, filled_at, new_repository_at}
+use Rattle.giop_sig.specs.TypeReading.{TypeRead}
+use Rattle.giop_sig.specs.ItemReading.{new_name_at, declared_at, ItemRead, read_item, item_at, Members, member_at, member_after, member_step, too_many_members, MembersRead, members_read, members_run, members_at, unless_closed, filled_at, Declared, too_deep, end_of, new_repository_at}
 use Rattle.giop_sig.specs.Repeats.{in_steps}
 use Rattle.giop_sig.proofs.ReadingLaws.{Took}
 use Rattle.giop_sig.proofs.RepeatLaws.{step_first}
-use Rattle.giop_sig.proofs.TypeTaken.{Grows, grows_none, grows_on, grows_known, Sound, sound_added, added_grows, added_is, TakenType, type_takes}
+use Rattle.giop_sig.proofs.TypeTaken.{Grows, grows_none, grows_on, grows_known, Sound, sound_node, node_grows, TakenType, type_takes}
 use Rattle.giop_sig.proofs.SizeTaken.{enclosed_takes, bound_free}
 
 -- ---- names
@@ -97,16 +98,13 @@ declared_takes s count text x e =
 
 -- ---- items
 
-array_grows : (at : ℕ) (s : Scope) (element : ℕ) (o : Option ℕ) (p : AddedType)
-    → array_type at s element o ≡ Ok p → Grows s p.0
-array_grows at s element None p e = subst (λ (q : AddedType). Grows s q.0) (ok_is (s, element) p e)
-    (grows_none s)
-array_grows at s element (Some n) p e = search (arith, added_grows)
+array_grows : (o : Option ℕ) (p : AddedType) → Grows p.0 (add_array o p).0
+array_grows None p = grows_none p.0
+array_grows (Some n) p = node_grows p.0 (nodes.array n p.1)
 
-array_sound : (at : ℕ) (s : Scope) (element : ℕ) (o : Option ℕ) (p : AddedType)
-    → array_type at s element o ≡ Ok p → Sound (s, element) → Sound p
-array_sound at s element None p e is = search (arith, ok_is)
-array_sound at s element (Some n) p e is = search (arith, sound_added)
+array_sound : (o : Option ℕ) (p : AddedType) → Sound p → Sound (add_array o p)
+array_sound None p is = is
+array_sound (Some n) p is = sound_node p.0 (nodes.array n p.1) is.scope tt
 
 pub record TakenItem (s : Scope) (most : ℕ) (seen : List (List ℕ)) (text : List ℕ)
     (x : ItemRead) : Type 0 where
@@ -118,12 +116,11 @@ pub record TakenItem (s : Scope) (most : ℕ) (seen : List (List ℕ)) (text : L
   pub short : length (x.1).name ≤ 64
   pub few : length seen < most
 
-item_made : (at most : ℕ) (seen : List (List ℕ)) (s : Scope) (text : List ℕ) (t : TypeRead)
-    (n : List ℕ × List ℕ) (l : Option ℕ × List ℕ) (p : AddedType) → TakenType s text t
-    → NameTaken most seen t.2 n
-    → Took (spell_length l.0) (Unit {0}) n.1 l.1 → array_type at t.0 t.1 l.0 ≡ Ok p
-    → TakenItem s most seen text (p.0, part n.0 p.1, l.1)
-item_made at most seen s text t n l p a b c e = record {
+item_made : (most : ℕ) (seen : List (List ℕ)) (s : Scope) (text : List ℕ) (t : TypeRead)
+    (n : List ℕ × List ℕ) (l : Option ℕ × List ℕ) → TakenType s text t
+    → NameTaken most seen t.2 n → Took (spell_length l.0) (Unit {0}) n.1 l.1
+    → TakenItem s most seen text (read_item (add_array l.0 (t.0, t.1)) n.0 l.1)
+item_made most seen s text t n l a b c = record {
   item = record { type = a.expr; name = n.0; length = l.0 };
   named = refl;
   took = record {
@@ -131,25 +128,24 @@ item_made at most seen s text t n l p a b c e = record {
     front = λ more m. a.took.front (word n.0 ∷ spell_length l.0 more)
         (b.front (spell_length l.0 more) (c.front more m));
   };
-  grows = grows_on s t.0 p.0 a.grows (array_grows at t.0 t.1 l.0 p e);
-  sound = λ is. array_sound at t.0 t.1 l.0 p e (a.sound is);
+  grows = grows_on s t.0 (add_array l.0 (t.0, t.1)).0 a.grows (array_grows l.0 (t.0, t.1));
+  sound = λ is. array_sound l.0 (t.0, t.1) (a.sound is);
   short = b.short;
   few = b.few;
 }
 
-pub item_takes : (at most : ℕ) (seen : List (List ℕ)) (s : Scope) (text : List ℕ) (x : ItemRead)
-    → item_at at most seen s text ≡ Ok x → TakenItem s most seen text x
+pub item_takes : (most : ℕ) (seen : List (List ℕ)) (s : Scope) (text : List ℕ) (x : ItemRead)
+    → item_at most seen s text ≡ Ok x → TakenItem s most seen text x
 unfolding item_at
-item_takes at most seen s text x e =
+item_takes most seen s text x e =
     let t = bind_ok _ _ x e in
     let n = bind_ok _ _ x t.2 in
     let l = bind_ok _ _ x n.2 in
-    let p = bind_ok (array_type at (t.0).0 (t.0).1 (l.0).0)
-    (λ p. Ok (p.0, part (n.0).0 p.1, (l.0).1)) x l.2 in
-    subst (TakenItem s most seen text) (ok_is ((p.0).0, part (n.0).0 (p.0).1, (l.0).1) x p.2)
-    (item_made at most seen s text t.0 n.0 l.0 p.0 (type_takes at 25 s text t.0 t.1)
+    subst (TakenItem s most seen text)
+    (ok_is (read_item (add_array (l.0).0 ((t.0).0, (t.0).1)) (n.0).0 (l.0).1) x l.2)
+    (item_made most seen s text t.0 n.0 l.0 (type_takes s text t.0 t.1)
     (new_name_takes most seen (t.0).2 n.0 n.1)
-    (enclosed_takes marks.OpenBracket marks.CloseBracket (n.0).1 l.0 l.1) p.1)
+    (enclosed_takes marks.OpenBracket marks.CloseBracket (n.0).1 l.0 l.1))
 
 -- ---- members
 
@@ -223,39 +219,39 @@ member_on n seen parts s text r i x a e t = record {
       (record { inner = h.known; short = a.short }));
 }
 
-abbrev pub then_run : ℕ → ℕ → Bool × Members → Result MembersRead Refusal
-then_run at n x =
-    cond x.0 (Ok x.1) (in_steps (member_step at) too_many_members n x.1) >>= members_read
+abbrev pub then_run : ℕ → Bool × Members → Result MembersRead Refusal
+then_run n x =
+    cond x.0 (Ok x.1) (in_steps member_step too_many_members n x.1) >>= members_read
 
-member_by : (at n : ℕ) (seen : List (List ℕ)) (parts : List Part) (s : Scope) (text : List ℕ)
+member_by : (n : ℕ) (seen : List (List ℕ)) (parts : List Part) (s : Scope) (text : List ℕ)
     (m : Bool × Members) (x : MembersRead) (c : Found) → mark_if marks.CloseBrace text ≡ Ok c
-    → member_after at (s, seen, parts, text) c ≡ Ok m → then_run at n m ≡ Ok x
+    → member_after (s, seen, parts, text) c ≡ Ok m → then_run n m ≡ Ok x
     → ((seen : List (List ℕ)) (parts : List Part) (s : Scope) (text : List ℕ)
-    → members_run at n (s, seen, parts, text) ≡ Ok x → TakenMembers n seen parts s text x)
+    → members_run n (s, seen, parts, text) ≡ Ok x → TakenMembers n seen parts s text x)
     → TakenMembers (suc n) seen parts s text x
 unfolding member_at
-member_by at n seen parts s text m x (Some r) h e run on = search (arith, ok_is, closes)
-member_by at n seen parts s text m x None h e run on =
+member_by n seen parts s text m x (Some r) h e run on = search (arith, ok_is, closes)
+member_by n seen parts s text m x None h e run on =
     let i = bind_ok _ _ m e in
     let r = bind_ok _ _ m i.2 in
     let next : Members = ((i.0).0, seen ++ ((i.0).1).name ∷ [], parts ++ (i.0).1 ∷ [], r.0) in
-    let last : members_run at n next ≡ Ok x =
-    ap (then_run at n) (ok_is (false, next) m r.2) ∙ run in
-    member_on n seen parts s text r.0 i.0 x (item_takes at 256 seen s text i.0 i.1) r.1
+    let last : members_run n next ≡ Ok x =
+    ap (then_run n) (ok_is (false, next) m r.2) ∙ run in
+    member_on n seen parts s text r.0 i.0 x (item_takes 256 seen s text i.0 i.1) r.1
     (on (seen ++ ((i.0).1).name ∷ []) (parts ++ (i.0).1 ∷ []) (i.0).0 r.0 last)
 
-pub members_takes : (at n : ℕ) (seen : List (List ℕ)) (parts : List Part) (s : Scope)
-    (text : List ℕ) (x : MembersRead) → members_run at n (s, seen, parts, text) ≡ Ok x
+pub members_takes : (n : ℕ) (seen : List (List ℕ)) (parts : List Part) (s : Scope)
+    (text : List ℕ) (x : MembersRead) → members_run n (s, seen, parts, text) ≡ Ok x
     → TakenMembers n seen parts s text x
 unfolding in_steps member_step
-members_takes at zero seen parts s text x e = absurd cc
-members_takes at (suc n) seen parts s text x e =
+members_takes zero seen parts s text x e = absurd cc
+members_takes (suc n) seen parts s text x e =
     let before : Members = (s, seen, parts, text) in
-    let m = bind_ok (member_step at before) (then_run at n) x
-    (sym (step_first (member_step at) too_many_members members_read n before) ∙ e) in
-    let c = bind_ok (mark_if marks.CloseBrace text) (member_after at before) m.0 m.1 in
-    member_by at n seen parts s text m.0 x c.0 c.1 c.2 m.2
-    (λ seen parts s text run. members_takes at n seen parts s text x run)
+    let m = bind_ok (member_step before) (then_run n) x
+    (sym (step_first member_step too_many_members members_read n before) ∙ e) in
+    let c = bind_ok (mark_if marks.CloseBrace text) (member_after before) m.0 m.1 in
+    member_by n seen parts s text m.0 x c.0 c.1 c.2 m.2
+    (λ seen parts s text run. members_takes n seen parts s text x run)
 
 filled_by : (text x : List ℕ) (c : Found) → mark_if marks.CloseBrace text ≡ Ok c
     → unless_closed text c ≡ Ok x → (text ≡ x) × (mark_if marks.CloseBrace text ≡ Ok None)
@@ -273,32 +269,34 @@ pub no_parts : (s : Scope) → AreParts s []
 no_parts s = search (arith)
 
 -- members that were read can be a struct's
-pub struct_formed : (at : ℕ) (s : Scope) (text : List ℕ) (m : MembersRead)
-    → members_at at s text ≡ Ok m → IsScope s → (length m.1 ≤ 256) × AreParts m.0 m.1
-struct_formed at s text m e is =
-    let t = members_takes at 257 [] [] s text m e in
+pub struct_formed : (s : Scope) (text : List ℕ) (m : MembersRead)
+    → members_at s text ≡ Ok m → IsScope s → (length m.1 ≤ 256) × AreParts m.0 m.1
+struct_formed s text m e is =
+    let t = members_takes 257 [] [] s text m e in
     (let f = t.few in omega arith, (t.sound is (no_parts s)).parts)
 
-pub members_grow : (at : ℕ) (s : Scope) (text : List ℕ) (m : MembersRead) →
-    members_at at s text ≡ Ok m → Grows s m.0
-members_grow at s text m e = (members_takes at 257 [] [] s text m e).grows
+pub members_grow : (s : Scope) (text : List ℕ) (m : MembersRead) →
+    members_at s text ≡ Ok m → Grows s m.0
+members_grow s text m e = (members_takes 257 [] [] s text m e).grows
 
-pub exception_grows : (at : ℕ) (s : Scope) (text : List ℕ) (m : MembersRead) (p : AddedType)
-    → members_at at s text ≡ Ok m → added at m.0 (nodes.members m.1) ≡ Ok p → Grows s p.0
-exception_grows at s text m p e put = search (arith, grows_on, members_grow, added_grows)
+pub exception_grows : (s : Scope) (text : List ℕ) (m : MembersRead) → members_at s text ≡ Ok m
+    → Grows s (with_node m.0 (nodes.members m.1)).0
+exception_grows s text m e =
+    grows_on s m.0 (with_node m.0 (nodes.members m.1)).0 (members_grow s text m e)
+    (node_grows m.0 (nodes.members m.1))
 
 some_octet : (ps : List Part) → 0 < length ps → TakesOctet (nodes.members ps)
 some_octet [] lt = absurd (omega arith)
 some_octet (p ∷ ps) lt = tt
 
 -- a struct of some members takes an octet
-pub struct_takes : (at : ℕ) (s : Scope) (o f : List ℕ) (m : MembersRead)
-    → filled_at o ≡ Ok f → members_at at s f ≡ Ok m → TakesOctet (nodes.members m.1)
-struct_takes at s o f m fill e =
+pub struct_takes : (s : Scope) (o f : List ℕ) (m : MembersRead)
+    → filled_at o ≡ Ok f → members_at s f ≡ Ok m → TakesOctet (nodes.members m.1)
+struct_takes s o f m fill e =
     let k = filled_takes o f fill in
     let some : mark_if marks.CloseBrace f ≡ Ok None =
     subst (λ t. mark_if marks.CloseBrace t ≡ Ok None) k.0 k.1 in
-    some_octet m.1 ((members_takes at 257 [] [] s f m e).some some)
+    some_octet m.1 ((members_takes 257 [] [] s f m e).some some)
 
 -- a name that was new is still new
 pub still_new : (s t : Scope) (w : List ℕ) → Grows s t → lookup (bytes_eq w) s.names.known ≡ None
@@ -327,6 +325,26 @@ pub still_different : (s t : Scope) (r : List ℕ) → Grows s t → exception_i
     → exception_in t.table r ≡ None
 still_different s t r g e = search (arith)
 
-pub added_below : (at : ℕ) (s : Scope) (n : Node) (p : AddedType) → added at s n ≡ Ok p
-    → p.1 < length (p.0).table.types
-added_below at s n p e = search (arith, added_is, length-append)
+-- a type that was added is in the table
+pub node_below : (s : Scope) (n : Node) → (with_node s n).1 < length (with_node s n).0.table.types
+node_below s n = search (arith, length-append)
+
+-- ---- the end of a declaration
+
+pub record TakenEnd (s : Scope) (text : List ℕ) (x : Declared) : Type 0 where
+  pub shallow : depth_of (x.0).table.types ≤ 24
+  pub scope : s ≡ x.0
+  pub rest : mark_at marks.Semicolon text ≡ Ok x.1
+
+end_by : (at : ℕ) (s : Scope) (text r : List ℕ) (x : Declared) (v : Bool)
+    → leb (depth_of s.table.types) 24 ≡ v → mark_at marks.Semicolon text ≡ Ok r
+    → cond v (Ok (s, r)) (Err (too_deep at)) ≡ Ok x → TakenEnd s text x
+end_by at s text r x true d m e = search (arith, ok_is, leb-true)
+end_by at s text r x false d m e = absurd cc
+
+pub end_takes : (at : ℕ) (s : Scope) (text : List ℕ) (x : Declared) → end_of at s text ≡ Ok x
+    → TakenEnd s text x
+unfolding end_of
+end_takes at s text x e =
+    let r = bind_ok {A = List ℕ} _ _ x e in
+    end_by at s text r.0 x (leb (depth_of s.table.types) 24) refl r.1 r.2

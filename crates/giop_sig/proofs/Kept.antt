@@ -9,11 +9,12 @@ use Rattle.giop_sig.specs.declared.entries.EntryWithDepth.{EntryWithDepth}
 use Rattle.giop_sig.specs.Types.{depth}
 use Rattle.giop_sig.specs.Table.{Node, node_in, IsFormed}
 use Rattle.giop_sig.specs.Table as nodes
-use Rattle.giop_sig.specs.Trees.{grow, trees_after, type_in, depth_of, AreTypes}
+use Rattle.giop_sig.specs.Trees.{grow, trees_after, type_in, depth_of, AreFormed}
 use Rattle.giop_sig.specs.Views.{node_view, nodes_view, IsKept, IsSized}
 use Rattle.giop_sig.proofs.TreeLaws.{length_after}
 use Rattle.giop_sig.proofs.Depths.{depths_read, depth_within, depths_added, deepest_added}
 use Rattle.giop_sig.proofs.Formed.{formed_stays, sized}
+use Rattle.giop_sig.proofs.Small.{type_small}
 
 pub node_read : (ps : List EntryWithDepth) (i : ℕ) (p : EntryWithDepth) → i < length ps →
     p ≡ get_or ps i p
@@ -63,20 +64,22 @@ depth_read ps deepest types i p is view lt h = search (
   length-map,
 )
 
-pub shallow_read : (ps : List EntryWithDepth) (deepest : ℕ) (types : List Node) (i : ℕ)
+pub small_read : (ps : List EntryWithDepth) (deepest : ℕ) (types : List Node) (i : ℕ)
     (p : EntryWithDepth)
-    → IsKept ps deepest → nodes_view ps ≡ types → i < length types
-    → p ≡ get_or ps i p → p.depth ≤ 24
-shallow_read ps deepest types i p is view lt h =
-    let within = depth_within types i lt in
-    let shallow = subst (λ ts. depth_of ts ≤ 24) view is.types.shallow in
-    omega (arith, depth_read ps deepest types i p is view lt h)
+    → IsKept ps deepest → nodes_view ps ≡ types → i < length types → p ≡ get_or ps i p
+    → p.depth ≤ length types
+small_read ps deepest types i p is view lt h =
+    omega (
+      arith,
+      depth_read ps deepest types i p is view lt h,
+      type_small types i (subst AreFormed view is.types) lt,
+    )
 
 pub kept_none : IsKept [] 0
 unfolding trees_after depth_of
 kept_none = search (arith, lit<, lit≤)
 
-formed_added : (types : List Node) (node : Node) (i : ℕ) → AreTypes types
+formed_added : (types : List Node) (node : Node) (i : ℕ) → AreFormed types
     → IsFormed types (length types) node → i < length (types ++ node ∷ [])
     → (i < length types) ⊎ (length types ≤ i)
     → IsFormed (types ++ node ∷ []) i (get_or (types ++ node ∷ []) i (nodes.prim Octet))
@@ -94,23 +97,16 @@ formed_added types node i are last lt (inr above) =
     (formed_stays types (node ∷ []) (length types) node (omega arith) last))
 
 -- a table with one type more
-pub types_added : (types : List Node) (node : Node) → AreTypes types → length types + 1 < 2 ^ 32
-    → IsFormed types (length types) node → depth (grow (type_in types) node) ≤ 24
-    → AreTypes (types ++ node ∷ [])
-types_added types node are few last shallow = search (
-  arith,
-  length-append,
-  formed_added,
-  cases_lt,
-  deepest_added,
-)
+pub types_added : (types : List Node) (node : Node) → AreFormed types → length types + 1 < 2 ^ 32
+    → IsFormed types (length types) node → AreFormed (types ++ node ∷ [])
+types_added types node are few last = search (arith, length-append, formed_added, cases_lt)
 
 pub kept_more : (ps : List EntryWithDepth) (deepest : ℕ) (p : EntryWithDepth) → IsKept ps deepest
     → length (nodes_view ps) + 1 < 2 ^ 32
     → IsFormed (nodes_view ps) (length (nodes_view ps)) (node_view p.entry)
-    → p.depth ≡ depth (grow (type_in (nodes_view ps)) (node_view p.entry)) → p.depth ≤ 24
+    → p.depth ≡ depth (grow (type_in (nodes_view ps)) (node_view p.entry))
     → IsKept (ps ++ p ∷ []) (max deepest p.depth)
-kept_more ps deepest p is few formed deep shallow = search (
+kept_more ps deepest p is few formed deep = search (
   arith,
   map-append,
   types_added,
@@ -129,11 +125,11 @@ pub kept_pushed : (ps new : List EntryWithDepth) (deepest d : ℕ) (p : EntryWit
     (types : List Node)
     → IsKept ps deepest → nodes_view ps ≡ types
     → length types + 1 < 2 ^ 32 → IsFormed types (length types) (node_view p.entry)
-    → p.depth ≡ depth (grow (type_in types) (node_view p.entry)) → p.depth ≤ 24
+    → p.depth ≡ depth (grow (type_in types) (node_view p.entry))
     → new ≡ ps ++ p ∷ [] → d ≡ max deepest p.depth → IsKept new d
-kept_pushed ps new deepest d p types is view few formed deep shallow added greatest =
+kept_pushed ps new deepest d p types is view few formed deep added greatest =
     let can : CanStand types (node_view p.entry) p.depth =
     record { few = few; formed = formed; deep = deep } in
     let here = subst (λ ts. CanStand ts (node_view p.entry) p.depth) (sym view) can in
-    let more = kept_more ps deepest p is here.few here.formed here.deep shallow in
+    let more = kept_more ps deepest p is here.few here.formed here.deep in
     subst (λ qs. IsKept qs d) (sym added) (subst (IsKept (ps ++ p ∷ [])) (sym greatest) more)

@@ -22,6 +22,7 @@ mod ScopeLaws
 mod ReadingLaws
 mod PlaceLaws
 mod SizeTaken
+mod Small
 mod TypeTaken
 mod SizeReads
 mod TypeLaws

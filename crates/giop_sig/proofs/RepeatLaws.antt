@@ -41,7 +41,7 @@ pub stops_on : {X Y : Type 0} (e : ParseStop) (r : Result X Refusal) (f : X → 
 stops_on stops.Memory r f h = tt
 stops_on (stops.Refused q) r f h = ap (λ x. x >>= f) h
 
-bind_bind : {A B C : Type 0} (r : Result A Refusal) (f : A → Result B Refusal)
+pub bind_bind : {A B C : Type 0} (r : Result A Refusal) (f : A → Result B Refusal)
     (g : B → Result C Refusal) → ((r >>= f) >>= g) ≡ (r >>= λ x. f x >>= g)
 bind_bind (Ok x) f g = refl
 bind_bind (Err e) f g = refl

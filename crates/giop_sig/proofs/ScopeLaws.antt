@@ -6,13 +6,15 @@ use Rattle.std.specs.Option.{option_map, option_copied, is_some}
 use Rattle.std.specs.Str.{bytes_eq}
 use Rattle.std.proofs.lemmas.List.{length-append, get_or_append_left, map-append}
 use Rattle.indexmap.specs.IndexMap.{insert_entry}
-use Rattle.giop_sig.proofs.Added.{entry_last}
+use Rattle.giop_sig.proofs.Added.{entry_last, type_added}
 use Rattle.arrayvec.specs.ArrayVec.{ArrayVec}
 use Rattle.giop_sig.specs.declared.types.TypeId.{TypeId}
-use Rattle.giop_sig.specs.Table.{Node, Table, with_type}
+use Rattle.giop_sig.specs.Table.{Node, Table}
+use Rattle.giop_sig.specs.Trees.{depth_of, AreFormed}
+use Rattle.giop_sig.specs.HeaderTypes.{TableOf, IsTable}
 use Rattle.giop_sig.specs.RequestList.{flat}
 use Rattle.giop_sig.specs.Scopes.{Scope, named, with_node, with_name}
-use Rattle.giop_sig.specs.ScopeViews.{name_view, scope_view, IsKnown, IsKnownType, IsDeclaredName, IsScope}
+use Rattle.giop_sig.specs.ScopeViews.{name_view, scope_view, IsKnown, IsKnownType, IsDeclaredName, IsScope, IsDraft}
 
 -- ---- look-ups
 
@@ -33,7 +35,7 @@ view_found : (key : ArrayVec ℕ) (es : List (ArrayVec ℕ × Option TypeId))
 view_found key [] = refl
 view_found key (e ∷ es) = search (arith, cond, cond_map, view_found key es)
 
-some_map : {X Y : Type 0} (f : X → Y) (o : Option X) → is_some (option_map f o) ≡ is_some o
+pub some_map : {X Y : Type 0} (f : X → Y) (o : Option X) → is_some (option_map f o) ≡ is_some o
 some_map f None = refl
 some_map f (Some x) = refl
 
@@ -83,12 +85,22 @@ names_stay types more (e ∷ es) all = search (arith, type_stays, names_stay typ
 pub scope_grows : (s : Scope) (n : Node) → IsScope s → IsScope (with_node s n).0
 scope_grows s n is = search (arith, append_assoc, names_stay)
 
--- the fields after a type is added
-pub grown_draft : (version : ℕ) (t new : Table) (es : List (ArrayVec ℕ × Option TypeId)) (n : Node)
-    → IsScope (scope_view version t es) → new ≡ with_type t n
-    → IsScope (scope_view version new es)
-grown_draft version t new es n is put = subst (λ u. IsScope (scope_view version u es)) (sym put)
-    (scope_grows (scope_view version t es) n is)
+-- a draft with a type more
+pub draft_grows : (s : Scope) (n : Node) → IsDraft s → AreFormed (s.table.types ++ n ∷ [])
+    → IsDraft (with_node s n).0
+draft_grows s n is are =
+    record { scope = scope_grows s n is.scope; table = type_added s.table n is.table are }
+
+-- a draft of another table
+pub draft_table : (version : ℕ) (t u v : Table) (es : List (ArrayVec ℕ × Option TypeId))
+    (s : Scope) → scope_view version t es ≡ s → u ≡ v
+    → scope_view version u es ≡ record s { table = v }
+draft_table version t u v es s view same =
+    ap (λ w. scope_view version w es) same ∙ ap (λ (x : Scope). record x { table = v }) view
+
+-- a draft that was complete is a catalogue's table
+pub whole : (t : Table) → TableOf AreFormed t → depth_of t.types ≤ 24 → IsTable t
+whole t is shallow = search (arith)
 
 pub some_copied : {X : Type 0} (o : Option (Bor X)) → is_some o ≡ is_some (option_copied o)
 some_copied None = refl

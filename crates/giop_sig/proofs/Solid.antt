@@ -10,7 +10,7 @@ use Rattle.giop_sig.specs.Types.{places_of, interpreted_by, Ty, Single, Text, Oc
 use Rattle.giop_sig.specs.Fits.{IsSolid, IsFit, IsRoot}
 use Rattle.giop_sig.specs.Table.{Node, Part, Case, node_in, shape_of, selected, case_or, IsFormed, IsInner, IsCaseBelow, TakesOctet}
 use Rattle.giop_sig.specs.Table as nodes
-use Rattle.giop_sig.specs.Trees.{grow, scalar_of, selected_by, type_in, AreTypes}
+use Rattle.giop_sig.specs.Trees.{grow, scalar_of, selected_by, type_in, AreFormed, AreTypes}
 use Rattle.giop_sig.proofs.TreeLaws.{tree_of_parts}
 use Rattle.giop_sig.proofs.Nodes.{part_grown}
 use Rattle.giop_sig.proofs.Formed.{part_formed}
@@ -84,7 +84,7 @@ grown_solid types n (nodes.tagged special tag one other) formed takes inner = se
 )
 grown_solid types n _ formed takes inner = tt
 
-solid_below : (types : List Node) (fuel i : ℕ) → AreTypes types → i < fuel → i < length types
+solid_below : (types : List Node) (fuel i : ℕ) → AreFormed types → i < fuel → i < length types
     → TakesOctet (node_in types i) → IsSolid (type_in types i)
 solid_below types zero i are lt known takes = absurd (omega arith)
 solid_below types (suc fuel) i are lt known takes =
@@ -93,7 +93,7 @@ solid_below types (suc fuel) i are lt known takes =
     (λ k is. solid_below types fuel k are (let b = is.below in omega arith)
     (let b = is.below in omega arith) is.takes))
 
-pub solid_at : (types : List Node) (i : ℕ) → AreTypes types → i < length types
+pub solid_at : (types : List Node) (i : ℕ) → AreFormed types → i < length types
     → TakesOctet (node_in types i) → IsSolid (type_in types i)
 solid_at types i are known takes = search (arith, solid_below)
 

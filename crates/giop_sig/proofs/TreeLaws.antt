@@ -11,7 +11,7 @@ use Rattle.giop_cdr.specs.declared.prim.Primitive.TheVariants.{Octet}
 use Rattle.giop_sig.specs.Types.{Choice, Cases, Ty, Single, Struct, switch_of, IsUnion}
 use Rattle.giop_sig.specs.Table.{Node, Part, Case, node_in, shape_of, part_at, switch_at, IsFormed, IsPart, IsScalarNode, case_part, name_of}
 use Rattle.giop_sig.specs.Table as nodes
-use Rattle.giop_sig.specs.Trees.{grow, grown_part, grown_union, octet_type, scalar_of, tree_in, trees_after, trees_of, type_in, AreTypes}
+use Rattle.giop_sig.specs.Trees.{grow, grown_part, grown_union, octet_type, scalar_of, tree_in, trees_after, trees_of, type_in, AreFormed}
 
 abbrev SameBelow : ℕ → (ℕ → Ty) → (ℕ → Ty) → Type 0
 SameBelow n f g = (i : ℕ) → i < n → f i ≡ g i
@@ -98,7 +98,7 @@ made types done (n ∷ ns) (suc j) i lt at formed =
     (formed (suc k) (omega arith)))
 
 -- the tree of a type is its node over the trees of its parts
-pub tree_of_parts : (types : List Node) (i : ℕ) → AreTypes types → i < length types
+pub tree_of_parts : (types : List Node) (i : ℕ) → AreFormed types → i < length types
     → type_in types i ≡ grow (type_in types) (get_or types i (nodes.prim Octet))
 unfolding type_in
 tree_of_parts types i are lt = made types [] types i i lt (omega arith)
@@ -113,12 +113,12 @@ single_of f (nodes.enumeration names) is = refl
 single_of f _ is = absurd is
 
 -- the type of one number that a union's discriminator has
-pub single_at : (types : List Node) (i : ℕ) → AreTypes types → i < length types
+pub single_at : (types : List Node) (i : ℕ) → AreFormed types → i < length types
     → IsScalarNode (node_in types i) → type_in types i ≡ Single (scalar_of (type_in types i))
 single_at types i are lt is = search (arith, tree_of_parts, single_of)
 
 pub switch_grown : (types : List Node) (n : ℕ) (node : Node) → IsFormed types n node
-    → AreTypes types → n ≤ length types → IsUnion (shape_of node)
+    → AreFormed types → n ≤ length types → IsUnion (shape_of node)
     → type_in types (switch_at node) ≡ switch_of (grow (type_in types) node)
 switch_grown types n (nodes.union switch cases otherwise) formed are le is = search (
   arith,

@@ -1,22 +1,91 @@
--- The reading of a type, unfolded by one word: too deep where no word is left, else by its first
--- word.
-use Rattle.std.proofs.Common.{◌≡◌, ℕ, zero, suc, ◌-◌, ◌<◌, List, Err, refl, arith}
+-- The reading of a type, all that open first, and then what closes them.
+use Rattle.std.proofs.Common.{◌≡◌, ℕ, zero, suc, Bool, cond, List, [], ◌∷◌, ◌++◌, length, Option, Some, None, Result, Ok, Err, refl, sym, ap, subst, ◌∙◌, arith}
+use Rattle.giop_tokens.specs.declared.fault.Refusal.{Refusal}
 use Rattle.giop_tokens.specs.Reading.{◌>>=◌}
-use Rattle.giop_tokens.specs.Readers.{word_at}
+use Rattle.giop_sig.specs.declared.parse_stop.ParseStop.{ParseStop}
+use Rattle.giop_sig.specs.declared.read_types.Opener.{Opener}
+use Rattle.giop_sig.specs.Outcomes.{Stops}
 use Rattle.giop_sig.specs.Scopes.{Scope}
-use Rattle.giop_sig.specs.TypeReading.{too_deep, type_after, type_at}
+use Rattle.giop_sig.specs.Repeats.{in_steps}
+use Rattle.giop_sig.specs.TypeReading.{TypeRead, closed_by, leaf_at, Opened, opener_at, type_after, nested_at, type_at, Openers, opener_or_leaf, openers_step, too_many_openers, all_closed}
+use Rattle.giop_sig.proofs.RepeatLaws.{bind_bind, stops_on}
 
-pub type_at-none : (at left : ℕ) (s : Scope) (text : List ℕ) → left ≡ 0
-    → type_at at left s text ≡ Err (too_deep at)
-unfolding type_at
-type_at-none at zero s text e = refl
-type_at-none at (suc left) s text e = absurd (omega arith)
+bind_last : {X : Type 0} (r : Result X Refusal) → (r >>= λ x. Ok x) ≡ r
+bind_last (Ok x) = refl
+bind_last (Err e) = refl
 
-pub type_at-step : (at left : ℕ) (s : Scope) (text : List ℕ) → 0 < left
-    → type_at at left s text
-    ≡ (word_at text >>= λ w. type_after at (type_at at (left - 1) s) s text w.0 w.1)
-unfolding type_at
-type_at-step at zero s text h = absurd (omega arith)
-type_at-step at (suc left) s text h = search (arith)
+-- the innermost is closed first
+pub closed_last : (os : List Opener) (o : Opener) (t : TypeRead)
+    → all_closed (os ++ o ∷ []) t ≡ (closed_by o t >>= all_closed os)
+unfolding all_closed
+closed_last [] o t = sym (bind_last (closed_by o t))
+closed_last (p ∷ os) o t =
+    ap (λ r. r >>= closed_by p) (closed_last os o t)
+    ∙ bind_bind (closed_by o t) (all_closed os) (closed_by p)
 
-pub ruleset type_steps = (type_at-none, type_at-step)
+closed_after : (os : List Opener) (o : Opener) (r : Result TypeRead Refusal)
+    → (r >>= all_closed (os ++ o ∷ [])) ≡ ((r >>= closed_by o) >>= all_closed os)
+closed_after os o (Ok t) = closed_last os o t
+closed_after os o (Err e) = refl
+
+-- the leaf after openers, and what closes them
+abbrev pub leaf_and_close : Scope → Openers → Result TypeRead Refusal
+leaf_and_close s x = leaf_at s x.1 >>= all_closed x.0
+
+abbrev then_openers : Scope → ℕ → Bool × Openers → Result Openers Refusal
+then_openers s n x = cond x.0 (Ok x.1) (in_steps (openers_step s) too_many_openers n x.1)
+
+opener_by : (n : ℕ) (s : Scope) (os : List Opener) (text : List ℕ)
+    (r : Result (Option Opened) Refusal)
+    → ((os : List Opener) (text : List ℕ)
+    → (in_steps (openers_step s) too_many_openers n (os, text) >>= leaf_and_close s)
+    ≡ (nested_at n s text >>= all_closed os))
+    → (((r >>= λ o. Ok (opener_or_leaf (os, text) o)) >>= then_openers s n) >>= leaf_and_close s)
+    ≡ ((r >>= type_after (nested_at n s) s text) >>= all_closed os)
+opener_by n s os text (Ok None) on = refl
+opener_by n s os text (Ok (Some o)) on =
+    on (os ++ o.0 ∷ []) o.1 ∙ closed_after os o.0 (nested_at n s o.1)
+opener_by n s os text (Err e) on = refl
+
+all_read : (n : ℕ) (s : Scope) (os : List Opener) (text : List ℕ)
+    → (in_steps (openers_step s) too_many_openers n (os, text) >>= leaf_and_close s)
+    ≡ (nested_at n s text >>= all_closed os)
+unfolding in_steps nested_at openers_step
+all_read zero s os text = refl
+all_read (suc n) s os text = opener_by n s os text (opener_at s text) (all_read n s)
+
+pub type_as : (s : Scope) (text : List ℕ)
+    → type_at s text
+    ≡ (in_steps (openers_step s) too_many_openers (length text) ([], text) >>= leaf_and_close s)
+unfolding all_closed
+type_as s text =
+    sym (bind_last (nested_at (length text) s text)) ∙ sym (all_read (length text) s [] text)
+
+-- ---- a type as the code reads it
+
+module _ (s : Scope) (text : List ℕ) (x : Openers)
+    (opened : in_steps (openers_step s) too_many_openers (length text) ([], text) ≡ Ok x) where
+  pub type_on : (t : TypeRead) → leaf_at s x.1 ≡ Ok t → type_at s text ≡ all_closed x.0 t
+  type_on t leaf =
+      type_as s text ∙ ap (λ r. r >>= leaf_and_close s) opened ∙ ap (λ r. r >>= all_closed x.0) leaf
+
+  pub type_stops : (e : ParseStop) → Stops e (leaf_at s x.1) → Stops e (type_at s text)
+  type_stops e leaf =
+      subst (Stops e) (sym (type_as s text ∙ ap (λ r. r >>= leaf_and_close s) opened))
+      (stops_on e (leaf_at s x.1) (all_closed x.0) leaf)
+
+module _ (os new : List Opener) (o : Opener) (t : TypeRead) (total : Result TypeRead Refusal)
+    (is : os ≡ new ++ o ∷ []) (so_far : all_closed os t ≡ total) where
+  one_closed : (closed_by o t >>= all_closed new) ≡ total
+  one_closed = sym (closed_last new o t) ∙ ap (λ l. all_closed l t) (sym is) ∙ so_far
+
+  pub closes_on : (x : TypeRead) → closed_by o t ≡ Ok x → all_closed new x ≡ total
+  closes_on x e = ap (λ r. r >>= all_closed new) (sym e) ∙ one_closed
+
+  pub closes_fails : (e : ParseStop) → Stops e (closed_by o t) → Stops e total
+  closes_fails e h = subst (Stops e) one_closed (stops_on e (closed_by o t) (all_closed new) h)
+
+pub none_closed : (os : List Opener) (t : TypeRead) → length os ≡ 0 → all_closed os t ≡ Ok t
+unfolding all_closed
+none_closed [] t e = refl
+none_closed (o ∷ os) t e = absurd (omega arith)

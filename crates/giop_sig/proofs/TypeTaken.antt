@@ -1,5 +1,5 @@
 -- A type that was read: the text that was read spells it, and it can be a part of others.
-use Rattle.std.proofs.Common.{◌≡◌, ℕ, zero, suc, ◌<◌, Bool, true, false, cond, eqb, ltb, leb, List, [], ◌∷◌, ◌++◌, Option, Some, None, Result, Ok, Err, append_assoc, refl, sym, subst, lit<, arith}
+use Rattle.std.proofs.Common.{◌≡◌, ℕ, zero, suc, ◌<◌, Bool, true, false, cond, eqb, ltb, leb, List, [], ◌∷◌, ◌++◌, length, Option, Some, None, Result, Ok, Err, append_assoc, refl, sym, subst, lit<, arith}
 use Rattle.std.specs.Prelude.{codes}
 use Rattle.std.specs.List.{AllByRecursion}
 use Rattle.std.specs.Map.{lookup}
@@ -13,8 +13,9 @@ use Rattle.giop_tokens.specs.declared.fault.Refusal.{Refusal}
 use Rattle.giop_tokens.specs.declared.fault.SigFaultKind.TheVariants as kinds
 use Rattle.giop_tokens.specs.declared.marks.Mark.TheVariants as marks
 use Rattle.giop_sig.specs.declared.numbers.TheConstants.{STRING, IOR, BUILTIN_LEN}
-use Rattle.giop_tokens.specs.Tokens.{word, mark, AreTokens}
+use Rattle.giop_tokens.specs.Tokens.{Token, word, mark, AreTokens}
 use Rattle.giop_tokens.specs.Readers.{misplaced, word_at, mark_at}
+use Rattle.giop_tokens.specs.Reading.{◌>>=◌}
 use Rattle.giop_tokens.specs.Names.{is_reserved}
 use Rattle.giop_tokens.proofs.ReaderLaws.{bind_ok, ok_is, Takes, word_takes, mark_takes}
 use Rattle.giop_sig.specs.Table.{Node, node_in, TakesOctet}
@@ -22,11 +23,13 @@ use Rattle.giop_sig.specs.Table as nodes
 use Rattle.giop_sig.specs.Builtin.{builtin_types}
 use Rattle.giop_sig.specs.RequestList.{flat}
 use Rattle.giop_sig.specs.Grammar.{TypeExpr, Base, Text, Reference, Named, SequenceOf, EncapsulationOf, base_word, spell_most, spell_type}
-use Rattle.giop_sig.specs.Scopes.{has_encapsulations, Scope, AddedType, named, base_number, with_node, sequence_node}
+use Rattle.giop_sig.specs.declared.read_types.Opener.{Opener}
+use Rattle.giop_sig.specs.declared.read_types.Opener.TheVariants as openers
+use Rattle.giop_sig.specs.Scopes.{Names, has_encapsulations, Scope, AddedType, named, base_number, with_node, sequence_node, add_text_type, add_sequence_type, add_encapsulation_type}
 use Rattle.giop_sig.specs.Validity.{OfType}
 use Rattle.giop_sig.specs.ScopeViews.{IsKnown, IsDeclaredName, IsScope}
 use Rattle.giop_sig.specs.Outcomes.{refused}
-use Rattle.giop_sig.specs.TypeReading.{too_deep, too_many_types, added, TypeRead, base_of, text_type, text_at, after_element, sequence_at, after_encapsulated, held_at, encapsulation_at, found_type, named_type, leaf_after, leaf_at, type_after, type_at}
+use Rattle.giop_sig.specs.TypeReading.{TypeRead, most_at, base_of, read_as, text_at, closed_by, found_type, named_type, leaf_after, leaf_at, Opened, opened_by, opener_after, opener_at, type_after, nested_at, type_at}
 use Rattle.giop_sig.proofs.SizeTaken.{enclosed_takes, most_takes, bound_free}
 use Rattle.giop_sig.proofs.ScopeLaws.{known_stays, scope_grows}
 use Rattle.giop_sig.proofs.ReadingLaws.{Took}
@@ -60,18 +63,6 @@ pub node_known : (s : Scope) (n : Node) → TakesOctet n
     → IsKnown (with_node s n).0.table.types (with_node s n).1
 node_known s n takes = search (arith, length-append, get_or-append_seam)
 
-added_by : (at : ℕ) (s : Scope) (n : Node) (x : AddedType) (a b : Bool)
-    → cond a (cond b (Err (too_many_types at)) (Ok (with_node s n))) (Err (too_deep at)) ≡ Ok x
-    → x ≡ with_node s n
-added_by at s n x true true e = absurd cc
-added_by at s n x true false e = search (arith, ok_is)
-added_by at s n x false b e = absurd cc
-
-pub added_is : (at : ℕ) (s : Scope) (n : Node) (x : AddedType)
-    → added at s n ≡ Ok x → x ≡ with_node s n
-unfolding added
-added_is at s n x e = search (arith, added_by, leb)
-
 -- a scope after a type, whose number can be a part's
 pub record Sound (p : AddedType) : Type 0 where
   pub scope : IsScope p.0
@@ -80,14 +71,6 @@ pub record Sound (p : AddedType) : Type 0 where
 -- one node more keeps this
 pub sound_node : (s : Scope) (n : Node) → IsScope s → TakesOctet n → Sound (with_node s n)
 sound_node s n is takes = search (arith, scope_grows, node_known)
-
-pub sound_added : (at : ℕ) (s : Scope) (n : Node) (x : AddedType) → added at s n ≡ Ok x
-    → IsScope s → TakesOctet n → Sound x
-sound_added at s n x e is takes = subst Sound (sym (added_is at s n x e)) (sound_node s n is takes)
-
-pub added_grows : (at : ℕ) (s : Scope) (n : Node) (x : AddedType) → added at s n ≡ Ok x →
-    Grows s x.0
-added_grows at s n x e = search (arith, added_is, node_grows)
 
 -- ---- types
 
@@ -156,117 +139,31 @@ base_took s text w rest k t b = record {
   sound = λ is. subst (λ n. Sound (s, n)) b.2 (base_sound s b.0 is);
 }
 
-text_type_sound : (at : ℕ) (s : Scope) (b : Option ℕ) (p : AddedType)
-    → text_type at s b ≡ Ok p → IsScope s → Sound p
+text_type_sound : (s : Scope) (b : Option ℕ) → IsScope s → Sound (add_text_type s b)
 unfolding builtin_types
-text_type_sound at s None p e is = search (arith, ok_is, same_known, lit<)
-text_type_sound at s (Some n) p e is = search (arith, sound_added)
+text_type_sound s None is = search (arith, same_known, lit<)
+text_type_sound s (Some n) is = search (arith, sound_node)
 
-text_type_grows : (at : ℕ) (s : Scope) (b : Option ℕ) (p : AddedType)
-    → text_type at s b ≡ Ok p → Grows s p.0
-text_type_grows at s None p e = subst (λ (q : AddedType). Grows s q.0) (ok_is (s, STRING) p e)
-    (grows_none s)
-text_type_grows at s (Some n) p e = search (arith, added_grows)
+text_type_grows : (s : Scope) (b : Option ℕ) → Grows s (add_text_type s b).0
+text_type_grows s None = grows_none s
+text_type_grows s (Some n) = search (arith, node_grows)
 
-text_took : (at : ℕ) (s : Scope) (text w rest : List ℕ) (x : TypeRead) → Takes text (word w) rest
-    → w ≡ codes "string" → text_at at s rest ≡ Ok x → TakenType s text x
+text_took : (s : Scope) (text w rest : List ℕ) (x : TypeRead) → Takes text (word w) rest
+    → w ≡ codes "string" → text_at s rest ≡ Ok x → TakenType s text x
 unfolding text_at OfType
-text_took at s text w rest x t same e =
+text_took s text w rest x t same e =
     let b = bind_ok {A = Option ℕ × List ℕ} _ _ x e in
-    let p = bind_ok (text_type at s (b.0).0) (λ t. Ok (t.0, t.1, (b.0).1)) x b.2 in
     let bound = enclosed_takes marks.OpenAngle marks.CloseAngle rest b.0 b.1 in
-    subst (TakenType s text) (ok_is ((p.0).0, (p.0).1, (b.0).1) x p.2) (record {
+    subst (TakenType s text) (ok_is (read_as (add_text_type s (b.0).0) (b.0).1) x b.2) (record {
       expr = Text (b.0).0;
       took = record {
         free = bound_free (b.0).0;
         front =
             λ more m. subst (λ v. Takes text (word v) rest) same t _ (bound.front more m);
       };
-      grows = text_type_grows at s (b.0).0 p.0 p.1;
-      sound = λ is. text_type_sound at s (b.0).0 p.0 p.1 is;
+      grows = text_type_grows s (b.0).0;
+      sound = λ is. text_type_sound s (b.0).0 is;
     })
-
-sequence_takes_octet : (bound : Option ℕ) (n : ℕ) (v : Bool)
-    → TakesOctet (cond v (nodes.octets bound) (nodes.sequence bound n))
-sequence_takes_octet bound n true = tt
-sequence_takes_octet bound n false = tt
-
-sequence_made : (at : ℕ) (s : Scope) (text w rest inner r : List ℕ) (y : TypeRead)
-    (b : Option ℕ × List ℕ) (p : AddedType) → Takes text (word w) rest → w ≡ codes "sequence"
-    → mark_at marks.OpenAngle rest ≡ Ok inner → TakenType s inner y
-    → Took (spell_most b.0) (Unit {0}) y.2 b.1 → mark_at marks.CloseAngle b.1 ≡ Ok r
-    → added at y.0 (sequence_node b.0 y.1) ≡ Ok p → TakenType s text (p.0, p.1, r)
-unfolding OfType
-sequence_made at s text w rest inner r y b p t same o k most c put = record {
-  expr = SequenceOf k.expr b.0;
-  took = record {
-    free = (k.took.free, bound_free b.0);
-    front = λ more m.
-        let closed : AreTokens y.2 (spell_most b.0 (mark marks.CloseAngle ∷ more)) =
-        most.front (mark marks.CloseAngle ∷ more) (mark_takes marks.CloseAngle b.1 r c more m) in
-        let opened = mark_takes marks.OpenAngle rest inner o
-        (spell_type k.expr (spell_most b.0 (mark marks.CloseAngle ∷ more)))
-        (k.took.front (spell_most b.0 (mark marks.CloseAngle ∷ more)) closed) in
-        subst (λ v. Takes text (word v) rest) same t
-        (mark marks.OpenAngle ∷ spell_type k.expr
-        (spell_most b.0 (mark marks.CloseAngle ∷ more))) opened;
-  };
-  grows = grows_on s y.0 p.0 k.grows (added_grows at y.0 (sequence_node b.0 y.1) p put);
-  sound = λ is. let h = k.sound is in sound_added at y.0 (sequence_node b.0 y.1) p put h.scope
-      (sequence_takes_octet b.0 y.1 (eqb y.1 0));
-}
-
-sequence_took : (at : ℕ) (element : List ℕ → Result TypeRead Refusal) (s : Scope)
-    (text w rest : List ℕ) (x : TypeRead)
-    → ((inner : List ℕ) (y : TypeRead) → element inner ≡ Ok y → TakenType s inner y)
-    → Takes text (word w) rest → w ≡ codes "sequence"
-    → sequence_at at element rest ≡ Ok x → TakenType s text x
-sequence_took at element s text w rest x takes t same e =
-    let i = bind_ok {A = List ℕ} _ _ x e in
-    let y = bind_ok (element i.0) (after_element at) x i.2 in
-    let b = bind_ok _ _ x y.2 in
-    let r = bind_ok {A = List ℕ} _ _ x b.2 in
-    let p = bind_ok (added at (y.0).0 (sequence_node (b.0).0 (y.0).1)) (λ t. Ok (t.0, t.1, r.0)) x
-    r.2 in
-    subst (TakenType s text) (ok_is ((p.0).0, (p.0).1, r.0) x p.2)
-    (sequence_made at s text w rest i.0 r.0 y.0 b.0 p.0 t same i.1 (takes i.0 y.0 y.1)
-    (most_takes (y.0).2 b.0 b.1) r.1 p.1)
-
-held_made : (at : ℕ) (s : Scope) (text w rest inner r : List ℕ) (y : TypeRead) (p : AddedType)
-    → has_encapsulations s.names ≡ true → Takes text (word w) rest → w ≡ codes "encapsulation"
-    → mark_at marks.OpenAngle rest ≡ Ok inner
-    → TakenType s inner y → mark_at marks.CloseAngle y.2 ≡ Ok r
-    → added at y.0 (nodes.encapsulation y.1) ≡ Ok p → TakenType s text (p.0, p.1, r)
-unfolding OfType
-held_made at s text w rest inner r y p has t same o k c put = record {
-  expr = EncapsulationOf k.expr;
-  took = record {
-    free = (has, k.took.free);
-    front = λ more m.
-        let closed = mark marks.CloseAngle ∷ more in
-        let held = k.took.front closed (mark_takes marks.CloseAngle y.2 r c more m) in
-        let opened = mark_takes marks.OpenAngle rest inner o (spell_type k.expr closed) held in
-        subst (λ v. Takes text (word v) rest) same t
-        (mark marks.OpenAngle ∷ spell_type k.expr closed) opened;
-  };
-  grows = grows_on s y.0 p.0 k.grows (added_grows at y.0 (nodes.encapsulation y.1) p put);
-  sound = λ is. let h = k.sound is in sound_added at y.0 (nodes.encapsulation y.1) p put h.scope tt;
-}
-
-encapsulation_took : (at : ℕ) (held : List ℕ → Result TypeRead Refusal) (s : Scope)
-    (text w rest : List ℕ) (x : TypeRead) (v : Bool)
-    → ((inner : List ℕ) (y : TypeRead) → held inner ≡ Ok y → TakenType s inner y)
-    → Takes text (word w) rest → w ≡ codes "encapsulation" → has_encapsulations s.names ≡ v
-    → cond v (held_at at held rest) (Err (misplaced text)) ≡ Ok x → TakenType s text x
-encapsulation_took at held s text w rest x false takes t same has e = absurd cc
-encapsulation_took at held s text w rest x true takes t same has e =
-    let i = bind_ok {A = List ℕ} _ _ x e in
-    let y = bind_ok (held i.0) (after_encapsulated at) x i.2 in
-    let r = bind_ok _ _ x y.2 in
-    let p = bind_ok (added at (y.0).0 (nodes.encapsulation (y.0).1)) (λ t. Ok (t.0, t.1, r.0)) x r.2
-    in
-    subst (TakenType s text) (ok_is ((p.0).0, (p.0).1, r.0) x p.2)
-    (held_made at s text w rest i.0 r.0 y.0 p.0 has t same i.1 (takes i.0 y.0 y.1) r.1 p.1)
 
 -- a name that was found is a type's
 found_known : (types : List Node) (names : List (List ℕ × Option ℕ)) (w : List ℕ) (k : ℕ) (v : Bool)
@@ -310,13 +207,13 @@ named_took : (s : Scope) (text w rest : List ℕ) (x : TypeRead) → Takes text 
 unfolding named_type
 named_took s text w rest x t e = search (arith, named_by, ltb)
 
-leaf_by : (at : ℕ) (s : Scope) (text w rest : List ℕ) (x : TypeRead) → Takes text (word w) rest
+leaf_by : (s : Scope) (text w rest : List ℕ) (x : TypeRead) → Takes text (word w) rest
     → (a b : Bool) → bytes_eq w (codes "string") ≡ a → bytes_eq w (codes "Object") ≡ b
-    → cond a (text_at at s rest) (cond b (Ok (s, IOR, rest)) (named_type s text w rest)) ≡ Ok x
+    → cond a (text_at s rest) (cond b (Ok (s, IOR, rest)) (named_type s text w rest)) ≡ Ok x
     → TakenType s text x
 unfolding OfType builtin_types
-leaf_by at s text w rest x t true b p q e = search (arith, text_took, bytes_eq-Decides)
-leaf_by at s text w rest x t false true p q e =
+leaf_by s text w rest x t true b p q e = search (arith, text_took, bytes_eq-Decides)
+leaf_by s text w rest x t false true p q e =
     subst (TakenType s text) (ok_is (s, IOR, rest) x e) (record {
       expr = Reference;
       took = record {
@@ -327,45 +224,165 @@ leaf_by at s text w rest x t false true p q e =
       grows = grows_none s;
       sound = λ is. same_known s IOR is (lit< tt) tt;
     })
-leaf_by at s text w rest x t false false p q e = search (arith, named_took)
+leaf_by s text w rest x t false false p q e = search (arith, named_took)
 
-leaf_took : (at : ℕ) (s : Scope) (text w rest : List ℕ) (x : TypeRead) (o : Option ℕ)
-    → Takes text (word w) rest → base_of w ≡ o → leaf_after at s text w rest o ≡ Ok x
+leaf_took : (s : Scope) (text w rest : List ℕ) (x : TypeRead) (o : Option ℕ)
+    → Takes text (word w) rest → base_of w ≡ o → leaf_after s text w rest o ≡ Ok x
     → TakenType s text x
-leaf_took at s text w rest x (Some k) t b e =
+leaf_took s text w rest x (Some k) t b e =
     subst (TakenType s text) (ok_is (s, k, rest) x e)
     (base_took s text w rest k t (base_from w k b))
-leaf_took at s text w rest x None t b e = search (arith, leaf_by)
+leaf_took s text w rest x None t b e = search (arith, leaf_by)
 
-after_took : (at : ℕ) (inner : List ℕ → Result TypeRead Refusal) (s : Scope)
-    (text w rest : List ℕ) (x : TypeRead)
-    → ((text : List ℕ) (y : TypeRead) → inner text ≡ Ok y → TakenType s text y)
-    → Takes text (word w) rest → (a b : Bool) → bytes_eq w (codes "sequence") ≡ a
-    → bytes_eq w (codes "encapsulation") ≡ b
-    → cond a (sequence_at at inner rest) (cond b (encapsulation_at at inner s text rest)
-    (leaf_at at s text w rest)) ≡ Ok x
+pub leaf_takes : (s : Scope) (text : List ℕ) (x : TypeRead) → leaf_at s text ≡ Ok x
     → TakenType s text x
 unfolding leaf_at
-after_took at inner s text w rest x takes t true b p q e = search (
-  arith,
-  sequence_took,
-  bytes_eq-Decides,
-)
-after_took at inner s text w rest x takes t false true p q e = search (
-  arith,
-  bytes_eq-Decides,
-  encapsulation_took,
-)
-after_took at inner s text w rest x takes t false false p q e = search (arith, leaf_took)
+leaf_takes s text x e =
+    let w = bind_ok (word_at text) (λ w. leaf_after s text w.0 w.1 (base_of w.0)) x e in
+    leaf_took s text (w.0).0 (w.0).1 x (base_of (w.0).0) (word_takes text w.0 w.1) refl w.2
 
-pub type_takes : (at left : ℕ) (s : Scope) (text : List ℕ) (x : TypeRead)
-    → type_at at left s text ≡ Ok x → TakenType s text x
-unfolding type_at
-type_takes at zero s text x e = absurd cc
-type_takes at (suc left) s text x e =
-    let a = bind_ok (word_at text) (λ w. type_after at (type_at at left s) s text w.0 w.1) x e in
-    let w = (a.0).0 in
-    after_took at (type_at at left s) s text w (a.0).1 x
-    (λ inner y h. type_takes at left s inner y h)
-    (word_takes text a.0 a.1) (bytes_eq w (codes "sequence")) (bytes_eq w (codes "encapsulation"))
-    refl refl a.2
+some_is : {X : Type 0} (x y : X) → Some x ≡ Some y → x ≡ y
+some_is x y e = cc
+
+-- ---- types around others
+
+-- the word that opens a type
+abbrev opener_word : Opener → List ℕ
+opener_word openers.Sequence = codes "sequence"
+opener_word openers.Encapsulation = codes "encapsulation"
+
+-- only a file of its version has an encapsulation
+abbrev IsAllowed : Names → Opener → Type 0
+IsAllowed names openers.Sequence = Unit {0}
+IsAllowed names openers.Encapsulation = has_encapsulations names ≡ true
+
+-- an opener that was read
+record TakenOpener (s : Scope) (text : List ℕ) (o : Opened) : Type 0 where
+  allowed : IsAllowed s.names o.0
+  front : (more : List Token) → AreTokens o.1 more
+      → AreTokens text (word (opener_word o.0) ∷ mark marks.OpenAngle ∷ more)
+
+opened_by_took : (s : Scope) (text w rest : List ℕ) (k : Opener) (o : Opened)
+    → Takes text (word w) rest → w ≡ opener_word k → IsAllowed s.names k
+    → opened_by k rest ≡ Ok (Some o) → TakenOpener s text o
+opened_by_took s text w rest k o t same allowed e =
+    let m = bind_ok {A = List ℕ} _ _ (Some o) e in
+    let is : (k, m.0) ≡ o = some_is (k, m.0) o (ok_is (Some (k, m.0)) (Some o) m.2) in
+    subst (TakenOpener s text) is (record {
+      allowed = allowed;
+      front = λ more h. subst (λ v. Takes text (word v) rest) same t
+          (mark marks.OpenAngle ∷ more) (mark_takes marks.OpenAngle rest m.0 m.1 more h);
+    })
+
+opener_by : (s : Scope) (text w rest : List ℕ) (o : Opened) (a b c : Bool)
+    → Takes text (word w) rest → bytes_eq w (codes "sequence") ≡ a
+    → bytes_eq w (codes "encapsulation") ≡ b → has_encapsulations s.names ≡ c
+    → cond a (opened_by openers.Sequence rest)
+    (cond b (cond c (opened_by openers.Encapsulation rest) (Err (misplaced text))) (Ok None))
+    ≡ Ok (Some o) → TakenOpener s text o
+opener_by s text w rest o true b c t p q r e =
+    opened_by_took s text w rest openers.Sequence o t
+    ((bytes_eq-Decides w (codes "sequence")).0 p) tt e
+opener_by s text w rest o false true true t p q r e =
+    opened_by_took s text w rest openers.Encapsulation o t
+    ((bytes_eq-Decides w (codes "encapsulation")).0 q) r e
+opener_by s text w rest o false true false t p q r e = absurd cc
+opener_by s text w rest o false false c t p q r e =
+    let none : None ≡ Some o = ok_is {A = Option Opened} None (Some o) e in absurd cc
+
+opener_takes : (s : Scope) (text : List ℕ) (o : Opened) → opener_at s text ≡ Ok (Some o)
+    → TakenOpener s text o
+unfolding opener_at
+opener_takes s text o e =
+    let w = bind_ok (word_at text) (λ w. opener_after s text w.0 w.1) (Some o) e in
+    let v = (w.0).0 in
+    opener_by s text v (w.0).1 o (bytes_eq v (codes "sequence"))
+    (bytes_eq v (codes "encapsulation")) (has_encapsulations s.names) (word_takes text w.0 w.1)
+    refl refl refl w.2
+
+sequence_takes_octet : (bound : Option ℕ) (n : ℕ) (v : Bool)
+    → TakesOctet (cond v (nodes.octets bound) (nodes.sequence bound n))
+sequence_takes_octet bound n true = tt
+sequence_takes_octet bound n false = tt
+
+-- what was closed can be a part, too
+pub closed_sound : (o : Opener) (t x : TypeRead) → closed_by o t ≡ Ok x → Sound (t.0, t.1)
+    → Sound (x.0, x.1)
+unfolding closed_by
+closed_sound openers.Sequence t x e is =
+    let b = bind_ok (most_at t.2) (λ b. mark_at marks.CloseAngle b.1
+    >>= λ r. Ok (read_as (add_sequence_type b.0 (t.0, t.1)) r)) x e in
+    let r = bind_ok (mark_at marks.CloseAngle (b.0).1)
+    (λ r. Ok (read_as (add_sequence_type (b.0).0 (t.0, t.1)) r)) x b.2 in
+    subst (λ (y : TypeRead). Sound (y.0, y.1))
+    (ok_is (read_as (add_sequence_type (b.0).0 (t.0, t.1)) r.0) x r.2)
+    (sound_node t.0 (sequence_node (b.0).0 t.1) is.scope
+    (sequence_takes_octet (b.0).0 t.1 (eqb t.1 0)))
+closed_sound openers.Encapsulation t x e is =
+    let r = bind_ok (mark_at marks.CloseAngle t.2)
+    (λ r. Ok (read_as (add_encapsulation_type (t.0, t.1)) r)) x e in
+    subst (λ (y : TypeRead). Sound (y.0, y.1))
+    (ok_is (read_as (add_encapsulation_type (t.0, t.1)) r.0) x r.2)
+    (sound_node t.0 (nodes.encapsulation t.1) is.scope tt)
+
+closed_took : (s : Scope) (text : List ℕ) (o : Opener) (inner : List ℕ) (t x : TypeRead)
+    → TakenOpener s text (o, inner) → TakenType s inner t → closed_by o t ≡ Ok x
+    → TakenType s text x
+unfolding OfType closed_by
+closed_took s text openers.Sequence inner t x k u e =
+    let b = bind_ok {A = Option ℕ × List ℕ} _ _ x e in
+    let r = bind_ok {A = List ℕ} _ _ x b.2 in
+    let bound = most_takes t.2 b.0 b.1 in
+    let node = sequence_node (b.0).0 t.1 in
+    subst (TakenType s text) (ok_is (read_as (add_sequence_type (b.0).0 (t.0, t.1)) r.0) x r.2)
+    (record {
+      expr = SequenceOf u.expr (b.0).0;
+      took = record {
+        free = (u.took.free, bound_free (b.0).0);
+        front = λ more m.
+            let tail = spell_most (b.0).0 (mark marks.CloseAngle ∷ more) in
+            k.front (spell_type u.expr tail) (u.took.front tail
+            (bound.front (mark marks.CloseAngle ∷ more)
+            (mark_takes marks.CloseAngle (b.0).1 r.0 r.1 more m)));
+      };
+      grows = grows_on s t.0 (with_node t.0 node).0 u.grows (node_grows t.0 node);
+      sound = λ is. let h = u.sound is in sound_node t.0 node h.scope
+          (sequence_takes_octet (b.0).0 t.1 (eqb t.1 0));
+    })
+closed_took s text openers.Encapsulation inner t x k u e =
+    let r = bind_ok {A = List ℕ} _ _ x e in
+    let node = nodes.encapsulation t.1 in
+    subst (TakenType s text) (ok_is (read_as (add_encapsulation_type (t.0, t.1)) r.0) x r.2)
+    (record {
+      expr = EncapsulationOf u.expr;
+      took = record {
+        free = (k.allowed, u.took.free);
+        front = λ more m.
+            let tail = mark marks.CloseAngle ∷ more in
+            k.front (spell_type u.expr tail)
+            (u.took.front tail (mark_takes marks.CloseAngle t.2 r.0 r.1 more m));
+      };
+      grows = grows_on s t.0 (with_node t.0 node).0 u.grows (node_grows t.0 node);
+      sound = λ is. let h = u.sound is in sound_node t.0 node h.scope tt;
+    })
+
+type_by : (inner : List ℕ → Result TypeRead Refusal) (s : Scope) (text : List ℕ)
+    (o : Option Opened) (x : TypeRead)
+    → ((text : List ℕ) (y : TypeRead) → inner text ≡ Ok y → TakenType s text y)
+    → opener_at s text ≡ Ok o → type_after inner s text o ≡ Ok x → TakenType s text x
+type_by inner s text None x takes h e = leaf_takes s text x e
+type_by inner s text (Some o) x takes h e =
+    let t = bind_ok (inner o.1) (closed_by o.0) x e in
+    closed_took s text o.0 o.1 t.0 x (opener_takes s text o h) (takes o.1 t.0 t.1) t.2
+
+nested_takes : (left : ℕ) (s : Scope) (text : List ℕ) (x : TypeRead)
+    → nested_at left s text ≡ Ok x → TakenType s text x
+unfolding nested_at
+nested_takes zero s text x e = absurd cc
+nested_takes (suc left) s text x e =
+    let o = bind_ok (opener_at s text) (type_after (nested_at left s) s text) x e in
+    type_by (nested_at left s) s text o.0 x (λ inner y h. nested_takes left s inner y h) o.1 o.2
+
+pub type_takes : (s : Scope) (text : List ℕ) (x : TypeRead) → type_at s text ≡ Ok x
+    → TakenType s text x
+type_takes s text x e = nested_takes (length text) s text x e

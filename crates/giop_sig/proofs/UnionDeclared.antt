@@ -10,15 +10,15 @@ use Rattle.giop_tokens.proofs.ReaderLaws.{bind_ok, ok_is, Takes, mark_takes, key
 use Rattle.giop_sig.specs.Table.{Node, node_at, IsScalarNode, IsFormed}
 use Rattle.giop_sig.specs.Table as nodes
 use Rattle.giop_sig.specs.Grammar.{TypeExpr, DeclaredUnion, spell_type, spell_cases}
-use Rattle.giop_sig.specs.Scopes.{Scope, place, with_named}
+use Rattle.giop_sig.specs.Scopes.{Scope, place, with_node, with_named}
 use Rattle.giop_sig.specs.Validity.{OfType, IsDiscriminator, OfCases, OfDeclaration, placed_node}
 use Rattle.giop_sig.specs.ScopeViews.{IsScope}
 use Rattle.giop_sig.specs.Outcomes.{refused}
-use Rattle.giop_sig.specs.TypeReading.{TypeRead, added}
+use Rattle.giop_sig.specs.TypeReading.{TypeRead}
 use Rattle.giop_sig.specs.ItemReading.{Declared}
-use Rattle.giop_sig.specs.UnionReading.{CasesRead, cases_at, can_switch, switch_at, union_at}
+use Rattle.giop_sig.specs.UnionReading.{CasesRead, cases_at, union_node, can_switch, switch_at, union_at}
 use Rattle.giop_sig.proofs.TypeTaken.{Grows, grows_on, TakenType, type_takes}
-use Rattle.giop_sig.proofs.ItemTaken.{declared_takes}
+use Rattle.giop_sig.proofs.ItemTaken.{declared_takes, end_takes}
 use Rattle.giop_sig.proofs.DeclaredLaws.{TakenDeclaration}
 use Rattle.giop_sig.proofs.UnionLaws.{node_stays}
 use Rattle.giop_sig.proofs.UnionReads.{discriminates, below_size}
@@ -40,10 +40,10 @@ switch_by : (s : Scope) (text : List ℕ) (t x : TypeRead) (v : Bool)
 switch_by s text t x true p k e = search (arith, ok_is, discriminates)
 switch_by s text t x false p k e = absurd cc
 
-switch_taken : (at : ℕ) (s : Scope) (text : List ℕ) (x : TypeRead)
-    → switch_at at s text ≡ Ok x → TakenSwitch s text x
+switch_taken : (s : Scope) (text : List ℕ) (x : TypeRead)
+    → switch_at s text ≡ Ok x → TakenSwitch s text x
 unfolding switch_at
-switch_taken at s text x e = search (arith, bind_ok, cond, switch_by, type_takes)
+switch_taken s text x e = search (arith, bind_ok, cond, switch_by, type_takes)
 
 -- ---- what the code asks
 
@@ -53,17 +53,13 @@ discriminator_scalar (nodes.prim p) is = tt
 discriminator_scalar (nodes.enumeration names) is = tt
 discriminator_scalar _ is = is
 
--- the node of a union that was read
-abbrev pub union_node : ℕ → CasesRead → Node
-union_node switch x = nodes.union switch (x.1).cases (x.1).otherwise
-
 -- a union that was read can be in the table
-pub union_formed : (at : ℕ) (s : Scope) (a b : List ℕ) (t : TypeRead) (x : CasesRead)
-    → switch_at at s a ≡ Ok t → cases_at at t.1 t.0 b ≡ Ok x → IsScope s
+pub union_formed : (s : Scope) (a b : List ℕ) (t : TypeRead) (x : CasesRead)
+    → switch_at s a ≡ Ok t → cases_at t.1 t.0 b ≡ Ok x → IsScope s
     → IsFormed (x.0).table.types (length (x.0).table.types) (union_node t.1 x)
-union_formed at s a b t x e f is =
-    let k = switch_taken at s a t e in
-    let c = cases_taken at t.1 t.0 b x f in
+union_formed s a b t x e f is =
+    let k = switch_taken s a t e in
+    let c = cases_taken t.1 t.0 b x f in
     let scope = k.scope is in
     let below = below_size t.0 t.1 k.is in
     let longer : length (x.0).table.types ≡ length (t.0).table.types + length ((c.grows).types).0 =
@@ -72,10 +68,10 @@ union_formed at s a b t x e f is =
     (discriminator_scalar (node_at (t.0).table t.1) k.is) in
     (record { below = omega arith; scalar = scalar }, c.few scope, c.parts scope, c.below scope)
 
-pub union_grows : (at : ℕ) (s : Scope) (a b : List ℕ) (t : TypeRead) (x : CasesRead)
-    → switch_at at s a ≡ Ok t → cases_at at t.1 t.0 b ≡ Ok x → Grows s x.0
-union_grows at s a b t x e f = grows_on s t.0 x.0 (switch_taken at s a t e).grows
-    (cases_taken at t.1 t.0 b x f).grows
+pub union_grows : (s : Scope) (a b : List ℕ) (t : TypeRead) (x : CasesRead)
+    → switch_at s a ≡ Ok t → cases_at t.1 t.0 b ≡ Ok x → Grows s x.0
+union_grows s a b t x e f = grows_on s t.0 x.0 (switch_taken s a t e).grows
+    (cases_taken t.1 t.0 b x f).grows
 
 -- ---- the declaration
 
@@ -84,7 +80,6 @@ pub union_takes : (s : Scope) (whole text : List ℕ) (x : Declared)
     → Takes whole (word (codes "union")) text → union_at s text ≡ Ok x → TakenDeclaration s whole x
 unfolding union_at OfDeclaration
 union_takes s whole text x before e =
-    let at = left_of text in
     let d = bind_ok {A = List ℕ × List ℕ} _ _ x e in
     let n = (d.0).0 in
     let w = bind_ok {A = List ℕ} _ _ x d.2 in
@@ -93,14 +88,13 @@ union_takes s whole text x before e =
     let q = bind_ok {A = List ℕ} _ _ x t.2 in
     let o = bind_ok {A = List ℕ} _ _ x q.2 in
     let cs = bind_ok {A = CasesRead} _ _ x o.2 in
-    let r = bind_ok {A = List ℕ} _ _ x cs.2 in
-    let u = bind_ok (added at (cs.0).0 (union_node (t.0).1 cs.0)) (λ u. Ok (with_named n u, r.0)) x
-    r.2 in
+    let last = with_named n (with_node (cs.0).0 (union_node (t.0).1 cs.0)) in
+    let r = end_takes (left_of text) last (cs.0).2 x cs.2 in
     let a = declared_takes s s.table.declared text d.0 d.1 in
-    let k = switch_taken at s b.0 t.0 t.1 in
-    let c = cases_taken at (t.0).1 (t.0).0 o.0 cs.0 cs.1 in
+    let k = switch_taken s b.0 t.0 t.1 in
+    let c = cases_taken (t.0).1 (t.0).0 o.0 cs.0 cs.1 in
     let node = placed_node (place s k.expr) in
-    subst (TakenDeclaration s whole) (ok_is (with_named n u.0, r.0) x u.2) (record {
+    record {
       declaration = DeclaredUnion n k.expr c.cases;
       took = record {
         free = (
@@ -123,6 +117,7 @@ union_takes s whole text x before e =
             (mark_takes marks.CloseParenthesis (t.0).2 q.0 q.1 (mark marks.OpenBrace ∷ inner)
             (mark_takes marks.OpenBrace q.0 o.0 o.1 inner
             (c.front (mark marks.Semicolon ∷ more)
-            (mark_takes marks.Semicolon (cs.0).2 r.0 r.1 more m))))))));
+            (mark_takes marks.Semicolon (cs.0).2 x.1 r.rest more m))))))));
       };
-    })
+      shallow = r.shallow;
+    }

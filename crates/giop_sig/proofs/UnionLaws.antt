@@ -40,9 +40,9 @@ more_cases node s labels names cases otherwise c =
     (cases ++ union_case node c (add_item s c.item) ∷ [])
     (chosen otherwise (has_default (labels_of c)) (length names))
 
-case_reads : (at switch : ℕ) (node : Node) (s : Scope) (labels : List Label) (names : List (List ℕ))
+case_reads : (switch : ℕ) (node : Node) (s : Scope) (labels : List Label) (names : List (List ℕ))
     (cases : List Case) (otherwise : Selected) (c : UnionCase) (text : List ℕ) (more : List Token)
-    → node_at s.table switch ≡ node → 0 < size s → AllByRecursion (IsKept node) labels
+    → node_at s.table switch ≡ node → AllByRecursion (IsKept node) labels
     → length labels ≤ 1024 → OfLabels kinds.Syntax node labels (labels_of c)
     → OfItem kinds.Syntax s.names 256 names c.item
     → AreTokens text (spell_labels (labels_of c) (spell_item c.item (mark marks.Semicolon ∷ more)))
@@ -50,26 +50,26 @@ case_reads : (at switch : ℕ) (node : Node) (s : Scope) (labels : List Label) (
     ((add_item s c.item).0, more_cases node s labels names cases otherwise c, rest))
     (λ k. OfLabels k node labels (labels_of c) × OfItem k s.names 256 names c.item)
     (add_item s c.item).0.table.types more
-    (case_at at switch (s, kept_cases node labels names cases otherwise, text))
+    (case_at switch (s, kept_cases node labels names cases otherwise, text))
 unfolding case_at
-case_reads at switch node s labels names cases otherwise c text more same some all few free item h =
+case_reads switch node s labels names cases otherwise c text more same all few free item h =
     let before = kept_cases node labels names cases otherwise in
     let tail = mark marks.Semicolon ∷ more in
     rw same
     (out_bind (labels_at node (marks_of node labels) text)
-    (λ ls. item_at at 256 names s ls.3 >>= λ i. mark_at marks.Semicolon i.2 >>= λ rest.
+    (λ ls. item_at 256 names s ls.3 >>= λ i. mark_at marks.Semicolon i.2 >>= λ rest.
     Ok (i.0, with_case before ls i.1, rest))
     (labels_reads node labels c.label c.others text s.table.types (spell_item c.item tail)
     (λ rest m. type_no_label c.item.type s.names rest
     (word c.item.name ∷ spell_length c.item.length tail) item.0 m) all few free h)
     (λ a ta ka.
-    out_bind (item_at at 256 names s a) (λ i. mark_at marks.Semicolon i.2
+    out_bind (item_at 256 names s a) (λ i. mark_at marks.Semicolon i.2
     >>= λ rest. Ok (
       i.0,
       with_case before (labelled node labels [] false (labels_of c) a) i.1,
       rest,
     ))
-    (item_reads at 256 names s c.item a tail some item refl ta)
+    (item_reads 256 names s c.item a tail item refl ta)
     (λ b tb kb. rw (mark_again marks.Semicolon b more tb) (good tb.0 tb.2 (λ k. (ka k, kb k))))
     (λ k w. w.1) within_same)
     (λ k w. w.0) (item_more s c.item))
@@ -118,16 +118,16 @@ made_more node s labels names cases otherwise (c ∷ cs) =
     (cases ++ union_case node c (add_item s c.item) ∷ [])
     (chosen otherwise (has_default (labels_of c)) (length names)) cs)
 
-step_end : (at switch : ℕ) (x : CasesRead) (rest : List ℕ)
+step_end : (switch : ℕ) (x : CasesRead) (rest : List ℕ)
     → mark_if marks.CloseBrace x.2 ≡ Ok (Some rest)
-    → cases_step at switch x ≡ Ok (true, (x.0, x.1, rest))
+    → cases_step switch x ≡ Ok (true, (x.0, x.1, rest))
 unfolding cases_step
-step_end at switch x rest h = rw h refl
+step_end switch x rest h = rw h refl
 
-step_on : (at switch : ℕ) (x : CasesRead) → mark_if marks.CloseBrace x.2 ≡ Ok None
-    → cases_step at switch x ≡ (case_at at switch x >>= λ c. Ok (false, c))
+step_on : (switch : ℕ) (x : CasesRead) → mark_if marks.CloseBrace x.2 ≡ Ok None
+    → cases_step switch x ≡ (case_at switch x >>= λ c. Ok (false, c))
 unfolding cases_step
-step_on at switch x h = rw h refl
+step_on switch x h = rw h refl
 
 pub labels_apart : (l : Label) (ls : List Label) (text : List ℕ) (more : List Token)
     → AreTokens text (spell_labels (l ∷ ls) more) → mark_if marks.CloseBrace text ≡ Ok None
@@ -136,14 +136,14 @@ labels_apart Default ls text more h = if_apart marks.CloseBrace text
 labels_apart (Of v) ls text more h = if_apart marks.CloseBrace text (spell_labels (Of v ∷ ls) more)
     refl h
 
-abbrev pub then_cases : ℕ → ℕ → ℕ → Bool × CasesRead → Result CasesRead Refusal
-then_cases at switch left x =
-    cond x.0 (Ok x.1) (in_steps (cases_step at switch) too_many_cases left x.1)
+abbrev pub then_cases : ℕ → ℕ → Bool × CasesRead → Result CasesRead Refusal
+then_cases switch left x =
+    cond x.0 (Ok x.1) (in_steps (cases_step switch) too_many_cases left x.1)
 
-case_step_reads : (at switch : ℕ) (node : Node) (s : Scope) (labels : List Label)
+case_step_reads : (switch : ℕ) (node : Node) (s : Scope) (labels : List Label)
     (names : List (List ℕ)) (cases : List Case) (otherwise : Selected) (c : UnionCase)
     (text : List ℕ) (more : List Token)
-    → node_at s.table switch ≡ node → 0 < size s → AllByRecursion (IsKept node) labels
+    → node_at s.table switch ≡ node → AllByRecursion (IsKept node) labels
     → length labels ≤ 1024 → OfLabels kinds.Syntax node labels (labels_of c)
     → OfItem kinds.Syntax s.names 256 names c.item
     → AreTokens text (spell_labels (labels_of c) (spell_item c.item (mark marks.Semicolon ∷ more)))
@@ -151,21 +151,21 @@ case_step_reads : (at switch : ℕ) (node : Node) (s : Scope) (labels : List Lab
     (false, ((add_item s c.item).0, more_cases node s labels names cases otherwise c, rest)))
     (λ k. OfLabels k node labels (labels_of c) × OfItem k s.names 256 names c.item)
     (add_item s c.item).0.table.types more
-    (cases_step at switch (s, kept_cases node labels names cases otherwise, text))
-case_step_reads at switch node s labels names cases otherwise c text more same some all few free
+    (cases_step switch (s, kept_cases node labels names cases otherwise, text))
+case_step_reads switch node s labels names cases otherwise c text more same all few free
     item h =
     let x : CasesRead = (s, kept_cases node labels names cases otherwise, text) in
-    rw (step_on at switch x (labels_apart c.label c.others text
+    rw (step_on switch x (labels_apart c.label c.others text
     (spell_item c.item (mark marks.Semicolon ∷ more)) h))
-    (out_bind (case_at at switch x) (λ c. Ok (false, c))
-    (case_reads at switch node s labels names cases otherwise c text more same some all few free
+    (out_bind (case_at switch x) (λ c. Ok (false, c))
+    (case_reads switch node s labels names cases otherwise c text more same all few free
     item h)
     (λ rest m keeps. good rest m keeps) (λ k w. w) within_same)
 
-pub cases_run : (cs : List UnionCase) (left at switch : ℕ) (node : Node) (known : Names) (s : Scope)
+pub cases_run : (cs : List UnionCase) (left switch : ℕ) (node : Node) (known : Names) (s : Scope)
     (labels : List Label) (names : List (List ℕ)) (cases : List Case) (otherwise : Selected)
     (text : List ℕ) (more : List Token)
-    → s.names ≡ known → 0 < size s → switch < size s → node_at s.table switch ≡ node
+    → s.names ≡ known → switch < size s → node_at s.table switch ≡ node
     → AllByRecursion (IsKept node) labels → length labels ≤ 1024
     → left + length names ≡ 257 → length names ≤ 256
     → OfCases kinds.Syntax known node labels names cs → AreTokens text (spell_cases cs more)
@@ -176,38 +176,37 @@ pub cases_run : (cs : List UnionCase) (left at switch : ℕ) (node : Node) (know
     ))
     (λ k. OfCases k known node labels names cs)
     (made_cases node s labels names cases otherwise cs).0.table.types more
-    (in_steps (cases_step at switch) too_many_cases left
+    (in_steps (cases_step switch) too_many_cases left
     (s, kept_cases node labels names cases otherwise, text))
 unfolding in_steps OfCases made_cases
-cases_run [] zero at switch node known s labels names cases otherwise text more at-names some below
+cases_run [] zero switch node known s labels names cases otherwise text more at-names below
     same all few room short free h = absurd (omega arith)
-cases_run (c ∷ cs) zero at switch node known s labels names cases otherwise text more at-names some
+cases_run (c ∷ cs) zero switch node known s labels names cases otherwise text more at-names
     below same all few room short free h = absurd (omega arith)
-cases_run [] (suc left) at switch node known s labels names cases otherwise text more at-names some
+cases_run [] (suc left) switch node known s labels names cases otherwise text more at-names
     below same all few room short free h =
-    rw (step_end at switch (s, kept_cases node labels names cases otherwise, text) h.0
+    rw (step_end switch (s, kept_cases node labels names cases otherwise, text) h.0
     (mark_if_again marks.CloseBrace text more h)) (good h.0 h.2 (λ k. tt))
-cases_run (c ∷ cs) (suc left) at switch node known s labels names cases otherwise text more at-names
-    some below same all few room short free h =
+cases_run (c ∷ cs) (suc left) switch node known s labels names cases otherwise text more at-names
+    below same all few room short free h =
     let t = (add_item s c.item).0 in
     let tail = spell_cases cs more in
     let behind = made_cases node t (labels ++ labels_of c) (names ++ c.item.name ∷ [])
     (cases ++ union_case node c (add_item s c.item) ∷ [])
     (chosen otherwise (has_default (labels_of c)) (length names)) cs in
-    out_bind (cases_step at switch (s, kept_cases node labels names cases otherwise, text))
-    (then_cases at switch left)
-    (case_step_reads at switch node s labels names cases otherwise c text tail same some all few
+    out_bind (cases_step switch (s, kept_cases node labels names cases otherwise, text))
+    (then_cases switch left)
+    (case_step_reads switch node s labels names cases otherwise c text tail same all few
     free.0
     (subst (λ ns. OfItem kinds.Syntax ns 256 names c.item) (sym at-names) free.1) h)
     (λ rest m keeps.
     let limit = keeps kinds.Limit in
     let fewer = ((limit.1).1).1 in
     out_more
-    (cases_run cs left at switch node known t (labels ++ labels_of c) (names ++ c.item.name ∷ [])
+    (cases_run cs left switch node known t (labels ++ labels_of c) (names ++ c.item.name ∷ [])
     (cases ++ union_case node c (add_item s c.item) ∷ [])
     (chosen otherwise (has_default (labels_of c)) (length names)) rest more
     (item_names s c.item ∙ at-names) (omega (arith, (item_more s c.item).longer))
-    (omega (arith, (item_more s c.item).longer))
     (node_stays s t switch (item_grows s c.item) below ∙ same)
     (labels_kept node (labels_of c) labels text (spell_item c.item (mark marks.Semicolon ∷ tail)) h
     (keeps kinds.Label).0 all)

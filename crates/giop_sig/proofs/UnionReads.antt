@@ -17,13 +17,13 @@ use Rattle.giop_sig.specs.Grammar.{TypeExpr, Label, UnionCase, DeclaredUnion, sp
 use Rattle.giop_sig.specs.Scopes.{Names, Scope, AddedType, with_node, has_default, labels_of, union_case, place, add_item, add_cases, add_choice_type, default_from, with_named, declare}
 use Rattle.giop_sig.specs.Validity.{Kind, IsDiscriminator, OfType, OfSwitch, OfSome, OfCases, OfDeclaration, placed_node}
 use Rattle.giop_sig.specs.Outcomes.{refused}
-use Rattle.giop_sig.specs.TypeReading.{added, type_at}
-use Rattle.giop_sig.specs.ItemReading.{declared_at, Declared}
-use Rattle.giop_sig.specs.UnionReading.{Cases, chosen, CasesRead, cases_at, can_switch, switch_at, union_at}
+use Rattle.giop_sig.specs.TypeReading.{type_at}
+use Rattle.giop_sig.specs.ItemReading.{declared_at, Declared, type_end_at}
+use Rattle.giop_sig.specs.UnionReading.{Cases, chosen, CasesRead, cases_at, union_node, can_switch, switch_at, union_at}
 use Rattle.giop_sig.proofs.PlaceLaws.{size, within_same, within_on, Grown, node_more, place_more, place_names}
 use Rattle.giop_sig.proofs.ReadingLaws.{Out, good, broken, out_bind, out_more, Apart}
-use Rattle.giop_sig.proofs.TypeLaws.{added_bind, placed, type_reads}
-use Rattle.giop_sig.proofs.ItemLaws.{declared_reads, some_keeps, filled_end, filled_on}
+use Rattle.giop_sig.proofs.TypeLaws.{placed, type_reads}
+use Rattle.giop_sig.proofs.ItemLaws.{declared_reads, some_keeps, filled_end, filled_on, end_reads}
 use Rattle.giop_sig.proofs.EnumLaws.{out_as}
 use Rattle.giop_sig.proofs.UnionLaws.{made_cases, made_more, labels_apart, cases_run}
 
@@ -79,8 +79,8 @@ made_is (c ∷ cs) node s labels names cases otherwise =
 
 -- ---- all cases
 
-cases_reads : (at switch : ℕ) (node : Node) (known : Names) (s : Scope) (cs : List UnionCase)
-    (text : List ℕ) (more : List Token) → s.names ≡ known → 0 < size s → switch < size s
+cases_reads : (switch : ℕ) (node : Node) (known : Names) (s : Scope) (cs : List UnionCase)
+    (text : List ℕ) (more : List Token) → s.names ≡ known → switch < size s
     → node_at s.table switch ≡ node → OfCases kinds.Syntax known node [] [] cs
     → AreTokens text (spell_cases cs more)
     → Out {X = CasesRead} (λ rest. (
@@ -89,16 +89,16 @@ cases_reads : (at switch : ℕ) (node : Node) (known : Names) (s : Scope) (cs : 
       rest,
     ))
     (λ k. OfSome k cs × OfCases k known node [] [] cs)
-    (made_cases node s [] [] [] selecteds.Nothing cs).0.table.types more (cases_at at switch s text)
+    (made_cases node s [] [] [] selecteds.Nothing cs).0.table.types more (cases_at switch s text)
 unfolding cases_at
-cases_reads at switch node known s [] text more names some below same free h =
+cases_reads switch node known s [] text more names below same free h =
     rw (filled_end text h.0 (mark_if_again marks.CloseBrace text more h))
     (broken (refused kinds.Empty text) (λ k. k.0))
-cases_reads at switch node known s (c ∷ cs) text more names some below same free h =
+cases_reads switch node known s (c ∷ cs) text more names below same free h =
     rw (filled_on text (labels_apart c.label c.others text
     (spell_item c.item (mark marks.Semicolon ∷ spell_cases cs more)) h))
-    (out_more (cases_run (c ∷ cs) 257 at switch node known s [] [] [] selecteds.Nothing text more
-    names some below same tt (omega arith)
+    (out_more (cases_run (c ∷ cs) 257 switch node known s [] [] [] selecteds.Nothing text more
+    names below same tt (omega arith)
     refl (omega arith) free h)
     (λ k w. (some_keeps c cs k, w)) (λ k w. w.1))
 
@@ -150,16 +150,16 @@ switch_by : (s : Scope) (e : TypeExpr) (text rest : List ℕ) (more : List Token
 switch_by s e text rest more true p m keeps = search (arith, good, switch_keeps, discriminates)
 switch_by s e text rest more false p m keeps = search (arith, broken, no_discriminator)
 
-switch_reads : (at : ℕ) (s : Scope) (e : TypeExpr) (text : List ℕ) (more : List Token) → 0 < size s
+switch_reads : (s : Scope) (e : TypeExpr) (text : List ℕ) (more : List Token) 
     → OfType kinds.Syntax s.names e → Apart marks.OpenAngle more
     → AreTokens text (spell_type e more)
     → Out (placed s e) (λ k. OfType k s.names e × OfSwitch k (placed_node (place s e)))
-    (place s e).0.table.types more (switch_at at s text)
+    (place s e).0.table.types more (switch_at s text)
 unfolding switch_at
-switch_reads at s e text more some free apart h =
-    out_bind (type_at at 25 s text) (λ t. cond (can_switch (node_at (t.0).table t.1)) (Ok t)
+switch_reads s e text more free apart h =
+    out_bind (type_at s text) (λ t. cond (can_switch (node_at (t.0).table t.1)) (Ok t)
     (Err (refused kinds.Label text)))
-    (type_reads at s e text more some free apart h)
+    (type_reads s e text more free apart h)
     (λ rest m keeps. switch_by s e text rest more (can_switch (placed_node (place s e))) refl m
     keeps) (λ k w. w.0) within_same
 
@@ -174,7 +174,7 @@ kept_is : (cs : List UnionCase) (p : AddedType) (node : Node) → node_at (p.0).
 kept_is cs p node same = search (arith, made_is, made_cases)
 
 choice_reads : (n : List ℕ) (switch : TypeExpr) (cases : List UnionCase) (s : Scope) (text : List ℕ)
-    (more : List Token) → 0 < size s → OfDeclaration kinds.Syntax s (DeclaredUnion n switch cases)
+    (more : List Token) → OfDeclaration kinds.Syntax s (DeclaredUnion n switch cases)
     → AreTokens text (word n ∷ word (codes "switch") ∷ mark marks.OpenParenthesis
     ∷ spell_type switch (mark marks.CloseParenthesis ∷ mark marks.OpenBrace
     ∷ spell_cases cases (mark marks.Semicolon ∷ more)))
@@ -188,7 +188,7 @@ choice_reads : (n : List ℕ) (switch : TypeExpr) (cases : List UnionCase) (s : 
     (made_cases (placed_node (place s switch)) (place s switch).0 [] [] [] selecteds.Nothing
     cases)).0.table.types more (union_at s text)
 unfolding union_at OfDeclaration
-choice_reads n switch cases s text more some free h =
+choice_reads n switch cases s text more free h =
     let at = left_of text in
     let p = place s switch in
     let node = placed_node p in
@@ -200,11 +200,9 @@ choice_reads n switch cases s text more some free h =
     in
     out_bind (declared_at s s.table.declared text)
     (λ d. keyword_at (codes "switch") d.1 >>= λ w. mark_at marks.OpenParenthesis w >>= λ b.
-    switch_at at s b >>= λ t. mark_at marks.CloseParenthesis t.2
-    >>= λ q. mark_at marks.OpenBrace q >>= λ o. cases_at at t.1 t.0 o >>= λ cs.
-    mark_at marks.Semicolon cs.2
-    >>= λ r. added at cs.0 (nodes.union t.1 (cs.1).cases (cs.1).otherwise) >>= λ u.
-    Ok (with_named d.0 u, r))
+    switch_at s b >>= λ t. mark_at marks.CloseParenthesis t.2
+    >>= λ q. mark_at marks.OpenBrace q >>= λ o. cases_at t.1 t.0 o
+    >>= λ cs. type_end_at at d.0 cs.0 (union_node t.1 cs) cs.2)
     (declared_reads s.table.types s s.table.declared text n
     (word (codes "switch") ∷ mark marks.OpenParenthesis ∷ spell_type switch body) free.0 h)
     (λ a ta ka.
@@ -212,35 +210,29 @@ choice_reads n switch cases s text more some free h =
       keyword_again (codes "switch") a (mark marks.OpenParenthesis ∷ spell_type switch body) ta,
       mark_again marks.OpenParenthesis ta.0 (spell_type switch body) ta.2,
     )
-    (out_bind (switch_at at s (ta.2).0)
+    (out_bind (switch_at s (ta.2).0)
     (λ t. mark_at marks.CloseParenthesis t.2 >>= λ q. mark_at marks.OpenBrace q >>= λ o.
-    cases_at at t.1 t.0 o >>= λ cs. mark_at marks.Semicolon cs.2
-    >>= λ r. added at cs.0 (nodes.union t.1 (cs.1).cases (cs.1).otherwise) >>= λ u.
-    Ok (with_named n u, r))
-    (switch_reads at s switch (ta.2).0 body some free.1 refl (ta.2).2)
+    cases_at t.1 t.0 o >>= λ cs. type_end_at at n cs.0 (union_node t.1 cs) cs.2)
+    (switch_reads s switch (ta.2).0 body free.1 refl (ta.2).2)
     (λ b tb kb.
     let below = below_size p.0 p.1 (kb kinds.Label).1 in
     rw (
       mark_again marks.CloseParenthesis b (mark marks.OpenBrace ∷ inner) tb,
       mark_again marks.OpenBrace tb.0 inner tb.2,
     )
-    (out_bind (cases_at at p.1 p.0 (tb.2).0)
-    (λ cs. mark_at marks.Semicolon cs.2 >>= λ r.
-    added at cs.0 (nodes.union p.1 (cs.1).cases (cs.1).otherwise)
-    >>= λ u. Ok (with_named n u, r))
-    (cases_reads at p.1 node s.names p.0 cases (tb.2).0 (mark marks.Semicolon ∷ more)
-    (place_names s switch) (omega (arith, (place_more s switch).longer))
-    below refl free.4 (tb.2).2)
-    (λ c tc kc. rw (mark_again marks.Semicolon c more tc)
-    (added_bind at m.0 whole (λ u. Ok (with_named n u, tc.0)) within_same
-    (good tc.0 tc.2 (λ k. (ka k, (kb k).0, (kb k).1, (kc k).0, (kc k).1)))))
+    (out_bind (cases_at p.1 p.0 (tb.2).0) (λ cs. type_end_at at n cs.0 (union_node p.1 cs) cs.2)
+    (cases_reads p.1 node s.names p.0 cases (tb.2).0 (mark marks.Semicolon ∷ more)
+    (place_names s switch) below refl free.4 (tb.2).2)
+    (λ c tc kc. end_reads at (with_named n (with_node m.0 whole))
+    (λ k. OfDeclaration k s (DeclaredUnion n switch cases)) c more tc
+    (λ k. (ka k, (kb k).0, (kb k).1, (kc k).0, (kc k).1)))
     (λ k w. (w.3, w.4)) (node_more m.0 whole)))
     (λ k w. (w.1, w.2)) made))
     (λ k w. w.0) (within_on (place_more s switch) made)
 
 -- what reading gives of a text that begins with a union, after its word
 pub union_reads : (s : Scope) (n : List ℕ) (switch : TypeExpr) (cases : List UnionCase)
-    (text : List ℕ) (more : List Token) → 0 < size s
+    (text : List ℕ) (more : List Token) 
     → OfDeclaration kinds.Syntax s (DeclaredUnion n switch cases)
     → AreTokens text (word n ∷ word (codes "switch") ∷ mark marks.OpenParenthesis
     ∷ spell_type switch (mark marks.CloseParenthesis ∷ mark marks.OpenBrace
@@ -249,10 +241,10 @@ pub union_reads : (s : Scope) (n : List ℕ) (switch : TypeExpr) (cases : List U
     (λ k. OfDeclaration k s (DeclaredUnion n switch cases))
     (declare s (DeclaredUnion n switch cases)).table.types more (union_at s text)
 unfolding declare
-union_reads s n switch cases text more some free h =
+union_reads s n switch cases text more free h =
     let p = place s switch in
     let same = kept_is cases p (placed_node p) refl in
-    out_as (union_at s text) (choice_reads n switch cases s text more some free h)
+    out_as (union_at s text) (choice_reads n switch cases s text more free h)
     (λ rest. ap (λ (q : AddedType). (with_named n q, rest)) same) (λ k w. w) (λ k w. w)
     (subst (λ (q : AddedType). Grown (kept_union p.1
     (made_cases (placed_node p) p.0 [] [] [] selecteds.Nothing cases)).0 q.0) same within_same)

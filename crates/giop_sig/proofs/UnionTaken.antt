@@ -268,9 +268,9 @@ case_made x ls i rest t u e = record {
   sound = λ is sound. ((u.sound is).scope, case_sound x.0 x.1 ls i u is sound);
 }
 
-case_taken : (at switch : ℕ) (x y : CasesRead) → case_at at switch x ≡ Ok y → TakenCase x y
+case_taken : (switch : ℕ) (x y : CasesRead) → case_at switch x ≡ Ok y → TakenCase x y
 unfolding case_at
-case_taken at switch x y e = search (arith, bind_ok, ok_is, case_made, labels_taken, item_takes)
+case_taken switch x y e = search (arith, bind_ok, ok_is, case_made, labels_taken, item_takes)
 
 -- ---- cases, one after the other
 
@@ -312,30 +312,30 @@ one_more x y z t u = record {
   sound = λ is sound. let k = t.sound is sound in u.sound k.0 k.1;
 }
 
-cases_taken_by : (at switch left : ℕ) (x : CasesRead) (o : Option (List ℕ)) (s : Bool × CasesRead)
+cases_taken_by : (switch left : ℕ) (x : CasesRead) (o : Option (List ℕ)) (s : Bool × CasesRead)
     (z : CasesRead) → ((x z : CasesRead)
-    → in_steps (cases_step at switch) too_many_cases left x ≡ Ok z → TakenCases x z)
-    → mark_if marks.CloseBrace x.2 ≡ Ok o → case_or_end at switch x o ≡ Ok s
-    → then_cases at switch left s ≡ Ok z → TakenCases x z
-cases_taken_by at switch left x (Some rest) s z on h e f = search (
+    → in_steps (cases_step switch) too_many_cases left x ≡ Ok z → TakenCases x z)
+    → mark_if marks.CloseBrace x.2 ≡ Ok o → case_or_end switch x o ≡ Ok s
+    → then_cases switch left s ≡ Ok z → TakenCases x z
+cases_taken_by switch left x (Some rest) s z on h e f = search (
   arith,
   ok_is,
   then_cases,
   no_more,
 )
-cases_taken_by at switch left x None s z on h e f =
-    let c = bind_ok (case_at at switch x) (λ c. Ok (false, c)) s e in
-    one_more x c.0 z (case_taken at switch x c.0 c.1)
-    (on c.0 z (ap (then_cases at switch left) (ok_is (false, c.0) s c.2) ∙ f))
+cases_taken_by switch left x None s z on h e f =
+    let c = bind_ok (case_at switch x) (λ c. Ok (false, c)) s e in
+    one_more x c.0 z (case_taken switch x c.0 c.1)
+    (on c.0 z (ap (then_cases switch left) (ok_is (false, c.0) s c.2) ∙ f))
 
-cases_run_taken : (at switch left : ℕ) (x z : CasesRead)
-    → in_steps (cases_step at switch) too_many_cases left x ≡ Ok z → TakenCases x z
+cases_run_taken : (switch left : ℕ) (x z : CasesRead)
+    → in_steps (cases_step switch) too_many_cases left x ≡ Ok z → TakenCases x z
 unfolding in_steps cases_step
-cases_run_taken at switch zero x z e = absurd cc
-cases_run_taken at switch (suc left) x z e =
-    let s = bind_ok (cases_step at switch x) (then_cases at switch left) z e in
-    let o = bind_ok (mark_if marks.CloseBrace x.2) (case_or_end at switch x) s.0 s.1 in
-    cases_taken_by at switch left x o.0 s.0 z (cases_run_taken at switch left) o.1 o.2 s.2
+cases_run_taken switch zero x z e = absurd cc
+cases_run_taken switch (suc left) x z e =
+    let s = bind_ok (cases_step switch x) (then_cases switch left) z e in
+    let o = bind_ok (mark_if marks.CloseBrace x.2) (case_or_end switch x) s.0 s.1 in
+    cases_taken_by switch left x o.0 s.0 z (cases_run_taken switch left) o.1 o.2 s.2
 
 -- the cases of a union
 pub record TakenUnionCases (s : Scope) (text : List ℕ) (x : CasesRead) : Type 0 where
@@ -352,12 +352,12 @@ pub record TakenUnionCases (s : Scope) (text : List ℕ) (x : CasesRead) : Type 
 sound_none : (s : Scope) → SoundCases s no_cases
 sound_none s = search (arith)
 
-pub cases_taken : (at switch : ℕ) (s : Scope) (text : List ℕ) (x : CasesRead)
-    → cases_at at switch s text ≡ Ok x → TakenUnionCases s text x
+pub cases_taken : (switch : ℕ) (s : Scope) (text : List ℕ) (x : CasesRead)
+    → cases_at switch s text ≡ Ok x → TakenUnionCases s text x
 unfolding cases_at
-cases_taken at switch s text x e =
+cases_taken switch s text x e =
     let some = bind_ok {A = List ℕ} _ _ x e in
-    let t = cases_run_taken at switch 257 (s, no_cases, some.0) x some.2 in
+    let t = cases_run_taken switch 257 (s, no_cases, some.0) x some.2 in
     record {
       cases = t.cases;
       free = λ node. t.free node [];

@@ -13,10 +13,10 @@ use Rattle.giop_sig.specs.declared.read_calls.Direction.{Direction}
 use Rattle.giop_sig.specs.declared.read_calls.Direction.TheVariants as directions
 use Rattle.giop_sig.specs.Table.{Part, operation_in}
 use Rattle.giop_sig.specs.Table as nodes
-use Rattle.giop_sig.specs.Scopes.{Scope, part, with_call}
+use Rattle.giop_sig.specs.Scopes.{Scope, AddedType, part, with_node, with_call}
 use Rattle.giop_sig.specs.Outcomes.{refused}
-use Rattle.giop_sig.specs.TypeReading.{added, type_at}
-use Rattle.giop_sig.specs.ItemReading.{ItemRead, item_at, Declared}
+use Rattle.giop_sig.specs.TypeReading.{type_at}
+use Rattle.giop_sig.specs.ItemReading.{ItemRead, item_at, Declared, end_of}
 use Rattle.giop_sig.specs.Repeats.{in_steps}
 
 -- ---- what an operation returns
@@ -24,16 +24,16 @@ use Rattle.giop_sig.specs.Repeats.{in_steps}
 abbrev pub ReturnRead : Type 0
 ReturnRead = Scope × List Part × List ℕ
 
-abbrev pub return_after : ℕ → Scope → List ℕ → Option (List ℕ) → Result ReturnRead Refusal
-return_after at s text (Some r) = Ok (s, [], r)
-return_after at s text None = do
-  t ← type_at at 25 s text
+abbrev pub return_after : Scope → List ℕ → Option (List ℕ) → Result ReturnRead Refusal
+return_after s text (Some r) = Ok (s, [], r)
+return_after s text None = do
+  t ← type_at s text
   Ok (t.0, part (codes "return") t.1 ∷ [], t.2)
 
-unfoldable pub return_at : ℕ → Scope → List ℕ → Result ReturnRead Refusal
-return_at at s text = do
+unfoldable pub return_at : Scope → List ℕ → Result ReturnRead Refusal
+return_at s text = do
   v ← keyword_if (codes "void") text
-  return_after at s text v
+  return_after s text v
 
 -- the name of an operation; it must be new
 unfoldable pub new_operation_at : Scope → List ℕ → Result (List ℕ × List ℕ) Refusal
@@ -97,10 +97,10 @@ param_end w d i None = do
   Ok (true, (i.0, with_param w d i.1, r))
 
 -- a parameter, and the comma or the closing mark after it
-unfoldable pub param_step : ℕ → Params → Result (Bool × Params) Refusal
-param_step at x = do
+unfoldable pub param_step : Params → Result (Bool × Params) Refusal
+param_step x = do
   d ← direction_at x.2
-  i ← item_at at 255 (x.1).seen x.0 d.1
+  i ← item_at 255 (x.1).seen x.0 d.1
   c ← mark_if marks.Comma i.2
   param_end x.1 d.0 i c
 
@@ -113,31 +113,32 @@ ParamsRead = Scope × List Part × List Part × List ℕ
 abbrev pub params_read : Params → Result ParamsRead Refusal
 params_read x = Ok (x.0, (x.1).request, (x.1).reply, x.2)
 
-abbrev pub params_run : ℕ → ℕ → Params → Result ParamsRead Refusal
-params_run at n x = in_steps (param_step at) too_many_params n x >>= params_read
+abbrev pub params_run : ℕ → Params → Result ParamsRead Refusal
+params_run n x = in_steps param_step too_many_params n x >>= params_read
 
 abbrev pub no_parameters : List Part → ParameterLists
 no_parameters returned = record { seen = []; request = []; reply = returned }
 
-abbrev pub params_after : ℕ → List Part → Scope → List ℕ → Option (List ℕ)
+abbrev pub params_after : List Part → Scope → List ℕ → Option (List ℕ)
     → Result ParamsRead Refusal
-params_after at returned s text (Some r) = Ok (s, [], returned, r)
-params_after at returned s text None = params_run at 256 (s, no_parameters returned, text)
+params_after returned s text (Some r) = Ok (s, [], returned, r)
+params_after returned s text None = params_run 256 (s, no_parameters returned, text)
 
 -- parameters up to the closing mark
-unfoldable pub params_at : ℕ → List Part → Scope → List ℕ → Result ParamsRead Refusal
-params_at at returned s text = do
+unfoldable pub params_at : List Part → Scope → List ℕ → Result ParamsRead Refusal
+params_at returned s text = do
   c ← mark_if marks.CloseParenthesis text
-  params_after at returned s text c
+  params_after returned s text c
+
+-- an operation of the two structs of its parameters, the request first
+abbrev pub call_of : List ℕ → List Part → AddedType → Scope
+call_of w reply q = with_call w q.1 (with_node q.0 (nodes.members reply))
 
 -- an operation, after its first word
 unfoldable pub operation_at : Scope → List ℕ → Result Declared Refusal
 operation_at s text = do
-  t ← return_at (left_of text) s text
+  t ← return_at s text
   n ← new_operation_at t.0 t.2
   o ← mark_at marks.OpenParenthesis n.1
-  m ← params_at (left_of t.2) t.1 t.0 o
-  r ← mark_at marks.Semicolon m.3
-  q ← added (left_of t.2) m.0 (nodes.members m.1)
-  p ← added (left_of t.2) q.0 (nodes.members m.2)
-  Ok (with_call n.0 q.1 p, r)
+  m ← params_at t.1 t.0 o
+  end_of (left_of t.2) (call_of n.0 m.2 (with_node m.0 (nodes.members m.1))) m.3

@@ -7,10 +7,9 @@ use Rattle.giop_tokens.specs.Tokens.{left_of}
 use Rattle.giop_tokens.specs.Reading.{◌>>=◌}
 use Rattle.giop_tokens.specs.Readers.{mark_at, mark_if}
 use Rattle.giop_sig.specs.Table as nodes
-use Rattle.giop_sig.specs.Scopes.{Scope, with_named}
+use Rattle.giop_sig.specs.Scopes.{Scope}
 use Rattle.giop_sig.specs.Outcomes.{refused}
-use Rattle.giop_sig.specs.TypeReading.{added}
-use Rattle.giop_sig.specs.ItemReading.{new_name_at, declared_at, filled_at, Declared}
+use Rattle.giop_sig.specs.ItemReading.{new_name_at, declared_at, filled_at, Declared, type_end_at}
 use Rattle.giop_sig.specs.Repeats.{in_steps}
 
 -- enumerators, and what follows them
@@ -52,6 +51,4 @@ enumeration_at s text = do
   n ← declared_at s s.table.declared text
   o ← mark_at marks.OpenBrace n.1
   names ← names_at o
-  r ← mark_at marks.Semicolon names.1
-  p ← added (left_of text) s (nodes.enumeration names.0)
-  Ok (with_named n.0 p, r)
+  type_end_at (left_of text) n.0 s (nodes.enumeration names.0) names.1

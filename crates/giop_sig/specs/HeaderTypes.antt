@@ -9,7 +9,7 @@ use Rattle.giop_sig.specs.declared.types.Fixed.{Fixed}
 use Rattle.giop_sig.specs.declared.types.Fixed.TheVariants as fixeds
 use Rattle.giop_sig.specs.Types.{Plain, Ty, Single, Struct}
 use Rattle.giop_sig.specs.Table.{Node, Operation, Exception, Table, no_operation, no_exception}
-use Rattle.giop_sig.specs.Trees.{AreTypes, type_in}
+use Rattle.giop_sig.specs.Trees.{AreFormed, AreTypes, type_in}
 use Rattle.giop_sig.specs.Builtin.{builtin_types}
 
 -- the numbers of the header types of each message type, in 1.0, 1.1 and 1.2
@@ -83,9 +83,9 @@ AreDistinct name_in d xs =
     (i j : ℕ) → i < length xs → j < length xs
     → name_in (slice_index_or xs i d) ≡ name_in (slice_index_or xs j d) → i ≡ j
 
--- a table that begins with the built-in types, within the limits
-pub record IsTable (t : Table) : Type 0 where
-  pub types : AreTypes t.types
+-- a table that begins with the built-in types, within the limits, of types such as are asked for
+pub record TableOf (Types : List Node → Type 0) (t : Table) : Type 0 where
+  pub types : Types t.types
   pub begins : (more : List Node) × (t.types ≡ builtin_types ++ more)
   pub operations : All (IsOperation t.types) t.operations
   pub exceptions : All (IsException t.types) t.exceptions
@@ -94,3 +94,7 @@ pub record IsTable (t : Table) : Type 0 where
   pub operations_few : length t.operations ≤ 4096
   pub exceptions_few : length t.exceptions ≤ 4096
   pub declared_few : t.declared ≤ 4096
+
+-- the table of a catalogue
+abbrev pub IsTable : Table → Type 0
+IsTable t = TableOf AreTypes t

@@ -12,10 +12,11 @@ use Rattle.giop_tokens.specs.Readers.{mark_at, mark_if, repository_at}
 use Rattle.giop_tokens.specs.Names.{identifier_at}
 use Rattle.giop_sig.specs.Table.{Node, Part, exception_in}
 use Rattle.giop_sig.specs.Table as nodes
-use Rattle.giop_sig.specs.Scopes.{Scope, AddedType, part, with_named, with_raised}
+use Rattle.giop_sig.specs.Trees.{depth_of}
+use Rattle.giop_sig.specs.Scopes.{Scope, AddedType, add_array, part, with_node, with_named, with_raised}
 use Rattle.giop_sig.specs.Validity.{is_among}
 use Rattle.giop_sig.specs.Outcomes.{refused}
-use Rattle.giop_sig.specs.TypeReading.{added, enclosed_at, type_at}
+use Rattle.giop_sig.specs.TypeReading.{enclosed_at, type_at}
 use Rattle.giop_sig.specs.Repeats.{in_steps}
 
 -- ---- names
@@ -36,20 +37,19 @@ declared_at s count text = do
 
 -- ---- items
 
-abbrev pub array_type : ℕ → Scope → ℕ → Option ℕ → Result AddedType Refusal
-array_type at s element None = Ok (s, element)
-array_type at s element (Some n) = added at s (nodes.array n element)
-
 abbrev pub ItemRead : Type 0
 ItemRead = Scope × Part × List ℕ
 
-unfoldable pub item_at : ℕ → ℕ → List (List ℕ) → Scope → List ℕ → Result ItemRead Refusal
-item_at at most seen s text = do
-  t ← type_at at 25 s text
+-- an item of a type that was read, with this name and perhaps this length
+abbrev pub read_item : AddedType → List ℕ → List ℕ → ItemRead
+read_item p w rest = (p.0, part w p.1, rest)
+
+unfoldable pub item_at : ℕ → List (List ℕ) → Scope → List ℕ → Result ItemRead Refusal
+item_at most seen s text = do
+  t ← type_at s text
   n ← new_name_at most seen t.2
   l ← enclosed_at marks.OpenBracket marks.CloseBracket n.1
-  p ← array_type at t.0 t.1 l.0
-  Ok (p.0, part n.0 p.1, l.1)
+  Ok (read_item (add_array l.0 (t.0, t.1)) n.0 l.1)
 
 -- ---- members
 
@@ -57,21 +57,21 @@ item_at at most seen s text = do
 abbrev pub Members : Type 0
 Members = Scope × List (List ℕ) × List Part × List ℕ
 
-unfoldable pub member_at : ℕ → Members → Result (Bool × Members) Refusal
-member_at at m = do
-  i ← item_at at 256 m.1 m.0 m.3
+unfoldable pub member_at : Members → Result (Bool × Members) Refusal
+member_at m = do
+  i ← item_at 256 m.1 m.0 m.3
   r ← mark_at marks.Semicolon i.2
   Ok (false, (i.0, m.1 ++ (i.1).name ∷ [], m.2 ++ i.1 ∷ [], r))
 
-abbrev pub member_after : ℕ → Members → Option (List ℕ) → Result (Bool × Members) Refusal
-member_after at m (Some r) = Ok (true, (m.0, m.1, m.2, r))
-member_after at m None = member_at at m
+abbrev pub member_after : Members → Option (List ℕ) → Result (Bool × Members) Refusal
+member_after m (Some r) = Ok (true, (m.0, m.1, m.2, r))
+member_after m None = member_at m
 
 -- the closing mark, or a member more
-unfoldable pub member_step : ℕ → Members → Result (Bool × Members) Refusal
-member_step at m = do
+unfoldable pub member_step : Members → Result (Bool × Members) Refusal
+member_step m = do
   c ← mark_if marks.CloseBrace m.3
-  member_after at m c
+  member_after m c
 
 abbrev pub too_many_members : Members → Refusal
 too_many_members m = refused kinds.Limit m.3
@@ -83,11 +83,11 @@ abbrev pub members_read : Members → Result MembersRead Refusal
 members_read m = Ok (m.0, m.2, m.3)
 
 -- members up to the closing mark, in so many steps
-abbrev pub members_run : ℕ → ℕ → Members → Result MembersRead Refusal
-members_run at n m = in_steps (member_step at) too_many_members n m >>= members_read
+abbrev pub members_run : ℕ → Members → Result MembersRead Refusal
+members_run n m = in_steps member_step too_many_members n m >>= members_read
 
-abbrev pub members_at : ℕ → Scope → List ℕ → Result MembersRead Refusal
-members_at at s text = members_run at 257 (s, [], [], text)
+abbrev pub members_at : Scope → List ℕ → Result MembersRead Refusal
+members_at s text = members_run 257 (s, [], [], text)
 
 abbrev pub unless_closed : List ℕ → Option (List ℕ) → Result (List ℕ) Refusal
 unless_closed text None = Ok text
@@ -99,27 +99,36 @@ filled_at text = do
   c ← mark_if marks.CloseBrace text
   unless_closed text c
 
--- ---- declarations of members, each after its first word
+-- ---- the end of a declaration
 
+-- a scope after a declaration, and what follows that
 abbrev pub Declared : Type 0
 Declared = Scope × List ℕ
 
--- the end of an enum, struct or union: its mark, and its type by its name
-abbrev pub type_end_at : ℕ → List ℕ → Scope → Node → List ℕ → Result Declared Refusal
-type_end_at at name s node text = do
+-- too many levels, in the declaration whose name is at this place
+abbrev pub too_deep : ℕ → Refusal
+too_deep at = record { kind = kinds.Depth; left = at }
+
+-- the end of a declaration whose name is at this place, in the scope that it makes: its mark; and
+-- no type may be too deep
+unfoldable pub end_of : ℕ → Scope → List ℕ → Result Declared Refusal
+end_of at s text = do
   r ← mark_at marks.Semicolon text
-  p ← added at s node
-  Ok (with_named name p, r)
+  if nat_le (depth_of s.table.types) 24 then Ok (s, r) else Err (too_deep at)
+
+-- the end of an enum, struct or union, whose type has this node
+abbrev pub type_end_at : ℕ → List ℕ → Scope → Node → List ℕ → Result Declared Refusal
+type_end_at at name s node text = end_of at (with_named name (with_node s node)) text
+
+-- ---- declarations of members, each after its first word
 
 unfoldable pub structure_at : Scope → List ℕ → Result Declared Refusal
 structure_at s text = do
   n ← declared_at s s.table.declared text
   o ← mark_at marks.OpenBrace n.1
   f ← filled_at o
-  m ← members_at (left_of text) s f
-  r ← mark_at marks.Semicolon m.2
-  p ← added (left_of text) m.0 (nodes.members m.1)
-  Ok (with_named n.0 p, r)
+  m ← members_at s f
+  type_end_at (left_of text) n.0 m.0 (nodes.members m.1) m.2
 
 -- a repository id that is new
 unfoldable pub new_repository_at : Scope → List ℕ → Result (List ℕ × List ℕ) Refusal
@@ -132,7 +141,5 @@ exception_at s text = do
   n ← declared_at s (length s.table.exceptions) text
   i ← new_repository_at s n.1
   o ← mark_at marks.OpenBrace i.1
-  m ← members_at (left_of text) s o
-  r ← mark_at marks.Semicolon m.2
-  p ← added (left_of text) m.0 (nodes.members m.1)
-  Ok (with_raised n.0 i.0 p, r)
+  m ← members_at s o
+  end_of (left_of text) (with_raised n.0 i.0 (with_node m.0 (nodes.members m.1))) m.2

@@ -6,6 +6,8 @@ use Rattle.arrayvec.specs.ArrayVec.{ArrayVec}
 use Rattle.giop_sig.specs.declared.types.TypeId.{TypeId}
 use Rattle.giop_sig.specs.Table.{Node, Table, IsInner}
 use Rattle.giop_sig.specs.Builtin.{builtin_types}
+use Rattle.giop_sig.specs.Trees.{AreFormed}
+use Rattle.giop_sig.specs.HeaderTypes.{TableOf}
 use Rattle.giop_sig.specs.Scopes.{Scope}
 
 abbrev pub name_view : ArrayVec ℕ × Option TypeId → List ℕ × Option ℕ
@@ -31,3 +33,8 @@ pub record IsDeclaredName (types : List Node) (e : List ℕ × Option ℕ) : Typ
 pub record IsScope (s : Scope) : Type 0 where
   pub begins : (more : List Node) × (s.table.types ≡ builtin_types ++ more)
   pub names : AllByRecursion (IsDeclaredName s.table.types) s.names.known
+
+-- what holds of a draft, in which a type may be too deep until its declaration ends
+pub record IsDraft (s : Scope) : Type 0 where
+  pub scope : IsScope s
+  pub table : TableOf AreFormed s.table

@@ -95,10 +95,13 @@ part_depth types node i = depth (type_in types (type_of (part_at node i)))
 
 -- ---- tables
 
--- types that can be in a table: each part has a smaller number than its whole, and none is deeper
--- than 24
-pub record AreTypes (types : List Node) : Type 0 where
+-- types of which each part has a smaller number than its whole
+pub record AreFormed (types : List Node) : Type 0 where
   pub few : length types < 2 ^ 32
   pub formed : (i : ℕ) → i < length types
       → IsFormed types i (slice_index_or types i (nodes.prim prims.Octet))
+
+-- types that can be in a table: none is deeper than 24
+pub record AreTypes (types : List Node) : Type 0 where
+  pub placed : AreFormed types
   pub shallow : depth_of types ≤ 24

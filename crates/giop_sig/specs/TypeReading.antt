@@ -1,5 +1,5 @@
 -- Reading a type from left to right, and what it adds to the scope (steps).
-use Rattle.std.specs.Prelude.{ℕ, zero, suc, ◌==◌, if◌then◌else◌, nat_le, nat_lt, List, length, Option, Some, None, Result, Ok, Err, codes}
+use Rattle.std.specs.Prelude.{ℕ, zero, suc, Bool, true, false, ◌==◌, if◌then◌else◌, nat_lt, List, [], ◌∷◌, ◌++◌, length, Option, Some, None, Result, Ok, Err, codes}
 use Rattle.std.specs.Str.{bytes_eq}
 use Rattle.giop_tokens.specs.declared.fault.Refusal.{Refusal}
 use Rattle.giop_tokens.specs.declared.fault.SigFaultKind.TheVariants as kinds
@@ -9,32 +9,10 @@ use Rattle.giop_tokens.specs.Reading.{◌>>=◌}
 use Rattle.giop_tokens.specs.Readers.{misplaced, word_at, number_at, mark_at, mark_if}
 use Rattle.giop_tokens.specs.Names.{is_reserved}
 use Rattle.giop_sig.specs.declared.numbers.TheConstants.{STRING, IOR}
-use Rattle.giop_sig.specs.Types.{depth}
-use Rattle.giop_sig.specs.Table.{Node}
-use Rattle.giop_sig.specs.Table as nodes
-use Rattle.giop_sig.specs.Trees.{grow, tree}
-use Rattle.giop_sig.specs.Scopes.{has_encapsulations, Scope, AddedType, named, with_node, sequence_node}
+use Rattle.giop_sig.specs.declared.read_types.Opener.{Opener}
+use Rattle.giop_sig.specs.declared.read_types.Opener.TheVariants as openers
+use Rattle.giop_sig.specs.Scopes.{has_encapsulations, Scope, AddedType, named, add_text_type, add_sequence_type, add_encapsulation_type}
 use Rattle.giop_sig.specs.Outcomes.{refused}
-
--- too many levels, in the declaration whose name is at this place
-abbrev pub too_deep : ℕ → Refusal
-too_deep at = record { kind = kinds.Depth; left = at }
-
--- too many types to be numbered, in the declaration whose name is at this place; no text that
--- spells a file has so many
-abbrev pub too_many_types : ℕ → Refusal
-too_many_types at = record { kind = kinds.Limit; left = at }
-
--- one node more, where a number is left for it
-abbrev pub next_node : ℕ → Scope → Node → Result AddedType Refusal
-next_node at s node =
-    if nat_le 4294967295 (length s.table.types) then Err (too_many_types at) else Ok
-    (with_node s node)
-
--- one node more, where it isn't too deep
-unfoldable pub added : ℕ → Scope → Node → Result AddedType Refusal
-added at s node =
-    if nat_le (depth (grow (tree s.table) node)) 24 then next_node at s node else Err (too_deep at)
 
 -- ---- sizes
 
@@ -91,51 +69,33 @@ base_of w =
     (if bytes_eq w (codes "float") then Some 9 else
     (if bytes_eq w (codes "double") then Some 10 else None))))))))))
 
-abbrev pub text_type : ℕ → Scope → Option ℕ → Result AddedType Refusal
-text_type at s None = Ok (s, STRING)
-text_type at s (Some n) = added at s (nodes.text (Some n))
+-- what reading a type gives, after a type was added
+abbrev pub read_as : AddedType → List ℕ → TypeRead
+read_as p rest = (p.0, p.1, rest)
 
 -- a string, after its word
-unfoldable pub text_at : ℕ → Scope → List ℕ → Result TypeRead Refusal
-text_at at s rest = do
+unfoldable pub text_at : Scope → List ℕ → Result TypeRead Refusal
+text_at s rest = do
   b ← enclosed_at marks.OpenAngle marks.CloseAngle rest
-  t ← text_type at s b.0
-  Ok (t.0, t.1, b.1)
+  Ok (read_as (add_text_type s b.0) b.1)
 
 -- a sequence, after the type of its elements: perhaps a bound, and the closing mark
-abbrev pub after_element : ℕ → TypeRead → Result TypeRead Refusal
-after_element at e = do
+abbrev pub after_element : TypeRead → Result TypeRead Refusal
+after_element e = do
   b ← most_at e.2
   r ← mark_at marks.CloseAngle b.1
-  t ← added at e.0 (sequence_node b.0 e.1)
-  Ok (t.0, t.1, r)
-
--- a sequence, after its word; element reads the element's type
-abbrev pub sequence_at : ℕ → (List ℕ → Result TypeRead Refusal) → List ℕ → Result TypeRead Refusal
-sequence_at at element rest = do
-  inner ← mark_at marks.OpenAngle rest
-  e ← element inner
-  after_element at e
+  Ok (read_as (add_sequence_type b.0 (e.0, e.1)) r)
 
 -- an encapsulation, after the type of what it holds: the closing mark
-abbrev pub after_encapsulated : ℕ → TypeRead → Result TypeRead Refusal
-after_encapsulated at h = do
+abbrev pub after_held : TypeRead → Result TypeRead Refusal
+after_held h = do
   r ← mark_at marks.CloseAngle h.2
-  t ← added at h.0 (nodes.encapsulation h.1)
-  Ok (t.0, t.1, r)
+  Ok (read_as (add_encapsulation_type (h.0, h.1)) r)
 
--- an encapsulation, after its word; held reads the type of what it holds
-abbrev pub held_at : ℕ → (List ℕ → Result TypeRead Refusal) → List ℕ → Result TypeRead Refusal
-held_at at held rest = do
-  inner ← mark_at marks.OpenAngle rest
-  h ← held inner
-  after_encapsulated at h
-
--- an encapsulation, where the file may have one; its word is the first of the text
-abbrev pub encapsulation_at : ℕ → (List ℕ → Result TypeRead Refusal) → Scope → List ℕ → List ℕ
-    → Result TypeRead Refusal
-encapsulation_at at held s text rest =
-    if has_encapsulations s.names then held_at at held rest else Err (misplaced text)
+-- what closes a type that was opened, after the type in it
+unfoldable pub closed_by : Opener → TypeRead → Result TypeRead Refusal
+closed_by openers.Sequence t = after_element t
+closed_by openers.Encapsulation t = after_held t
 
 abbrev pub found_type : Scope → List ℕ → List ℕ → Option ℕ → Result TypeRead Refusal
 found_type s text rest None = Err (refused kinds.UnknownType text)
@@ -148,26 +108,77 @@ named_type s text w rest =
     (if nat_lt 64 (length w) then Err (refused kinds.Limit text)
     else found_type s text rest (named s.names w))
 
-abbrev pub leaf_after : ℕ → Scope → List ℕ → List ℕ → List ℕ → Option ℕ → Result TypeRead Refusal
-leaf_after at s text w rest (Some base) = Ok (s, base, rest)
-leaf_after at s text w rest None =
-    if bytes_eq w (codes "string") then text_at at s rest else
+abbrev pub leaf_after : Scope → List ℕ → List ℕ → List ℕ → Option ℕ → Result TypeRead Refusal
+leaf_after s text w rest (Some base) = Ok (s, base, rest)
+leaf_after s text w rest None =
+    if bytes_eq w (codes "string") then text_at s rest else
     (if bytes_eq w (codes "Object") then Ok (s, IOR, rest) else named_type s text w rest)
 
--- a type that has no other in angle brackets, by the first word of the text
-unfoldable pub leaf_at : ℕ → Scope → List ℕ → List ℕ → List ℕ → Result TypeRead Refusal
-leaf_at at s text w rest = leaf_after at s text w rest (base_of w)
-
-abbrev pub type_after : ℕ → (List ℕ → Result TypeRead Refusal) → Scope → List ℕ → List ℕ → List ℕ
-    → Result TypeRead Refusal
-type_after at inner s text w rest =
-    if bytes_eq w (codes "sequence") then sequence_at at inner rest else
-    (if bytes_eq w (codes "encapsulation") then encapsulation_at at inner s text rest else
-    leaf_at at s text w rest)
-
--- a type of at most so many words
-unfoldable pub type_at : ℕ → ℕ → Scope → List ℕ → Result TypeRead Refusal
-type_at at zero s text = Err (too_deep at)
-type_at at (suc left) s text = do
+-- a type that has no other in angle brackets
+unfoldable pub leaf_at : Scope → List ℕ → Result TypeRead Refusal
+leaf_at s text = do
   w ← word_at text
-  type_after at (type_at at left s) s text w.0 w.1
+  leaf_after s text w.0 w.1 (base_of w.0)
+
+-- a word that opens a type, and what follows its opening mark
+abbrev pub Opened : Type 0
+Opened = Opener × List ℕ
+
+abbrev pub opened_by : Opener → List ℕ → Result (Option Opened) Refusal
+opened_by o rest = do
+  inner ← mark_at marks.OpenAngle rest
+  Ok (Some (o, inner))
+
+-- the first word of a text where it opens a type; an encapsulation is a type since version 2
+abbrev pub opener_after : Scope → List ℕ → List ℕ → List ℕ → Result (Option Opened) Refusal
+opener_after s text w rest =
+    if bytes_eq w (codes "sequence") then opened_by openers.Sequence rest else
+    (if bytes_eq w (codes "encapsulation")
+    then (if has_encapsulations s.names then opened_by openers.Encapsulation rest
+    else Err (misplaced text)) else Ok None)
+
+-- a word that opens a type around another, where one comes first
+unfoldable pub opener_at : Scope → List ℕ → Result (Option Opened) Refusal
+opener_at s text = do
+  w ← word_at text
+  opener_after s text w.0 w.1
+
+abbrev pub type_after : (List ℕ → Result TypeRead Refusal) → Scope → List ℕ → Option Opened
+    → Result TypeRead Refusal
+type_after inner s text None = leaf_at s text
+type_after inner s text (Some o) = inner o.1 >>= closed_by o.0
+
+-- a type with fewer than so many words that open others in it
+unfoldable pub nested_at : ℕ → Scope → List ℕ → Result TypeRead Refusal
+nested_at zero s text = Err (misplaced text)
+nested_at (suc left) s text = do
+  o ← opener_at s text
+  type_after (nested_at left s) s text o
+
+-- a type; a text has fewer words than octets
+abbrev pub type_at : Scope → List ℕ → Result TypeRead Refusal
+type_at s text = nested_at (length text) s text
+
+-- ---- a type as the code reads it: all that open, a leaf, and what closes them
+
+-- the openers before those that still come, the outermost first, and what follows them
+abbrev pub Openers : Type 0
+Openers = List Opener × List ℕ
+
+abbrev pub opener_or_leaf : Openers → Option Opened → Bool × Openers
+opener_or_leaf os None = (true, os)
+opener_or_leaf os (Some o) = (false, (os.0 ++ o.0 ∷ [], o.1))
+
+-- an opener more, where one comes
+unfoldable pub openers_step : Scope → Openers → Result (Bool × Openers) Refusal
+openers_step s os = do
+  o ← opener_at s os.1
+  Ok (opener_or_leaf os o)
+
+abbrev pub too_many_openers : Openers → Refusal
+too_many_openers os = misplaced os.1
+
+-- what closes openers, the outermost first, around a type
+unfoldable pub all_closed : List Opener → TypeRead → Result TypeRead Refusal
+all_closed [] t = Ok t
+all_closed (o ∷ os) t = all_closed os t >>= closed_by o

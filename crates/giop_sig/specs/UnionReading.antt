@@ -16,10 +16,10 @@ use Rattle.giop_sig.specs.declared.types.Selected.TheVariants as selecteds
 use Rattle.giop_sig.specs.Table.{Part, Case, Node, node_at, same_number}
 use Rattle.giop_sig.specs.Table as nodes
 use Rattle.giop_sig.specs.Grammar.{Value, Plain, Below, Truth, Enumerator}
-use Rattle.giop_sig.specs.Scopes.{Scope, label_number, with_named}
+use Rattle.giop_sig.specs.Scopes.{Scope, label_number}
 use Rattle.giop_sig.specs.Outcomes.{refused}
-use Rattle.giop_sig.specs.TypeReading.{added, TypeRead, type_at}
-use Rattle.giop_sig.specs.ItemReading.{declared_at, item_at, filled_at, Declared}
+use Rattle.giop_sig.specs.TypeReading.{TypeRead, type_at}
+use Rattle.giop_sig.specs.ItemReading.{declared_at, item_at, filled_at, Declared, type_end_at}
 use Rattle.giop_sig.specs.Repeats.{in_steps}
 
 -- ---- a label
@@ -166,35 +166,34 @@ with_case cs ls p = record {
 abbrev pub CasesRead : Type 0
 CasesRead = Scope × Cases × List ℕ
 
--- a case of a union in the declaration whose name is at this place, and whose discriminator has the
--- type of a number
-unfoldable pub case_at : ℕ → ℕ → CasesRead → Result CasesRead Refusal
-case_at at switch x = do
+-- a case of a union whose discriminator has the type of a number
+unfoldable pub case_at : ℕ → CasesRead → Result CasesRead Refusal
+case_at switch x = do
   ls ← labels_at (node_at (x.0).table switch) (x.1).labels x.2
-  i ← item_at at 256 (x.1).names x.0 ls.3
+  i ← item_at 256 (x.1).names x.0 ls.3
   rest ← mark_at marks.Semicolon i.2
   Ok (i.0, with_case x.1 ls i.1, rest)
 
-abbrev pub case_or_end : ℕ → ℕ → CasesRead → Option (List ℕ) → Result (Bool × CasesRead) Refusal
-case_or_end at switch x (Some rest) = Ok (true, (x.0, x.1, rest))
-case_or_end at switch x None = do
-  c ← case_at at switch x
+abbrev pub case_or_end : ℕ → CasesRead → Option (List ℕ) → Result (Bool × CasesRead) Refusal
+case_or_end switch x (Some rest) = Ok (true, (x.0, x.1, rest))
+case_or_end switch x None = do
+  c ← case_at switch x
   Ok (false, c)
 
 -- the closing mark, or a case more
-unfoldable pub cases_step : ℕ → ℕ → CasesRead → Result (Bool × CasesRead) Refusal
-cases_step at switch x = do
+unfoldable pub cases_step : ℕ → CasesRead → Result (Bool × CasesRead) Refusal
+cases_step switch x = do
   closed ← mark_if marks.CloseBrace x.2
-  case_or_end at switch x closed
+  case_or_end switch x closed
 
 abbrev pub too_many_cases : CasesRead → Refusal
 too_many_cases x = refused kinds.Limit x.2
 
 -- cases up to the closing mark, one at least
-unfoldable pub cases_at : ℕ → ℕ → Scope → List ℕ → Result CasesRead Refusal
-cases_at at switch s text = do
+unfoldable pub cases_at : ℕ → Scope → List ℕ → Result CasesRead Refusal
+cases_at switch s text = do
   some ← filled_at text
-  in_steps (cases_step at switch) too_many_cases 257 (s, no_cases, some)
+  in_steps (cases_step switch) too_many_cases 257 (s, no_cases, some)
 
 -- ---- the declaration
 
@@ -207,10 +206,14 @@ can_switch (nodes.prim p) = true
 can_switch (nodes.enumeration names) = true
 can_switch node = false
 
+-- the node of a union whose cases were read
+abbrev pub union_node : ℕ → CasesRead → Node
+union_node switch x = nodes.union switch (x.1).cases (x.1).otherwise
+
 -- the type of a discriminator
-unfoldable pub switch_at : ℕ → Scope → List ℕ → Result TypeRead Refusal
-switch_at at s text = do
-  t ← type_at at 25 s text
+unfoldable pub switch_at : Scope → List ℕ → Result TypeRead Refusal
+switch_at s text = do
+  t ← type_at s text
   if can_switch (node_at (t.0).table t.1) then Ok t else Err (refused kinds.Label text)
 
 -- a union, after its word
@@ -219,10 +222,8 @@ union_at s text = do
   n ← declared_at s s.table.declared text
   w ← keyword_at (codes "switch") n.1
   p ← mark_at marks.OpenParenthesis w
-  t ← switch_at (left_of text) s p
+  t ← switch_at s p
   q ← mark_at marks.CloseParenthesis t.2
   o ← mark_at marks.OpenBrace q
-  cs ← cases_at (left_of text) t.1 t.0 o
-  r ← mark_at marks.Semicolon cs.2
-  u ← added (left_of text) cs.0 (nodes.union t.1 (cs.1).cases (cs.1).otherwise)
-  Ok (with_named n.0 u, r)
+  cs ← cases_at t.1 t.0 o
+  type_end_at (left_of text) n.0 cs.0 (union_node t.1 cs) cs.2

@@ -5,7 +5,7 @@ use Rattle.giop_sig.specs.declared.entries.Entry.{Entry}
 use Rattle.giop_sig.specs.declared.entries.Entry.TheVariants as entries
 use Rattle.giop_sig.specs.declared.entries.EntryWithDepth.{EntryWithDepth}
 use Rattle.giop_sig.specs.Table.{Node, prim, enumeration, text, octets, members, union, sequence, array, encapsulation, tagged}
-use Rattle.giop_sig.specs.Trees.{AreTypes, trees_of, depths, depth_of}
+use Rattle.giop_sig.specs.Trees.{AreFormed, trees_of, depths, depth_of}
 use Rattle.giop_sig.specs.UnionCases.{part_view}
 
 abbrev pub tag_view : TagEntry → Node
@@ -36,6 +36,6 @@ nodes_view ps = map (λ p. node_view p.entry) ps
 
 -- entries with the depths of their types, and the greatest of these
 pub record IsKept (ps : List EntryWithDepth) (deepest : ℕ) : Type 0 where
-  pub types : AreTypes (nodes_view ps)
+  pub types : AreFormed (nodes_view ps)
   pub each : map (λ p. p.depth) ps ≡ depths (trees_of (nodes_view ps))
   pub greatest : deepest ≡ depth_of (nodes_view ps)

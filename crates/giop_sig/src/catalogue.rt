@@ -52,6 +52,7 @@ impl Model for Catalogue {
 }
 
 impl Catalogue {
+    ghost use Rattle.giop_sig.specs.Entries.{table_view};
     ghost use Rattle.giop_sig.specs.Builtin.{builtin_table};
     ghost use Rattle.giop_tokens.specs.Faults.{no_memory};
     ghost use Rattle.giop_sig.specs.Views.{node_view, IsSized};
@@ -70,6 +71,24 @@ impl Catalogue {
         })
     }
 
+    /// The catalogue of these types, operations and exceptions, and of so many enums, structs and unions.
+    pub(crate) fn of(
+        types: Types,
+        operations: IndexMap<Name, Signature>,
+        exceptions: IndexMap<Name, TypeId>,
+        declared: u32,
+    ) -> Catalogue
+        requires { IsTable (table_view types operations.entries exceptions.entries declared) }
+        ensures { result ≡ table_view types operations.entries exceptions.entries declared }
+    {
+        Catalogue {
+            types,
+            operations,
+            exceptions,
+            declared,
+        }
+    }
+
     /// What holds of every catalogue: it has no body, and is called for its contract.
     pub fn laws(&self)
         ensures { IsTable self.now }
@@ -84,7 +103,7 @@ impl Catalogue {
         ensures least { 9 ≤ result }
         ensures most { result ≤ 24 }
     {
-        self.types.deepest()
+        self.types.deepest() as u8
     }
 
     /// How many types, operations and exceptions the signature file has.
@@ -283,95 +302,6 @@ impl Catalogue {
         ensures sized { IsSized result.now }
     {
         self.types.entry(t)
-    }
-
-    /// The depth of a type.
-    pub(crate) fn depth_at(&self, t: TypeId) -> u8
-        requires { t.0 < length self.now.types }
-        ensures { result ≡ depth (tree self.now t.0) }
-    {
-        self.types.depth_at(t)
-    }
-
-    /// The depth that an entry's type would have.
-    pub(crate) fn depth_above(&self, entry: &Entry) -> u8
-        requires { IsFormed self.now.types (length self.now.types) (node_view entry.now) }
-        ensures depth { result ≡ depth (grow (tree self.now) (node_view entry.now)) }
-        ensures shallow { result ≤ 25 }
-    {
-        self.types.depth_above(entry)
-    }
-
-    /// Whether all numbers of types are used up.
-    pub(crate) fn is_full(&self) -> bool
-        ensures { result ≡ nat_le 4294967295 (length self.now.types) }
-    {
-        self.types.len() == u32::MAX
-    }
-
-    /// Adds a type, of an entry that is no deeper than 24, where a number is left for it. An `Err` changes nothing.
-    pub(crate) fn add_type(&mut self, entry: Entry) -> Result<TypeId, SigFault>
-        requires formed { IsFormed self.old.types (length self.old.types) (node_view entry) }
-        requires shallow { depth (grow (tree self.old) (node_view entry)) ≤ 24 }
-        requires few { length self.old.types + 1 < 2 ^ 32 }
-        ensures number { IfOk result (λ t. t.0 ≡ length self.old.types) }
-        ensures added { OnOk result (self.new ≡ with_type self.old (node_view entry)) }
-        ensures memory { IfErr result (λ fault. fault ≡ no_memory) }
-        ensures err { OnErr result (self.new ≡ self.old) }
-    {
-        let t = self.types.add(entry)?;
-        self.types.laws();
-        Ok(t)
-    }
-
-    /// Counts one enum, struct or union more.
-    pub(crate) fn count_declared(&mut self)
-        requires { self.old.declared < 4096 }
-        ensures { self.new ≡ with_declared self.old }
-    {
-        self.declared += 1;
-    }
-
-    /// Adds an operation of a new name. An `Err` changes nothing.
-    pub(crate) fn add_operation(
-        &mut self,
-        name: &[u8],
-        request: TypeId,
-        reply: TypeId,
-    ) -> Result<(), SigFault>
-        requires short { length name.now ≤ 128 }
-        requires new { operation_in self.old name.now ≡ None }
-        requires few { length self.old.operations < 4096 }
-        requires request { request.0 < length self.old.types }
-        requires reply { reply.0 < length self.old.types }
-        ensures added { OnOk result (self.new ≡ with_operation self.old
-            (record { name = name.now; request = request.0; reply = reply.0 })) }
-        ensures memory { IfErr result (λ fault. fault ≡ no_memory) }
-        ensures err { OnErr result (self.new ≡ self.old) }
-    {
-        let key: Name = ArrayVec::try_from(name).unwrap();
-        self.operations.insert(key, Signature { request, reply })?;
-        Ok(())
-    }
-
-    /// Adds an exception of a new repository id. An `Err` changes nothing.
-    pub(crate) fn add_exception(
-        &mut self,
-        repository: &[u8],
-        members: TypeId,
-    ) -> Result<(), SigFault>
-        requires short { length repository.now ≤ 128 }
-        requires new { exception_in self.old repository.now ≡ None }
-        requires few { length self.old.exceptions < 4096 }
-        requires members { members.0 < length self.old.types }
-        ensures added { OnOk result (self.new ≡ with_exception self.old
-            (record { repository = repository.now; members = members.0 })) }
-        ensures memory { IfErr result (λ fault. fault ≡ no_memory) }
-        ensures err { OnErr result (self.new ≡ self.old) }
-    {
-        let key: Name = ArrayVec::try_from(repository).unwrap();
-        self.exceptions.insert(key, members)?;
-        Ok(())
     }
 
     /// The entry of an operation.

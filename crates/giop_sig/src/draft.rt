@@ -1,23 +1,22 @@
 //! A draft, made from the declarations so far: a catalogue, and the names that later declarations may use.
-ghost use Rattle.std.specs.Prelude.{◌≡◌, ◌<◌, ◌≤◌, length, IfOk, IfErr, IfSome, IfNone, OnOk, None};
+ghost use Rattle.std.specs.Prelude.{◌≡◌, ◌<◌, ◌≤◌, length, IfOk, IfErr, IfSome, IfNone, OnOk, None, Ok};
 ghost use Rattle.std.specs.Option.{option_map, is_some};
 ghost use Rattle.std.specs.Map.{lookup};
 ghost use Rattle.std.specs.Str.{bytes_eq};
 ghost use Rattle.giop_cdr.specs.declared.prim.Primitive.TheVariants as prims;
-ghost use Rattle.giop_sig.specs.Table.{IsFormed, node_at, prim, operation_in, exception_in};
-ghost use Rattle.giop_sig.specs.Scopes.{first_scope, has_encapsulations, named, with_name, with_named, with_raised, with_call};
-ghost use Rattle.giop_sig.specs.ScopeViews.{IsScope, IsKnown, IsKnownType};
+ghost use Rattle.giop_sig.specs.Table.{IsFormed, node_at, prim, operation_in, exception_in, with_exception};
+ghost use Rattle.giop_sig.specs.Trees.{depth_of};
+ghost use Rattle.giop_sig.specs.Scopes.{first_scope, has_encapsulations, named, with_node, with_name, with_named, with_raised, with_call};
+ghost use Rattle.giop_sig.specs.ScopeViews.{IsDraft, IsKnown, IsKnownType};
 ghost use Rattle.giop_sig.specs.Outcomes.{Gives};
-ghost use Rattle.giop_sig.specs.TypeReading.{added};
 ghost use Rattle.giop_sig.specs.Views.{node_view, IsSized};
-ghost use Rattle.giop_sig.specs.HeaderTypes.{IsTable};
 
-use crate::catalogue::Catalogue;
-use crate::entries::Entry;
+use crate::builtin::builtin_list;
+use crate::catalogue::{Catalogue, Name, Signature};
+use crate::entries::{Entry, Types};
 use crate::parse_stop::ParseStop;
 use crate::types::TypeId;
 use arrayvec::ArrayVec;
-use giop_tokens::{Refusal, SigFaultKind};
 use indexmap::IndexMap;
 use std::alloc::Global;
 use std::marker::Model;
@@ -28,24 +27,35 @@ pub(crate) type Key = ArrayVec<u8, 64>;
 /// The version of a file that may have encapsulations.
 const ENCAPSULATIONS_SINCE: u64 = 2;
 
-/// The catalogue of the declarations so far, with the version of their file, the names of enums, structs and unions,
-/// each with its type, and of exceptions. A contract sees the `Scope`.
+/// The types, operations and exceptions of the declarations so far, with the version of their file, the names of enums,
+/// structs and unions, each with its type, and of exceptions. A contract sees the `Scope`. A type may be too deep until
+/// its declaration ends.
 #[derive(Drop)]
 pub(crate) struct Draft {
     version: u64,
-    catalogue: Catalogue,
+    types: Types,
+    operations: IndexMap<Name, Signature>,
+    exceptions: IndexMap<Name, TypeId>,
+    /// How many enums, structs and unions are declared.
+    declared: u32,
     names: IndexMap<Key, Option<TypeId>>,
 }
 
 impl Model for Draft {
     ghost use Rattle.giop_sig.specs.Scopes.{Scope};
-    ghost use Rattle.giop_sig.specs.ScopeViews.{scope_view, IsScope};
+    ghost use Rattle.giop_sig.specs.ScopeViews.{scope_view, IsDraft};
+    ghost use Rattle.giop_sig.specs.Entries.{table_view};
 
     ghost Value = { Scope };
 
-    ghost view = { λ a. scope_view a.version a.catalogue a.names.entries };
+    ghost view = { λ a.
+        scope_view a.version (table_view a.types a.operations.entries a.exceptions.entries a.declared)
+        a.names.entries };
 
-    ghost invariant = { λ a. IsScope (scope_view a.version a.catalogue a.names.entries) };
+    ghost invariant = { λ a.
+        IsDraft (scope_view a.version
+        (table_view a.types a.operations.entries a.exceptions.entries a.declared)
+        a.names.entries) };
 }
 
 impl Draft {
@@ -54,24 +64,23 @@ impl Draft {
         ensures ok { IfOk result (λ draft. draft ≡ first_scope version) }
         ensures err { IfErr result (λ stop. stop ≡ ParseStop.Memory) }
     {
-        let Ok(catalogue) = Catalogue::builtin(alloc) else {
-            return Err(ParseStop::Memory);
-        };
+        let types = builtin_list(alloc)?;
         Ok(Draft {
             version,
-            catalogue,
+            types,
+            operations: IndexMap::new(alloc),
+            exceptions: IndexMap::new(alloc),
+            declared: 0,
             names: IndexMap::new(alloc),
         })
     }
 
     /// What holds of every draft: it has no body, and is called for its contract.
     pub(crate) fn laws(&self)
-        ensures scope { IsScope self.now }
-        ensures table { IsTable self.now.table }
+        ensures { IsDraft self.now }
     {
         // What holds of every map of names is known of this one once it is read.
         let _names = &self.names;
-        self.catalogue.laws();
     }
 
     /// Whether the file may have encapsulations.
@@ -101,31 +110,28 @@ impl Draft {
         names.get(&key).is_some()
     }
 
-    /// Adds a type. One that is too deep, or for which no number is left, is refused in the declaration whose name is
-    /// at this place.
-    #[tactic(auto, unfolding(crate::specs::TypeReading::added))]
-    pub(crate) fn add(&mut self, at: usize, entry: Entry) -> Result<TypeId, ParseStop>
+    /// Adds a type. Want of numbers is want of memory: no text is long enough for so many types.
+    pub(crate) fn add(&mut self, entry: Entry) -> Result<TypeId, ParseStop>
         requires { IsFormed self.old.table.types (length self.old.table.types) (node_view entry) }
-        ensures { Gives (λ t. (self.new, t.0)) result (added at self.old (node_view entry)) }
+        ensures { Gives (λ t. (self.new, t.0)) result (Ok (with_node self.old (node_view entry))) }
     {
         // What holds of every map of names is known of this one once it is read.
         let _names = &self.names;
-        if self.catalogue.depth_above(&entry) > 24 {
-            return Err(ParseStop::Refused(Refusal {
-                kind: SigFaultKind::Depth,
-                left: at,
-            }));
-        }
-        if self.catalogue.is_full() {
-            return Err(ParseStop::Refused(Refusal {
-                kind: SigFaultKind::Limit,
-                left: at,
-            }));
-        }
-        let Ok(t) = self.catalogue.add_type(entry) else {
+        if self.types.len() == u32::MAX {
             return Err(ParseStop::Memory);
-        };
+        }
+        let t = self.types.add(entry)?;
+        self.types.laws();
         Ok(t)
+    }
+
+    /// The greatest depth of a type.
+    pub(crate) fn depth(&self) -> u32
+        ensures { result ≡ depth_of self.now.table.types }
+    {
+        // What holds of every map of names is known of this one once it is read.
+        let _names = &self.names;
+        self.types.deepest()
     }
 
     /// The entry of a type; none where no type has this number.
@@ -136,8 +142,8 @@ impl Draft {
     {
         // What holds of every map of names is known of this one once it is read.
         let _names = &self.names;
-        if self.catalogue.has(t) {
-            Some(self.catalogue.entry(t))
+        if t.0 < self.types.len() {
+            Some(self.types.entry(t))
         } else {
             None
         }
@@ -149,7 +155,7 @@ impl Draft {
     {
         // What holds of every map of names is known of this one once it is read.
         let _names = &self.names;
-        self.catalogue.counts().types
+        self.declared
     }
 
     /// How many exceptions are declared.
@@ -158,7 +164,7 @@ impl Draft {
     {
         // What holds of every map of names is known of this one once it is read.
         let _names = &self.names;
-        self.catalogue.counts().exceptions
+        self.exceptions.len() as u32
     }
 
     /// How many operations are declared.
@@ -167,25 +173,29 @@ impl Draft {
     {
         // What holds of every map of names is known of this one once it is read.
         let _names = &self.names;
-        self.catalogue.counts().operations
+        self.operations.len() as u32
     }
 
     /// Whether an exception of this repository id is declared.
     pub(crate) fn has_repository(&self, repository: &[u8]) -> bool
+        requires { length repository.now ≤ 128 }
         ensures { result ≡ is_some (exception_in self.now.table repository.now) }
     {
         // What holds of every map of names is known of this one once it is read.
         let _names = &self.names;
-        self.catalogue.exception(repository).is_some()
+        let key: Name = ArrayVec::try_from(repository).unwrap();
+        self.exceptions.get_index_of(&key).is_some()
     }
 
     /// Whether an operation of this name is declared.
     pub(crate) fn has_operation(&self, name: &[u8]) -> bool
+        requires { length name.now ≤ 128 }
         ensures { result ≡ is_some (operation_in self.now.table name.now) }
     {
         // What holds of every map of names is known of this one once it is read.
         let _names = &self.names;
-        self.catalogue.operation(name).is_some()
+        let key: Name = ArrayVec::try_from(name).unwrap();
+        self.operations.get_index_of(&key).is_some()
     }
 
     /// Adds a name that is new, perhaps a type's.
@@ -212,7 +222,26 @@ impl Draft {
         ensures err { IfErr result (λ stop. stop ≡ ParseStop.Memory) }
     {
         self.add_name(name, Some(t))?;
-        self.catalogue.count_declared();
+        self.declared += 1;
+        Ok(())
+    }
+
+    /// Adds an exception of a new repository id.
+    fn add_exception(&mut self, repository: &[u8], t: TypeId) -> Result<(), ParseStop>
+        requires few { length self.old.table.exceptions < 4096 }
+        requires identity { length repository.now ≤ 128 }
+        requires different { exception_in self.old.table repository.now ≡ None }
+        requires known { t.0 < length self.old.table.types }
+        ensures added { OnOk result (self.new ≡ record (self.old) {
+          table = with_exception self.old.table
+              (record { repository = repository.now; members = t.0 });
+        }) }
+        ensures err { IfErr result (λ stop. stop ≡ ParseStop.Memory) }
+    {
+        // What holds of every map of names is known of this one once it is read.
+        let _names = &self.names;
+        let key: Name = ArrayVec::try_from(repository).unwrap();
+        self.exceptions.insert(key, t)?;
         Ok(())
     }
 
@@ -234,10 +263,7 @@ impl Draft {
         ensures err { IfErr result (λ stop. stop ≡ ParseStop.Memory) }
     {
         self.add_name(name, None)?;
-        let Ok(()) = self.catalogue.add_exception(repository, t) else {
-            return Err(ParseStop::Memory);
-        };
-        Ok(())
+        self.add_exception(repository, t)
     }
 
     /// Declares an operation by a new name.
@@ -257,16 +283,21 @@ impl Draft {
     {
         // What holds of every map of names is known of this one once it is read.
         let _names = &self.names;
-        let Ok(()) = self.catalogue.add_operation(name, request, reply) else {
-            return Err(ParseStop::Memory);
-        };
+        let key: Name = ArrayVec::try_from(name).unwrap();
+        self.operations.insert(key, Signature { request, reply })?;
         Ok(())
     }
 
-    /// The catalogue.
+    /// The catalogue, if no type is too deep.
     pub(crate) fn into_catalogue(self) -> Catalogue
+        requires { depth_of self.table.types ≤ 24 }
         ensures { result ≡ self.table }
     {
-        self.catalogue
+        Catalogue::of(
+            self.types,
+            self.operations,
+            self.exceptions,
+            self.declared,
+        )
     }
 }

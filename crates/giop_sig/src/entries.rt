@@ -3,7 +3,7 @@ ghost use Rattle.std.specs.Prelude.{◌≡◌, ℕ, ◌+◌, ◌^◌, ◌<◌, �
 ghost use Rattle.std.specs.Option.{option_map};
 ghost use Rattle.giop_sig.specs.Types.{depth, most, HasPlace, HasMember, IsUnion};
 ghost use Rattle.giop_sig.specs.Table.{node_in, IsFormed, shape_of, part_at, type_of, name_of, name_at, switch_at, selected};
-ghost use Rattle.giop_sig.specs.Trees.{grow, type_in, depth_of, part_depth, AreTypes};
+ghost use Rattle.giop_sig.specs.Trees.{grow, type_in, depth_of, part_depth, AreFormed};
 ghost use Rattle.giop_sig.specs.UnionCases.{part_view};
 
 use crate::cases::UnionCases;
@@ -192,14 +192,14 @@ impl Entry {
 #[derive(Drop)]
 pub(crate) struct EntryWithDepth {
     pub(crate) entry: Entry,
-    pub(crate) depth: u8,
+    pub(crate) depth: u32,
 }
 
 /// Types, each numbered by its index. A part has a smaller number than the type that it is part of.
 #[derive(Drop)]
 pub(crate) struct Types {
     placed: Vec<EntryWithDepth>,
-    deepest: u8,
+    deepest: u32,
 }
 
 impl Model for Types {
@@ -229,7 +229,7 @@ impl Types {
 
     /// What holds of every list of types: it has no body, and is called for its contract.
     pub(crate) fn laws(&self)
-        ensures { AreTypes self.now }
+        ensures { AreFormed self.now }
     {
         // What holds of every placed type is known of these once they are read.
         let _placed = &self.placed;
@@ -253,27 +253,26 @@ impl Types {
     }
 
     /// The depth of a type.
-    pub(crate) fn depth_at(&self, t: TypeId) -> u8
+    fn depth_at(&self, t: TypeId) -> u32
         requires { t.0 < length self.now }
         ensures depth { result ≡ depth (type_in self.now t.0) }
-        ensures shallow { result ≤ 24 }
+        ensures small { result ≤ length self.now }
     {
         self.placed[t.0 as usize].depth
     }
 
     /// The greatest depth of a type, 0 where there is none.
-    pub(crate) fn deepest(&self) -> u8
-        ensures depth { result ≡ depth_of self.now }
-        ensures shallow { result ≤ 24 }
+    pub(crate) fn deepest(&self) -> u32
+        ensures { result ≡ depth_of self.now }
     {
         self.deepest
     }
 
     /// The depth that an entry's type would have: 1 for a leaf, and 1 more than its deepest part.
-    pub(crate) fn depth_above(&self, entry: &Entry) -> u8
-        requires { IsFormed self.now (length self.now) (node_view entry.now) }
-        ensures depth { result ≡ depth (grow (type_in self.now) (node_view entry.now)) }
-        ensures shallow { result ≤ 25 }
+    fn depth_above(&self, entry: &Entry) -> u32
+        requires formed { IsFormed self.now (length self.now) (node_view entry.now) }
+        requires few { length self.now + 1 < 2 ^ 32 }
+        ensures { result ≡ depth (grow (type_in self.now) (node_view entry.now)) }
     {
         match entry.shape() {
             Shape::Prim(_) => 1,
@@ -290,12 +289,12 @@ impl Types {
     }
 
     /// The depth of the deepest of an entry's first so many parts, 0 where there is none.
-    fn deepest_part(&self, entry: &Entry, count: u32) -> u8
+    fn deepest_part(&self, entry: &Entry, count: u32) -> u32
         requires place { (i : ℕ) → i < count → HasPlace (shape_of (node_view entry.now)) i }
         requires below { (i : ℕ) → i < count
             → type_of (part_at (node_view entry.now) i) < length self.now }
         ensures depth { result ≡ most count (part_depth self.now (node_view entry.now)) }
-        ensures shallow { result ≤ 24 }
+        ensures small { result ≤ length self.now }
     {
         let mut deepest = 0;
         for place in 0..count {
@@ -304,11 +303,9 @@ impl Types {
         deepest
     }
 
-    /// Adds a type at the end, of an entry that is no deeper than 24, where a number is left for it. An `Err` changes
-    /// nothing: memory was refused.
+    /// Adds a type at the end, if a number is left for it. An `Err` changes nothing: memory was refused.
     pub(crate) fn add(&mut self, entry: Entry) -> Result<TypeId, AllocError>
         requires formed { IsFormed self.old (length self.old) (node_view entry) }
-        requires shallow { depth (grow (type_in self.old) (node_view entry)) ≤ 24 }
         requires few { length self.old + 1 < 2 ^ 32 }
         ensures number { IfOk result (λ t. t.0 ≡ length self.old) }
         ensures added { OnOk result (self.new ≡ self.old ++ node_view entry ∷ []) }

@@ -9,7 +9,7 @@ ghost use Rattle.giop_sig.specs.ParameterViews.{parameter_lists_view};
 use crate::draft::Draft;
 use crate::entries::{Entry, PartEntry};
 use crate::parse_stop::ParseStop;
-use crate::read_items::{DECLARED_MAX, WORDS_MAX, add_part, item_at, part_of};
+use crate::read_items::{DECLARED_MAX, add_part, end_of, item_at, part_of};
 use crate::read_types::{refused, type_at};
 use crate::types::TypeId;
 use giop_tokens::{
@@ -34,17 +34,16 @@ pub(crate) enum Direction {
 fn return_at<'a>(
     alloc: Global,
     draft: &mut Draft,
-    at: usize,
     text: &'a [u8],
 ) -> Result<(Vec<PartEntry>, &'a [u8]), ParseStop>
     ensures { Gives (λ x. (draft.new, map part_view x.0.items, x.1.now)) result
-        (return_at at draft.old text.now) }
+        (return_at draft.old text.now) }
 {
     let mut returned = Vec::new(alloc);
     if let Some(rest) = starts_with_keyword(text, b"void")? {
         return Ok((returned, rest));
     }
-    let (t, rest) = type_at(draft, at, WORDS_MAX, text)?;
+    let (t, rest) = type_at(alloc, draft, text)?;
     returned.push(part_of(alloc, b"return", t)?)?;
     Ok((returned, rest))
 }
@@ -154,15 +153,14 @@ fn keep_param<'a>(
 fn param_step<'a>(
     alloc: Global,
     draft: &mut Draft,
-    at: usize,
     parameters: &mut Parameters<'a>,
     text: &'a [u8],
 ) -> Result<(bool, &'a [u8]), ParseStop>
     ensures { Gives (λ x. (x.0, (draft.new, parameter_lists_view parameters.new, x.1.now))) result
-        (param_step at (draft.old, parameter_lists_view parameters.old, text.now)) }
+        (param_step (draft.old, parameter_lists_view parameters.old, text.now)) }
 {
     let (direction, rest) = direction_at(text)?;
-    let (name, t, rest) = item_at(draft, at, PARAMS_MAX, parameters.seen.as_slice(), rest)?;
+    let (name, t, rest) = item_at(alloc, draft, PARAMS_MAX, parameters.seen.as_slice(), rest)?;
     keep_param(alloc, parameters, direction, name, t)?;
     if let Some(rest) = starts_with_mark(rest, Mark::Comma)? {
         return Ok((false, rest));
@@ -176,29 +174,27 @@ fn param_step<'a>(
 fn params_at<'a>(
     alloc: Global,
     draft: &mut Draft,
-    at: usize,
     returned: Vec<PartEntry>,
     text: &'a [u8],
 ) -> Result<(Vec<PartEntry>, Vec<PartEntry>, &'a [u8]), ParseStop>
     ensures { Gives (λ x. (draft.new, map part_view x.0.items, map part_view x.1.items, x.2.now))
-        result (params_at at (map part_view returned.items) draft.old text.now) }
+        result (params_at (map part_view returned.items) draft.old text.now) }
 {
     if let Some(rest) = starts_with_mark(text, Mark::CloseParenthesis)? {
         return Ok((Vec::new(alloc), returned, rest));
     }
-    params_run(alloc, draft, at, returned, text)
+    params_run(alloc, draft, returned, text)
 }
 
 /// One parameter or more, and the closing mark.
 fn params_run<'a>(
     alloc: Global,
     draft: &mut Draft,
-    at: usize,
     returned: Vec<PartEntry>,
     text: &'a [u8],
 ) -> Result<(Vec<PartEntry>, Vec<PartEntry>, &'a [u8]), ParseStop>
     ensures { Gives (λ x. (draft.new, map part_view x.0.items, map part_view x.1.items, x.2.now))
-        result (params_run at 256
+        result (params_run 256
         (draft.old, no_parameters (map part_view returned.items), text.now)) }
 {
     let mut parameters = Parameters {
@@ -208,7 +204,7 @@ fn params_run<'a>(
     };
     let mut rest = text;
     for _ in 0..256u32 {
-        let (closed, after) = param_step(alloc, draft, at, &mut parameters, rest)?;
+        let (closed, after) = param_step(alloc, draft, &mut parameters, rest)?;
         if closed {
             return Ok((parameters.request, parameters.reply, after));
         }
@@ -227,14 +223,13 @@ pub(crate) fn operation_at<'a>(
     ensures { Gives (λ x. (draft.new, x.now)) result (operation_at draft.old text.now) }
 {
     draft.laws();
-    let (returned, after) = return_at(alloc, draft, left_of(text), text)?;
+    let (returned, after) = return_at(alloc, draft, text)?;
     let at = left_of(after);
     let (name, rest) = new_operation_at(draft, after)?;
     let rest = mark(rest, Mark::OpenParenthesis)?;
-    let (request, reply, rest) = params_at(alloc, draft, at, returned, rest)?;
-    let rest = mark(rest, Mark::Semicolon)?;
-    let q = draft.add(at, Entry::Members(request))?;
-    let r = draft.add(at, Entry::Members(reply))?;
+    let (request, reply, rest) = params_at(alloc, draft, returned, rest)?;
+    let q = draft.add(Entry::Members(request))?;
+    let r = draft.add(Entry::Members(reply))?;
     draft.call(name, q, r)?;
-    Ok(rest)
+    end_of(draft, at, rest)
 }

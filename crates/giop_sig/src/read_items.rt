@@ -3,14 +3,13 @@ ghost use Rattle.std.specs.Prelude.{◌≡◌, ◌<◌, ◌≤◌, ◌++◌, ◌
 ghost use Rattle.std.specs.Map.{lookup};
 ghost use Rattle.std.specs.Str.{bytes_eq};
 ghost use Rattle.giop_sig.specs.Outcomes.{Gives};
-ghost use Rattle.giop_sig.specs.Scopes.{part};
+ghost use Rattle.giop_sig.specs.Scopes.{part, add_array};
 ghost use Rattle.giop_sig.specs.ScopeViews.{IsKnown};
-ghost use Rattle.giop_sig.specs.TypeReading.{added};
 ghost use Rattle.giop_sig.specs.Validity.{is_among};
 ghost use Rattle.giop_sig.specs.UnionCases.{part_view};
 ghost use Rattle.giop_sig.specs.Views.{node_view};
-ghost use Rattle.giop_sig.specs.Table.{IsFormed, TakesOctet, array};
-ghost use Rattle.giop_sig.specs.ItemReading.{array_type, new_name_at, declared_at, item_at, member_step, members_at, filled_at, type_end_at, structure_at, new_repository_at, exception_at};
+ghost use Rattle.giop_sig.specs.Table.{IsFormed, TakesOctet};
+ghost use Rattle.giop_sig.specs.ItemReading.{new_name_at, declared_at, item_at, member_step, members_at, filled_at, end_of, type_end_at, structure_at, new_repository_at, exception_at};
 
 use crate::draft::Draft;
 use crate::entries::{Entry, PartEntry};
@@ -18,11 +17,13 @@ use crate::parse_stop::ParseStop;
 use crate::part_name::PartName;
 use crate::read_types::{enclosed_at, refused, type_at};
 use crate::types::TypeId;
-use giop_tokens::{Mark, SigFaultKind, identifier, left_of, mark, repository_id, starts_with_mark};
+use giop_tokens::{
+    Mark, Refusal, SigFaultKind, identifier, left_of, mark, repository_id, starts_with_mark,
+};
 use std::alloc::Global;
 
-/// The most words `sequence` that are read before a type is too deep in any case.
-pub(crate) const WORDS_MAX: u8 = 25;
+/// The greatest depth of a type.
+const DEPTH_MAX: u32 = 24;
 /// The most members of a struct.
 const MEMBERS_MAX: usize = 256;
 /// The most types, exceptions or operations.
@@ -77,37 +78,36 @@ pub(crate) fn declared_at<'a>(
 /// Adds an array of elements of a type, where there is a length.
 fn array_of(
     draft: &mut Draft,
-    at: usize,
     element: TypeId,
     count: Option<u32>,
 ) -> Result<TypeId, ParseStop>
     requires known { IsKnown draft.old.table.types element.0 }
     requires some { IfSome count (λ n. 0 < n) }
-    ensures { Gives (λ t. (draft.new, t.0)) result (array_type at draft.old element.0 count) }
+    ensures { Gives (λ t. (draft.new, t.0)) result (Ok (add_array count (draft.old, element.0))) }
 {
     match count {
         None => Ok(element),
-        Some(n) => draft.add(at, Entry::Array(n, element)),
+        Some(n) => draft.add(Entry::Array(n, element)),
     }
 }
 
 /// An item: a type, a name and perhaps the length of an array, after others of these names.
 #[tactic(auto, unfolding(crate::specs::ItemReading::item_at))]
 pub(crate) fn item_at<'a>(
+    alloc: Global,
     draft: &mut Draft,
-    at: usize,
     most: usize,
     seen: &[&[u8]],
     text: &'a [u8],
 ) -> Result<(&'a [u8], TypeId, &'a [u8]), ParseStop>
     ensures { Gives (λ x. (draft.new, part x.0.now x.1.0, x.2.now)) result
-        (item_at at most (map (λ n. n.now) seen.now) draft.old text.now) }
+        (item_at most (map (λ n. n.now) seen.now) draft.old text.now) }
 {
     draft.laws();
-    let (element, rest) = type_at(draft, at, WORDS_MAX, text)?;
+    let (element, rest) = type_at(alloc, draft, text)?;
     let (name, rest) = new_name_at(most, seen, rest)?;
     let (count, rest) = enclosed_at(Mark::OpenBracket, Mark::CloseBracket, rest)?;
-    let t = array_of(draft, at, element, count)?;
+    let t = array_of(draft, element, count)?;
     Ok((name, t, rest))
 }
 
@@ -140,7 +140,6 @@ pub(crate) fn add_part(
 fn member_step<'a>(
     alloc: Global,
     draft: &mut Draft,
-    at: usize,
     seen: &mut Vec<&'a [u8]>,
     parts: &mut Vec<PartEntry>,
     text: &'a [u8],
@@ -156,7 +155,7 @@ fn member_step<'a>(
           ),
         ))
         result
-        (member_step at (
+        (member_step (
           draft.old,
           map (λ n. n.now) seen.old.items,
           map part_view parts.old.items,
@@ -166,7 +165,7 @@ fn member_step<'a>(
     if let Some(rest) = starts_with_mark(text, Mark::CloseBrace)? {
         return Ok((true, rest));
     }
-    let (name, t, rest) = item_at(draft, at, MEMBERS_MAX, seen.as_slice(), text)?;
+    let (name, t, rest) = item_at(alloc, draft, MEMBERS_MAX, seen.as_slice(), text)?;
     let rest = mark(rest, Mark::Semicolon)?;
     seen.push(name)?;
     add_part(alloc, parts, name, t)?;
@@ -177,17 +176,16 @@ fn member_step<'a>(
 fn members_at<'a>(
     alloc: Global,
     draft: &mut Draft,
-    at: usize,
     text: &'a [u8],
 ) -> Result<(Vec<PartEntry>, &'a [u8]), ParseStop>
     ensures { Gives (λ x. (draft.new, map part_view x.0.items, x.1.now)) result
-        (members_at at draft.old text.now) }
+        (members_at draft.old text.now) }
 {
     let mut seen = Vec::new(alloc);
     let mut parts = Vec::new(alloc);
     let mut rest = text;
     for _ in 0..257u32 {
-        let (closed, after) = member_step(alloc, draft, at, &mut seen, &mut parts, rest)?;
+        let (closed, after) = member_step(alloc, draft, &mut seen, &mut parts, rest)?;
         if closed {
             return Ok((parts, after));
         }
@@ -207,7 +205,23 @@ pub(crate) fn filled_at(text: &[u8]) -> Result<&[u8], ParseStop>
     }
 }
 
-/// The end of an enum, struct or union: its mark. Its type is added, by its name; what follows it.
+/// The end of a declaration whose name is at this place: its mark. The declaration is refused then if it made a type that
+/// is too deep.
+#[tactic(auto, unfolding(crate::specs::ItemReading::end_of))]
+pub(crate) fn end_of<'a>(draft: &Draft, at: usize, text: &'a [u8]) -> Result<&'a [u8], ParseStop>
+    ensures { Gives (λ x. (draft.now, x.now)) result (end_of at draft.now text.now) }
+{
+    let rest = mark(text, Mark::Semicolon)?;
+    if draft.depth() > DEPTH_MAX {
+        return Err(ParseStop::Refused(Refusal {
+            kind: SigFaultKind::Depth,
+            left: at,
+        }));
+    }
+    Ok(rest)
+}
+
+/// The end of an enum, struct or union, whose type is added, by its name; what follows it.
 pub(crate) fn type_end_at<'a>(
     draft: &mut Draft,
     at: usize,
@@ -224,10 +238,9 @@ pub(crate) fn type_end_at<'a>(
     ensures { Gives (λ x. (draft.new, x.now)) result
         (type_end_at at name.now draft.old (node_view entry) text.now) }
 {
-    let rest = mark(text, Mark::Semicolon)?;
-    let t = draft.add(at, entry)?;
+    let t = draft.add(entry)?;
     draft.name_type(name, t)?;
-    Ok(rest)
+    end_of(draft, at, text)
 }
 
 /// A struct, after its first word.
@@ -245,7 +258,7 @@ pub(crate) fn structure_at<'a>(
     let (name, rest) = declared_at(draft, count, text)?;
     let rest = mark(rest, Mark::OpenBrace)?;
     let rest = filled_at(rest)?;
-    let (parts, rest) = members_at(alloc, draft, at, rest)?;
+    let (parts, rest) = members_at(alloc, draft, rest)?;
     type_end_at(draft, at, name, Entry::Members(parts), rest)
 }
 
@@ -276,9 +289,8 @@ pub(crate) fn exception_at<'a>(
     let (name, rest) = declared_at(draft, count, text)?;
     let (repository, rest) = new_repository_at(draft, rest)?;
     let rest = mark(rest, Mark::OpenBrace)?;
-    let (parts, rest) = members_at(alloc, draft, at, rest)?;
-    let rest = mark(rest, Mark::Semicolon)?;
-    let t = draft.add(at, Entry::Members(parts))?;
+    let (parts, rest) = members_at(alloc, draft, rest)?;
+    let t = draft.add(Entry::Members(parts))?;
     draft.raise(name, repository, t)?;
-    Ok(rest)
+    end_of(draft, at, rest)
 }

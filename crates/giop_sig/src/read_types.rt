@@ -1,11 +1,11 @@
 //! Reading types.
-ghost use Rattle.std.specs.Prelude.{◌≡◌, ℕ, ◌<◌, length, IfOk, IfSome, codes};
-ghost use Rattle.std.specs.Str.{bytes_eq};
+ghost use Rattle.std.specs.Prelude.{◌≡◌, ◌<◌, [], length, Ok, IfOk, IfSome};
 ghost use Rattle.std.specs.Option.{option_map};
 ghost use Rattle.giop_sig.specs.Outcomes.{Gives, refused};
-ghost use Rattle.giop_sig.specs.Scopes.{sequence_node};
+ghost use Rattle.giop_sig.specs.Scopes.{with_node, sequence_node};
 ghost use Rattle.giop_sig.specs.ScopeViews.{IsKnown};
-ghost use Rattle.giop_sig.specs.TypeReading.{added, size_at, enclosed_at, most_at, base_of, text_at, after_element, after_encapsulated, named_type, leaf_at, type_at};
+ghost use Rattle.giop_sig.specs.Repeats.{in_steps};
+ghost use Rattle.giop_sig.specs.TypeReading.{size_at, enclosed_at, most_at, base_of, text_at, after_element, after_held, closed_by, named_type, leaf_at, opener_at, openers_step, too_many_openers, all_closed, type_at};
 
 use crate::draft::Draft;
 use crate::entries::Entry;
@@ -16,6 +16,7 @@ use giop_tokens::{
     Mark, Refusal, SigFaultKind, is_reserved, left_of, mark, misplaced, number, starts_with_mark,
     word,
 };
+use std::alloc::Global;
 
 /// The most octets of a name.
 const NAME_MAX: usize = 64;
@@ -119,17 +120,13 @@ fn base_of(word: &[u8]) -> Option<TypeId>
 
 /// A string, after its word.
 #[tactic(auto, unfolding(crate::specs::TypeReading::text_at))]
-fn text_at<'a>(
-    draft: &mut Draft,
-    at: usize,
-    text: &'a [u8],
-) -> Result<(TypeId, &'a [u8]), ParseStop>
-    ensures { Gives (λ x. (draft.new, x.0.0, x.1.now)) result (text_at at draft.old text.now) }
+fn text_at<'a>(draft: &mut Draft, text: &'a [u8]) -> Result<(TypeId, &'a [u8]), ParseStop>
+    ensures { Gives (λ x. (draft.new, x.0.0, x.1.now)) result (text_at draft.old text.now) }
 {
     let (bound, rest) = enclosed_at(Mark::OpenAngle, Mark::CloseAngle, text)?;
     match bound {
         None => Ok((STRING, rest)),
-        Some(_) => Ok((draft.add(at, Entry::Text(bound))?, rest)),
+        Some(_) => Ok((draft.add(Entry::Text(bound))?, rest)),
     }
 }
 
@@ -159,78 +156,62 @@ fn named_type<'a>(
 /// Adds a sequence of elements of a type; a sequence of octets is a kind of its own.
 fn sequence_of(
     draft: &mut Draft,
-    at: usize,
     bound: Option<u32>,
     element: TypeId,
 ) -> Result<TypeId, ParseStop>
     requires { IsKnown draft.old.table.types element.0 }
     ensures { Gives (λ t. (draft.new, t.0)) result
-        (added at draft.old (sequence_node bound element.0)) }
+        (Ok (with_node draft.old (sequence_node bound element.0))) }
 {
     if element.0 == 0 {
-        draft.add(at, Entry::Octets(bound))
+        draft.add(Entry::Octets(bound))
     } else {
-        draft.add(at, Entry::Sequence(bound, element))
+        draft.add(Entry::Sequence(bound, element))
     }
 }
 
 /// What follows the element of a sequence: perhaps a bound, and the closing mark.
 fn after_element<'a>(
     draft: &mut Draft,
-    at: usize,
     element: TypeId,
     text: &'a [u8],
 ) -> Result<(TypeId, &'a [u8]), ParseStop>
     requires { IsKnown draft.old.table.types element.0 }
     ensures { Gives (λ x. (draft.new, x.0.0, x.1.now)) result
-        (after_element at (draft.old, element.0, text.now)) }
+        (after_element (draft.old, element.0, text.now)) }
 {
     let (bound, rest) = most_at(text)?;
     let rest = mark(rest, Mark::CloseAngle)?;
-    let t = sequence_of(draft, at, bound, element)?;
+    let t = sequence_of(draft, bound, element)?;
     Ok((t, rest))
 }
 
 /// What follows the type that an encapsulation holds: the closing mark.
-fn after_encapsulated<'a>(
+fn after_held<'a>(
     draft: &mut Draft,
-    at: usize,
     held: TypeId,
     text: &'a [u8],
 ) -> Result<(TypeId, &'a [u8]), ParseStop>
     requires { IsKnown draft.old.table.types held.0 }
     ensures { Gives (λ x. (draft.new, x.0.0, x.1.now)) result
-        (after_encapsulated at (draft.old, held.0, text.now)) }
+        (after_held (draft.old, held.0, text.now)) }
 {
     let rest = mark(text, Mark::CloseAngle)?;
-    let t = draft.add(at, Entry::Encapsulation(held))?;
+    let t = draft.add(Entry::Encapsulation(held))?;
     Ok((t, rest))
 }
 
-/// Whether a word begins an encapsulation.
-fn is_encapsulation(word: &[u8]) -> bool
-    ensures { result ≡ bytes_eq word.now (codes "encapsulation") }
-{
-    word == b"encapsulation".as_slice()
-}
-
-/// A type that has no other in angle brackets, by the first word of the text.
+/// A type that has no other in angle brackets.
 #[tactic(auto, unfolding(crate::specs::TypeReading::leaf_at))]
-fn leaf_at<'a>(
-    draft: &mut Draft,
-    at: usize,
-    text: &[u8],
-    name: &[u8],
-    rest: &'a [u8],
-) -> Result<(TypeId, &'a [u8]), ParseStop>
-    ensures { Gives (λ x. (draft.new, x.0.0, x.1.now)) result
-        (leaf_at at draft.old text.now name.now rest.now) }
+fn leaf_at<'a>(draft: &mut Draft, text: &'a [u8]) -> Result<(TypeId, &'a [u8]), ParseStop>
+    ensures { Gives (λ x. (draft.new, x.0.0, x.1.now)) result (leaf_at draft.old text.now) }
 {
+    let (name, rest) = word(text)?;
     if let Some(base) = base_of(name) {
         return Ok((base, rest));
     }
     if name == b"string".as_slice() {
-        return text_at(draft, at, rest);
+        return text_at(draft, rest);
     }
     if name == b"Object".as_slice() {
         return Ok((REFERENCE, rest));
@@ -238,37 +219,123 @@ fn leaf_at<'a>(
     named_type(draft, text, name, rest)
 }
 
-/// A type, with at most so many words `sequence` and `encapsulation` around it. One that is too deep is refused, in the
-/// declaration whose name is at this place.
-#[tactic(auto, using(crate::proofs::TypeSteps::type_steps))]
-pub(crate) fn type_at<'a>(
-    draft: &mut Draft,
-    at: usize,
-    left: u8,
-    text: &'a [u8],
-) -> Result<(TypeId, &'a [u8]), ParseStop>
-    ensures { Gives (λ x. (draft.new, x.0.0, x.1.now)) result (type_at at left draft.old text.now) }
+/// A word that opens a type around another.
+#[derive(Clone, Copy, Drop)]
+pub(crate) enum Opener {
+    Sequence,
+    Encapsulation,
+}
+
+/// The first word of a text, if it opens a type around another, and what follows its opening mark.
+#[tactic(auto, unfolding(crate::specs::TypeReading::opener_at))]
+fn opener_at<'a>(draft: &Draft, text: &'a [u8]) -> Result<Option<(Opener, &'a [u8])>, ParseStop>
+    ensures { Gives (λ o. option_map (λ x. (x.0, x.1.now)) o) result
+        (opener_at draft.now text.now) }
 {
-    if left == 0 {
-        return Err(ParseStop::Refused(Refusal {
-            kind: SigFaultKind::Depth,
-            left: at,
-        }));
-    }
-    draft.laws();
     let (name, rest) = word(text)?;
     if name == b"sequence".as_slice() {
-        let rest = mark(rest, Mark::OpenAngle)?;
-        let (element, rest) = type_at(draft, at, left - 1, rest)?;
-        return after_element(draft, at, element, rest);
+        return Ok(Some((Opener::Sequence, mark(rest, Mark::OpenAngle)?)));
     }
-    if is_encapsulation(name) {
+    if name == b"encapsulation".as_slice() {
         if !draft.has_encapsulations() {
             return Err(ParseStop::Refused(misplaced(text)));
         }
-        let rest = mark(rest, Mark::OpenAngle)?;
-        let (held, rest) = type_at(draft, at, left - 1, rest)?;
-        return after_encapsulated(draft, at, held, rest);
+        return Ok(Some((
+            Opener::Encapsulation,
+            mark(rest, Mark::OpenAngle)?,
+        )));
     }
-    leaf_at(draft, at, text, name, rest)
+    Ok(None)
+}
+
+/// An opener more, if one comes: whether there was none, and what follows.
+#[tactic(auto, unfolding(crate::specs::TypeReading::openers_step))]
+fn openers_step<'a>(
+    draft: &Draft,
+    openers: &mut Vec<Opener>,
+    text: &'a [u8],
+) -> Result<(bool, &'a [u8]), ParseStop>
+    ensures { Gives (λ x. (x.0, (openers.new.items, x.1.now))) result
+        (openers_step draft.now (openers.old.items, text.now)) }
+{
+    match opener_at(draft, text)? {
+        None => Ok((true, text)),
+        Some((opener, rest)) => {
+            openers.push(opener)?;
+            Ok((false, rest))
+        }
+    }
+}
+
+/// The words that open a type, the outermost first, and what follows them.
+fn openers_at<'a>(
+    alloc: Global,
+    draft: &Draft,
+    text: &'a [u8],
+) -> Result<(Vec<Opener>, &'a [u8]), ParseStop>
+    ensures { Gives (λ x. (x.0.items, x.1.now)) result
+        (in_steps (openers_step draft.now) too_many_openers (length text.now) ([], text.now)) }
+{
+    let mut openers = Vec::new(alloc);
+    let mut rest = text;
+    for _ in 0..text.len() {
+        let (over, after) = openers_step(draft, &mut openers, rest)?;
+        if over {
+            return Ok((openers, after));
+        }
+        rest = after;
+    }
+    Err(ParseStop::Refused(misplaced(rest)))
+}
+
+/// What closes a type that was opened, after the type in it.
+#[tactic(auto, unfolding(crate::specs::TypeReading::closed_by))]
+fn closed_by<'a>(
+    draft: &mut Draft,
+    opener: Opener,
+    inner: TypeId,
+    text: &'a [u8],
+) -> Result<(TypeId, &'a [u8]), ParseStop>
+    requires { IsKnown draft.old.table.types inner.0 }
+    ensures { Gives (λ x. (draft.new, x.0.0, x.1.now)) result
+        (closed_by opener (draft.old, inner.0, text.now)) }
+{
+    match opener {
+        Opener::Sequence => after_element(draft, inner, text),
+        Opener::Encapsulation => after_held(draft, inner, text),
+    }
+}
+
+/// What closes all types that were opened, after the innermost.
+fn all_closed<'a>(
+    draft: &mut Draft,
+    openers: &mut Vec<Opener>,
+    innermost: TypeId,
+    text: &'a [u8],
+) -> Result<(TypeId, &'a [u8]), ParseStop>
+    requires { IsKnown draft.old.table.types innermost.0 }
+    ensures { Gives (λ x. (draft.new, x.0.0, x.1.now)) result
+        (all_closed openers.old.items (draft.old, innermost.0, text.now)) }
+{
+    let mut t = innermost;
+    let mut rest = text;
+    while let Some(opener) = openers.pop() {
+        draft.laws();
+        (t, rest) = closed_by(draft, opener, t, rest)?;
+    }
+    Ok((t, rest))
+}
+
+/// A type.
+pub(crate) fn type_at<'a>(
+    alloc: Global,
+    draft: &mut Draft,
+    text: &'a [u8],
+) -> Result<(TypeId, &'a [u8]), ParseStop>
+    ensures { Gives (λ x. (draft.new, x.0.0, x.1.now)) result (type_at draft.old text.now) }
+{
+    draft.laws();
+    let (mut openers, rest) = openers_at(alloc, draft, text)?;
+    let (innermost, rest) = leaf_at(draft, rest)?;
+    all_closed(draft, &mut openers, innermost, rest)
 }

@@ -14,7 +14,7 @@ use crate::draft::Draft;
 use crate::entries::{CaseEntry, Entry};
 use crate::labels::{LabelValue, label_number, value_at};
 use crate::parse_stop::ParseStop;
-use crate::read_items::{WORDS_MAX, declared_at, filled_at, item_at, part_of, type_end_at};
+use crate::read_items::{declared_at, filled_at, item_at, part_of, type_end_at};
 use crate::read_types::{refused, type_at};
 use crate::types::{Selected, TypeId};
 use giop_cdr::{Number, Prim};
@@ -227,13 +227,13 @@ fn can_switch(draft: &Draft, t: TypeId) -> bool
 /// The type of a discriminator.
 #[tactic(auto, unfolding(crate::specs::UnionReading::switch_at))]
 fn switch_at<'a>(
+    alloc: Global,
     draft: &mut Draft,
-    at: usize,
     text: &'a [u8],
 ) -> Result<(TypeId, &'a [u8]), ParseStop>
-    ensures { Gives (λ x. (draft.new, x.0.0, x.1.now)) result (switch_at at draft.old text.now) }
+    ensures { Gives (λ x. (draft.new, x.0.0, x.1.now)) result (switch_at draft.old text.now) }
 {
-    let (t, rest) = type_at(draft, at, WORDS_MAX, text)?;
+    let (t, rest) = type_at(alloc, draft, text)?;
     if can_switch(draft, t) {
         Ok((t, rest))
     } else {
@@ -262,23 +262,22 @@ fn add_case<'a>(
     Ok(())
 }
 
-/// A case after others, of a union in the declaration whose name is at this place; what follows it.
+/// A case of a union after others; what follows it.
 #[tactic(auto, unfolding(crate::specs::UnionReading::case_at))]
 fn case_at<'a>(
     alloc: Global,
     draft: &mut Draft,
-    at: usize,
     switch: TypeId,
     cases: &mut Cases<'a>,
     text: &'a [u8],
 ) -> Result<&'a [u8], ParseStop>
     requires { length cases.old.names.items ≤ 256 }
     ensures gives { Gives (λ x. (draft.new, cases_view cases.new, x.now)) result
-        (case_at at switch.0 (draft.old, cases_view cases.old, text.now)) }
+        (case_at switch.0 (draft.old, cases_view cases.old, text.now)) }
     ensures room { OnOk result (length cases.new.names.items ≤ length cases.old.names.items + 1) }
 {
     let (labels, default, rest) = labels_at(alloc, draft, switch, &mut cases.labels, text)?;
-    let (name, type_id, rest) = item_at(draft, at, CASES_MAX, &cases.names, rest)?;
+    let (name, type_id, rest) = item_at(alloc, draft, CASES_MAX, &cases.names, rest)?;
     let rest = mark(rest, Mark::Semicolon)?;
     add_case(alloc, cases, labels, default, name, type_id)?;
     Ok(rest)
@@ -289,19 +288,18 @@ fn case_at<'a>(
 fn cases_step<'a>(
     alloc: Global,
     draft: &mut Draft,
-    at: usize,
     switch: TypeId,
     cases: &mut Cases<'a>,
     text: &'a [u8],
 ) -> Result<(bool, &'a [u8]), ParseStop>
     requires { length cases.old.names.items ≤ 256 }
     ensures gives { Gives (λ x. (x.0, (draft.new, cases_view cases.new, x.1.now))) result
-        (cases_step at switch.0 (draft.old, cases_view cases.old, text.now)) }
+        (cases_step switch.0 (draft.old, cases_view cases.old, text.now)) }
     ensures room { OnOk result (length cases.new.names.items ≤ length cases.old.names.items + 1) }
 {
     match starts_with_mark(text, Mark::CloseBrace)? {
         Some(rest) => Ok((true, rest)),
-        None => Ok((false, case_at(alloc, draft, at, switch, cases, text)?)),
+        None => Ok((false, case_at(alloc, draft, switch, cases, text)?)),
     }
 }
 
@@ -309,12 +307,11 @@ fn cases_step<'a>(
 fn some_cases<'a>(
     alloc: Global,
     draft: &mut Draft,
-    at: usize,
     switch: TypeId,
     text: &'a [u8],
 ) -> Result<(Cases<'a>, &'a [u8]), ParseStop>
     ensures { Gives (λ x. (draft.new, cases_view x.0, x.1.now)) result
-        (in_steps (cases_step at switch.0) too_many_cases 257 (draft.old, no_cases, text.now)) }
+        (in_steps (cases_step switch.0) too_many_cases 257 (draft.old, no_cases, text.now)) }
 {
     let mut cases = Cases {
         labels: Vec::new(alloc),
@@ -324,7 +321,7 @@ fn some_cases<'a>(
     };
     let mut rest = text;
     for _ in 0..257u32 {
-        let (closed, after) = cases_step(alloc, draft, at, switch, &mut cases, rest)?;
+        let (closed, after) = cases_step(alloc, draft, switch, &mut cases, rest)?;
         if closed {
             return Ok((cases, after));
         }
@@ -338,14 +335,13 @@ fn some_cases<'a>(
 fn cases_at<'a>(
     alloc: Global,
     draft: &mut Draft,
-    at: usize,
     switch: TypeId,
     text: &'a [u8],
 ) -> Result<(Cases<'a>, &'a [u8]), ParseStop>
     ensures { Gives (λ x. (draft.new, cases_view x.0, x.1.now)) result
-        (cases_at at switch.0 draft.old text.now) }
+        (cases_at switch.0 draft.old text.now) }
 {
-    some_cases(alloc, draft, at, switch, filled_at(text)?)
+    some_cases(alloc, draft, switch, filled_at(text)?)
 }
 
 /// The entry of a union with a discriminator of this type.
@@ -373,10 +369,10 @@ pub(crate) fn union<'a>(
     let (name, rest) = declared_at(draft, count, text)?;
     let rest = keyword(rest, b"switch")?;
     let rest = mark(rest, Mark::OpenParenthesis)?;
-    let (switch, rest) = switch_at(draft, at, rest)?;
+    let (switch, rest) = switch_at(alloc, draft, rest)?;
     let rest = mark(rest, Mark::CloseParenthesis)?;
     let rest = mark(rest, Mark::OpenBrace)?;
-    let (cases, rest) = cases_at(alloc, draft, at, switch, rest)?;
+    let (cases, rest) = cases_at(alloc, draft, switch, rest)?;
     let entry = entry_of(alloc, switch, cases)?;
     type_end_at(draft, at, name, entry, rest)
 }

@@ -1,18 +1,12 @@
 use Rattle.std.proofs.Common.{◌++◌, ◌∷◌, [], take, sym, ap, ◌∙◌}
 use Rattle.giop_sig.specs.Views.{node_view}
 use Rattle.giop_sig.specs.Builtin.{builtin_types}
-use Rattle.giop_sig.proofs.Builtins.{next_builtin, builtin_formed, builtin_few, builtin_shallow}
+use Rattle.giop_sig.proofs.Builtins.{next_builtin, builtin_formed, builtin_few}
 use Rattle.giop_sig.proofs.builtin.builtin_list.Goals as goal
 
 pub add-requires-clause-formed : goal.add-requires-clause-formed
 add-requires-clause-formed c =
     builtin_formed c.loop-number.number c.loop-number.types (node_view c.in_ok-entry.entry)
-    c.loop-number-test.true c.loop-number.invariant
-    (c.in_ok-entry.ensures ∙ c.literal_of.ensures)
-
-pub add-requires-clause-shallow : goal.add-requires-clause-shallow
-add-requires-clause-shallow c =
-    builtin_shallow c.loop-number.number c.loop-number.types (node_view c.in_ok-entry.entry)
     c.loop-number-test.true c.loop-number.invariant
     (c.in_ok-entry.ensures ∙ c.literal_of.ensures)
 

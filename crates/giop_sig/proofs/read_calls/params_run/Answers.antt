@@ -9,20 +9,20 @@ pub returns-in_err-closed : goal.returns-in_err-closed
 returns-in_err-closed c =
     let p = err_from_is_err_and c.from_residual.result c.from_residual.ensures.1 in
     rw (p.1, p.2) (stops_on c.in_err-closed.field-0.0 _ params_read
-    (fails (param_step c.args.at) too_many_params 256 c.loop.counter _ _ c.loop.invariant
+    (fails param_step too_many_params 256 c.loop.counter _ _ c.loop.invariant
     c.loop-test.true c.in_err-closed.field-0.0 c.in_err-closed.ensures))
 
 pub returns-then-closed : goal.returns-then-closed
 returns-then-closed c =
-    ap (λ r. r >>= params_read) (ends (param_step c.args.at) too_many_params 256 c.loop.counter
+    ap (λ r. r >>= params_read) (ends param_step too_many_params 256 c.loop.counter
     _ _ c.loop.invariant c.loop-test.true _ c.in_ok-closed.ensures c.if-closed.true)
 
 pub loop-preserved : goal.loop-preserved
 loop-preserved c =
-    goes_on (param_step c.args.at) too_many_params 256 c.loop.counter _ _ c.loop.invariant
+    goes_on param_step too_many_params 256 c.loop.counter _ _ c.loop.invariant
     c.loop-test.true _ c.in_ok-closed.ensures c.if-closed.false
 
 pub returns : goal.returns
 returns c =
-    ap (λ r. r >>= params_read) (limited (param_step c.args.at) too_many_params 256
+    ap (λ r. r >>= params_read) (limited param_step too_many_params 256
     c.loop.counter _ _ c.loop.invariant c.loop-test.false) ∙ ap Err (sym c.refused.ensures)

@@ -7,7 +7,7 @@ use Rattle.giop_sig.proofs.read_calls.params_run.Given as goal
 
 abbrev pub invariant-loop : goal.invariant-loop
 invariant-loop l =
-    in_steps (param_step l.at) too_many_params (256 - l.counter)
+    in_steps param_step too_many_params (256 - l.counter)
     (l.draft, parameter_lists_view l.parameters, l.rest)
-    ≡ in_steps (param_step l.at) too_many_params 256
+    ≡ in_steps param_step too_many_params 256
     (l.fn.draft, no_parameters (map part_view l.fn.returned.items), l.text)

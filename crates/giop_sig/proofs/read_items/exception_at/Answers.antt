@@ -1,24 +1,27 @@
-use Rattle.std.proofs.Common.{length, ap, arith}
-use Rattle.giop_sig.proofs.ItemTaken.{declared_takes, struct_formed, exception_grows, still_new, new_repository_takes, still_different, added_below}
+use Rattle.std.proofs.Common.{length, ap, subst, sym, ◌<◌, arith}
+use Rattle.giop_tokens.proofs.ReaderLaws.{ok_is}
+use Rattle.giop_sig.specs.Scopes.{Scope, AddedType}
+use Rattle.giop_sig.proofs.TypeTaken.{Grows}
+use Rattle.giop_sig.proofs.ItemTaken.{declared_takes, struct_formed, exception_grows, still_new, new_repository_takes, still_different, node_below}
 use Rattle.giop_sig.proofs.read_items.exception_at.Goals as goal
 
 pub add-requires : goal.add-requires
-add-requires c = struct_formed _ c.args.draft.now _ _ c.in_ok-parts.ensures c.laws.ensures.scope
+add-requires c = struct_formed c.args.draft.now _ _ c.in_ok-parts.ensures c.laws.ensures.scope
 
 pub raise-requires-clause-short : goal.raise-requires-clause-short
 raise-requires-clause-short c = (declared_takes c.args.draft.now _ _ _ c.in_ok-name.ensures).short
 
 pub raise-requires-clause-new : goal.raise-requires-clause-new
 raise-requires-clause-new c =
-    still_new c.args.draft.now c.add.new.self _
-    (exception_grows _ c.args.draft.now _ _ (c.add.new.self, c.in_ok-t.t.0)
-    c.in_ok-parts.ensures c.in_ok-t.ensures)
+    let g = subst (λ (q : AddedType). Grows c.args.draft.now q.0) (ok_is _ _ c.in_ok-t.ensures)
+    (exception_grows c.args.draft.now _ _ c.in_ok-parts.ensures) in
+    still_new c.args.draft.now c.add.new.self _ g
     (declared_takes c.args.draft.now _ _ _ c.in_ok-name.ensures).new
 
 pub raise-requires-clause-few : goal.raise-requires-clause-few
 raise-requires-clause-few c =
-    let g = exception_grows _ c.args.draft.now _ _ (c.add.new.self, c.in_ok-t.t.0)
-    c.in_ok-parts.ensures c.in_ok-t.ensures in
+    let g = subst (λ (q : AddedType). Grows c.args.draft.now q.0) (ok_is _ _ c.in_ok-t.ensures)
+    (exception_grows c.args.draft.now _ _ c.in_ok-parts.ensures) in
     let d = declared_takes c.args.draft.now _ _ _ c.in_ok-name.ensures in
     let few = d.few in omega (arith, ap length g.exceptions, c.exceptions_declared-count.ensures)
 
@@ -28,10 +31,12 @@ raise-requires-clause-identity c = (new_repository_takes c.args.draft.now _ _
 
 pub raise-requires-clause-different : goal.raise-requires-clause-different
 raise-requires-clause-different c =
-    still_different c.args.draft.now c.add.new.self _
-    (exception_grows _ c.args.draft.now _ _ (c.add.new.self, c.in_ok-t.t.0) c.in_ok-parts.ensures
-    c.in_ok-t.ensures)
+    let g = subst (λ (q : AddedType). Grows c.args.draft.now q.0) (ok_is _ _ c.in_ok-t.ensures)
+    (exception_grows c.args.draft.now _ _ c.in_ok-parts.ensures) in
+    still_different c.args.draft.now c.add.new.self _ g
     (new_repository_takes c.args.draft.now _ _ c.in_ok-repository.ensures).new
 
 pub raise-requires-clause-known : goal.raise-requires-clause-known
-raise-requires-clause-known c = added_below _ _ _ (c.add.new.self, c.in_ok-t.t.0) c.in_ok-t.ensures
+raise-requires-clause-known c =
+    subst (λ (q : AddedType). q.1 < length (q.0).table.types) (ok_is _ _ c.in_ok-t.ensures)
+    (node_below c.members_at.new.draft _)

@@ -9,20 +9,20 @@ pub returns-in_err-closed : goal.returns-in_err-closed
 returns-in_err-closed c =
     let p = err_from_is_err_and c.from_residual.result c.from_residual.ensures.1 in
     rw (p.1, p.2) (stops_on c.in_err-closed.field-0.0 _ members_read
-    (fails (member_step c.args.at) too_many_members 257 c.loop.counter _ _ c.loop.invariant
+    (fails member_step too_many_members 257 c.loop.counter _ _ c.loop.invariant
     c.loop-test.true c.in_err-closed.field-0.0 c.in_err-closed.ensures))
 
 pub returns-then-closed : goal.returns-then-closed
 returns-then-closed c =
-    ap (λ r. r >>= members_read) (ends (member_step c.args.at) too_many_members 257 c.loop.counter
+    ap (λ r. r >>= members_read) (ends member_step too_many_members 257 c.loop.counter
     _ _ c.loop.invariant c.loop-test.true _ c.in_ok-closed.ensures c.if-closed.true)
 
 pub loop-preserved : goal.loop-preserved
 loop-preserved c =
-    goes_on (member_step c.args.at) too_many_members 257 c.loop.counter _ _ c.loop.invariant
+    goes_on member_step too_many_members 257 c.loop.counter _ _ c.loop.invariant
     c.loop-test.true _ c.in_ok-closed.ensures c.if-closed.false
 
 pub returns : goal.returns
 returns c =
-    ap (λ r. r >>= members_read) (limited (member_step c.args.at) too_many_members 257
+    ap (λ r. r >>= members_read) (limited member_step too_many_members 257
     c.loop.counter _ _ c.loop.invariant c.loop-test.false) ∙ ap Err (sym c.refused.ensures)

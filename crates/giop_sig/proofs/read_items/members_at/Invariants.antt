@@ -6,6 +6,6 @@ use Rattle.giop_sig.proofs.read_items.members_at.Given as goal
 
 abbrev pub invariant-loop : goal.invariant-loop
 invariant-loop l =
-    in_steps (member_step l.at) too_many_members (257 - l.counter)
+    in_steps member_step too_many_members (257 - l.counter)
     (l.draft, map (λ n. n.now) l.seen.items, map part_view l.parts.items, l.rest)
-    ≡ in_steps (member_step l.at) too_many_members 257 (l.fn.draft, [], [], l.text)
+    ≡ in_steps member_step too_many_members 257 (l.fn.draft, [], [], l.text)

@@ -3,11 +3,11 @@ use Rattle.giop_sig.proofs.ItemTaken.{declared_takes, struct_formed, struct_take
 use Rattle.giop_sig.proofs.read_items.structure_at.Goals as goal
 
 pub type_end_at-requires-clause-formed : goal.type_end_at-requires-clause-formed
-type_end_at-requires-clause-formed c = struct_formed _ c.args.draft.now _ _ c.in_ok-parts.ensures
+type_end_at-requires-clause-formed c = struct_formed c.args.draft.now _ _ c.in_ok-parts.ensures
     c.laws.ensures.scope
 
 pub type_end_at-requires-clause-some : goal.type_end_at-requires-clause-some
-type_end_at-requires-clause-some c = struct_takes _ c.args.draft.now _ _ _ c.in_ok-rest-2.ensures
+type_end_at-requires-clause-some c = struct_takes c.args.draft.now _ _ _ c.in_ok-rest-2.ensures
     c.in_ok-parts.ensures
 
 pub type_end_at-requires-clause-short : goal.type_end_at-requires-clause-short
@@ -17,11 +17,11 @@ type_end_at-requires-clause-short c = (declared_takes c.args.draft.now _ _ _
 pub type_end_at-requires-clause-new : goal.type_end_at-requires-clause-new
 type_end_at-requires-clause-new c =
     still_new c.args.draft.now c.members_at.new.draft _
-    (members_grow _ c.args.draft.now _ _ c.in_ok-parts.ensures)
+    (members_grow c.args.draft.now _ _ c.in_ok-parts.ensures)
     (declared_takes c.args.draft.now _ _ _ c.in_ok-name.ensures).new
 
 pub type_end_at-requires-clause-few : goal.type_end_at-requires-clause-few
 type_end_at-requires-clause-few c =
-    let g = members_grow _ c.args.draft.now _ _ c.in_ok-parts.ensures in
+    let g = members_grow c.args.draft.now _ _ c.in_ok-parts.ensures in
     let d = declared_takes c.args.draft.now _ _ _ c.in_ok-name.ensures in
     let few = d.few in omega (arith, g.declared, c.types_declared-count.ensures)

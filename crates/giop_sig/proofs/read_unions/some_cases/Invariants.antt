@@ -6,9 +6,9 @@ use Rattle.giop_sig.proofs.read_unions.some_cases.Given as goal
 
 abbrev pub invariant-loop : goal.invariant-loop
 invariant-loop l = record {
-  same : in_steps (cases_step l.fn.at l.fn.switch.0) too_many_cases (257 - l.counter)
+  same : in_steps (cases_step l.fn.switch.0) too_many_cases (257 - l.counter)
       (l.draft, cases_view l.cases, l.rest)
-      ≡ in_steps (cases_step l.fn.at l.fn.switch.0) too_many_cases 257
+      ≡ in_steps (cases_step l.fn.switch.0) too_many_cases 257
       (l.fn.draft, no_cases, l.fn.text);
   room : length l.cases.names.items ≤ l.counter;
 }

@@ -8,7 +8,7 @@ pub type_end_at-requires-clause-formed : goal.type_end_at-requires-clause-formed
 type_end_at-requires-clause-formed c =
     let types = c.cases_at.new.draft.table.types in
     subst (IsFormed types (length types)) (sym c.in_ok-entry.ensures.ok)
-    (union_formed _ c.args.draft.now _ _ _ _ c.in_ok-switch.ensures c.in_ok-cases.ensures
+    (union_formed c.args.draft.now _ _ _ _ c.in_ok-switch.ensures c.in_ok-cases.ensures
     c.laws.ensures.scope)
 
 pub type_end_at-requires-clause-some : goal.type_end_at-requires-clause-some
@@ -21,11 +21,11 @@ type_end_at-requires-clause-short c = (declared_takes c.args.draft.now _ _ _
 pub type_end_at-requires-clause-new : goal.type_end_at-requires-clause-new
 type_end_at-requires-clause-new c =
     still_new c.args.draft.now c.cases_at.new.draft _
-    (union_grows _ c.args.draft.now _ _ _ _ c.in_ok-switch.ensures c.in_ok-cases.ensures)
+    (union_grows c.args.draft.now _ _ _ _ c.in_ok-switch.ensures c.in_ok-cases.ensures)
     (declared_takes c.args.draft.now _ _ _ c.in_ok-name.ensures).new
 
 pub type_end_at-requires-clause-few : goal.type_end_at-requires-clause-few
 type_end_at-requires-clause-few c =
-    let g = union_grows _ c.args.draft.now _ _ _ _ c.in_ok-switch.ensures c.in_ok-cases.ensures in
+    let g = union_grows c.args.draft.now _ _ _ _ c.in_ok-switch.ensures c.in_ok-cases.ensures in
     let d = declared_takes c.args.draft.now _ _ _ c.in_ok-name.ensures in
     let few = d.few in omega (arith, g.declared, c.types_declared-count.ensures)

@@ -1,22 +1,22 @@
 use Rattle.std.proofs.Common.{◌≤◌, length, sym, ap, subst, ◌∙◌, inr, arith}
-use Rattle.giop_sig.specs.Table.{Table}
-use Rattle.giop_sig.specs.Trees.{depth_of}
 use Rattle.giop_sig.specs.Outcomes.{Stops}
 use Rattle.giop_sig.specs.FileReading.{file_at}
 use Rattle.giop_sig.specs.Validity.{Refuses}
-use Rattle.giop_sig.proofs.FileLaws.{file_takes}
+use Rattle.giop_sig.proofs.FileLaws.{file_takes, file_shallow}
 use Rattle.giop_sig.proofs.FileRules.{file_valid, file_few, file_refuses}
 use Rattle.giop_sig.proofs.Told.{has_line}
 use Rattle.giop_sig.proofs.UnionWhole.{union_read, union_taken}
 use Rattle.giop_sig.proofs.catalogue.Catalogue.parse.Goals as goal
+
+pub into_catalogue-catalogue-requires : goal.into_catalogue-catalogue-requires
+into_catalogue-catalogue-requires c = file_shallow union_taken c.args.text.now c.in-Ok.draft c.in-Ok.ensures
 
 pub returns-in-Ok-clause-ok : goal.returns-in-Ok-clause-ok
 returns-in-Ok-clause-ok c =
     let text = c.args.text.now in
     let s = file_takes union_read union_taken text c.in-Ok.draft
     (let few = c.if-text-gt-TEXT_MAX.false in omega arith) c.in-Ok.ensures in
-    let shallow = subst (λ (t : Table). depth_of t.types ≤ 24) c.into_catalogue-catalogue.ensures
-    c.laws.ensures.types.shallow in
+    let shallow = file_shallow union_taken text c.in-Ok.draft c.in-Ok.ensures in
     let v = file_valid union_read text c.in-Ok.draft s.0 s.1 c.in-Ok.ensures shallow in
     (s.0, s.1, v.0, c.into_catalogue-catalogue.ensures ∙ v.1)
 

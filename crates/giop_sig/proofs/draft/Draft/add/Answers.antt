@@ -1,9 +1,18 @@
+use Rattle.std.proofs.Common.{sym, subst}
 use Rattle.giop_sig.specs.Views.{node_view}
-use Rattle.giop_sig.proofs.ScopeLaws.{grown_draft}
+use Rattle.giop_sig.specs.Trees.{AreFormed}
+use Rattle.giop_sig.specs.ScopeViews.{scope_view, IsDraft}
+use Rattle.giop_sig.specs.Entries.{table_view}
+use Rattle.giop_sig.proofs.ScopeLaws.{draft_grows}
 use Rattle.giop_sig.proofs.draft.Draft.add.Goals as goal
 
 pub invariant_of-self-2 : goal.invariant_of-self-2
 invariant_of-self-2 c =
-    grown_draft c.self.inside.version c.self.inside.catalogue c.add_type.new.self
-    c.self.inside.names.entries (node_view c.args.entry)
-    c.self.invariant c.in-Ok.ensures.added
+    let i = c.self.inside in
+    let added = c.in_ok-t.ensures.added in
+    subst (λ types. IsDraft (scope_view i.version
+    (table_view types i.operations.entries i.exceptions.entries i.declared) i.names.entries))
+    (sym added)
+    (draft_grows (scope_view i.version
+    (table_view i.types i.operations.entries i.exceptions.entries i.declared) i.names.entries)
+    (node_view c.args.entry) c.self.invariant (subst AreFormed added c.laws.ensures))

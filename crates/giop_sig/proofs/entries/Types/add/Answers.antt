@@ -1,14 +1,10 @@
-use Rattle.std.proofs.Common.{◌≤◌, arith}
 use Rattle.giop_sig.proofs.Kept.{kept_pushed}
 use Rattle.giop_sig.proofs.entries.Types.add.Goals as goal
 
 pub invariant_of-self-2 : goal.invariant_of-self-2
 invariant_of-self-2 c =
-    let deep = c.depth_above-depth.ensures.depth in
-    let shallow : c.depth_above-depth.result ≤ 24 =
-    (let s = c.requires.shallow in omega (arith, deep)) in
     kept_pushed c.self.inside.placed.items c.push.new.self.items c.self.inside.deepest
     c.max-self-inside.result
     (record { entry = c.args.entry; depth = c.depth_above-depth.result })
-    c.args.self.now c.self.invariant c.self.view_is c.requires.few c.requires.formed deep shallow
-    c.in_ok-push.ensures.items c.max-self-inside.ensures
+    c.args.self.now c.self.invariant c.self.view_is c.requires.few c.requires.formed
+    c.depth_above-depth.ensures c.in_ok-push.ensures.items c.max-self-inside.ensures

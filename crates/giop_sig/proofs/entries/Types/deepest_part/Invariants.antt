@@ -1,4 +1,4 @@
-use Rattle.std.proofs.Common.{◌≡◌, ◌≤◌}
+use Rattle.std.proofs.Common.{◌≡◌, ◌≤◌, length}
 use Rattle.giop_sig.specs.Types.{most}
 use Rattle.giop_sig.specs.Trees.{part_depth}
 use Rattle.giop_sig.specs.Views.{node_view}
@@ -8,5 +8,5 @@ abbrev pub invariant-loop-place : goal.invariant-loop-place
 invariant-loop-place l =
     record {
       depth : l.deepest ≡ most l.place (part_depth l.self (node_view l.entry));
-      shallow : l.deepest ≤ 24;
+      small : l.deepest ≤ length l.self;
     }

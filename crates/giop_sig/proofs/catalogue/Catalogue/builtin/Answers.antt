@@ -1,0 +1,6 @@
+use Rattle.giop_sig.proofs.Builtins.{builtin_is}
+use Rattle.giop_sig.proofs.catalogue.Catalogue.builtin.Goals as goal
+
+pub invariant_of-result : goal.invariant_of-result
+invariant_of-result c =
+    rw (c.in_ok-types.ensures, c.new.ensures.empty, c.new-2.ensures.empty) builtin_is
