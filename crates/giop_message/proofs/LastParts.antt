@@ -11,7 +11,7 @@ use Rattle.giop_sig.specs.Fits.{IsFit}
 use Rattle.giop_sig.specs.Trees.{trees_after, type_in}
 use Rattle.giop_sig.specs.Builtin.{builtin_types, builtin_table}
 use Rattle.giop_sig.specs.HeaderTypes.{header_type, header_number, IsTable}
-use Rattle.giop_sig.proofs.Builtins.{builtin_are, builtin_fit, header_built_in}
+use Rattle.giop_sig.proofs.Builtins.{builtin_is, builtin_fit, header_built_in}
 use Rattle.giop_decode.specs.ReadResult
 use Rattle.giop_decode.specs.ReadResult.{Coding, PathSegment, Name, Switch, Held, Line, OpenPart, Part, Member, Inside, Leaf, LeadingNumber, Opening, Content, Read, Done, Short, Fault, lines_of, with_front, followed, within}
 use Rattle.giop_decode.specs.Reading.{parts_from}
@@ -32,9 +32,6 @@ request_ends (suc (suc (suc minor))) = tt
 request_ends _ = (_, _, _, refl, refl)
 
 -- ---- the headers fit
-
-builtin_is : IsTable builtin_table
-builtin_is = search (arith, builtin_are, append-nil)
 
 number_fit : (found : Option ℕ) → IfSome found (λ n. n < length builtin_types)
     → IfSome (option_map (type_in builtin_types) found) (IsFit 24)

@@ -1,10 +1,10 @@
 -- The built-in types are a table, shown by computed tests, and every catalogue begins with them.
-use Rattle.std.proofs.Common.{◌≡◌, ℕ, zero, suc, ◌+◌, ◌^◌, ◌<◌, ◌≤◌, Bool, true, false, ◌&&◌, ltb, leb, List, [], ◌∷◌, ◌++◌, length, get_or, Option, Some, None, refl, sym, ap, ◌∙◌, take, drop, lit<, arith}
+use Rattle.std.proofs.Common.{◌≡◌, ℕ, zero, suc, ◌+◌, ◌^◌, ◌<◌, ◌≤◌, Bool, true, false, ◌&&◌, ltb, leb, List, [], ◌∷◌, ◌++◌, length, get_or, Option, Some, None, refl, ap, ◌∙◌, take, lit<, arith}
 use Rattle.std.specs.Prelude.{slice_get, IfSome}
 use Rattle.std.specs.Option.{option_map}
 use Rattle.std.specs.List.{AllByRecursion}
 use Rattle.std.proofs.lemmas.Bool.{ltb-true, leb-true}
-use Rattle.std.proofs.lemmas.List.{append-nil, length-append, length-take, take_more, take-append-drop, get_or-take}
+use Rattle.std.proofs.lemmas.List.{append-nil, length-append, length-take, take_more, get_or-take}
 use Rattle.std.proofs.lemmas.List.Elements.{All-from_recursion}
 use Rattle.giop_cdr.specs.declared.prim.Primitive.TheVariants.{Octet}
 use Rattle.giop_sig.specs.declared.types.Selected.TheVariants as selecteds
@@ -15,10 +15,10 @@ use Rattle.giop_sig.specs.Types.{depth}
 use Rattle.giop_sig.specs.Fits.{IsFit}
 use Rattle.giop_sig.specs.Table.{Node, Part, Case, Table, node_in, IsFormed, IsInner, IsPart, IsSwitch, TakesOctet, IsScalarNode}
 use Rattle.giop_sig.specs.Table as nodes
-use Rattle.giop_sig.specs.Trees.{grow, trees_after, type_in, tree, depth_of, AreTypes}
+use Rattle.giop_sig.specs.Trees.{trees_after, type_in, tree, depth_of, AreTypes}
 use Rattle.giop_sig.specs.Builtin.{builtin_table, builtin_types}
 use Rattle.giop_sig.specs.HeaderTypes.{fixed_number, header_number, cell_of, cell_in, IsTable}
-use Rattle.giop_sig.proofs.TreeLaws.{tree_stays, tree_added}
+use Rattle.giop_sig.proofs.TreeLaws.{tree_stays}
 use Rattle.giop_sig.proofs.Formed.{formed_moved}
 use Rattle.giop_sig.proofs.Depths.{depth_within}
 use Rattle.giop_sig.proofs.Solid.{fit_at}

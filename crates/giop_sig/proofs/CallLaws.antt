@@ -13,7 +13,7 @@ use Rattle.giop_tokens.specs.Tokens.{Token, word, mark, left_of, AreTokens}
 use Rattle.giop_tokens.specs.Reading.{◌>>=◌}
 use Rattle.giop_tokens.specs.Readers.{is_the_word, mark_at, mark_if, keyword_if}
 use Rattle.giop_tokens.specs.Names.{is_reserved, too_long}
-use Rattle.giop_tokens.proofs.ReaderLaws.{bind_ok, ok_is, Takes, if_other, word_again, mark_again, mark_if_again, keyword_if_again, operation_name_again, operation_name_long, mark_takes}
+use Rattle.giop_tokens.proofs.ReaderLaws.{bind_ok, Takes, if_other, word_again, mark_again, mark_if_again, keyword_if_again, operation_name_again, operation_name_long, mark_takes}
 use Rattle.giop_sig.specs.declared.read_calls.Direction.{Direction}
 use Rattle.giop_sig.specs.declared.read_calls.Direction.TheVariants as directions
 use Rattle.giop_sig.specs.Table.{Node, Part, operation_in}
@@ -24,7 +24,7 @@ use Rattle.giop_sig.specs.Validity.{Kind, OfItem, OfItems, OfType, OfReturn, OfO
 use Rattle.giop_sig.specs.TypeReading.{type_at}
 use Rattle.giop_sig.specs.ItemReading.{item_at, Declared, end_of}
 use Rattle.giop_sig.specs.CallReading.{ReturnRead, return_at, new_operation_at, direction_of, direction_at, in_request, in_reply, with_param, Params, ParameterLists, param_end, param_step, too_many_params, ParamsRead, params_read, params_run, no_parameters, params_at, call_of, operation_at}
-use Rattle.giop_sig.proofs.PlaceLaws.{within_same, within_on, item_names, params_more, return_more, return_names, return_operations, structs_more}
+use Rattle.giop_sig.proofs.PlaceLaws.{within_same, within_on, item_names, params_more, return_names, return_operations, structs_more}
 use Rattle.giop_sig.proofs.ReadingLaws.{Out, good, broken, out_bind, out_more, Apart, if_apart}
 use Rattle.giop_sig.proofs.TypeLaws.{is_not, type_reads}
 use Rattle.giop_sig.proofs.ItemLaws.{made_item, item_reads, some_none, unused_reads, end_reads}
@@ -230,7 +230,7 @@ last_reads n w s p rule rest more m keeps = search (arith, append-nil, good)
 
 param_named : (w : ParameterLists) (s : Scope) (names : Names) (p : Param)
     (ps : List Param)
-    (text : List ℕ) (more : List Token) → s.names ≡ names 
+    (text : List ℕ) (more : List Token) → s.names ≡ names
     → OfItem kinds.Syntax names 255 w.seen p.item
     → AreTokens text (spell_param p (spell_more_params ps more))
     → Out (made_param w s p ps) (λ k. OfItem k names 255 w.seen p.item)
@@ -244,7 +244,7 @@ param_named w s names p ps text more same free h =
 
 pub params_reads : (ps : List Param) (p : Param) (n : ℕ) (w : ParameterLists) (s : Scope)
     (names : Names)
-    (text : List ℕ) (more : List Token) → s.names ≡ names 
+    (text : List ℕ) (more : List Token) → s.names ≡ names
     → n + length w.seen ≡ 256 → length w.seen ≤ 255
     → OfItems kinds.Syntax names 255 w.seen (items_of (p ∷ ps))
     → AreTokens text (spell_param p (spell_more_params ps more))
@@ -287,7 +287,7 @@ unfolding OfItems add_params
 none_reads returned s names rest more m = search (arith, append-nil, good)
 
 pub list_reads : (ps : List Param) (returned : List Part) (s : Scope) (names : Names)
-    (text : List ℕ) (more : List Token) → s.names ≡ names 
+    (text : List ℕ) (more : List Token) → s.names ≡ names
     → OfItems kinds.Syntax names 255 [] (items_of ps) → AreTokens text (spell_params ps more)
     → Out (made_params (no_parameters returned) s ps) (λ k. OfItems k names 255 [] (items_of ps))
     (add_params s ps).0.table.types more (params_at returned s text)

@@ -249,7 +249,7 @@ end_from text e = search (arith, bind_ok, end_none, ok_is)
 
 -- the scope after a declaration that was read is that of the declaration which the text spells
 declared_is : UnionReads
-    → (s : Scope) (d : Declaration) (text : List ℕ) (more : List Token) (x : Declared) 
+    → (s : Scope) (d : Declaration) (text : List ℕ) (more : List Token) (x : Declared)
     → HasItsWords s d → AreTokens text (spell d more) → declaration_at s text ≡ Ok x
     → x.0 ≡ declare s d
 declared_is union s d text more x words h e = search (arith, declaration_reads)

@@ -16,12 +16,12 @@ use Rattle.giop_tokens.proofs.ReaderLaws.{mark_again, mark_if_again, identifier_
 use Rattle.giop_sig.specs.Table.{Node, Part}
 use Rattle.giop_sig.specs.Trees.{depth_of}
 use Rattle.giop_sig.specs.Grammar.{TypeExpr, Base, Item, spell_length, spell_type, spell_item, spell_items}
-use Rattle.giop_sig.specs.Scopes.{Names, Scope, part, item_part, place, add_array, add_item, add_items}
+use Rattle.giop_sig.specs.Scopes.{Names, Scope, item_part, place, add_array, add_item, add_items}
 use Rattle.giop_sig.specs.Validity.{Kind, IsFree, is_among, OfNewName, OfSome, OfItem, OfItems, OfDeclared}
 use Rattle.giop_sig.specs.Outcomes.{refused}
 use Rattle.giop_sig.specs.TypeReading.{enclosed_at, type_at}
 use Rattle.giop_sig.specs.ItemReading.{new_name_at, declared_at, ItemRead, read_item, item_at, Members, member_at, member_step, MembersRead, members_run, filled_at, Declared, too_deep, end_of}
-use Rattle.giop_sig.proofs.PlaceLaws.{Within, within_same, length_more, item_names, items_more}
+use Rattle.giop_sig.proofs.PlaceLaws.{within_same, length_more, item_names, items_more}
 use Rattle.giop_sig.proofs.ReadingLaws.{Out, good, broken, out_bind, out_more, Apart, if_apart}
 use Rattle.giop_sig.proofs.SizeReads.{enclosed_reads}
 use Rattle.giop_sig.proofs.TypeLaws.{type_reads}

@@ -12,7 +12,7 @@ use Rattle.giop_sig.specs.Table as nodes
 use Rattle.giop_sig.specs.Trees.{grow, trees_after, type_in, depth_of, AreFormed}
 use Rattle.giop_sig.specs.Views.{node_view, nodes_view, IsKept, IsSized}
 use Rattle.giop_sig.proofs.TreeLaws.{length_after}
-use Rattle.giop_sig.proofs.Depths.{depths_read, depth_within, depths_added, deepest_added}
+use Rattle.giop_sig.proofs.Depths.{depths_read, depths_added, deepest_added}
 use Rattle.giop_sig.proofs.Formed.{formed_stays, sized}
 use Rattle.giop_sig.proofs.Small.{type_small}
 

@@ -1,15 +1,12 @@
 -- Adding the types of a declaration keeps the names of a scope, and only adds types.
-use Rattle.std.proofs.Common.{◌≡◌, ℕ, suc, ◌<◌, ◌≤◌, Bool, true, false, cond, eqb, List, [], ◌∷◌, ◌++◌, length, Option, Some, None, refl, ap, arith}
+use Rattle.std.proofs.Common.{◌≡◌, ℕ, ◌≤◌, List, [], ◌∷◌, ◌++◌, length, Option, Some, None, refl, arith}
 use Rattle.std.proofs.lemmas.List.{length-append}
-use Rattle.std.proofs.lemmas.Bool.{eqb-true}
-use Rattle.giop_sig.specs.Types.{Ty, depth}
 use Rattle.giop_sig.specs.Table.{Node, node_at}
 use Rattle.giop_sig.specs.Table as nodes
-use Rattle.giop_sig.specs.Trees.{grow, type_in, depth_of}
+use Rattle.giop_sig.specs.Trees.{depth_of}
 use Rattle.giop_sig.specs.Grammar.{TypeExpr, Base, Text, Reference, Named, SequenceOf, EncapsulationOf, Item, UnionCase, Param, Declaration, Enumeration, Structure, DeclaredUnion, DeclaredException, Call}
-use Rattle.giop_sig.specs.Scopes.{Scope, AddedType, with_node, sequence_node, place, add_array, add_item, add_items, add_cases, default_from, add_params, add_return, add_struct_type, declare, scope_after}
-use Rattle.giop_sig.proofs.TreeLaws.{tree_added}
-use Rattle.giop_sig.proofs.Depths.{deepest_added, depth_within}
+use Rattle.giop_sig.specs.Scopes.{Scope, AddedType, with_node, place, add_array, add_item, add_items, add_cases, default_from, add_params, add_return, add_struct_type, declare, scope_after}
+use Rattle.giop_sig.proofs.Depths.{deepest_added}
 
 -- the greatest depth in a scope, and how many types it has
 abbrev pub deepest : Scope → ℕ

@@ -1,5 +1,5 @@
 -- No type is deeper than its number allows.
-use Rattle.std.proofs.Common.{◌≡◌, ℕ, zero, suc, ◌+◌, ◌<◌, ◌≤◌, max, List, length, refl, sym, subst, arith}
+use Rattle.std.proofs.Common.{ℕ, zero, suc, ◌<◌, ◌≤◌, List, length, refl, sym, subst, arith}
 use Rattle.giop_sig.specs.Types.{depth, most, HasPlace}
 use Rattle.giop_sig.specs.Table.{Node, node_in, shape_of, part_at, type_of, IsFormed}
 use Rattle.giop_sig.specs.Table as nodes
@@ -51,16 +51,25 @@ node_small types n (nodes.tagged special tag inner other) formed each =
     )
 node_small types n (nodes.sequence bound element) formed each =
     let node = nodes.sequence bound element in
-    omega (arith, depth_at_shape types node (shape_of node) refl,
-    part_small types n node 0 formed tt each)
+    omega (
+      arith,
+      depth_at_shape types node (shape_of node) refl,
+      part_small types n node 0 formed tt each,
+    )
 node_small types n (nodes.array count element) formed each =
     let node = nodes.array count element in
-    omega (arith, depth_at_shape types node (shape_of node) refl,
-    part_small types n node 0 formed tt each)
+    omega (
+      arith,
+      depth_at_shape types node (shape_of node) refl,
+      part_small types n node 0 formed tt each,
+    )
 node_small types n (nodes.encapsulation held) formed each =
     let node = nodes.encapsulation held in
-    omega (arith, depth_at_shape types node (shape_of node) refl,
-    part_small types n node 0 formed tt each)
+    omega (
+      arith,
+      depth_at_shape types node (shape_of node) refl,
+      part_small types n node 0 formed tt each,
+    )
 node_small types n node formed each = omega (arith, depth_at_shape types node (shape_of node) refl)
 
 small_below : (types : List Node) (fuel i : ℕ) → AreFormed types → i < fuel → i < length types

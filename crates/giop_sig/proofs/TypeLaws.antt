@@ -1,13 +1,11 @@
 -- Reading the spelling of a type gives it, or a rule that it breaks.
-use Rattle.std.proofs.Common.{◌≡◌, ℕ, zero, suc, ◌<◌, ◌≤◌, ◌⊎◌, inl, inr, Bool, true, false, cond, ltb, leb, List, ◌∷◌, length, Option, Some, None, Result, Ok, Err, refl, sym, subst, arith}
-use Rattle.std.specs.Prelude.{MatchResult, codes}
+use Rattle.std.proofs.Common.{◌≡◌, ℕ, zero, suc, ◌<◌, ◌≤◌, Bool, true, false, cond, ltb, List, ◌∷◌, length, Option, Some, None, Ok, Err, refl, arith}
+use Rattle.std.specs.Prelude.{codes}
 use Rattle.std.specs.Str.{bytes_eq}
-use Rattle.std.proofs.lemmas.List.{length-append}
 use Rattle.std.proofs.lemmas.Slice.Eq.{bytes_eq-Decides}
-use Rattle.std.proofs.lemmas.Bool.{ltb-true, ltb-false, leb-true, leb-false, false≢true}
+use Rattle.std.proofs.lemmas.Bool.{ltb-true, ltb-false, false≢true}
 use Rattle.giop_cdr.specs.declared.prim.Primitive.{Primitive}
 use Rattle.giop_cdr.specs.declared.prim.Primitive.TheVariants as prims
-use Rattle.giop_tokens.specs.declared.fault.Refusal.{Refusal}
 use Rattle.giop_tokens.specs.declared.fault.SigFaultKind.TheVariants as kinds
 use Rattle.giop_tokens.specs.declared.marks.Mark.TheVariants as marks
 use Rattle.giop_tokens.specs.Tokens.{Token, word, mark, AreTokens}
@@ -15,10 +13,9 @@ use Rattle.giop_tokens.specs.Reading.{◌>>=◌}
 use Rattle.giop_tokens.specs.Readers.{word_at, mark_at}
 use Rattle.giop_tokens.specs.Names.{is_reserved}
 use Rattle.giop_tokens.proofs.ReaderLaws.{word_again, mark_again}
-use Rattle.giop_sig.specs.declared.numbers.TheConstants.{IOR}
 use Rattle.giop_sig.specs.Grammar.{TypeExpr, Base, Text, Reference, Named, SequenceOf, EncapsulationOf, base_word, spell_bound, spell_most, spell_type}
-use Rattle.giop_sig.specs.Scopes.{Names, has_encapsulations, Scope, AddedType, named, base_number, number_or, sequence_node, add_text_type, add_sequence_type, place}
-use Rattle.giop_sig.specs.Validity.{Kind, IsFree, OfTypeName, OfBound, OfVersion, OfType}
+use Rattle.giop_sig.specs.Scopes.{Names, has_encapsulations, Scope, named, base_number, number_or, sequence_node, add_text_type, add_sequence_type, place}
+use Rattle.giop_sig.specs.Validity.{Kind, IsFree, OfTypeName, OfVersion, OfType}
 use Rattle.giop_sig.specs.Outcomes.{refused}
 use Rattle.giop_sig.specs.declared.read_types.Opener.TheVariants as openers
 use Rattle.giop_sig.specs.TypeReading.{enclosed_at, most_at, TypeRead, base_of, read_as, text_at, closed_by, found_type, named_type, leaf_after, leaf_at, opener_at, nested_at, type_at}

@@ -150,7 +150,7 @@ switch_by : (s : Scope) (e : TypeExpr) (text rest : List ℕ) (more : List Token
 switch_by s e text rest more true p m keeps = search (arith, good, switch_keeps, discriminates)
 switch_by s e text rest more false p m keeps = search (arith, broken, no_discriminator)
 
-switch_reads : (s : Scope) (e : TypeExpr) (text : List ℕ) (more : List Token) 
+switch_reads : (s : Scope) (e : TypeExpr) (text : List ℕ) (more : List Token)
     → OfType kinds.Syntax s.names e → Apart marks.OpenAngle more
     → AreTokens text (spell_type e more)
     → Out (placed s e) (λ k. OfType k s.names e × OfSwitch k (placed_node (place s e)))
@@ -232,7 +232,7 @@ choice_reads n switch cases s text more free h =
 
 -- what reading gives of a text that begins with a union, after its word
 pub union_reads : (s : Scope) (n : List ℕ) (switch : TypeExpr) (cases : List UnionCase)
-    (text : List ℕ) (more : List Token) 
+    (text : List ℕ) (more : List Token)
     → OfDeclaration kinds.Syntax s (DeclaredUnion n switch cases)
     → AreTokens text (word n ∷ word (codes "switch") ∷ mark marks.OpenParenthesis
     ∷ spell_type switch (mark marks.CloseParenthesis ∷ mark marks.OpenBrace

@@ -9,7 +9,7 @@ use Rattle.giop_sig.specs.declared.types.Fixed.{Fixed}
 use Rattle.giop_sig.specs.declared.types.Fixed.TheVariants as fixeds
 use Rattle.giop_sig.specs.Types.{Plain, Ty, Single, Struct}
 use Rattle.giop_sig.specs.Table.{Node, Operation, Exception, Table, no_operation, no_exception}
-use Rattle.giop_sig.specs.Trees.{AreFormed, AreTypes, type_in}
+use Rattle.giop_sig.specs.Trees.{AreTypes, type_in}
 use Rattle.giop_sig.specs.Builtin.{builtin_types}
 
 -- the numbers of the header types of each message type, in 1.0, 1.1 and 1.2

@@ -8,7 +8,7 @@ use Rattle.giop_tokens.specs.declared.marks.Mark.TheVariants as marks
 use Rattle.giop_tokens.specs.Reading.{◌>>=◌}
 use Rattle.giop_tokens.specs.Readers.{misplaced, word_at, number_at, mark_at, mark_if}
 use Rattle.giop_tokens.specs.Names.{is_reserved}
-use Rattle.giop_sig.specs.declared.numbers.TheConstants.{STRING, IOR}
+use Rattle.giop_sig.specs.declared.numbers.TheConstants.{IOR}
 use Rattle.giop_sig.specs.declared.read_types.Opener.{Opener}
 use Rattle.giop_sig.specs.declared.read_types.Opener.TheVariants as openers
 use Rattle.giop_sig.specs.Scopes.{has_encapsulations, Scope, AddedType, named, add_text_type, add_sequence_type, add_encapsulation_type}

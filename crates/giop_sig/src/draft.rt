@@ -293,11 +293,6 @@ impl Draft {
         requires { depth_of self.table.types ≤ 24 }
         ensures { result ≡ self.table }
     {
-        Catalogue::of(
-            self.types,
-            self.operations,
-            self.exceptions,
-            self.declared,
-        )
+        Catalogue::of(self.types, self.operations, self.exceptions, self.declared)
     }
 }

@@ -76,11 +76,7 @@ pub(crate) fn declared_at<'a>(
 }
 
 /// Adds an array of elements of a type, where there is a length.
-fn array_of(
-    draft: &mut Draft,
-    element: TypeId,
-    count: Option<u32>,
-) -> Result<TypeId, ParseStop>
+fn array_of(draft: &mut Draft, element: TypeId, count: Option<u32>) -> Result<TypeId, ParseStop>
     requires known { IsKnown draft.old.table.types element.0 }
     requires some { IfSome count (λ n. 0 < n) }
     ensures { Gives (λ t. (draft.new, t.0)) result (Ok (add_array count (draft.old, element.0))) }

@@ -154,11 +154,7 @@ fn named_type<'a>(
 }
 
 /// Adds a sequence of elements of a type; a sequence of octets is a kind of its own.
-fn sequence_of(
-    draft: &mut Draft,
-    bound: Option<u32>,
-    element: TypeId,
-) -> Result<TypeId, ParseStop>
+fn sequence_of(draft: &mut Draft, bound: Option<u32>, element: TypeId) -> Result<TypeId, ParseStop>
     requires { IsKnown draft.old.table.types element.0 }
     ensures { Gives (λ t. (draft.new, t.0)) result
         (Ok (with_node draft.old (sequence_node bound element.0))) }
@@ -240,10 +236,7 @@ fn opener_at<'a>(draft: &Draft, text: &'a [u8]) -> Result<Option<(Opener, &'a [u
         if !draft.has_encapsulations() {
             return Err(ParseStop::Refused(misplaced(text)));
         }
-        return Ok(Some((
-            Opener::Encapsulation,
-            mark(rest, Mark::OpenAngle)?,
-        )));
+        return Ok(Some((Opener::Encapsulation, mark(rest, Mark::OpenAngle)?)));
     }
     Ok(None)
 }

@@ -1,6 +1,6 @@
-use Rattle.std.proofs.Common.{length, ap, subst, sym, ◌<◌, arith}
+use Rattle.std.proofs.Common.{length, ap, subst, ◌<◌, arith}
 use Rattle.giop_tokens.proofs.ReaderLaws.{ok_is}
-use Rattle.giop_sig.specs.Scopes.{Scope, AddedType}
+use Rattle.giop_sig.specs.Scopes.{AddedType}
 use Rattle.giop_sig.proofs.TypeTaken.{Grows}
 use Rattle.giop_sig.proofs.ItemTaken.{declared_takes, struct_formed, exception_grows, still_new, new_repository_takes, still_different, node_below}
 use Rattle.giop_sig.proofs.read_items.exception_at.Goals as goal

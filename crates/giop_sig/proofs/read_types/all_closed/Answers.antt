@@ -27,4 +27,4 @@ returns c =
     sym c.loop-opener.invariant.closed
     ∙ none_closed c.loop-opener.openers.items
     (c.loop-opener.draft, c.loop-opener.t.0, c.loop-opener.rest.now)
-    (c.loop-opener.openers.ok.0 ∙ c.in_default.ensures.cases.0)
+    (sym c.loop-opener.openers.ok.0 ∙ c.in_default.ensures.cases.0)

@@ -1,4 +1,4 @@
-use Rattle.std.proofs.Common.{◌≤◌, length, sym, ap, subst, ◌∙◌, inr, arith}
+use Rattle.std.proofs.Common.{length, sym, ap, subst, ◌∙◌, inr, arith}
 use Rattle.giop_sig.specs.Outcomes.{Stops}
 use Rattle.giop_sig.specs.FileReading.{file_at}
 use Rattle.giop_sig.specs.Validity.{Refuses}
