@@ -1,6 +1,6 @@
 -- Lines that end no operation: that of the last part of a Request's header, so a header never ends
 -- together with its operation; and those at the octet of a fault.
-use Rattle.std.proofs.Common.{◌≡◌, ℕ, suc, ◌+◌, ◌-◌, ◌<◌, ◌≤◌, ◌⊎◌, inl, inr, Bool, true, false, List, [], ◌∷◌, ◌++◌, length, Option, Some, None, refl, sym, ap, subst, ◌∙◌, append-nil, arith}
+use Rattle.std.proofs.Common.{◌≡◌, ℕ, suc, ◌+◌, ◌-◌, ◌<◌, ◌≤◌, ◌⊎◌, inl, inr, Bool, true, false, List, [], ◌∷◌, ◌++◌, length, Option, Some, None, refl, sym, ap, subst, ◌∙◌, arith}
 use Rattle.std.specs.Prelude.{◌&&◌, codes, IfSome}
 use Rattle.std.specs.List.{AllByRecursion as Each}
 use Rattle.std.specs.Option.{option_map}
@@ -10,7 +10,7 @@ use Rattle.giop_sig.specs.Types.{Ty, Struct}
 use Rattle.giop_sig.specs.Fits.{IsFit}
 use Rattle.giop_sig.specs.Trees.{trees_after, type_in}
 use Rattle.giop_sig.specs.Builtin.{builtin_types, builtin_table}
-use Rattle.giop_sig.specs.HeaderTypes.{header_type, header_number, IsTable}
+use Rattle.giop_sig.specs.HeaderTypes.{header_type, header_number}
 use Rattle.giop_sig.proofs.Builtins.{builtin_is, builtin_fit, header_built_in}
 use Rattle.giop_decode.specs.ReadResult
 use Rattle.giop_decode.specs.ReadResult.{Coding, PathSegment, Name, Switch, Held, Line, OpenPart, Part, Member, Inside, Leaf, LeadingNumber, Opening, Content, Read, Done, Short, Fault, lines_of, with_front, followed, within}
