@@ -30,7 +30,7 @@ use Rattle.giop_decode.proofs.NameBuffer.{name_kept, none_either}
 use Rattle.giop_decode.specs.NameBuffer.{FitsName, string_offset}
 use Rattle.giop_decode.specs.declared.notes.Notes.{Notes}
 use Rattle.giop_decode.specs.NotingSteps.{transition_offset, StringGoesOn, OutputFitsString, clears_name, transition_in_string}
-use Rattle.giop_decode.specs.Runs.{Adds, AllGathered, IsHeldOf, IsParted, TakenTogether}
+use Rattle.giop_decode.specs.Runs.{Adds, AllGathered, IsHeldOf, IsParted, IsStep, IsStepOf, TakenTogether}
 use Rattle.giop_decode.specs.ReadResult.{plain, line, Coding, Done, Line, Opening, PathSegment, Piece, lines_of, with_front}
 use Rattle.giop_decode.specs.ReadingSteps.{after, coding_in, content_step, leading_width, leaf_step, path_in}
 use Rattle.giop_decode.specs.Transitions.{HasOutput, HaveOctetsLeft, IsOutput, IsWholeNumber, NumberStands, TransitionGives, TransitionFits, after_transition, block_of, coding_by, leaf_type, open_parts, still_held, ticked_by, IsClean}
@@ -129,16 +129,11 @@ module _ (C : Table) (d : Decoder) (of : TypeId) (octets : List ℕ) (count : �
   pub comes_head : (order : Order) (at : ℕ) → coding_by d.order d.at d.outer.items ≡ (order, at) →
       (kept all : List ℕ) (s : Step) → kept ≡ [] →
       NumberStands (leading_width (tree C of.0)) at d.carry octets count true all →
-      HaveOctetsLeft (ticked_by (length octets - 1) d.outer.items) →
-      TransitionFits (tree C of.0) of.0 s.transition [] [] → HasOutput (tree C of.0) s.output →
-      OutputFitsString (tree C of.0) false s.transition s.output →
-      ((n : ℕ) → StringGoesOn (tree C of.0) None s.transition s.output n) →
-      ((coding : Coding) (path : List PathSegment) (here : ℕ) →
-      TransitionGives C (tree C of.0) s.transition s.output [] [] path here
-      (after coding path (tree C of.0) (num order all) here [])) →
-      TakenTogether C d octets of count s [] kept d.piece.items
-  comes_head order at coded kept all s empty stands ahead fits has string on gives =
-      of_number order at coded true kept all s stands ahead (rw empty fits) has string on
+      HaveOctetsLeft (ticked_by (length octets - 1) d.outer.items) → IsStep C of.0 s →
+      IsStepOf C of.0 (num order all) s → TakenTogether C d octets of count s [] kept d.piece.items
+  comes_head order at coded kept all s empty stands ahead fits gives =
+      of_number order at coded true kept all s stands ahead (rw empty fits.transition_fits)
+      fits.has_output fits.output_fits_string fits.string_goes_on
       (λ coding path here. rw empty (gives coding path here))
 
   -- a number of which nothing was held
@@ -155,7 +150,12 @@ module _ (C : Table) (d : Decoder) (of : TypeId) (octets : List ℕ) (count : �
         transition = transitions.Ended;
         output =
             outputs.Number number;
-      }) empty (rw empty h.stands) ahead tt h.is (refl, refl) (λ n. (refl, refl))
+      }) empty (rw empty h.stands) ahead (record {
+        transition_fits = tt;
+        has_output = h.is;
+        output_fits_string = (refl, refl);
+        string_goes_on = λ n. (refl, refl);
+      })
       (λ coding path at. subst (λ n. TransitionGives C (tree C of.0) transitions.Ended
       (outputs.Number number) [] [] path at (after coding path (tree C of.0) n at []))
       h.spelled (turns_number C coding path (tree C of.0) at number h.is))
@@ -177,15 +177,11 @@ module _ (C : Table) (d : Decoder) (of : TypeId) (octets : List ℕ) (count : �
 
 pub comes_order : (C : Table) (d : Decoder) (of : TypeId) (n : ℕ) (octets : List ℕ) (s : Step)
     (f : Fits C d) → d.leaf ≡ Some (innermost.Opening of n) → 0 < length octets →
-    TransitionFits (tree C of.0) of.0 s.transition [] [] → HasOutput (tree C of.0) s.output →
-    OutputFitsString (tree C of.0) false s.transition s.output →
-    ((n : ℕ) → StringGoesOn (tree C of.0) None s.transition s.output n) →
-    ((coding : Coding) (path : List PathSegment) (here : ℕ) →
+    IsStep C of.0 s → ((coding : Coding) (path : List PathSegment) (here : ℕ) →
     TransitionGives C (tree C of.0) s.transition s.output [] [] path (here + 1)
     (leaf_step coding path (Opening (tree C of.0) (n - 1)) here (get_or octets 0 0))) →
     TakenTogether C d octets of 1 s [] d.carry d.piece.items
-comes_order C d of n octets s f e some transition_fits has_output output_fits_string
-    string_goes_on transitions =
+comes_order C d of n octets s f e some fits transitions =
     let leaf = innermost.Opening of n in
     let it : f.leaf ≡ leaf = same_some f.leaf leaf (sym f.goes_on ∙ e) in
     let clean : IsClean leaf d.carry d.piece.items =
@@ -203,10 +199,10 @@ comes_order C d of n octets s f e some transition_fits has_output output_fits_st
       carry = d.carry;
       piece = d.piece.items;
       adds = (refl, refl, refl);
-      transition_fits = rw (clean.0, kept) transition_fits;
-      has_output = has_output;
-      output_fits_string = output_fits_string;
-      string_goes_on = string_goes_on (length (d.piece.items ++ []));
+      transition_fits = rw (clean.0, kept) fits.transition_fits;
+      has_output = fits.has_output;
+      output_fits_string = fits.output_fits_string;
+      string_goes_on = fits.string_goes_on (length (d.piece.items ++ []));
       lines = λ coding path here. (transitions coding path here).lines;
       comes = λ coding path here ordered there.
           rw (clean.0, kept) (rw (still_nothing s.output) at (transitions coding path here).comes);

@@ -26,7 +26,7 @@ use crate::frame::{Frame, begin, go_on, has_ended, is_empty, is_inside, tick};
 use crate::leaf::{Finished, Leaf, Transition};
 use crate::line::write_line;
 use crate::lookahead::Lookahead;
-use crate::notes::Notes;
+use crate::notes::{Buffer, Notes};
 use crate::progress::{Progress, progress_of};
 use arrayvec::ArrayVec;
 use giop_cdr::{Carry, Order};
@@ -165,7 +165,7 @@ impl Decoder {
         ensures { (root : PathRoot) (r : Read) → KeepsNoted root self.now r →
             result ≡ (noted_of (is_header_root root) r).request_id }
     {
-        self.notes.request_id()
+        self.notes.request_id
     }
 
     /// The number of the last enum: of a reply header the status.
@@ -173,7 +173,7 @@ impl Decoder {
         ensures { (root : PathRoot) (r : Read) → KeepsNoted root self.now r →
             result ≡ (noted_of (is_header_root root) r).status }
     {
-        self.notes.status()
+        self.notes.status
     }
 
     /// Whether a header expects a reply, once that was read: GIOP 1.0 and 1.1 say it by a boolean, 1.2 by bit 0 of an octet.
@@ -181,7 +181,7 @@ impl Decoder {
         ensures { (root : PathRoot) (r : Read) → KeepsNoted root self.now r →
             result ≡ (noted_of (is_header_root root) r).expects_reply }
     {
-        self.notes.expects_reply()
+        self.notes.expects_reply
     }
 
     /// The last string, once that has ended and where it is a name: of at most 128 octets.
@@ -189,7 +189,11 @@ impl Decoder {
         ensures { (root : PathRoot) (r : Read) → KeepsNoted root self.now r →
             option_map (λ octets. octets.now) result ≡ (noted_of (is_header_root root) r).name }
     {
-        self.notes.name()
+        match self.notes.buffer {
+            Buffer::Whole => Some(&self.notes.name),
+            Buffer::Begun => None,
+            Buffer::TooLong => None,
+        }
     }
 
     /// Does a transition of the innermost part, of this type, and goes on in the parts around it.

@@ -53,5 +53,4 @@ returns-in-Some c =
     d.carry c.in-Some.whole.now c.take_value.result empty
     (rw empty (subst (λ w. NumberStands w c.args.coded.1 [] c.args.octets.now c.in-Some.count true
     c.in-Some.whole.now) (c.width.ensures.width head) c.in-Some.ensures.stands))
-    c.requires.ahead v.transition_fits v.has_output v.output_fits_string v.string_goes_on
-    v.transitions
+    c.requires.ahead v.fits v.transitions

@@ -19,5 +19,5 @@ pub returns : goal.returns
 returns c =
     let v = c.take_order.ensures in
     comes_order c.args.catalogue.now c.args.self.now c.args.of c.args.count c.args.octets.now
-    c.take_order.result c.requires.fits c.requires.leaf c.requires.some v.transition_fits
-    v.has_output v.output_fits_string v.string_goes_on v.transitions
+    c.take_order.result c.requires.fits c.requires.leaf c.requires.some v.fits
+    v.transitions
