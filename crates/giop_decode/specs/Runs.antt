@@ -177,6 +177,11 @@ pub record TakenTogether (C : Table) (d : Decoder) (octets : List ℕ) (of : Typ
       IsOutput (tree C of.0) path (here + 1) step.output (kept_piece ++ rest)
       (lines coding path here)
 
+-- a content comes next
+abbrev pub IsContent : Innermost → Type 0
+IsContent (innermost.Content of total offset) = Unit {0}
+IsContent leaf = ⊥
+
 -- so many octets more leave a piece of a content incomplete, of which some are held
 abbrev pub IsParted : Table → Innermost → List ℕ → ℕ → Type 0
 IsParted C (innermost.Content of total offset) piece n =

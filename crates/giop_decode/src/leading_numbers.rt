@@ -191,7 +191,7 @@ fn take_selected(catalogue: &Catalogue, of: TypeId, number: Number) -> Step
 
 /// Goes on after the length of a string.
 #[inline(always)]
-fn take_length(catalogue: &Catalogue, of: TypeId, bound: Option<u32>, n: u32) -> Step
+pub(crate) fn take_length(catalogue: &Catalogue, of: TypeId, bound: Option<u32>, n: u32) -> Step
     requires { tree catalogue.now of.0 ≡ Text bound }
     ensures fits { IsStep catalogue.now of.0 result }
     ensures transitions { IsStepOf catalogue.now of.0 n result }
@@ -220,7 +220,7 @@ fn take_length(catalogue: &Catalogue, of: TypeId, bound: Option<u32>, n: u32) ->
 
 /// Goes on after the length of an octet sequence.
 #[inline(always)]
-fn take_size(catalogue: &Catalogue, of: TypeId, bound: Option<u32>, n: u32) -> Step
+pub(crate) fn take_size(catalogue: &Catalogue, of: TypeId, bound: Option<u32>, n: u32) -> Step
     requires { tree catalogue.now of.0 ≡ Octets bound }
     ensures fits { IsStep catalogue.now of.0 result }
     ensures transitions { IsStepOf catalogue.now of.0 n result }
@@ -246,7 +246,7 @@ fn take_size(catalogue: &Catalogue, of: TypeId, bound: Option<u32>, n: u32) -> S
 
 /// Goes on after the count of a sequence.
 #[inline(always)]
-fn take_count(catalogue: &Catalogue, of: TypeId, bound: Option<u32>, n: u32) -> Step
+pub(crate) fn take_count(catalogue: &Catalogue, of: TypeId, bound: Option<u32>, n: u32) -> Step
     requires is { (E : Ty) × (tree catalogue.now of.0 ≡ Sequence bound E) }
     requires fit { (d : ℕ) × IsFit d (tree catalogue.now of.0) }
     ensures fits { IsStep catalogue.now of.0 result }
@@ -288,7 +288,7 @@ fn just_four(octets: &[u8]) -> &[u8]
 }
 
 /// The number that four octets spell.
-fn long_of(order: Order, octets: &[u8]) -> u32
+pub(crate) fn long_of(order: Order, octets: &[u8]) -> u32
     requires { length octets.now ≡ 4 }
     ensures { result ≡ num order octets.now }
 {
