@@ -307,13 +307,6 @@ counted_more tick i now old d y h below is =
       same = length-set now i y ∙ h.same;
     }
 
-pub ahead_get : (frames : List Frame) (i : ℕ) (d : Frame) → HaveOctetsLeft frames →
-    i < length frames →
-    HasOctetsLeft (get_or frames i d)
-ahead_get [] i d h below = absurd (omega arith)
-ahead_get (f ∷ frames) zero d h below = h.0
-ahead_get (f ∷ frames) (suc i) d h below = ahead_get frames i d h.1 (omega arith)
-
 -- several octets counted together
 ahead_ticked_get : (n : ℕ) (frames : List Frame) (i : ℕ) (d : Frame) →
     HaveOctetsLeft (ticked_by n frames) → i < length frames →

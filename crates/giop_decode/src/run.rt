@@ -166,56 +166,36 @@ impl Decoder {
                 Shape::Prim(_) => {
                     if let Some((count, number)) = whole_number(catalogue, order, at, of, octets) {
                         let step = ended(Output::Number(number));
-                        return self.take_ahead(
-                            catalogue,
-                            octets,
-                            ahead_of(of, count, step, &[]),
-                            out,
-                        );
+                        let ahead = ahead_of(of, count, step, &[]);
+                        return self.take_ahead(catalogue, octets, ahead, out);
                     }
                 }
                 Shape::Text(bound) => {
                     if let Some((count, n)) = whole_long(order, at, octets) {
                         let step = take_length(catalogue, of, bound, n);
-                        return self.take_ahead(
-                            catalogue,
-                            octets,
-                            ahead_of(of, count, step, &[]),
-                            out,
-                        );
+                        let ahead = ahead_of(of, count, step, &[]);
+                        return self.take_ahead(catalogue, octets, ahead, out);
                     }
                 }
                 Shape::Octets(bound) => {
                     if let Some((count, n)) = whole_long(order, at, octets) {
                         let step = take_size(catalogue, of, bound, n);
-                        return self.take_ahead(
-                            catalogue,
-                            octets,
-                            ahead_of(of, count, step, &[]),
-                            out,
-                        );
+                        let ahead = ahead_of(of, count, step, &[]);
+                        return self.take_ahead(catalogue, octets, ahead, out);
                     }
                 }
                 Shape::Sequence(bound) => {
                     if let Some((count, n)) = whole_long(order, at, octets) {
                         let step = take_count(catalogue, of, bound, n);
-                        return self.take_ahead(
-                            catalogue,
-                            octets,
-                            ahead_of(of, count, step, &[]),
-                            out,
-                        );
+                        let ahead = ahead_of(of, count, step, &[]);
+                        return self.take_ahead(catalogue, octets, ahead, out);
                     }
                 }
                 _ => {
                     if let Some((count, whole)) = whole_octets(width(catalogue, of), at, octets) {
                         let step = take_value(catalogue, order, of, whole);
-                        return self.take_ahead(
-                            catalogue,
-                            octets,
-                            ahead_of(of, count, step, &[]),
-                            out,
-                        );
+                        let ahead = ahead_of(of, count, step, &[]);
+                        return self.take_ahead(catalogue, octets, ahead, out);
                     }
                 }
             }

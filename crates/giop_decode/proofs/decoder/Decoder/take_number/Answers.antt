@@ -6,7 +6,7 @@ use Rattle.giop_decode.proofs.decoder.Decoder.take_number.Goals as goal
 
 pub take_ahead-requires-clause-ahead : goal.take_ahead-requires-clause-ahead
 take_ahead-requires-clause-ahead g c =
-    let a = c.ahead_of.ensures in
+    let a = c.ahead_of-ahead.ensures in
     rw (a.of, a.count, a.step, c.ended-step.ensures, a.rest) (comes_number c.args.catalogue.now
     c.args.self.now c.args.of c.args.octets.now c.in-Some.count c.requires.fits c.requires.leaf
     c.args.coded.0 c.args.coded.1 c.requires.coded c.in-Some.number (c.if-is_empty.ensures.0 refl)
@@ -15,7 +15,7 @@ take_ahead-requires-clause-ahead g c =
 pub take_ahead-requires-in-Some-whole_long-clause-ahead :
     goal.take_ahead-requires-in-Some-whole_long-clause-ahead
 take_ahead-requires-in-Some-whole_long-clause-ahead g c =
-    let a = c.ahead_of-in-Some-whole_long.ensures in
+    let a = c.ahead_of-ahead-in-Some-whole_long.ensures in
     let v = c.take_length-step.ensures in
     rw (a.of, a.count, a.step, a.rest) (comes_long c.args.catalogue.now c.args.self.now c.args.of
     c.args.octets.now c.in-Some-whole_long.count c.requires.fits c.requires.leaf c.args.coded.0
@@ -26,7 +26,7 @@ take_ahead-requires-in-Some-whole_long-clause-ahead g c =
 pub take_ahead-requires-in-Some-whole_long-2-clause-ahead :
     goal.take_ahead-requires-in-Some-whole_long-2-clause-ahead
 take_ahead-requires-in-Some-whole_long-2-clause-ahead g c =
-    let a = c.ahead_of-in-Some-whole_long-2.ensures in
+    let a = c.ahead_of-ahead-in-Some-whole_long-2.ensures in
     let v = c.take_size-step.ensures in
     rw (a.of, a.count, a.step, a.rest) (comes_long c.args.catalogue.now c.args.self.now c.args.of
     c.args.octets.now c.in-Some-whole_long-2.count c.requires.fits c.requires.leaf c.args.coded.0
@@ -37,7 +37,7 @@ take_ahead-requires-in-Some-whole_long-2-clause-ahead g c =
 pub take_ahead-requires-in-Some-whole_long-3-clause-ahead :
     goal.take_ahead-requires-in-Some-whole_long-3-clause-ahead
 take_ahead-requires-in-Some-whole_long-3-clause-ahead g c =
-    let a = c.ahead_of-in-Some-whole_long-3.ensures in
+    let a = c.ahead_of-ahead-in-Some-whole_long-3.ensures in
     let v = c.take_count-step.ensures in
     rw (a.of, a.count, a.step, a.rest) (comes_long c.args.catalogue.now c.args.self.now c.args.of
     c.args.octets.now c.in-Some-whole_long-3.count c.requires.fits c.requires.leaf c.args.coded.0
@@ -61,7 +61,7 @@ pub take_ahead-requires-in-Some-whole_octets : goal.take_ahead-requires-in-Some-
 take_ahead-requires-in-Some-whole_octets g c =
     let C = c.args.catalogue.now in
     let d = c.args.self.now in
-    let a = c.ahead_of-in-Some-whole_octets.ensures in
+    let a = c.ahead_of-ahead-in-Some-whole_octets.ensures in
     let v = c.take_value-step.ensures in
     let whole = c.in-Some-whole_octets in
     let empty = c.if-is_empty.ensures.0 refl in

@@ -59,10 +59,10 @@ comes : (C : Table) (d : Decoder) (of : TypeId) (octets : List ℕ) (order : Ord
     NumberStands width at d.carry octets count (eqb (length all) width) all →
     length all ≡ width → kept ≡ [] → IsStep C of.0 s → IsStepOf C of.0 (num order all) s →
     IsHeldOf C d (held_in d kept d.piece) octets of count s []
-comes C d of octets order width at count all kept s f e coded ahead is stands whole none fits gives =
+comes C d of octets order width at count all kept s f e coded ahead is stands whole none fits by =
     held_now C d octets of count s [] kept d.piece f
     (comes_head C d of octets count f e order at coded kept all s none
-    (rw (eq-eqb (length all) width whole, is) at stands) ahead fits gives)
+    (rw (eq-eqb (length all) width whole, is) at stands) ahead fits by)
 
 pub finish-requires : goal.finish-requires
 finish-requires g c =
