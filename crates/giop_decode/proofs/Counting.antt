@@ -32,6 +32,20 @@ pub ticked_more : (n : ℕ) (frames : List Frame) →
 ticked_more n [] = refl
 ticked_more n (f ∷ frames) = rw (one_more n f, ticked_more n frames) refl
 
+after_at : (n : ℕ) (inside : Option Order) (i : ℕ) →
+    ticked_at inside (ticked_by_at n inside i) ≡ ticked_by_at (suc n) inside i
+after_at n None i = refl
+after_at n (Some order) i = omega arith
+
+after_one : (n : ℕ) (f : Frame) → tick_of (tick_by_of n f) ≡ tick_by_of (suc n) f
+after_one n f = rw (after_at n f.inside f.index) refl
+
+-- the last of several octets
+pub ticked_last : (n : ℕ) (frames : List Frame) →
+    ticked (ticked_by n frames) ≡ ticked_by (suc n) frames
+ticked_last n [] = refl
+ticked_last n (f ∷ frames) = rw (after_one n f, ticked_last n frames) refl
+
 fewer_at : (m n : ℕ) (inside : Option Order) (i count : ℕ) → m ≤ n →
     IfSome inside (λ order. ticked_by_at n inside i < count) →
     IfSome inside (λ order. ticked_by_at m inside i < count)

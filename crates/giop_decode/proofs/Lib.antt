@@ -39,5 +39,4 @@ mod Whole
 mod Passing
 mod NextParts
 mod NextPieces
-mod WholeTexts
 pub mod ReadingLaws

@@ -31,7 +31,7 @@ use Rattle.giop_decode.specs.Noted.{Noted, first_of, noted, is_header_root}
 use Rattle.giop_decode.specs.NextParts.{IsAtNext, IsNextNumber, IsPartAhead, frames_above, front_text, next_of}
 use Rattle.giop_decode.specs.ReadResult.{Coding, PathSegment, Line, Number, LeadingNumber, Short, line, plain, with_front, Done}
 use Rattle.giop_decode.specs.ReadingSteps.{around, path_in}
-use Rattle.giop_decode.specs.Passes.{Gives, Passes}
+use Rattle.giop_decode.specs.Passes.{IsBehind, Gives, Passes}
 use Rattle.giop_decode.specs.Runs.{TakenTogether, TakesSome}
 use Rattle.giop_decode.specs.Transitions.{AreKnown, HaveOctetsLeft, IsClean, IsKnown, Link, StandAt, gone_on, is_inside, leaf_type, open_part, open_parts, part_in}
 use Rattle.giop_decode.proofs.Advancing.{comes_by, same_some, stands_at}
@@ -46,7 +46,7 @@ use Rattle.giop_decode.proofs.Noting.{stopped_silent}
 use Rattle.giop_decode.proofs.Passing.{last_says, passed_broken, passed_some}
 use Rattle.giop_decode.proofs.Segments.{said_one}
 use Rattle.giop_decode.proofs.SoFar.{AllSay}
-use Rattle.giop_decode.proofs.Whole.{IsAtLast, at_last, comes_number, is_at_last, no_piece}
+use Rattle.giop_decode.proofs.Whole.{IsAtLast, at_last, behind_last, comes_number, is_at_last, no_piece}
 use Rattle.giop_decode.specs.NameBuffer.{string_offset}
 use Rattle.giop_decode.specs.NotingSteps.{transition_offset}
 use Rattle.giop_decode.specs.Noted.{ends_in_string}
@@ -184,11 +184,19 @@ module _ (C : Table) (d : Decoder) (part : PartAhead) (f : Fits C d)
   abbrev last : ℕ
   last = part.count - 1
 
-  abbrev there : Decoder
+  abbrev pub there : Decoder
   there = at_last d ((d.at + last) % 8) d.outer
 
   on : IsAtLast d there part.count
   on = search (arith, part_at_last)
+
+  -- and behind them
+  pub part_behind : (at : ℕ) → at ≡ (d.at + part.count) % 8 →
+      IsBehind C there (at_last d at d.outer) part.of.0
+  part_behind at e =
+      behind_last C d octets part.of part.count ended [] f there taken_together on
+      (at_last d at d.outer) refl refl (omega (arith, e, taken_together.some))
+      (free_ticked d.outer.items free) refl refl refl refl
 
   -- its path, and its line
   abbrev place : List ℕ

@@ -307,19 +307,6 @@ counted_more tick i now old d y h below is =
       same = length-set now i y ∙ h.same;
     }
 
-pub ahead_get : (frames : List Frame) (i : ℕ) (d : Frame) → HaveOctetsLeft frames →
-    i < length frames →
-    HasOctetsLeft (get_or frames i d)
-ahead_get [] i d h below = absurd (omega arith)
-ahead_get (f ∷ frames) zero d h below = h.0
-ahead_get (f ∷ frames) (suc i) d h below = ahead_get frames i d h.1 (omega arith)
-
-pub counted_ahead : (tick : Frame → Frame) (i : ℕ) (now old : List Frame) (d : Frame) →
-    IsCounted tick i now old → HaveOctetsLeft old → i < length now → HasOctetsLeft (get_or now i d)
-counted_ahead tick i now old d h ahead below =
-    let lt : i < length old = omega (arith, h.same) in
-    rw (get_at i now old d h.back) (ahead_get old i d ahead lt)
-
 -- several octets counted together
 ahead_ticked_get : (n : ℕ) (frames : List Frame) (i : ℕ) (d : Frame) →
     HaveOctetsLeft (ticked_by n frames) → i < length frames →
@@ -328,10 +315,10 @@ ahead_ticked_get n [] i d h below = absurd (omega arith)
 ahead_ticked_get n (f ∷ frames) zero d h below = h.0
 ahead_ticked_get n (f ∷ frames) (suc i) d h below = ahead_ticked_get n frames i d h.1 (omega arith)
 
-pub counted_ahead_by : (n i : ℕ) (now old : List Frame) (d : Frame) →
-    IsCounted (tick_by_of n) i now old → HaveOctetsLeft (ticked_by n old) → i < length now →
+pub counted_ahead_by : (tick : Frame → Frame) (n i : ℕ) (now old : List Frame) (d : Frame) →
+    IsCounted tick i now old → HaveOctetsLeft (ticked_by n old) → i < length now →
     HasOctetsLeft (tick_by_of n (get_or now i d))
-counted_ahead_by n i now old d h ahead below =
+counted_ahead_by tick n i now old d h ahead below =
     let lt : i < length old = omega (arith, h.same) in
     rw (get_at i now old d h.back) (ahead_ticked_get n old i d ahead lt)
 

@@ -1,6 +1,6 @@
 -- Octets that are taken together do what they do one after another: those of a number, or the rest
 -- of a piece.
-use Rattle.std.proofs.Common.{◌≡◌, ◌≢◌, ℕ, ◌+◌, ◌-◌, ◌%◌, ◌^◌, Bool, true, false, ◌<◌, ◌≤◌, inl, inr, take_all, List, [], ◌∷◌, ◌++◌, length, take, get_or, Option, Some, None, refl, ne_eqb, sym, ◌∙◌, ap, subst, arith, length-append, append_assoc}
+use Rattle.std.proofs.Common.{◌≡◌, ◌≢◌, ℕ, suc, ◌+◌, ◌-◌, ◌%◌, ◌^◌, Bool, true, false, ◌<◌, ◌≤◌, inl, inr, take_all, List, [], ◌∷◌, ◌++◌, length, take, get_or, Option, Some, None, refl, ne_eqb, sym, ◌∙◌, ap, subst, arith, length-append, append_assoc}
 use Rattle.std.proofs.lemmas.Bool.{cases_lt}
 use Rattle.giop_decode.specs.declared.progress.Kind.{Kind}
 use Rattle.giop_decode.specs.declared.progress.Kind.TheVariants as kinds
@@ -30,18 +30,19 @@ use Rattle.giop_decode.proofs.NameBuffer.{name_kept, none_either}
 use Rattle.giop_decode.specs.NameBuffer.{FitsName, string_offset}
 use Rattle.giop_decode.specs.declared.notes.Notes.{Notes}
 use Rattle.giop_decode.specs.NotingSteps.{transition_offset, StringGoesOn, OutputFitsString, clears_name, transition_in_string}
-use Rattle.giop_decode.specs.Runs.{Adds, AllGathered, IsHeldOf, IsParted, TakenTogether}
+use Rattle.giop_decode.specs.Runs.{Adds, AllGathered, IsHeldOf, IsParted, IsStep, IsStepOf, TakenTogether}
 use Rattle.giop_decode.specs.ReadResult.{plain, line, Coding, Done, Line, Opening, PathSegment, Piece, lines_of, with_front}
 use Rattle.giop_decode.specs.ReadingSteps.{after, coding_in, content_step, leading_width, leaf_step, path_in}
-use Rattle.giop_decode.specs.Transitions.{HasOutput, HaveOctetsLeft, IsOutput, IsWholeNumber, NumberStands, TransitionGives, TransitionFits, after_transition, block_of, coding_by, leaf_type, open_parts, still_held, ticked_by, IsClean}
+use Rattle.giop_decode.specs.Transitions.{HasOutput, HaveOctetsLeft, IsOutput, IsWholeLong, IsWholeNumber, NumberStands, TransitionGives, TransitionFits, after_transition, block_of, coding_by, leaf_type, open_parts, still_held, ticked, ticked_by, IsClean}
 use Rattle.giop_decode.proofs.Advancing.{lines_after_transition, same_some, stands_at}
 use Rattle.arrayvec.specs.ArrayVec.{ArrayVec}
 use Rattle.giop_decode.specs.declared.frame.Frame.{Frame}
-use Rattle.giop_decode.proofs.Counting.{ahead_fewer, coding_ticked_by, ticked_none}
+use Rattle.giop_decode.proofs.Counting.{ahead_fewer, coding_ticked_by, ticked_last, ticked_none}
 use Rattle.giop_decode.proofs.Gathering.{IsCountedBy, IsFurther, none_counted, number_counted, waits_gathered}
 use Rattle.giop_decode.proofs.Noting.{noted_on, leaf_inside}
 use Rattle.giop_decode.proofs.PieceLaws.{content_held, full_whole, last_whole}
-use Rattle.giop_decode.proofs.Surrounding.{coded_in}
+use Rattle.giop_decode.proofs.Surrounding.{coded_in, places_ticked}
+use Rattle.giop_decode.specs.Passes.{Gives, IsBehind}
 use Rattle.giop_decode.proofs.PartialBlocks.{held_in}
 use Rattle.giop_sig.specs.declared.types.TypeId.{TypeId}
 use Rattle.giop_sig.specs.Table.{Table, type_id}
@@ -129,16 +130,11 @@ module _ (C : Table) (d : Decoder) (of : TypeId) (octets : List ℕ) (count : �
   pub comes_head : (order : Order) (at : ℕ) → coding_by d.order d.at d.outer.items ≡ (order, at) →
       (kept all : List ℕ) (s : Step) → kept ≡ [] →
       NumberStands (leading_width (tree C of.0)) at d.carry octets count true all →
-      HaveOctetsLeft (ticked_by (length octets - 1) d.outer.items) →
-      TransitionFits (tree C of.0) of.0 s.transition [] [] → HasOutput (tree C of.0) s.output →
-      OutputFitsString (tree C of.0) false s.transition s.output →
-      ((n : ℕ) → StringGoesOn (tree C of.0) None s.transition s.output n) →
-      ((coding : Coding) (path : List PathSegment) (here : ℕ) →
-      TransitionGives C (tree C of.0) s.transition s.output [] [] path here
-      (after coding path (tree C of.0) (num order all) here [])) →
-      TakenTogether C d octets of count s [] kept d.piece.items
-  comes_head order at coded kept all s empty stands ahead fits has string on gives =
-      of_number order at coded true kept all s stands ahead (rw empty fits) has string on
+      HaveOctetsLeft (ticked_by (length octets - 1) d.outer.items) → IsStep C of.0 s →
+      IsStepOf C of.0 (num order all) s → TakenTogether C d octets of count s [] kept d.piece.items
+  comes_head order at coded kept all s empty stands ahead fits gives =
+      of_number order at coded true kept all s stands ahead (rw empty fits.transition_fits)
+      fits.has_output fits.output_fits_string fits.string_goes_on
       (λ coding path here. rw empty (gives coding path here))
 
   -- a number of which nothing was held
@@ -155,10 +151,25 @@ module _ (C : Table) (d : Decoder) (of : TypeId) (octets : List ℕ) (count : �
         transition = transitions.Ended;
         output =
             outputs.Number number;
-      }) empty (rw empty h.stands) ahead tt h.is (refl, refl) (λ n. (refl, refl))
+      }) empty (rw empty h.stands) ahead (record {
+        transition_fits = tt;
+        has_output = h.is;
+        output_fits_string = (refl, refl);
+        string_goes_on = λ n. (refl, refl);
+      })
       (λ coding path at. subst (λ n. TransitionGives C (tree C of.0) transitions.Ended
       (outputs.Number number) [] [] path at (after coding path (tree C of.0) n at []))
       h.spelled (turns_number C coding path (tree C of.0) at number h.is))
+
+  -- four octets of which none was held
+  pub comes_long : (order : Order) (at : ℕ) → coding_by d.order d.at d.outer.items ≡ (order, at) →
+      (n : ℕ) (s : Step) → leading_width (tree C of.0) ≡ 4 → d.carry ≡ [] →
+      IsWholeLong order at octets count n →
+      HaveOctetsLeft (ticked_by (length octets - 1) d.outer.items) → IsStep C of.0 s →
+      IsStepOf C of.0 n s → TakenTogether C d octets of count s [] d.carry d.piece.items
+  comes_long order at coded n s four empty h ahead fits gives =
+      comes_head order at coded d.carry h.all s empty (rw (empty, four) h.stands) ahead fits
+      (subst (λ k. IsStepOf C of.0 k s) h.spelled gives)
 
   -- its last octet is still to come
   pub number_waits : (order : Order) (at : ℕ) → coding_by d.order d.at d.outer.items ≡ (order, at) →
@@ -177,15 +188,11 @@ module _ (C : Table) (d : Decoder) (of : TypeId) (octets : List ℕ) (count : �
 
 pub comes_order : (C : Table) (d : Decoder) (of : TypeId) (n : ℕ) (octets : List ℕ) (s : Step)
     (f : Fits C d) → d.leaf ≡ Some (innermost.Opening of n) → 0 < length octets →
-    TransitionFits (tree C of.0) of.0 s.transition [] [] → HasOutput (tree C of.0) s.output →
-    OutputFitsString (tree C of.0) false s.transition s.output →
-    ((n : ℕ) → StringGoesOn (tree C of.0) None s.transition s.output n) →
-    ((coding : Coding) (path : List PathSegment) (here : ℕ) →
+    IsStep C of.0 s → ((coding : Coding) (path : List PathSegment) (here : ℕ) →
     TransitionGives C (tree C of.0) s.transition s.output [] [] path (here + 1)
     (leaf_step coding path (Opening (tree C of.0) (n - 1)) here (get_or octets 0 0))) →
     TakenTogether C d octets of 1 s [] d.carry d.piece.items
-comes_order C d of n octets s f e some transition_fits has_output output_fits_string
-    string_goes_on transitions =
+comes_order C d of n octets s f e some fits transitions =
     let leaf = innermost.Opening of n in
     let it : f.leaf ≡ leaf = same_some f.leaf leaf (sym f.goes_on ∙ e) in
     let clean : IsClean leaf d.carry d.piece.items =
@@ -203,10 +210,10 @@ comes_order C d of n octets s f e some transition_fits has_output output_fits_st
       carry = d.carry;
       piece = d.piece.items;
       adds = (refl, refl, refl);
-      transition_fits = rw (clean.0, kept) transition_fits;
-      has_output = has_output;
-      output_fits_string = output_fits_string;
-      string_goes_on = string_goes_on (length (d.piece.items ++ []));
+      transition_fits = rw (clean.0, kept) fits.transition_fits;
+      has_output = fits.has_output;
+      output_fits_string = fits.output_fits_string;
+      string_goes_on = fits.string_goes_on (length (d.piece.items ++ []));
       lines = λ coding path here. (transitions coding path here).lines;
       comes = λ coding path here ordered there.
           rw (clean.0, kept) (rw (still_nothing s.output) at (transitions coding path here).comes);
@@ -590,6 +597,22 @@ module _ (C : Table) (d : Decoder) (octets : List ℕ) (of : TypeId) (count : �
         at = fits_then.at;
       }
 
+  -- and once the last is counted
+  pub behind_last : (now : Decoder) → now.order ≡ m.order → now.head ≡ m.head →
+      now.at ≡ (m.at + 1) % 8 → now.outer.items ≡ ticked m.outer.items → now.inside ≡ m.inside →
+      now.carry ≡ m.carry → now.piece ≡ m.piece → now.notes ≡ m.notes → IsBehind C m now of.0
+  behind_last now order head at outer inside carry piece notes = record {
+    around = around_whole;
+    order = order;
+    head = head;
+    at = at;
+    outer = outer;
+    inside = inside;
+    carry = carry;
+    piece = piece;
+    notes = notes;
+  }
+
   -- the lines that the last gives
   abbrev pub lines_at : ℕ → List Line
   lines_at here =
@@ -657,3 +680,29 @@ module _ (C : Table) (d : Decoder) (octets : List ℕ) (of : TypeId) (count : �
       m.notes.name.items) h.same
       (subst (λ l. FitsName m.head.root (string_offset (tree C (leaf_type l)) l) m.notes.buffer
       m.notes.name.items) same fits_then.name)) notes
+
+-- ---- the last of them, where all are counted
+
+abbrev pub at_its_last : Decoder → ℕ → Decoder
+at_its_last now count =
+    at_last now ((now.at + (count - 1)) % 8)
+    (record { items = ticked_by (count - 1) now.outer.items })
+
+pub held_behind : (C : Table) (d now : Decoder) (octets : List ℕ) (of : TypeId) (count at : ℕ)
+    (s : Step) (rest : List ℕ) (outer : ArrayVec Frame) → IsHeldOf C d now octets of count s rest →
+    at ≡ (now.at + count) % 8 → outer.items ≡ ticked_by count now.outer.items →
+    IsBehind C (at_its_last now count) (at_last now at outer) of.0
+held_behind C d now octets of count at s rest outer h there counted =
+    let some = h.together.some in
+    let all : suc (count - 1) ≡ count = omega (arith, some) in
+    behind_last C d octets of count s rest h.fits (at_its_last now count) h.together
+    (held_at_last C d now octets of count _ s rest _ h refl refl) (at_last now at outer) refl refl
+    (omega (arith, there, some))
+    (counted ∙ (ap (λ n. ticked_by n now.outer.items) (sym all)
+    ∙ sym (ticked_last (count - 1) now.outer.items))) refl refl refl refl
+
+pub behind_gives : (C : Table) (d now : Decoder) (of : ℕ) (s : Step) (rest : List ℕ) (here at : ℕ)
+    (lines : List Line) → IsBehind C d now of → Gives C d of s rest here at lines →
+    Gives C now of s rest (here + 1) at lines
+behind_gives C d now of s rest here at lines b says =
+    rw (b.outer, places_ticked C here d.outer.items b.around.ahead, b.piece) says

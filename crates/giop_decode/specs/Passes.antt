@@ -1,5 +1,5 @@
 -- What an octet of the innermost part does, once its line is written (steps).
-use Rattle.std.specs.Prelude.{◌≡◌, ℕ, ◌+◌, false, List, [], ◌++◌}
+use Rattle.std.specs.Prelude.{◌≡◌, ℕ, ◌+◌, ◌%◌, false, List, [], ◌++◌}
 use Rattle.giop_decode.specs.declared.decoder.Decoder.{Decoder}
 use Rattle.giop_decode.specs.declared.frame.Frame.{Frame}
 use Rattle.giop_decode.specs.declared.leaf.Finished.{Finished}
@@ -8,10 +8,10 @@ use Rattle.giop_decode.specs.declared.progress.Progress.{Progress}
 use Rattle.giop_decode.specs.ReadResult.{Line}
 use Rattle.giop_decode.specs.ReadingSteps.{path_in}
 use Rattle.giop_decode.specs.DecoderState.{CanStandAt, GoesOn, HoldsNoted}
-use Rattle.giop_decode.specs.DecoderSteps.{Comes, IsNext, emitted}
+use Rattle.giop_decode.specs.DecoderSteps.{Comes, IsAround, IsNext, emitted}
 use Rattle.giop_decode.specs.Noted.{Noted, ends_in_string, is_header_root, noted, without_name_if}
 use Rattle.giop_decode.specs.NotingSteps.{clears_name, transition_in_string}
-use Rattle.giop_decode.specs.Transitions.{IsOutput, open_parts}
+use Rattle.giop_decode.specs.Transitions.{IsOutput, open_parts, ticked}
 use Rattle.giop_sig.specs.Table.{Table}
 use Rattle.giop_sig.specs.Trees.{tree}
 
@@ -27,6 +27,18 @@ abbrev pub Gives : Table → Decoder → ℕ → Step → List ℕ → ℕ → �
 Gives C d of step rest here at lines =
     IsOutput (tree C of) (path_in [] (open_parts C here d.outer.items)) at step.output
     (d.piece.items ++ rest) lines
+
+-- a decoder at an octet of a part of this type, which is counted since
+pub record IsBehind (C : Table) (d now : Decoder) (of : ℕ) : Type 0 where
+  pub around : IsAround C d of
+  pub order : now.order ≡ d.order
+  pub head : now.head ≡ d.head
+  pub at : now.at ≡ (d.at + 1) % 8
+  pub outer : now.outer.items ≡ ticked d.outer.items
+  pub inside : now.inside ≡ d.inside
+  pub carry : now.carry ≡ d.carry
+  pub piece : now.piece ≡ d.piece
+  pub notes : now.notes ≡ d.notes
 
 -- The octet's output is noted, and its transition done, with this answer.
 pub record Passes (C : Table) (d new : Decoder) (of : ℕ) (step : Step) (rest : List ℕ)

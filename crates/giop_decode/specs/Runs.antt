@@ -1,5 +1,5 @@
 -- What a decoder that reads a list does with more octets, taken as a run (state).
-use Rattle.std.specs.Prelude.{◌≡◌, ℕ, ◌+◌, ◌-◌, ◌%◌, ◌<◌, ◌≤◌, List, [], ◌∷◌, ◌++◌, length, take, drop, get_or, Some, Result, IfOk, MatchResult}
+use Rattle.std.specs.Prelude.{◌≡◌, ℕ, ◌+◌, ◌-◌, ◌%◌, ◌<◌, ◌≤◌, false, List, [], ◌∷◌, ◌++◌, length, take, drop, get_or, Some, None, Result, IfOk, MatchResult}
 use Rattle.giop_cdr.specs.declared.order.Order.{Order}
 use Rattle.giop_decode.specs.declared.decoder.Decoder.{Decoder}
 use Rattle.giop_decode.specs.declared.progress.Progress.{Progress}
@@ -21,8 +21,8 @@ use Rattle.giop_decode.specs.declared.leaf.Step.{Step}
 use Rattle.giop_decode.specs.Pieces.{tail}
 use Rattle.giop_decode.specs.NameBuffer.{string_offset}
 use Rattle.giop_decode.specs.NotingSteps.{OutputFitsString, StringGoesOn, leaf_in_string}
-use Rattle.giop_decode.specs.ReadingSteps.{AreHeld, leading_width, leaf_step}
-use Rattle.giop_decode.specs.Transitions.{HasOutput, HaveOctetsLeft, IsOutput, TransitionFits, coding_by, leaf_of, leaf_type, still_held, ticked_by, after_transition}
+use Rattle.giop_decode.specs.ReadingSteps.{AreHeld, after, leading_width, leaf_step}
+use Rattle.giop_decode.specs.Transitions.{HasOutput, HaveOctetsLeft, IsOutput, TransitionFits, TransitionGives, coding_by, leaf_of, leaf_type, still_held, ticked_by, after_transition}
 
 -- the lines that octets more give
 abbrev pub added_lines_of_run : Order → Ty → ℕ → List ℕ → List ℕ → List Line
@@ -108,6 +108,23 @@ abbrev pub AllGathered : Table → Decoder → Decoder → List ℕ → Type 0
 AllGathered C d new octets = (T : Ty) (order : Order) (at message : ℕ) (root : Root) (s : List ℕ) →
     Reads C T order at message root d s → Gathered C T order at message root new s octets
 
+-- ---- the number that begins a part, or the octet of an encapsulation's byte order
+
+-- A step that such octets of a part of this type may do, of which nothing is held: what it leads to
+-- and puts out are of the type, and it goes into no string but by its length.
+pub record IsStep (C : Table) (of : ℕ) (step : Step) : Type 0 where
+  pub transition_fits : TransitionFits (tree C of) of step.transition [] []
+  pub has_output : HasOutput (tree C of) step.output
+  pub output_fits_string : OutputFitsString (tree C of) false step.transition step.output
+  pub string_goes_on : (n : ℕ) → StringGoesOn (tree C of) None step.transition step.output n
+
+-- the step that this number does
+abbrev pub IsStepOf : Table → ℕ → ℕ → Step → Type 0
+IsStepOf C of n step =
+    (coding : Coding) (path : List PathSegment) (at : ℕ) →
+    TransitionGives C (tree C of) step.transition step.output [] [] path at
+    (after coding path (tree C of) n at [])
+
 -- ---- octets that are taken together
 
 -- what is held after octets that only add to it
@@ -159,6 +176,11 @@ pub record TakenTogether (C : Table) (d : Decoder) (octets : List ℕ) (of : Typ
   pub says : (coding : Coding) (path : List PathSegment) (here : ℕ) →
       IsOutput (tree C of.0) path (here + 1) step.output (kept_piece ++ rest)
       (lines coding path here)
+
+-- a content comes next
+abbrev pub IsContent : Innermost → Type 0
+IsContent (innermost.Content of total offset) = Unit {0}
+IsContent leaf = ⊥
 
 -- so many octets more leave a piece of a content incomplete, of which some are held
 abbrev pub IsParted : Table → Innermost → List ℕ → ℕ → Type 0

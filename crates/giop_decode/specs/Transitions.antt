@@ -285,6 +285,12 @@ pub record NumberStands (width at : ℕ) (carry octets : List ℕ) (count : ℕ)
       number_step origin width here held (get_or octets (count - 1) 0)
       ≡ block_of whole all (here + 1)
 
+-- a number of four octets, which stand whole so
+pub record IsWholeLong (order : Order) (at : ℕ) (octets : List ℕ) (count n : ℕ) : Type 0 where
+  pub all : List ℕ
+  pub stands : NumberStands 4 at [] octets count true all
+  pub spelled : n ≡ num order all
+
 -- a number of a type, whose octets stand whole so
 pub record IsWholeNumber (T : Ty) (order : Order) (at : ℕ) (octets : List ℕ) (count : ℕ)
     (number : Taken) : Type 0 where

@@ -3,6 +3,7 @@
 ghost use Rattle.std.specs.Prelude.{◌≡◌, ℕ, ◌+◌, ◌-◌, ◌%◌, ◌<◌, ◌≤◌, List, [], length, ◌↔◌, IsTrue, true, false, IfOk, OnOk, None, Some};
 ghost use Rattle.std.specs.Option.{option_map};
 ghost use Rattle.giop_cdr.specs.declared.order.Order.{Order as ByteOrder};
+ghost use Rattle.giop_decode.specs.declared.decoder.Decoder.{Decoder as Before};
 ghost use Rattle.giop_decode.specs.declared.leaf.Leaf.{Leaf as Innermost};
 ghost use Rattle.giop_decode.specs.ReadResult.{Coding, PathSegment, Line, Read, lines_of, with_front};
 ghost use Rattle.giop_decode.specs.Spelling.{lines_text};
@@ -15,18 +16,18 @@ ghost use Rattle.giop_decode.specs.Noted.{noted_of, ends_in_string, is_header_ro
 ghost use Rattle.giop_decode.specs.NameBuffer.{string_offset};
 ghost use Rattle.giop_decode.specs.NotingSteps.{transition_in_string, transition_offset};
 ghost use Rattle.giop_decode.specs.DecoderState.{Fits, IsDone, CanStandAt, Reads, Takes, KeepsNoted, GoesOn, read_by_fields, added_lines};
-ghost use Rattle.giop_decode.specs.DecoderSteps.{transition_result, decoder_step, Comes, IsAround, IsNotRefused};
-ghost use Rattle.giop_decode.specs.Passes.{Gives, Passes};
+ghost use Rattle.giop_decode.specs.DecoderSteps.{transition_result, decoder_step, Comes, IsNotRefused};
+ghost use Rattle.giop_decode.specs.Passes.{Gives, IsBehind, Passes};
 ghost use Rattle.giop_sig.specs.Types.{Ty};
 ghost use Rattle.giop_sig.specs.Fits.{IsFit, IsEmptyStruct};
 ghost use Rattle.giop_sig.specs.Trees.{tree};
 
 use crate::contents::let_go;
-use crate::frame::{Frame, begin, go_on, has_ended, is_empty, is_inside, tick};
+use crate::frame::{Frame, begin, go_on, has_ended, is_empty, is_inside};
 use crate::leaf::{Finished, Leaf, Transition};
 use crate::line::write_line;
 use crate::lookahead::Lookahead;
-use crate::notes::Notes;
+use crate::notes::{Buffer, Notes};
 use crate::progress::{Progress, progress_of};
 use arrayvec::ArrayVec;
 use giop_cdr::{Carry, Order};
@@ -165,7 +166,7 @@ impl Decoder {
         ensures { (root : PathRoot) (r : Read) → KeepsNoted root self.now r →
             result ≡ (noted_of (is_header_root root) r).request_id }
     {
-        self.notes.request_id()
+        self.notes.request_id
     }
 
     /// The number of the last enum: of a reply header the status.
@@ -173,7 +174,7 @@ impl Decoder {
         ensures { (root : PathRoot) (r : Read) → KeepsNoted root self.now r →
             result ≡ (noted_of (is_header_root root) r).status }
     {
-        self.notes.status()
+        self.notes.status
     }
 
     /// Whether a header expects a reply, once that was read: GIOP 1.0 and 1.1 say it by a boolean, 1.2 by bit 0 of an octet.
@@ -181,7 +182,7 @@ impl Decoder {
         ensures { (root : PathRoot) (r : Read) → KeepsNoted root self.now r →
             result ≡ (noted_of (is_header_root root) r).expects_reply }
     {
-        self.notes.expects_reply()
+        self.notes.expects_reply
     }
 
     /// The last string, once that has ended and where it is a name: of at most 128 octets.
@@ -189,7 +190,11 @@ impl Decoder {
         ensures { (root : PathRoot) (r : Read) → KeepsNoted root self.now r →
             option_map (λ octets. octets.now) result ≡ (noted_of (is_header_root root) r).name }
     {
-        self.notes.name()
+        match self.notes.buffer {
+            Buffer::Whole => Some(&self.notes.name),
+            Buffer::Begun => None,
+            Buffer::TooLong => None,
+        }
     }
 
     /// Does a transition of the innermost part, of this type, and goes on in the parts around it.
@@ -281,9 +286,8 @@ impl Decoder {
         }
     }
 
-    /// Takes the last of octets that the innermost part takes together, where all others are taken:
-    /// writes and notes the output, and does the transition. A piece that is written has the octets
-    /// that are held, and the rest.
+    /// Takes the last of octets that the innermost part takes together, where all are counted: writes and notes the
+    /// output, and does the transition. A piece that is written has the octets that are held, and the rest.
     #[inline(always)]
     pub(crate) fn emit<O: Out>(
         &mut self,
@@ -291,17 +295,19 @@ impl Decoder {
         ahead: Lookahead<'_>,
         out: &mut O,
     ) -> Result<Progress, OutFault>
-        requires around { IsAround catalogue.now self.old ahead.of.0 }
+        requires counted { (d : Before) × IsBehind catalogue.now d self.old ahead.of.0 }
         requires transition_fits { TransitionFits (tree catalogue.now ahead.of.0) ahead.of.0
             ahead.step.transition self.old.carry
             (still_held ahead.step.output self.old.piece.items) }
         requires has_output { HasOutput (tree catalogue.now ahead.of.0) ahead.step.output }
         requires short { 0 < length ahead.rest.now →
             length self.old.piece.items + length ahead.rest.now ≤ 32 }
-        ensures passes { IfOk result (λ p. Passes catalogue.now self.old self.new
+        ensures passes { IfOk result (λ p. (d : Before) →
+            IsBehind catalogue.now d self.old ahead.entry.of.0 → Passes catalogue.now d self.new
             ahead.entry.of.0 ahead.entry.step ahead.entry.rest.now p) }
-        ensures writes { (here at : ℕ) (lines : List Line) →
-            Gives catalogue.now self.old ahead.entry.of.0 ahead.entry.step ahead.entry.rest.now
+        ensures writes { (d : Before) → IsBehind catalogue.now d self.old ahead.entry.of.0 →
+            (here at : ℕ) (lines : List Line) →
+            Gives catalogue.now d ahead.entry.of.0 ahead.entry.step ahead.entry.rest.now
             here at lines →
             Writes result (O.log out.old) (O.log out.new)
             (lines_text self.old.head.message self.old.head.root lines) }
@@ -324,12 +330,13 @@ impl Decoder {
     /// What `emit` does but for the line.
     #[inline(always)]
     pub(crate) fn pass(&mut self, catalogue: &Catalogue, ahead: Lookahead<'_>) -> Progress
-        requires around { IsAround catalogue.now self.old ahead.of.0 }
+        requires counted { (d : Before) × IsBehind catalogue.now d self.old ahead.of.0 }
         requires transition_fits { TransitionFits (tree catalogue.now ahead.of.0) ahead.of.0
             ahead.step.transition self.old.carry
             (still_held ahead.step.output self.old.piece.items) }
         requires has_output { HasOutput (tree catalogue.now ahead.of.0) ahead.step.output }
-        ensures { Passes catalogue.now self.old self.new
+        ensures { (d : Before) → IsBehind catalogue.now d self.old ahead.entry.of.0 →
+            Passes catalogue.now d self.new
             ahead.entry.of.0 ahead.entry.step ahead.entry.rest.now result }
     {
         let named = self.notes.note(
@@ -344,8 +351,6 @@ impl Decoder {
             },
         );
         let_go(ahead.step.output, &mut self.piece);
-        self.at = (self.at + 1) % 8;
-        tick(self.inside, &mut self.outer);
         self.advance_frames(catalogue, ahead.of, ahead.step.transition);
         let ended = has_ended(self.inside, self.outer.as_slice());
         progress_of(named, ended, ahead.step.transition, self.leaf)

@@ -6,7 +6,7 @@ ghost use Rattle.giop_decode.specs.ReadResult.{Coding, PathSegment, LeadingNumbe
 ghost use Rattle.giop_decode.specs.ReadingSteps.{around};
 ghost use Rattle.giop_decode.specs.Fits.{HasLeadingNumber, OpenFrom};
 ghost use Rattle.giop_decode.specs.Begins.{start_outer, start_leaf};
-ghost use Rattle.giop_decode.specs.Transitions.{HasOctetsLeft, coding_of, tick_of, tick_by_of, ended_at, open_parts, AreKnown, HaveOctetsLeft, StandAt, IsClean, Link, IsWhole, coding_by, gone_on, has_ended, is_inside, leaf_type, ticked, ticked_by};
+ghost use Rattle.giop_decode.specs.Transitions.{HasOctetsLeft, coding_of, tick_by_of, ended_at, open_parts, AreKnown, HaveOctetsLeft, StandAt, IsClean, Link, IsWhole, coding_by, gone_on, has_ended, is_inside, leaf_type, ticked_by};
 ghost use Rattle.giop_sig.specs.Fits.{IsFit, IsEmptyStruct, IsRoot};
 ghost use Rattle.giop_decode.specs.NotingSteps.{leaf_in_string};
 ghost use Rattle.giop_decode.specs.NextParts.{frames_above, next_of};
@@ -50,39 +50,11 @@ pub(crate) fn is_inside(was: bool, outer: &[Frame]) -> bool
     was && outer.iter().any(|frame| frame.inside.is_some())
 }
 
-/// Counts an octet in each encapsulation, of which there is one or none.
-pub(crate) fn tick(inside: bool, outer: &mut ArrayVec<Frame, 24>)
-    requires inside { inside ≡ is_inside outer.old.items }
-    requires ahead { HaveOctetsLeft outer.old.items }
-    ensures ticked { outer.new.items ≡ ticked outer.old.items }
-{
-    if !inside {
-        return;
-    }
-    for frame in outer.iter_mut() {
-        *frame = counted(*frame);
-    }
-}
-
-/// A frame after an octet more, which is counted in an encapsulation.
-fn counted(frame: Frame) -> Frame
-    requires ahead { HasOctetsLeft frame }
-    ensures ticked { result ≡ tick_of frame }
-{
-    match frame.inside {
-        Some(_) => Frame {
-            index: frame.index + 1,
-            ..frame
-        },
-        None => frame,
-    }
-}
-
 /// Counts so many octets in each encapsulation, where there is one.
 #[inline(always)]
 pub(crate) fn tick_by(inside: bool, outer: &mut ArrayVec<Frame, 24>, octets: usize)
     requires inside { inside ≡ is_inside outer.old.items }
-    requires ahead { HaveOctetsLeft (ticked_by octets outer.old.items) }
+    requires ahead { HaveOctetsLeft (ticked_by (octets - 1) outer.old.items) }
     ensures ticked { outer.new.items ≡ ticked_by octets outer.old.items }
 {
     if inside {
@@ -92,7 +64,7 @@ pub(crate) fn tick_by(inside: bool, outer: &mut ArrayVec<Frame, 24>, octets: usi
 
 /// Counts so many octets in each frame that is an encapsulation.
 fn tick_all(outer: &mut ArrayVec<Frame, 24>, octets: usize)
-    requires ahead { HaveOctetsLeft (ticked_by octets outer.old.items) }
+    requires ahead { HaveOctetsLeft (ticked_by (octets - 1) outer.old.items) }
     ensures ticked { outer.new.items ≡ ticked_by octets outer.old.items }
 {
     for frame in outer.iter_mut() {
@@ -102,7 +74,7 @@ fn tick_all(outer: &mut ArrayVec<Frame, 24>, octets: usize)
 
 /// A frame after so many octets more, which are counted in an encapsulation.
 fn counted_by(frame: Frame, octets: usize) -> Frame
-    requires ahead { HasOctetsLeft (tick_by_of octets frame) }
+    requires ahead { HasOctetsLeft (tick_by_of (octets - 1) frame) }
     ensures ticked { result ≡ tick_by_of octets frame }
 {
     match frame.inside {

@@ -1,14 +1,13 @@
 //! The number that begins an innermost part, and what follows it.
 
-ghost use Rattle.std.specs.Prelude.{◌≡◌, ℕ, ◌+◌, ◌<◌, ◌≤◌, List, [], ◌++◌, length, take, eqb, false};
+ghost use Rattle.std.specs.Prelude.{◌≡◌, ℕ, ◌+◌, ◌<◌, ◌≤◌, ◌++◌, length, take, eqb, false};
 ghost use Rattle.giop_cdr.specs.Alignment.{IsAlignment, padding};
 ghost use Rattle.giop_cdr.specs.Numbers.{num};
-ghost use Rattle.giop_decode.specs.ReadResult.{Coding, PathSegment};
 ghost use Rattle.giop_decode.specs.Pieces.{over};
-ghost use Rattle.giop_decode.specs.NotingSteps.{OutputFitsString, StringGoesOn};
-ghost use Rattle.giop_decode.specs.ReadingSteps.{after, leading_width};
+ghost use Rattle.giop_decode.specs.Runs.{IsStep, IsStepOf};
+ghost use Rattle.giop_decode.specs.ReadingSteps.{leading_width};
 ghost use Rattle.giop_decode.specs.Fits.{HasLeadingNumber};
-ghost use Rattle.giop_decode.specs.Transitions.{TransitionGives, TransitionFits, HasOutput, IsNumberOf, NumberStands, over_by};
+ghost use Rattle.giop_decode.specs.Transitions.{IsNumberOf, NumberStands, over_by};
 ghost use Rattle.giop_sig.specs.Types.{Ty, Text, Octets, Sequence, switch_of, shape_in, IsUnion};
 ghost use Rattle.giop_sig.specs.Fits.{IsFit};
 ghost use Rattle.giop_sig.specs.Trees.{tree};
@@ -108,17 +107,8 @@ pub(crate) fn take_value(catalogue: &Catalogue, order: Order, of: TypeId, octets
     requires head { HasLeadingNumber (tree catalogue.now of.0) }
     requires fit { (d : ℕ) × IsFit d (tree catalogue.now of.0) }
     requires whole { length octets.now ≡ leading_width (tree catalogue.now of.0) }
-    ensures transition_fits { TransitionFits (tree catalogue.now of.0) of.0
-        result.transition [] [] }
-    ensures has_output { HasOutput (tree catalogue.now of.0) result.output }
-    ensures output_fits_string { OutputFitsString (tree catalogue.now of.0)
-        false result.transition result.output }
-    ensures string_goes_on { (n : ℕ) →
-        StringGoesOn (tree catalogue.now of.0) None result.transition result.output n }
-    ensures transitions { (coding : Coding) (path : List PathSegment) (at : ℕ) →
-        TransitionGives catalogue.now (tree catalogue.now of.0)
-        result.transition result.output [] [] path at
-        (after coding path (tree catalogue.now of.0) (num order octets.now) at []) }
+    ensures fits { IsStep catalogue.now of.0 result }
+    ensures transitions { IsStepOf catalogue.now of.0 (num order octets.now) result }
 {
     match catalogue.shape(of) {
         Shape::Prim(prim) => match number_of(order, prim, octets) {
@@ -156,17 +146,8 @@ fn take_switch(catalogue: &Catalogue, order: Order, of: TypeId, octets: &[u8]) -
     requires union { IsUnion (shape_in (tree catalogue.now of.0)) }
     requires fit { (d : ℕ) × IsFit d (tree catalogue.now of.0) }
     requires whole { length octets.now ≡ leading_width (tree catalogue.now of.0) }
-    ensures transition_fits { TransitionFits (tree catalogue.now of.0) of.0
-        result.transition [] [] }
-    ensures has_output { HasOutput (tree catalogue.now of.0) result.output }
-    ensures output_fits_string { OutputFitsString (tree catalogue.now of.0)
-        false result.transition result.output }
-    ensures string_goes_on { (n : ℕ) →
-        StringGoesOn (tree catalogue.now of.0) None result.transition result.output n }
-    ensures transitions { (coding : Coding) (path : List PathSegment) (at : ℕ) →
-        TransitionGives catalogue.now (tree catalogue.now of.0)
-        result.transition result.output [] [] path at
-        (after coding path (tree catalogue.now of.0) (num order octets.now) at []) }
+    ensures fits { IsStep catalogue.now of.0 result }
+    ensures transitions { IsStepOf catalogue.now of.0 (num order octets.now) result }
 {
     match catalogue.shape(catalogue.switch_type(of)) {
         Shape::Prim(prim) => match number_of(order, prim, octets) {
@@ -191,19 +172,9 @@ fn take_selected(catalogue: &Catalogue, of: TypeId, number: Number) -> Step
     requires union { IsUnion (shape_in (tree catalogue.now of.0)) }
     requires fit { (d : ℕ) × IsFit d (tree catalogue.now of.0) }
     requires number { IsNumberOf (switch_of (tree catalogue.now of.0)) number }
-    ensures transition_fits { TransitionFits (tree catalogue.now of.0) of.0
-        result.transition [] [] }
-    ensures has_output { HasOutput (tree catalogue.now of.0) result.output }
-    ensures output_fits_string { OutputFitsString (tree catalogue.now of.0)
-        false result.transition result.output }
-    ensures string_goes_on { (n : ℕ) →
-        StringGoesOn (tree catalogue.now of.0) None result.transition result.output n }
-    ensures transitions { (is : IsNumberOf (switch_of (tree catalogue.now of.0)) number)
-        (coding : Coding)
-        (path : List PathSegment) (at : ℕ) →
-        TransitionGives catalogue.now (tree catalogue.now of.0)
-        result.transition result.output [] [] path at
-        (after coding path (tree catalogue.now of.0) is.n at []) }
+    ensures fits { IsStep catalogue.now of.0 result }
+    ensures transitions { (is : IsNumberOf (switch_of (tree catalogue.now of.0)) number) →
+        IsStepOf catalogue.now of.0 is.n result }
 {
     match catalogue.select(of, number) {
         Selected::Case(i) => Step {
@@ -220,19 +191,10 @@ fn take_selected(catalogue: &Catalogue, of: TypeId, number: Number) -> Step
 
 /// Goes on after the length of a string.
 #[inline(always)]
-fn take_length(catalogue: &Catalogue, of: TypeId, bound: Option<u32>, n: u32) -> Step
+pub(crate) fn take_length(catalogue: &Catalogue, of: TypeId, bound: Option<u32>, n: u32) -> Step
     requires { tree catalogue.now of.0 ≡ Text bound }
-    ensures transition_fits { TransitionFits (tree catalogue.now of.0) of.0
-        result.transition [] [] }
-    ensures has_output { HasOutput (tree catalogue.now of.0) result.output }
-    ensures output_fits_string { OutputFitsString (tree catalogue.now of.0)
-        false result.transition result.output }
-    ensures string_goes_on { (n : ℕ) →
-        StringGoesOn (tree catalogue.now of.0) None result.transition result.output n }
-    ensures transitions { (coding : Coding) (path : List PathSegment) (at : ℕ) →
-        TransitionGives catalogue.now (tree catalogue.now of.0)
-        result.transition result.output [] [] path at
-        (after coding path (tree catalogue.now of.0) n at []) }
+    ensures fits { IsStep catalogue.now of.0 result }
+    ensures transitions { IsStepOf catalogue.now of.0 n result }
 {
     if n == 0 {
         return Step {
@@ -258,19 +220,10 @@ fn take_length(catalogue: &Catalogue, of: TypeId, bound: Option<u32>, n: u32) ->
 
 /// Goes on after the length of an octet sequence.
 #[inline(always)]
-fn take_size(catalogue: &Catalogue, of: TypeId, bound: Option<u32>, n: u32) -> Step
+pub(crate) fn take_size(catalogue: &Catalogue, of: TypeId, bound: Option<u32>, n: u32) -> Step
     requires { tree catalogue.now of.0 ≡ Octets bound }
-    ensures transition_fits { TransitionFits (tree catalogue.now of.0) of.0
-        result.transition [] [] }
-    ensures has_output { HasOutput (tree catalogue.now of.0) result.output }
-    ensures output_fits_string { OutputFitsString (tree catalogue.now of.0)
-        false result.transition result.output }
-    ensures string_goes_on { (n : ℕ) →
-        StringGoesOn (tree catalogue.now of.0) None result.transition result.output n }
-    ensures transitions { (coding : Coding) (path : List PathSegment) (at : ℕ) →
-        TransitionGives catalogue.now (tree catalogue.now of.0)
-        result.transition result.output [] [] path at
-        (after coding path (tree catalogue.now of.0) n at []) }
+    ensures fits { IsStep catalogue.now of.0 result }
+    ensures transitions { IsStepOf catalogue.now of.0 n result }
 {
     if exceeds(bound, n) {
         return refused(Kind::Bound);
@@ -293,20 +246,11 @@ fn take_size(catalogue: &Catalogue, of: TypeId, bound: Option<u32>, n: u32) -> S
 
 /// Goes on after the count of a sequence.
 #[inline(always)]
-fn take_count(catalogue: &Catalogue, of: TypeId, bound: Option<u32>, n: u32) -> Step
+pub(crate) fn take_count(catalogue: &Catalogue, of: TypeId, bound: Option<u32>, n: u32) -> Step
     requires is { (E : Ty) × (tree catalogue.now of.0 ≡ Sequence bound E) }
     requires fit { (d : ℕ) × IsFit d (tree catalogue.now of.0) }
-    ensures transition_fits { TransitionFits (tree catalogue.now of.0) of.0
-        result.transition [] [] }
-    ensures has_output { HasOutput (tree catalogue.now of.0) result.output }
-    ensures output_fits_string { OutputFitsString (tree catalogue.now of.0)
-        false result.transition result.output }
-    ensures string_goes_on { (n : ℕ) →
-        StringGoesOn (tree catalogue.now of.0) None result.transition result.output n }
-    ensures transitions { (coding : Coding) (path : List PathSegment) (at : ℕ) →
-        TransitionGives catalogue.now (tree catalogue.now of.0)
-        result.transition result.output [] [] path at
-        (after coding path (tree catalogue.now of.0) n at []) }
+    ensures fits { IsStep catalogue.now of.0 result }
+    ensures transitions { IsStepOf catalogue.now of.0 n result }
 {
     if exceeds(bound, n) {
         return refused(Kind::Bound);
@@ -344,7 +288,7 @@ fn just_four(octets: &[u8]) -> &[u8]
 }
 
 /// The number that four octets spell.
-fn long_of(order: Order, octets: &[u8]) -> u32
+pub(crate) fn long_of(order: Order, octets: &[u8]) -> u32
     requires { length octets.now ≡ 4 }
     ensures { result ≡ num order octets.now }
 {

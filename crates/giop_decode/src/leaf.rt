@@ -115,3 +115,14 @@ pub(crate) fn refused(kind: Kind) -> Step
         output: Output::Nothing,
     }
 }
+
+/// The step of an octet that ends its part.
+#[inline(always)]
+pub(crate) fn ended(output: Output) -> Step
+    ensures { result ≡ record { transition = Transition.Ended; output = output } }
+{
+    Step {
+        transition: Transition::Ended,
+        output,
+    }
+}

@@ -19,7 +19,6 @@ mod progress;
 mod restored;
 mod run;
 mod stored;
-mod text_ahead;
 
 pub use decoder::Decoder;
 pub use laws::{noting_laws, reading_laws};

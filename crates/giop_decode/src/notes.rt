@@ -2,7 +2,6 @@
 //! string as a name.
 
 ghost use Rattle.std.specs.Prelude.{◌≡◌, ℕ, ◌<◌, ◌&&◌, IsTrue, true, false, codes, List, [], ◌++◌, length};
-ghost use Rattle.std.specs.Option.{option_map};
 ghost use Rattle.giop_decode.specs.Noted.{Noted, nothing_noted, with_piece, ended, noted_piece, is_member, is_header_root, without_name_if, note_value, noted, names_operation, expects_after, with_expects};
 ghost use Rattle.giop_decode.specs.DecoderState.{HoldsNoted};
 ghost use Rattle.giop_decode.specs.NotingSteps.{clears_name, is_set};
@@ -67,39 +66,6 @@ impl Notes {
         self.buffer = Buffer::Begun;
     }
 
-    /// The request id of a header.
-    pub(crate) fn request_id(&self) -> Option<u32>
-        ensures { (h : Noted) → HoldsNoted self.now h → result ≡ h.request_id }
-    {
-        self.request_id
-    }
-
-    /// The number of the last enum.
-    pub(crate) fn status(&self) -> Option<u32>
-        ensures { (h : Noted) → HoldsNoted self.now h → result ≡ h.status }
-    {
-        self.status
-    }
-
-    /// Whether a header expects a reply, once that was read.
-    pub(crate) fn expects_reply(&self) -> Option<bool>
-        ensures { (h : Noted) → HoldsNoted self.now h → result ≡ h.expects_reply }
-    {
-        self.expects_reply
-    }
-
-    /// The last string, where that has ended and is a name.
-    pub(crate) fn name(&self) -> Option<&[u8]>
-        ensures { (h : Noted) → HoldsNoted self.now h →
-            option_map (λ octets. octets.now) result ≡ h.name }
-    {
-        match self.buffer {
-            Buffer::Whole => Some(&self.name),
-            Buffer::Begun => None,
-            Buffer::TooLong => None,
-        }
-    }
-
     /// Clears the last name: the length of a string has come.
     #[inline(always)]
     fn forget(&mut self)
@@ -110,7 +76,7 @@ impl Notes {
     {
         match self.buffer {
             Buffer::Whole => {
-                self.name = ArrayVec::new();
+                self.name.clear();
                 self.buffer = Buffer::Begun;
             }
             Buffer::Begun => {}
@@ -130,7 +96,7 @@ impl Notes {
         match self.buffer {
             Buffer::Begun => {
                 if self.name.try_extend_from_slice(octets).is_err() {
-                    self.name = ArrayVec::new();
+                    self.name.clear();
                     self.buffer = Buffer::TooLong;
                 }
             }

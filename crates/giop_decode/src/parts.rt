@@ -48,14 +48,18 @@ const FRONT: usize = 128;
 const RUN: usize = 16;
 
 impl Decoder {
-    /// Whether a number comes next that is one of several parts of which three are to come, in no header, and there are
+    /// Whether a primitive's number comes next that is one of several parts of which three are to come, in no header, and there are
     /// octets for more than one.
     #[inline(always)]
-    pub(crate) fn has_parts(&self, octets: &[u8]) -> bool
+    pub(crate) fn has_parts(&self, catalogue: &Catalogue, octets: &[u8]) -> bool
+        requires { Fits catalogue.now self.now }
         ensures some { IsTrue result → 0 < length self.now.outer.items }
         ensures body { IsTrue result → is_header_root self.now.head.root ≡ false }
     {
-        let Some(Leaf::Number(_)) = self.leaf else {
+        let Some(Leaf::Number(of)) = self.leaf else {
+            return false;
+        };
+        let Shape::Prim(_) = catalogue.shape(of) else {
             return false;
         };
         if is_header(self.head.root()) || octets.len() < RUN {
@@ -209,7 +213,7 @@ impl Decoder {
             (O.log out.old) (O.log out.new) result }
     {
         part_line(catalogue, part, front, line, out)?;
-        self.at = further(self.at, part.count - 1);
+        self.at = further(self.at, part.count);
         let ahead = Lookahead {
             of: part.of,
             count: part.count,

@@ -4,20 +4,23 @@ ghost use Rattle.std.specs.Prelude.{◌≡◌, ℕ, ◌+◌, ◌-◌, ◌%◌, �
 ghost use Rattle.giop_cdr.specs.declared.order.Order.{Order as ByteOrder};
 ghost use Rattle.giop_decode.specs.declared.decoder.Decoder.{Decoder as Before};
 ghost use Rattle.giop_decode.specs.DecoderState.{Fits, GoesOn, IsDone, Reads};
-ghost use Rattle.giop_decode.specs.Runs.{IsHeldOf, IsParted, TakesRun, TakesSome, WritesRun, TakenTogether};
+ghost use Rattle.giop_decode.specs.Runs.{IsContent, IsHeldOf, IsParted, TakesRun, TakesSome, WritesRun, TakenTogether};
 ghost use Rattle.giop_decode.specs.Transitions.{HaveOctetsLeft, coding_by, ticked_by};
 ghost use Rattle.giop_print.specs.declared.path.Root.{Root as PathRoot};
 ghost use Rattle.giop_sig.specs.Types.{Ty};
 
 use crate::decoder::Decoder;
+use crate::encapsulation::take_order;
 use crate::frame::{coding, tick_by, up_to_end};
-use crate::leading_numbers::{hold_number, take_value, width};
-use crate::leaf::Leaf;
-use crate::lookahead::{Lookahead, held};
-use crate::progress::Progress;
+use crate::leading_numbers::{hold_number, take_count, take_length, take_size, take_value, width};
+use crate::leaf::{Leaf, Output, Step, Transition, ended, refused};
+use crate::lookahead::{
+    Lookahead, ahead_of, held, octets_behind, whole_long, whole_number, whole_octets,
+};
+use crate::progress::{Kind, Progress};
 use giop_cdr::Order;
 use giop_print::{Out, OutFault};
-use giop_sig::{Catalogue, TypeId};
+use giop_sig::{Catalogue, Shape, TypeId};
 
 impl Decoder {
     /// Takes octets of the value, and writes their lines: all of them, or as many as there are up to one that ends an
@@ -59,8 +62,8 @@ impl Decoder {
     }
 
     /// Takes some of the octets, of which there is at least one: a number or the rest of a piece that stands whole at
-    /// their head, or those that only add to what is held, and one more. Numbers that are parts of one part are taken
-    /// together, and so are full pieces of an octet sequence.
+    /// their head, or those that only add to what is held, and one more. Outside encapsulations, numbers that are parts
+    /// of one part are taken together, and so are full pieces of an octet sequence.
     #[inline(always)]
     fn take_some<O: Out>(
         &mut self,
@@ -74,22 +77,18 @@ impl Decoder {
             (O.log out.old) (O.log out.new) result }
     {
         if self.inside {
-            return self.take_one(catalogue, octets, out);
+            let (count, progress) = self.take_one(catalogue, octets, out)?;
+            return Ok((count, progress));
         }
-        let coded = (self.order, self.at);
-        let Some(ahead) = self.number_ahead(catalogue, coded, octets) else {
-            if self.has_pieces(catalogue, octets) {
-                return self.take_pieces(catalogue, octets, out);
-            }
-            if let Some(text) = self.text_ahead(catalogue, octets) {
-                return self.take_text(catalogue, octets, text, out);
-            }
-            return self.take_other(catalogue, coded, octets, out);
-        };
-        if self.has_parts(octets) {
-            return self.take_parts(catalogue, octets, out);
+        if self.has_parts(catalogue, octets) {
+            let (count, progress) = self.take_parts(catalogue, octets, out)?;
+            return Ok((count, progress));
         }
-        self.take_ahead(catalogue, octets, ahead, out)
+        if self.has_pieces(catalogue, octets) {
+            let (count, progress) = self.take_pieces(catalogue, octets, out)?;
+            return Ok((count, progress));
+        }
+        self.take_unit(catalogue, (self.order, self.at), octets, out)
     }
 
     /// The same, but for numbers and full pieces one at a time, and within encapsulations too: there of the octets up to
@@ -108,16 +107,13 @@ impl Decoder {
     {
         let coded = coding(self.inside, self.order, self.at, self.outer.as_slice());
         let near = up_to_end(self.inside, self.outer.as_slice(), octets);
-        match self.number_ahead(catalogue, coded, near) {
-            Some(ahead) => self.take_ahead(catalogue, near, ahead, out),
-            None => self.take_other(catalogue, coded, near, out),
-        }
+        self.take_unit(catalogue, coded, near, out)
     }
 
-    /// The same where no primitive's number stands whole at their head. They are taken in this order and by this offset,
-    /// and no encapsulation ends before the last of them.
+    /// The same of octets that are taken in this order and by this offset, and no encapsulation ends before the last of
+    /// them.
     #[inline(always)]
-    fn take_other<O: Out>(
+    fn take_unit<O: Out>(
         &mut self,
         catalogue: &Catalogue,
         coded: (Order, u8),
@@ -135,23 +131,131 @@ impl Decoder {
             unreachable!();
         };
         match leaf {
-            Leaf::Number(of) => {
-                match self.leading_number_ahead(catalogue, coded, octets) {
-                    Some(ahead) => self.take_ahead(catalogue, octets, ahead, out),
-                    None => self.take_parted_number(catalogue, coded, of, octets, out),
-                }
-            }
+            Leaf::Number(of) => self.take_number(catalogue, coded, of, octets, out),
             Leaf::Opening { of, count } => {
-                let ahead = self.order_ahead(catalogue, of, count, octets);
-                self.take_ahead(catalogue, octets, ahead, out)
+                let step = take_order(catalogue, of, count, octets[0]);
+                self.take_ahead(catalogue, octets, ahead_of(of, 1, step, &[]), out)
             }
-            Leaf::Content { of, total, offset } => {
-                match self.piece_ahead(catalogue, of, total, offset, octets) {
-                    Some(ahead) => self.take_ahead(catalogue, octets, ahead, out),
-                    None => self.take_parted_piece(catalogue, leaf, octets, out),
+            Leaf::Content { .. } => self.take_content(catalogue, leaf, octets, out),
+        }
+    }
+
+    /// Takes the number that comes next, where it stands whole at the head of the octets, and none of it is held. Each
+    /// shape has an arm of its own, so that what its number does is known there.
+    #[inline(always)]
+    fn take_number<O: Out>(
+        &mut self,
+        catalogue: &Catalogue,
+        coded: (Order, u8),
+        of: TypeId,
+        octets: &[u8],
+        out: &mut O,
+    ) -> Result<(usize, Progress), OutFault>
+        requires fits { Fits catalogue.now self.old }
+        requires leaf { self.old.leaf ≡ Some (Leaf.Number of) }
+        requires coded { coding_by self.old.order self.old.at self.old.outer.items ≡ coded }
+        requires small { coded.1 < 8 }
+        requires ahead { HaveOctetsLeft (ticked_by (length octets.now - 1) self.old.outer.items) }
+        requires some { 0 < length octets.now }
+        ensures { TakesSome catalogue.now self.old self.new octets.now
+            (O.log out.old) (O.log out.new) result }
+    {
+        let (order, at) = coded;
+        if self.carry.is_empty() {
+            match catalogue.shape(of) {
+                Shape::Prim(_) => {
+                    if let Some((count, number)) = whole_number(catalogue, order, at, of, octets) {
+                        let step = ended(Output::Number(number));
+                        let ahead = ahead_of(of, count, step, &[]);
+                        return self.take_ahead(catalogue, octets, ahead, out);
+                    }
+                }
+                Shape::Text(bound) => {
+                    if let Some((count, n)) = whole_long(order, at, octets) {
+                        let step = take_length(catalogue, of, bound, n);
+                        let ahead = ahead_of(of, count, step, &[]);
+                        return self.take_ahead(catalogue, octets, ahead, out);
+                    }
+                }
+                Shape::Octets(bound) => {
+                    if let Some((count, n)) = whole_long(order, at, octets) {
+                        let step = take_size(catalogue, of, bound, n);
+                        let ahead = ahead_of(of, count, step, &[]);
+                        return self.take_ahead(catalogue, octets, ahead, out);
+                    }
+                }
+                Shape::Sequence(bound) => {
+                    if let Some((count, n)) = whole_long(order, at, octets) {
+                        let step = take_count(catalogue, of, bound, n);
+                        let ahead = ahead_of(of, count, step, &[]);
+                        return self.take_ahead(catalogue, octets, ahead, out);
+                    }
+                }
+                _ => {
+                    if let Some((count, whole)) = whole_octets(width(catalogue, of), at, octets) {
+                        let step = take_value(catalogue, order, of, whole);
+                        let ahead = ahead_of(of, count, step, &[]);
+                        return self.take_ahead(catalogue, octets, ahead, out);
+                    }
                 }
             }
         }
+        let (count, progress) = self.take_parted_number(catalogue, coded, of, octets, out)?;
+        Ok((count, progress))
+    }
+
+    /// Takes the rest of a piece, where it stands whole at the head of the octets, with the zero that ends it where it is
+    /// a string's last.
+    #[inline(always)]
+    fn take_content<O: Out>(
+        &mut self,
+        catalogue: &Catalogue,
+        leaf: Leaf,
+        octets: &[u8],
+        out: &mut O,
+    ) -> Result<(usize, Progress), OutFault>
+        requires fits { Fits catalogue.now self.old }
+        requires leaf { self.old.leaf ≡ Some leaf }
+        requires content { IsContent leaf }
+        requires ahead { HaveOctetsLeft (ticked_by (length octets.now - 1) self.old.outer.items) }
+        requires some { 0 < length octets.now }
+        ensures { TakesSome catalogue.now self.old self.new octets.now
+            (O.log out.old) (O.log out.new) result }
+    {
+        let Leaf::Content { of, total, offset } = leaf else {
+            unreachable!();
+        };
+        let left = total.saturating_sub(offset) as usize;
+        let size = left.min(32).saturating_sub(self.piece.len());
+        let behind = octets_behind(catalogue, of, left);
+        if octets.len() < size + behind {
+            let (count, progress) = self.take_parted_piece(catalogue, leaf, octets, out)?;
+            return Ok((count, progress));
+        }
+        let rest = &octets[..size];
+        let count = size + behind;
+        if left > 32 {
+            let next = Leaf::Content {
+                of,
+                total,
+                offset: offset + 32,
+            };
+            let step = Step {
+                transition: Transition::More(next),
+                output: Output::Piece { offset, more: true },
+            };
+            let ahead = ahead_of(of, count, step, rest);
+            return self.take_ahead(catalogue, octets, ahead, out);
+        }
+        if behind > 0 && octets[size] != 0 {
+            let ahead = ahead_of(of, count, refused(Kind::StringEnd), rest);
+            return self.take_ahead(catalogue, octets, ahead, out);
+        }
+        let step = ended(Output::Piece {
+            offset,
+            more: false,
+        });
+        self.take_ahead(catalogue, octets, ahead_of(of, count, step, rest), out)
     }
 
     /// Holds octets of the number that comes next, and takes it from what is held once it is whole.
@@ -245,8 +349,8 @@ impl Decoder {
             ahead.entry.count ahead.entry.step ahead.entry.rest.now →
             TakesSome catalogue.now d self.new octets.now (O.log out.old) (O.log out.new) result }
     {
-        self.at = further(self.at, ahead.count - 1);
-        tick_by(self.inside, &mut self.outer, ahead.count - 1);
+        self.at = further(self.at, ahead.count);
+        tick_by(self.inside, &mut self.outer, ahead.count);
         let progress = self.emit(catalogue, ahead, out)?;
         Ok((ahead.count, progress))
     }

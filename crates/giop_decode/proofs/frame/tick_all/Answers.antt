@@ -1,4 +1,4 @@
-use Rattle.std.proofs.Common.{arith}
+use Rattle.std.proofs.Common.{◌-◌, arith}
 use Rattle.giop_decode.specs.Transitions.{tick_by_of}
 use Rattle.giop_decode.proofs.Surrounding.{counted_more, counted_ahead_by}
 use Rattle.giop_decode.proofs.frame.tick_all.Goals as goal
@@ -12,6 +12,7 @@ loop-frame-preserved c =
 pub counted_by-requires : goal.counted_by-requires
 counted_by-requires c =
     record {
-      ahead = counted_ahead_by c.args.octets c.loop-frame.frame-index c.loop-frame.frame-items _ _
-          c.loop-frame.invariant c.requires.ahead (omega arith);
+      ahead = counted_ahead_by (tick_by_of c.args.octets) (c.args.octets - 1)
+          c.loop-frame.frame-index c.loop-frame.frame-items _ _ c.loop-frame.invariant
+          c.requires.ahead (omega arith);
     }

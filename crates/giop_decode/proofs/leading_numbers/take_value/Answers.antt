@@ -1,26 +1,27 @@
-use Rattle.std.proofs.Common.{◌∙◌, arith}
+use Rattle.std.proofs.Common.{◌∙◌, arith, rules}
 use Rattle.giop_sig.specs.Trees.{tree}
 use Rattle.giop_cdr.specs.Numbers.{num}
 use Rattle.giop_decode.proofs.TransitionLaws.{prim_bound, number_prim, number_enum, turns_number}
 use Rattle.giop_decode.proofs.leading_numbers.take_value.Goals as goal
 
-pub returns-in-Ok-clause-has_output : goal.returns-in-Ok-clause-has_output
-returns-in-Ok-clause-has_output c =
+pub returns-in-Ok-clause-fits : goal.returns-in-Ok-clause-fits
+returns-in-Ok-clause-fits c =
     let T = tree c.args.catalogue.now c.args.of.0 in
-    number_prim T c.in-Prim.prim (num c.args.order c.args.octets.now) c.in-Ok.number
-    c.in-Prim.ensures.shape c.in-Ok.ensures.ok
-    (prim_bound T c.in-Prim.prim c.args.order c.args.octets.now c.in-Prim.ensures.shape
-    c.requires.whole c.number_of.ensures.octets)
+    record {
+      transition_fits = search rules;
+      has_output = number_prim T c.in-Prim.prim (num c.args.order c.args.octets.now) c.in-Ok.number
+          c.in-Prim.ensures.shape c.in-Ok.ensures.ok
+          (prim_bound T c.in-Prim.prim c.args.order c.args.octets.now c.in-Prim.ensures.shape
+          c.requires.whole c.number_of.ensures.octets);
+      output_fits_string = search rules;
+      string_goes_on = search rules;
+    }
 
 pub returns-in-Ok-clause-transitions : goal.returns-in-Ok-clause-transitions
+unfolding num returns-in-Ok-clause-fits
 returns-in-Ok-clause-transitions c coding path at =
     turns_number c.args.catalogue.now coding path (tree c.args.catalogue.now c.args.of.0) at
-    c.in-Ok.number
-    (number_prim (tree c.args.catalogue.now c.args.of.0) c.in-Prim.prim
-    (num c.args.order c.args.octets.now) c.in-Ok.number c.in-Prim.ensures.shape
-    c.in-Ok.ensures.ok
-    (prim_bound (tree c.args.catalogue.now c.args.of.0) c.in-Prim.prim c.args.order
-    c.args.octets.now c.in-Prim.ensures.shape c.requires.whole c.number_of.ensures.octets))
+    c.in-Ok.number (returns-in-Ok-clause-fits c).has_output
 
 pub returns-else-n-count-clause-transitions : goal.returns-else-n-count-clause-transitions
 returns-else-n-count-clause-transitions c coding path at =

@@ -2,6 +2,7 @@ use Rattle.std.proofs.Common.{ℕ, ◌+◌, List, [], ap, sym, ◌∙◌, arith,
 use Rattle.giop_decode.proofs.Advancing.{comes_by, moved, unended}
 use Rattle.giop_decode.proofs.Surrounding.{ahead_by, inside_ticked, known_ticked, length_ticked, places_ticked, stand_ticked}
 use Rattle.giop_decode.proofs.Linking.{link_ticked}
+use Rattle.giop_decode.proofs.Whole.{behind_gives}
 use Rattle.giop_decode.specs.Noted.{ends_in_string}
 use Rattle.giop_decode.specs.DecoderSteps.{emitted, transition_result}
 use Rattle.giop_decode.specs.ReadResult.{plain, Line}
@@ -10,63 +11,77 @@ use Rattle.giop_decode.specs.Transitions.{open_parts, Link, has_ended, still_hel
 use Rattle.giop_sig.specs.Trees.{tree}
 use Rattle.giop_decode.proofs.decoder.Decoder.pass.Goals as goal
 
+pub note-named-requires-clause-known : goal.note-named-requires-clause-known
+note-named-requires-clause-known c = c.requires.counted.1.around.known
+
+pub advance_frames-requires-clause-known : goal.advance_frames-requires-clause-known
+advance_frames-requires-clause-known c = c.requires.counted.1.around.known
+
 pub advance_frames-requires-clause-known_outer : goal.advance_frames-requires-clause-known_outer
 advance_frames-requires-clause-known_outer c =
-    rw c.tick.ensures.ticked (known_ticked c.args.catalogue.now c.args.self.now.outer.items
-    c.requires.around.ahead c.requires.around.known_outer)
+    let b = c.requires.counted.1 in
+    rw b.outer (known_ticked c.args.catalogue.now c.requires.counted.0.outer.items b.around.ahead
+    b.around.known_outer)
+
+pub note-named-requires-clause-known_outer : goal.note-named-requires-clause-known_outer
+note-named-requires-clause-known_outer c =
+    let b = c.requires.counted.1 in
+    rw (c.as_slice.ensures.value, b.outer) (known_ticked c.args.catalogue.now
+    c.requires.counted.0.outer.items b.around.ahead b.around.known_outer)
 
 pub advance_frames-requires-clause-encloses : goal.advance_frames-requires-clause-encloses
 advance_frames-requires-clause-encloses c =
-    rw (c.tick.ensures.ticked, inside_ticked c.args.self.now.outer.items) c.requires.around.inside
+    let b = c.requires.counted.1 in
+    rw (b.inside, b.outer, inside_ticked c.requires.counted.0.outer.items) b.around.inside
 
 pub advance_frames-requires-clause-open : goal.advance_frames-requires-clause-open
 advance_frames-requires-clause-open c =
     let C = c.args.catalogue.now in
-    let s = c.requires.around.are_open in (
+    let b = c.requires.counted.1 in
+    let s = b.around.are_open in (
       s.0 + 1,
       rw (
-        c.tick.ensures.ticked,
-        places_ticked C s.0 c.args.self.now.outer.items
-            c.requires.around.ahead,
+        b.outer,
+        places_ticked C s.0 c.requires.counted.0.outer.items b.around.ahead,
       ) s.1,
     )
 
 pub advance_frames-requires-clause-fit : goal.advance_frames-requires-clause-fit
-advance_frames-requires-clause-fit c = rw (
-  c.tick.ensures.ticked,
-  length_ticked c.args.self.now.outer.items,
-) c.requires.around.fit
+advance_frames-requires-clause-fit c =
+    let b = c.requires.counted.1 in
+    rw (b.outer, length_ticked c.requires.counted.0.outer.items) b.around.fit
 
 pub returns : goal.returns
-returns c =
+returns c d b =
     let C = c.args.catalogue.now in
-    let d = c.args.self.now in
+    let now = c.args.self.now in
     let new = c.advance_frames.new.self in
-    let T = tree C c.args.ahead.of.0 in
-    let transition = c.args.ahead.step.transition in
-    let output = c.args.ahead.step.output in
-    let held = still_held output d.piece.items in
+    let of = c.args.ahead.of.0 in
+    let T = tree C of in
+    let step = c.args.ahead.step in
+    let transition = step.transition in
+    let rest = c.args.ahead.rest.now in
+    let held = still_held step.output d.piece.items in
     let p = c.progress_of.result in
     let e = c.advance_frames.ensures in
     let ended : c.has_ended-ended.result ≡ has_ended new.outer.items =
     rw (← c.as_slice-2.ensures.value) c.has_ended-ended.ensures in
     let come : (here : ℕ) (lines : List Line) →
-    emitted C d c.args.ahead.of.0 transition output lines here
+    emitted C d of transition step.output lines here
     ≡ transition_result C T new transition lines (here + 1) =
     λ here lines.
-    let pt : open_parts C here d.outer.items ≡ open_parts C (here + 1) c.tick.new.outer.items =
-    sym (places_ticked C here d.outer.items c.requires.around.ahead)
-    ∙ ap (open_parts C (here + 1)) (sym c.tick.ensures.ticked) in
+    let pt : open_parts C here d.outer.items ≡ open_parts C (here + 1) now.outer.items =
+    sym (places_ticked C here d.outer.items b.around.ahead)
+    ∙ ap (open_parts C (here + 1)) (sym b.outer) in
     ap (λ qs. around (plain d.order) [] qs (after_transition C T transition d.carry held lines
     (here + 1))) pt
-    ∙ rw c.let_go.ensures at (e.advances (plain d.order) [] (here + 1) lines) in
+    ∙ rw (c.let_go.ensures, b.carry, b.piece) at (e.advances (plain d.order) [] (here + 1) lines) in
     record {
-      order = e.order;
-      head = e.head;
+      order = e.order ∙ b.order;
+      head = e.head ∙ b.head;
       here = λ here h. (
-        omega (arith, h.0, e.at),
-        e.stand (here + 1) (omega arith)
-            (rw c.tick.ensures.ticked (stand_ticked here d.outer.items h.1)),
+        omega (arith, h.0, e.at, b.at),
+        e.stand (here + 1) (omega arith) (rw b.outer (stand_ticked here d.outer.items h.1)),
       );
       next = λ goes_on.
           let m = moved c.note-named.result c.has_ended-ended.result transition new.leaf p
@@ -80,23 +95,24 @@ returns c =
             known = λ leaf is. e.known leaf m is;
             clean = λ leaf is. e.clean leaf m is;
             link = λ root leaf before is.
-                let old : Link C root c.tick.new.outer.items c.args.ahead.of.0 =
-                rw c.tick.ensures.ticked
-                (link_ticked C root d.outer.items c.args.ahead.of.0 before) in
+                let old : Link C root now.outer.items of =
+                rw b.outer (link_ticked C root d.outer.items of before) in
                 e.link root leaf m old is;
             going = m;
             offset = λ leaf is. e.offset leaf m is;
           };
       steps = λ here lines says.
           let n = rw (c.as_slice.ensures.value, c.deref.ensures.0, c.root.ensures) at
-          (c.note-named.ensures.named here (here + 1) lines) in
+          (c.note-named.ensures.named (here + 1) (here + 1) lines) in
           comes_by C T new c.note-named.result c.has_ended-ended.result transition lines
           (here + 1) p _
-          (rw e.head (n says)) ended (come here lines) c.progress_of.ensures;
+          (rw e.head (n (behind_gives C d now of step rest here (here + 1) lines b says)))
+          ended (come here lines) c.progress_of.ensures;
       inside = λ here lines. ap ends_in_string (come here lines) ∙ e.inside (here + 1) lines;
-      id = λ no. rw e.notes (c.note-named.ensures.id (rw c.root.ensures no));
+      id = λ no. rw e.notes (c.note-named.ensures.id (rw (c.root.ensures, b.head) no))
+          ∙ ap (λ n. n.request_id) b.notes;
       notes = λ h here at lines before says.
-          let now = rw (c.as_slice.ensures.value, c.deref.ensures.0, c.root.ensures) at
-          (c.note-named.ensures.notes h here at lines before) in
-          rw e.notes (now says);
+          let told = rw (c.as_slice.ensures.value, c.deref.ensures.0, c.root.ensures, b.head) at
+          (c.note-named.ensures.notes h (here + 1) at lines (rw b.notes before)) in
+          rw e.notes (told (behind_gives C d now of step rest here at lines b says));
     }

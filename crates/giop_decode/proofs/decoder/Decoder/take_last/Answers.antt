@@ -1,30 +1,22 @@
-use Rattle.std.proofs.Common.{[], ◌++◌}
+use Rattle.std.proofs.Common.{◌+◌, ◌-◌, ◌%◌, [], ◌++◌, refl}
 use Rattle.giop_decode.specs.declared.leaf.Step.{Step}
 use Rattle.giop_decode.specs.declared.leaf.Output.TheVariants as outputs
 use Rattle.giop_decode.specs.declared.leaf.Transition.TheVariants as transitions
-use Rattle.giop_decode.proofs.NextParts.{part_at_last, part_broken, part_says, taken_together}
+use Rattle.giop_decode.proofs.NextParts.{part_at_last, part_behind, part_broken, part_says, taken_together}
 use Rattle.giop_decode.proofs.Passing.{passed_some}
-use Rattle.giop_decode.proofs.Whole.{around_whole, at_last}
+use Rattle.giop_decode.proofs.Whole.{at_last}
 use Rattle.giop_decode.specs.NextParts.{frames_above}
 use Rattle.giop_decode.specs.Segments.{frames_text}
 use Rattle.giop_print.specs.Output.{Wrote}
 use Rattle.giop_print.specs.Paths.{root_word}
 use Rattle.giop_decode.proofs.decoder.Decoder.take_last.Goals as goal
 
-pub pass-progress-requires-clause-around : goal.pass-progress-requires-clause-around
-pass-progress-requires-clause-around g c =
-    let a = c.args.part in
-    let C = c.args.catalogue.now in
-    let d = c.args.self.now in
-    let octets = a.octets.now in
-    around_whole C d octets a.of a.count (record {
-      transition = transitions.Ended;
-      output =
-          outputs.Number a.number;
-    }) [] c.requires.fits (at_last d c.further-self.result d.outer)
-    (taken_together C d a c.requires.fits c.requires.ahead)
-    (part_at_last C d a c.requires.fits c.requires.ahead c.further-self.result
-    c.further-self.ensures)
+pub pass-progress-requires-clause-counted : goal.pass-progress-requires-clause-counted
+pass-progress-requires-clause-counted g c = (
+  _,
+  part_behind c.args.catalogue.now c.args.self.now c.args.part c.requires.fits c.requires.ahead
+      c.further-self.result c.further-self.ensures,
+)
 
 pub returns-in_err-part_line : goal.returns-in_err-part_line
 returns-in_err-part_line g c =
@@ -44,10 +36,11 @@ returns g c =
     let octets = a.octets.now in
     let f = c.requires.fits in
     let h = c.requires.ahead in
-    passed_some C d octets a.of a.count step [] f (at_last d c.further-self.result d.outer)
-    (taken_together C d a f h)
-    (part_at_last C d a f h c.further-self.result c.further-self.ensures)
-    c.pass-progress.new.self c.pass-progress.result c.pass-progress.ensures
+    let there = (d.at + (a.count - 1)) % 8 in
+    passed_some C d octets a.of a.count step [] f (at_last d there d.outer)
+    (taken_together C d a f h) (part_at_last C d a f h there refl)
+    c.pass-progress.new.self c.pass-progress.result
+    (c.pass-progress.ensures _ (part_behind C d a f h c.further-self.result c.further-self.ensures))
     _ _ (part_says C d a f h (Wrote (g.O.Out.log c.args.out.now)
     (g.O.Out.log c.part_line.new.out))
     (c.in_ok-part_line.ensures d.head.message (root_word d.head.root ++ frames_text C

@@ -1,4 +1,4 @@
-use Rattle.std.proofs.Common.{◌≡◌, ℕ, ◌-◌, ◌<◌, List, [], length, false, Some, None, ◌∙◌, ap, arith, ne_eqb}
+use Rattle.std.proofs.Common.{◌≡◌, ℕ, ◌-◌, ◌<◌, List, [], length, Some, ◌∙◌, ap, arith, ne_eqb}
 use Rattle.std.specs.Prelude.{eqb}
 use Rattle.std.proofs.lemmas.Bool.{eq-eqb}
 use Rattle.giop_cdr.specs.Numbers.{num}
@@ -9,11 +9,9 @@ use Rattle.giop_decode.specs.declared.leaf.Output.TheVariants as outputs
 use Rattle.giop_decode.specs.declared.leaf.Step.{Step}
 use Rattle.giop_decode.specs.declared.leaf.Transition.TheVariants as transitions
 use Rattle.giop_decode.specs.DecoderState.{Fits}
-use Rattle.giop_decode.specs.NotingSteps.{OutputFitsString, StringGoesOn}
-use Rattle.giop_decode.specs.ReadResult.{Coding, PathSegment}
-use Rattle.giop_decode.specs.ReadingSteps.{after, leading_width}
-use Rattle.giop_decode.specs.Runs.{IsHeldOf}
-use Rattle.giop_decode.specs.Transitions.{HasOutput, HaveOctetsLeft, NumberStands, TransitionFits, TransitionGives, coding_by, ticked_by}
+use Rattle.giop_decode.specs.ReadingSteps.{leading_width}
+use Rattle.giop_decode.specs.Runs.{IsHeldOf, IsStep, IsStepOf}
+use Rattle.giop_decode.specs.Transitions.{HaveOctetsLeft, NumberStands, coding_by, ticked_by}
 use Rattle.giop_decode.proofs.Advancing.{stands_at}
 use Rattle.giop_decode.proofs.Counting.{coding_small}
 use Rattle.giop_decode.proofs.PartialBlocks.{held_in}
@@ -59,19 +57,12 @@ comes : (C : Table) (d : Decoder) (of : TypeId) (octets : List ℕ) (order : Ord
     HaveOctetsLeft (ticked_by (length octets - 1) d.outer.items) →
     width ≡ leading_width (tree C of.0) →
     NumberStands width at d.carry octets count (eqb (length all) width) all →
-    length all ≡ width → kept ≡ [] → TransitionFits (tree C of.0) of.0 s.transition [] [] →
-    HasOutput (tree C of.0) s.output →
-    OutputFitsString (tree C of.0) false s.transition s.output →
-    ((n : ℕ) → StringGoesOn (tree C of.0) None s.transition s.output n) →
-    ((coding : Coding) (path : List PathSegment) (here : ℕ) →
-    TransitionGives C (tree C of.0) s.transition s.output [] [] path here
-    (after coding path (tree C of.0) (num order all) here [])) →
+    length all ≡ width → kept ≡ [] → IsStep C of.0 s → IsStepOf C of.0 (num order all) s →
     IsHeldOf C d (held_in d kept d.piece) octets of count s []
-comes C d of octets order width at count all kept s f e coded ahead is stands whole none fits has
-    string on gives =
+comes C d of octets order width at count all kept s f e coded ahead is stands whole none fits by =
     held_now C d octets of count s [] kept d.piece f
     (comes_head C d of octets count f e order at coded kept all s none
-    (rw (eq-eqb (length all) width whole, is) at stands) ahead fits has string on gives)
+    (rw (eq-eqb (length all) width whole, is) at stands) ahead fits by)
 
 pub finish-requires : goal.finish-requires
 finish-requires g c =
@@ -140,7 +131,7 @@ finish-requires-2 g c =
           c.requires.leaf c.requires.coded c.requires.ahead
           (c.width-width.ensures.width head.kind) s.ensures.stands
           (omega (arith, c.if-len-from.false, c.len.ensures.value, c.from.ensures, s.ensures.size))
-          c.clear.ensures v.transition_fits v.has_output v.output_fits_string v.string_goes_on
+          c.clear.ensures v.fits
           (rw c.as_slice.ensures.value at v.transitions),
     )
 
@@ -156,5 +147,5 @@ returns g c =
     c.requires.leaf c.requires.coded c.requires.ahead
     (c.width-width.ensures.width head.kind) s.ensures.stands
     (omega (arith, c.if-len-from.false, c.len.ensures.value, c.from.ensures, s.ensures.size))
-    c.clear.ensures v.transition_fits v.has_output v.output_fits_string v.string_goes_on
+    c.clear.ensures v.fits
     (rw c.as_slice.ensures.value at v.transitions))
