@@ -143,7 +143,7 @@ record IsLeast (id next : ℕ) (ps : List Payload) (i : ℕ) : Type 0 where
   pub before : (j : ℕ) (d : Payload) → j < i → (get_or ps j d).flow ≡ id →
       rank next (get_or ps i d).number < rank next (get_or ps j d).number
 
-first_here : (next : ℕ) (p : Payload) (ps : List Payload) (r : Option ℕ) →
+pub first_here : (next : ℕ) (p : Payload) (ps : List Payload) (r : Option ℕ) →
     IfSome r (λ k. rank next p.number ≤ rank next (get_or ps k p).number)
     → earlier next p ps r ≡ Some 0
 unfolding earlier
@@ -151,7 +151,7 @@ first_here next p ps None h = refl
 first_here next p ps (Some k) h =
     rw (le-ltb (rank next (get_or ps k p).number) (rank next p.number) h) refl
 
-both : (r : Option ℕ) (P Q R : ℕ → Type 0) → ((k : ℕ) → P k → Q k → R k) → IfSome r P →
+pub both : (r : Option ℕ) (P Q R : ℕ → Type 0) → ((k : ℕ) → P k → Q k → R k) → IfSome r P →
     IfSome r Q → IfSome r R
 both None P Q R f p q = tt
 both (Some k) P Q R f p q = f k p q
