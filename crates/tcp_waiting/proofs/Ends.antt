@@ -106,8 +106,8 @@ one_far id next number count p h rest = by_cases (nat_eq p.flow id) (nat_eq p.nu
     (ends_far next p.number (length p.octets)) (ends_far next number count) rest h
     (λ n l. (
       (let x : p.number ≡ number = eqb-true p.number number n in
-      let y : length p.octets ≡ count = eqb-true (length p.octets) count l in
-      rw (x, y) refl),
+          let y : length p.octets ≡ count = eqb-true (length p.octets) count l in
+          rw (x, y) refl),
       le-leb count (length p.octets) (omega (arith, eqb-true (length p.octets) count l)),
     ))
     (λ n f l. shorter next number count (length p.octets) (leb-true count (length p.octets) l)

@@ -188,8 +188,10 @@ first_is_none : (id next : ℕ) (ps : List Payload) →
 unfolding first
 first_is_none id next [] h = refl
 first_is_none id next (p ∷ ps) h =
-    rw (ne_eqb p.flow id (λ e. h 0 p (omega arith) e),
-      first_is_none id next ps (λ j d l own. h (suc j) d (omega (arith, l)) own)) refl
+    rw (
+      ne_eqb p.flow id (λ e. h 0 p (omega arith) e),
+      first_is_none id next ps (λ j d l own. h (suc j) d (omega (arith, l)) own),
+    ) refl
 
 -- the number of the least rank
 abbrev pub oldest : ℕ → ℕ
@@ -230,9 +232,11 @@ pub stands_own : (i id : ℕ) (ps : List Payload) → stands_at i id ps ≡ true
     (i < length ps) × ((d : Payload) → (get_or ps i d).flow ≡ id)
 stands_own i id ps h =
     let e = and_parts (nat_lt i (length ps)) (nat_eq (get_or ps i (payload 0 0 [])).flow id) h in
-    let l : i < length ps = ltb-true i (length ps) e.0 in
-    (l, λ d. ap (λ (p : Payload). p.flow) (same_at ps i d (payload 0 0 []) l)
-    ∙ eqb-true (get_or ps i (payload 0 0 [])).flow id e.1)
+    let l : i < length ps = ltb-true i (length ps) e.0 in (
+      l,
+      λ d. ap (λ (p : Payload). p.flow) (same_at ps i d (payload 0 0 []) l)
+          ∙ eqb-true (get_or ps i (payload 0 0 [])).flow id e.1,
+    )
 
 stands_so : (i id : ℕ) (ps : List Payload) (d : Payload) → i < length ps →
     (get_or ps i d).flow ≡ id → stands_at i id ps ≡ true
@@ -275,16 +279,16 @@ least_oldest id next ps i o s n is at =
     ) in
     let before : (j : ℕ) (d : Payload) → j < i → (get_or ps j d).flow ≡ id →
     rank next (get_or ps i d).number < rank next (get_or ps j d).number = λ j d l own.
-        (let lj : j < length ps = omega (arith, l, here.0) in
-        let less : (get_or ps j d).number < oldest next =
-        omega (arith, in_front k ps j d (omega (arith, l, is)), own) in
-        omega (
-          arith,
-          rank_from next (get_or ps i d).number n (all_at IsSmall ps i d s here.0).number
-              (number d),
-          rank_below next (get_or ps j d).number n (all_at IsSmall ps j d s lj).number less,
-          (all_at IsSmall ps i d s here.0).number,
-        )) in
+    (let lj : j < length ps = omega (arith, l, here.0) in
+    let less : (get_or ps j d).number < oldest next =
+    omega (arith, in_front k ps j d (omega (arith, l, is)), own) in
+    omega (
+      arith,
+      rank_from next (get_or ps i d).number n (all_at IsSmall ps i d s here.0).number
+          (number d),
+      rank_below next (get_or ps j d).number n (all_at IsSmall ps j d s lj).number less,
+      (all_at IsSmall ps i d s here.0).number,
+    )) in
     record {
       within = here.0;
       own = here.1;
@@ -327,7 +331,7 @@ least_number id next ps i j o s n is none js at =
       own,
     ) in
     let before : (m : ℕ) (d : Payload) → m < j → (get_or ps m d).flow ≡ id → ⊥ = λ m d l own.
-        omega (arith, in_front (key id 0 0) ps m d (omega (arith, l, js)), own) in
+    omega (arith, in_front (key id 0 0) ps m d (omega (arith, l, js)), own) in
     record {
       within = here.0;
       own = here.1;
