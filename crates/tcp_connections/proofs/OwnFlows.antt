@@ -310,7 +310,8 @@ module _ (segments : List Segment) (owners : ℕ → Option Endpoints) (id : ℕ
       let v : IsOwn segments owners id o h = record {
         same = t.same;
         next = t.next;
-        held = all_insert (IsPartOfOwn segments owners) f.held (place_of (key_of q) f.held) q t.held has;
+        held = all_insert (IsPartOfOwn segments owners) f.held (place_of (key_of q) f.held) q
+            t.held has;
         stands = t.stands;
       } in
       either (IsOwn segments owners id o) (nat_eq (length q.octets) 0

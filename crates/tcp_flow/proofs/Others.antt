@@ -81,7 +81,8 @@ came_others A f p own =
     let start : P h = record {
       own = refl;
       held =
-          others_put f.id f.held (place_of (key_of q) f.held) q (left_flow f.next (is_some f.live) p ∙ own);
+          others_put f.id f.held (place_of (key_of q) f.held) q
+          (left_flow f.next (is_some f.live) p ∙ own);
     } in
     either P (nat_eq (length q.octets) 0 || has_as_much f.id q.number (length q.octets) f.held) f
     (within_bounds A (length f.held + 1) (gone_on A.faulted h)) (same_others f)

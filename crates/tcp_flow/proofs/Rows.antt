@@ -46,7 +46,8 @@ record Rows : Type 0 where
   one-more-is-a-gap : events (Octets 1049581 (1 ∷ 2 ∷ []) ∷ []) 1000
       ≡ Begins 7 1000 ∷ Delivers 7 header ∷ Closes 7 Gap ∷ []
   gap-by-acknowledgement-the-held-begins : events (Octets 1010 header ∷ Acknowledged 1020 ∷ [])
-      1000 ≡ Begins 7 1000 ∷ Delivers 7 header ∷ Closes 7 Gap ∷ Begins 7 1010 ∷ Delivers 7 header ∷ []
+      1000 ≡ Begins 7 1000 ∷ Delivers 7 header ∷ Closes 7 Gap ∷ Begins 7 1010
+      ∷ Delivers 7 header ∷ []
   behind-the-front-no-message-is-whole : events (Octets 1010 (5 ∷ header)
       ∷ Acknowledged 1020 ∷ []) 1000 ≡ Begins 7 1000 ∷ Delivers 7 header ∷ Closes 7 Gap ∷ []
   behind-the-front-a-message-is-whole :
@@ -73,7 +74,8 @@ rows : Rows
 unfolding header_at chain_from stream_at left with_event delivered begun taken earlier first
     first_of at is_due drained_at_most drained fin_is_reached closed without_stale_fin ended
     gone_on gap blocks_of is_far is_too_much within_bounds has_as_much holding place_of payload_came
-    fin_came acknowledgement_came step after first_payload events setting header message any_bad is_bad
+    fin_came acknowledgement_came step after first_payload events setting header message any_bad
+    is_bad
 rows = record {
   begins = refl;
   retransmission-falls-away = refl;

@@ -347,8 +347,8 @@ came_true A payloads' f p small t =
     let v : IsGapless all h = record {
       next = u.next;
       held =
-          have_put all f.held (place_of (key_of q) f.held) q u.held (left_all all f.next (is_some f.live) p
-          (has_last payloads' p small));
+          have_put all f.held (place_of (key_of q) f.held) q u.held
+          (left_all all f.next (is_some f.live) p (has_last payloads' p small));
       events = u.events;
     } in
     either (IsGapless all) (nat_eq (length q.octets) 0

@@ -27,8 +27,8 @@ far_insert id next number count (q ∷ ps) zero p h c = or_from (counts_far id n
     (counts_far id next number count q || is_far_but id next number count ps) c h
 far_insert id next number count (q ∷ ps) (suc i) p h c =
     let e = or_parts (counts_far id next number count q) (is_far_but id next number count ps) h in
-    or_from (counts_far id next number count q) (is_far_but id next number count (insert ps i p)) e.0
-    (far_insert id next number count ps i p e.1 c)
+    or_from (counts_far id next number count q) (is_far_but id next number count (insert ps i p))
+    e.0 (far_insert id next number count ps i p e.1 c)
 
 pub far_remove : (id next number count : ℕ) (ps : List Payload) (i : ℕ) →
     is_far_but id next number count ps ≡ false

@@ -265,6 +265,18 @@ none_behind id n m ps i j d o s is none l own = elim (cases_lt j i) [
       absurd (both_ways (stands_at i id ps) none (stands_so i id ps d w own_too)))
 ]
 
+-- of a flow's payloads the later has no lesser number
+upward : (id : ℕ) (ps : List Payload) (i j : ℕ) (d : Payload) → AreOrdered ps → AreSmall ps →
+    i ≤ j → j < length ps → (get_or ps i d).flow ≡ id → (get_or ps j d).flow ≡ id
+    → (get_or ps i d).number ≤ (get_or ps j d).number
+upward id ps i j d o s h l own own_too = omega (
+  arith,
+  ordered_at ps i j d o h l,
+  own,
+  own_too,
+  (all_at IsSmall ps j d s l).short,
+)
+
 least_oldest : (id next : ℕ) (ps : List Payload) (i : ℕ) → AreOrdered ps → AreSmall ps →
     next < 2 ^ 32 → i ≡ place_of (key id (oldest next) 0) ps → stands_at i id ps ≡ true
     → IsLeast id next ps i
@@ -295,13 +307,7 @@ least_oldest id next ps i o s n is at =
       least = λ j d l own. elim (cases_lt j i) [
         | inl a ↦ omega (arith, before j d a own)
         | inr b ↦
-            (let up : (get_or ps i d).number ≤ (get_or ps j d).number = omega (
-              arith,
-              ordered_at ps i j d o b l,
-              here.1 d,
-              own,
-              (all_at IsSmall ps j d s l).short,
-            ) in
+            (let up = upward id ps i j d o s b l (here.1 d) own in
             omega (
               arith,
               up,
@@ -338,13 +344,7 @@ least_number id next ps i j o s n is none js at =
       least = λ m d l own. elim (cases_lt m j) [
         | inl a ↦ absurd (before m d a own)
         | inr b ↦
-            (let up : (get_or ps j d).number ≤ (get_or ps m d).number = omega (
-              arith,
-              ordered_at ps j m d o b l,
-              here.1 d,
-              own,
-              (all_at IsSmall ps m d s l).short,
-            ) in
+            (let up = upward id ps j m d o s b l (here.1 d) own in
             omega (
               arith,
               up,

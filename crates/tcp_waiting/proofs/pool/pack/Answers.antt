@@ -58,7 +58,8 @@ loop-index-preserved c =
     let w = c.index-here.result.now in
     let p = c.loop-index.invariant.0 in
     let now = c.loop-index.spare.items in
-    let h : k < length ws = omega (arith, length_places all ws k now c.loop-index.waiting.items p) in
+    let h : k < length ws =
+    omega (arith, length_places all ws k now c.loop-index.waiting.items p) in
     let same = next_of all ws k now c.loop-index.waiting.items p h w c.index-here.ensures in
     let long : length now ≡ counts (take k ws) =
     length_copied all ws k now c.loop-index.waiting.items c.requires.within p in
@@ -82,38 +83,23 @@ loop-index-preserved c =
       omega (arith, c.loop-index.invariant.2, c.extend_from_slice-copied.ensures.capacity),
     )
 
-pub returns-clause-held : goal.returns-clause-held
-returns-clause-held c =
-    let p : IsPacked c.args.octets.now.items c.args.waiting.now.items c.loop-index.spare.items
-    c.loop-index.waiting.items = pack_end c.args.octets.now.items c.args.waiting.now.items
-    c.loop-index.index c.loop-index.spare.items c.loop-index.waiting.items c.requires.within
-    c.loop-index.invariant.0 (omega (
+packed : (c : goal.After-swap) → IsPacked c.args.octets.now.items c.args.waiting.now.items
+    c.swap.new.x.items c.loop-index.waiting.items
+packed c =
+    let p = pack_end c.args.octets.now.items c.args.waiting.now.items c.loop-index.index
+    c.loop-index.spare.items c.loop-index.waiting.items c.requires.within c.loop-index.invariant.0
+    (omega (
       arith,
       length_places c.args.octets.now.items c.args.waiting.now.items c.loop-index.index
           c.loop-index.spare.items c.loop-index.waiting.items c.loop-index.invariant.0,
     )) in
-    rw c.swap.ensures.x_after p.held
+    rw c.swap.ensures.x_after p
+
+pub returns-clause-held : goal.returns-clause-held
+returns-clause-held c = (packed c).held
 
 pub returns-clause-within : goal.returns-clause-within
-returns-clause-within c =
-    let p : IsPacked c.args.octets.now.items c.args.waiting.now.items c.loop-index.spare.items
-    c.loop-index.waiting.items = pack_end c.args.octets.now.items c.args.waiting.now.items
-    c.loop-index.index c.loop-index.spare.items c.loop-index.waiting.items c.requires.within
-    c.loop-index.invariant.0 (omega (
-      arith,
-      length_places c.args.octets.now.items c.args.waiting.now.items c.loop-index.index
-          c.loop-index.spare.items c.loop-index.waiting.items c.loop-index.invariant.0,
-    )) in
-    rw c.swap.ensures.x_after p.within
+returns-clause-within c = (packed c).within
 
 pub returns-clause-fits : goal.returns-clause-fits
-returns-clause-fits c =
-    let p : IsPacked c.args.octets.now.items c.args.waiting.now.items c.loop-index.spare.items
-    c.loop-index.waiting.items = pack_end c.args.octets.now.items c.args.waiting.now.items
-    c.loop-index.index c.loop-index.spare.items c.loop-index.waiting.items c.requires.within
-    c.loop-index.invariant.0 (omega (
-      arith,
-      length_places c.args.octets.now.items c.args.waiting.now.items c.loop-index.index
-          c.loop-index.spare.items c.loop-index.waiting.items c.loop-index.invariant.0,
-    )) in
-    rw c.swap.ensures.x_after p.fits
+returns-clause-fits c = (packed c).fits

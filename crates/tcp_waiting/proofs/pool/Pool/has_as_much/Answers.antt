@@ -13,7 +13,8 @@ returns-then-holds_none c = sym (has_none c.args.flow c.args.number c.args.count
 pub returns-else-stands_at : goal.returns-else-stands_at
 returns-else-stands_at c =
     let held = c.args.self.now.held in
-    c.if-stands_at.false ∙ sym (has_nowhere c.args.flow c.args.number c.args.count held c.place-place.result
+    c.if-stands_at.false
+    ∙ sym (has_nowhere c.args.flow c.args.number c.args.count held c.place-place.result
     (rw (← c.self.view_is) c.self.invariant.ordered) (rw (← c.self.view_is) c.self.invariant.small)
     (c.place-place.ensures.place ∙ ap (λ (k : ℕ). place_of k held) c.key.ensures)
     (sym c.stands_at.ensures ∙ c.if-stands_at.false))

@@ -29,12 +29,15 @@ returns-then-is_to_come c =
     (first_within c.args.flow c.args.next c.args.self.now.held) in
     let l' : i < length a.waiting.items =
     omega (arith, rw (← c.self.view_is) at l, length_held a.octets.items a.waiting.items) in
-    let come : ahead c.args.next w.number < 2 ^ 31 = ltb-true (ahead c.args.next w.number) (2 ^ 31)
-    (and_parts (nat_lt 0 (ahead c.args.next w.number)) (nat_lt (ahead c.args.next w.number) (2 ^ 31))
-    (sym c.is_to_come.ensures ∙ c.if-is_to_come.true)).1 in
+    let to_come = and_parts (nat_lt 0 (ahead c.args.next w.number))
+    (nat_lt (ahead c.args.next w.number) (2 ^ 31))
+    (sym c.is_to_come.ensures ∙ c.if-is_to_come.true) in
+    let come : ahead c.args.next w.number < 2 ^ 31 =
+    ltb-true (ahead c.args.next w.number) (2 ^ 31) to_come.1 in
     rw (← c.self.view_is) (far_on c.args.flow c.in-Some.near.base c.args.next
     c.in-Some.near.number c.in-Some.near.count (held_in a.octets.items a.waiting.items)
-    (omega (arith, c.ranges.next.fits)) (omega (arith, c.ahead.ensures, c.if-ahead-le2147483648.true))
+    (omega (arith, c.ranges.next.fits))
+    (omega (arith, c.ahead.ensures, c.if-ahead-le2147483648.true))
     c.self.invariant.small
     (all_ahead c.args.flow c.args.next (held_in a.octets.items a.waiting.items) i
     (rw (← c.self.view_is) at e) (λ d. omega (

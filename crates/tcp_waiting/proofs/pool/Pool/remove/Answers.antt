@@ -43,6 +43,21 @@ count_less-requires c l =
     let own_one = one_own w.flow in
     omega (arith, c.self.invariant.counts w.flow l, own, own_one)
 
+gone : (c : goal.After-remove) → c.remove.new.self.items
+    ≡ remove c.self.inside.waiting.items c.args.index
+gone c =
+    let a = c.self.inside in
+    let within : c.args.index < length a.waiting.items =
+    omega (
+      arith,
+      length_held a.octets.items a.waiting.items,
+      rw (← c.self.view_is) at c.requires,
+    ) in
+    subst (λ (r : Option Waiting). OnSome r (c.remove.new.self.items
+    ≡ remove a.waiting.items c.args.index))
+    (c.remove.ensures.succeeds c.index-removed.result.now (omega (arith, within)))
+    c.remove.ensures.items
+
 pub invariant_of-self : goal.invariant_of-self
 invariant_of-self c =
     let a = c.self.inside in
@@ -53,15 +68,11 @@ invariant_of-self c =
       length_held a.octets.items a.waiting.items,
       rw (← c.self.view_is) at c.requires,
     ) in
-    let gone : c.remove.new.self.items ≡ remove a.waiting.items c.args.index =
-    subst (λ (r : Option Waiting). OnSome r (c.remove.new.self.items
-    ≡ remove a.waiting.items c.args.index)) (c.remove.ensures.succeeds w (omega (arith, within)))
-    c.remove.ensures.items in
     let before = held_in a.octets.items a.waiting.items in
     let held : held_in a.octets.items c.remove.new.self.items ≡ remove before c.args.index =
-    rw gone (remove_held a.octets.items a.waiting.items c.args.index) in
+    rw (gone c) (remove_held a.octets.items a.waiting.items c.args.index) in
     record {
-      within = rw gone (all_remove (λ (v : Waiting). v.from + v.count ≤ length a.octets.items)
+      within = rw (gone c) (all_remove (λ (v : Waiting). v.from + v.count ≤ length a.octets.items)
           a.waiting.items c.args.index c.self.invariant.within);
       roomy = record {
         most = c.self.invariant.roomy.most;
@@ -78,7 +89,7 @@ invariant_of-self c =
         c.blocks_for.ensures,
         removed_blocks a.octets.items a.waiting.items c.args.index w c.self.invariant.within within
             c.index-removed.ensures,
-        ap (λ (ws : List Waiting). blocks_of (held_in a.octets.items ws)) gone,
+        ap (λ (ws : List Waiting). blocks_of (held_in a.octets.items ws)) (gone c),
       );
       counts = λ flow l.
           (let l' : flow < length a.counts.items = omega (arith, l, c.count_less.ensures.len) in
@@ -86,7 +97,7 @@ invariant_of-self c =
             arith,
             c.count_less.ensures.counts flow l',
             c.self.invariant.counts flow l',
-            ap (λ (ws : List Waiting). count_of flow (held_in a.octets.items ws)) gone,
+            ap (λ (ws : List Waiting). count_of flow (held_in a.octets.items ws)) (gone c),
             removed_counts a.octets.items a.waiting.items c.args.index w flow within
                 c.index-removed.ensures,
           ));
@@ -95,16 +106,5 @@ invariant_of-self c =
     }
 
 pub returns-clause-held : goal.returns-clause-held
-returns-clause-held c =
-    let a = c.self.inside in
-    let within : c.args.index < length a.waiting.items =
-    omega (
-      arith,
-      length_held a.octets.items a.waiting.items,
-      rw (← c.self.view_is) at c.requires,
-    ) in
-    let gone : c.remove.new.self.items ≡ remove a.waiting.items c.args.index =
-    subst (λ (r : Option Waiting). OnSome r (c.remove.new.self.items
-    ≡ remove a.waiting.items c.args.index))
-    (c.remove.ensures.succeeds c.index-removed.result.now (omega (arith, within))) c.remove.ensures.items in
-    rw (← c.self.view_is, gone) (remove_held a.octets.items a.waiting.items c.args.index)
+returns-clause-held c = rw (← c.self.view_is, gone c)
+    (remove_held c.self.inside.octets.items c.self.inside.waiting.items c.args.index)
