@@ -5,7 +5,7 @@ use Rattle.std.proofs.lemmas.Bool.{cases_Bool, cond-true, cond-false, eqb-true, 
 use Rattle.tcp_flow.specs.declared.flow.CloseCause.{CloseCause}
 use Rattle.tcp_flow.specs.declared.flow.CloseCause.TheVariants.{Fault}
 use Rattle.tcp_waiting.specs.Numbers.{onward, age}
-use Rattle.tcp_waiting.specs.Payload.{Payload, payload, has_as_much}
+use Rattle.tcp_waiting.specs.Payload.{Payload, payload, has_as_much, put}
 use Rattle.tcp_flow.specs.Flow.{Flow, Event, Opens, Begins, Delivers, Closes, OfCapture, Reader, Setting, Arrival, Octets, End, Acknowledged, left, with_event, delivered, begun as flow_begun, taken, stream_at, at, closed, holding, gone_on, within_bounds, payload_came, fin_came, gap, fresh, first_payload, step}
 use Rattle.tcp_flow.proofs.Preserving.{Keeps, gone_on_keeps, relieved_keeps, missed_keeps, gap_keeps}
 use Rattle.tcp_streams.specs.Lives.{lives, lives_from, behind, begun, without, most_ids, AreIds}
@@ -227,7 +227,7 @@ unfolding payload_came holding
 came_turn {exact} A id es f p l t =
     let q : Payload = left f.next (is_some f.live) p in
     let k : Keeps A.faulted (IsTurn exact id es) = turn_keeps A.faulted id es l in
-    let h : Flow = record f { held = f.held ++ q ∷ [] } in
+    let h : Flow = record f { held = put q f.held } in
     either (IsTurn exact id es) (nat_eq (length q.octets) 0
     || has_as_much f.id q.number (length q.octets) f.held) f
     (within_bounds A (length f.held + 1) (gone_on A.faulted h)) t

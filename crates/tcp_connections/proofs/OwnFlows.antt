@@ -8,8 +8,9 @@ use Rattle.tcp_segment.specs.Segments.{Segment}
 use Rattle.tcp_flow.specs.declared.flow.CloseCause.{CloseCause}
 use Rattle.tcp_flow.specs.declared.flow.CloseCause.TheVariants.{Fault}
 use Rattle.tcp_waiting.specs.Numbers.{onward, age, is_to_come}
-use Rattle.tcp_waiting.specs.Payload.{Payload, payload, window, has_as_much}
-use Rattle.tcp_waiting.proofs.Firsts.{first_within, first_own}
+use Rattle.tcp_waiting.specs.Payload.{Payload, payload, window, has_as_much, put, place_of, key_of}
+use Rattle.tcp_waiting.proofs.Held.{all_at, all_insert, all_remove}
+use Rattle.tcp_waiting.proofs.Order.{first_within, first_own}
 use Rattle.tcp_flow.specs.Flow.{Flow, Event, Begins, Delivers, Closes, Reader, Setting, Arrival, Octets, End, Acknowledged, left, with_event, delivered, begun as flow_begun, taken, stream_at, first_of, is_due, at, closed, holding, gone_on, within_bounds, payload_came, fin_came, gap, step}
 use Rattle.tcp_flow.proofs.Preserving.{Keeps, gone_on_keeps, relieved_keeps, missed_keeps, gap_keeps}
 use Rattle.tcp_flow.proofs.Truth.{reached}
@@ -127,19 +128,6 @@ pub record IsOwn (segments : List Segment) (owners : ℕ → Option Endpoints) (
   pub next : f.next < 2 ^ 32
   pub held : AllByRecursion (IsPartOfOwn segments owners) f.held
   pub stands : Stands segments id f.events (stand_of o (is_some f.live) f.next)
-
-all_at : (P : Payload → Type 0) (ps : List Payload) (i : ℕ) (d : Payload) → AllByRecursion P ps →
-    i < length ps → P (get_or ps i d)
-all_at P [] i d h l = absurd (omega (arith, l))
-all_at P (p ∷ ps) zero d h l = h.0
-all_at P (p ∷ ps) (suc i) d h l = all_at P ps i d h.1 (omega (arith, l))
-
-all_remove : (P : Payload → Type 0) (ps : List Payload) (i : ℕ) → AllByRecursion P ps →
-    AllByRecursion P (remove ps i)
-all_remove P [] zero h = h
-all_remove P [] (suc i) h = h
-all_remove P (p ∷ ps) zero h = h.1
-all_remove P (p ∷ ps) (suc i) h = (h.0, all_remove P ps i h.1)
 
 pub all_push : (P : Payload → Type 0) (ps : List Payload) (p : Payload) → AllByRecursion P ps →
     P p → AllByRecursion P (ps ++ p ∷ [])
@@ -313,7 +301,7 @@ module _ (segments : List Segment) (owners : ℕ → Option Endpoints) (id : ℕ
   came_own A f p mine part t =
       let q : Payload = left f.next (is_some f.live) p in
       let k : Keeps A.faulted (IsOwn segments owners id o) = own_keeps A.faulted in
-      let h : Flow = record f { held = f.held ++ q ∷ [] } in
+      let h : Flow = record f { held = put q f.held } in
       let of : owners q.flow ≡ Some o =
       ap owners (flow_left f.next (is_some f.live) p ∙ mine) ∙ own in
       let has : IsPartOfOwn segments owners q = λ x e.
@@ -322,7 +310,8 @@ module _ (segments : List Segment) (owners : ℕ → Option Endpoints) (id : ℕ
       let v : IsOwn segments owners id o h = record {
         same = t.same;
         next = t.next;
-        held = all_push (IsPartOfOwn segments owners) f.held q t.held has;
+        held = all_insert (IsPartOfOwn segments owners) f.held (place_of (key_of q) f.held) q
+            t.held has;
         stands = t.stands;
       } in
       either (IsOwn segments owners id o) (nat_eq (length q.octets) 0

@@ -5,7 +5,7 @@ use Rattle.std.proofs.lemmas.List.{append_assoc}
 use Rattle.tcp_flow.specs.declared.flow.CloseCause.{CloseCause}
 use Rattle.tcp_flow.specs.declared.flow.CloseCause.TheVariants.{Fault}
 use Rattle.tcp_waiting.specs.Numbers.{onward}
-use Rattle.tcp_waiting.specs.Payload.{Payload, payload, has_as_much}
+use Rattle.tcp_waiting.specs.Payload.{Payload, payload, has_as_much, put}
 use Rattle.tcp_flow.specs.Flow.{Flow, Event, Begins, Delivers, Closes, Reader, Setting, left, with_event, delivered, begun, taken, stream_at, at as held_at, closed, holding, gone_on, within_bounds, payload_came}
 use Rattle.tcp_flow.specs.Order.{octets_in, octets_of, closes_in, closes_of}
 use Rattle.tcp_flow.proofs.Preserving.{Keeps, gone_on_keeps, relieved_keeps}
@@ -119,7 +119,7 @@ unfolding payload_came holding
 came_more A n id f p l =
     let P : Flow → Type 0 = λ (g : Flow). n < closes_of id g.events in
     let q : Payload = left f.next (is_some f.live) p in
-    let h : Flow = record f { held = f.held ++ q ∷ [] } in
+    let h : Flow = record f { held = put q f.held } in
     either P (nat_eq (length q.octets) 0 || has_as_much f.id q.number (length q.octets) f.held) f
     (within_bounds A (length f.held + 1) (gone_on A.faulted h)) l
     (relieved_keeps A P (more_keeps A.faulted n id) (length f.held + 1) (gone_on A.faulted h)

@@ -1,7 +1,7 @@
 -- What has come of a content, while its stream lives: in whatever order, its octets up to the first
 -- place that no payload spans.
 use Rattle.std.proofs.Common.{◌≡◌, ◌⊎◌, ℕ, zero, suc, ◌+◌, ◌-◌, ◌^◌, ◌<◌, ◌≤◌, Bool, true, false, cond, not, nat_eq, nat_lt, ◌&&◌, List, [], ◌∷◌, ◌++◌, length, take, drop, get_or, Some, None, is_some, refl, sym, ◌∙◌, ap, subst, arith, inl, inr, true≢false}
-use Rattle.std.specs.List.{AllByRecursion, remove}
+use Rattle.std.specs.List.{AllByRecursion, insert, remove}
 use Rattle.std.proofs.lemmas.Bool.{cases_Bool, cond-true, cond-false, and_cases, and_right, not-true, not_from_true, both_ways, eqb-true, eq-eqb}
 use Rattle.std.proofs.lemmas.List.{append_assoc, length-drop}
 use Rattle.tcp_flow.specs.declared.flow.CloseCause.{CloseCause}
@@ -10,7 +10,8 @@ use Rattle.tcp_waiting.specs.Numbers.{onward, age, is_to_come}
 use Rattle.tcp_waiting.specs.Payload.{Payload, payload, window}
 use Rattle.tcp_flow.specs.Flow.{Flow, Event, Delivers, Closes, Reader, left, with_event, delivered, taken, first_of, is_due, at as held_at, closed}
 use Rattle.tcp_flow.specs.Order.{octets_of, closes_of, Agrees}
-use Rattle.tcp_waiting.proofs.Firsts.{first_within, first_own}
+use Rattle.tcp_waiting.proofs.Held.{all_at, all_remove}
+use Rattle.tcp_waiting.proofs.Order.{first_within, first_own}
 use Rattle.tcp_flow.proofs.Closings.{octets_more, closes_more, taken_more, closed_more}
 use Rattle.tcp_flow.proofs.Places.{place_due, age_before, same_place, goes_on}
 use Rattle.tcp_flow.proofs.Preserving.{Keeps}
@@ -33,18 +34,21 @@ some_remove P (p ∷ ps) (suc i) d (inl s) = inr (inl s)
 some_remove P (p ∷ ps) (suc i) d (inr s) =
     elim (some_remove P ps i d s) [ inl a ↦ inl a | inr a ↦ inr (inr a) ]
 
-pub some_left : (P : Payload → Type 0) (ps : List Payload) (q : Payload) → SomeOf P ps →
-    SomeOf P (ps ++ q ∷ [])
+pub some_left : (P : Payload → Type 0) (ps : List Payload) (i : ℕ) (q : Payload) → SomeOf P ps →
+    SomeOf P (insert ps i q)
 unfolding SomeOf
-some_left P [] q s = absurd s
-some_left P (p ∷ ps) q (inl s) = inl s
-some_left P (p ∷ ps) q (inr s) = inr (some_left P ps q s)
+some_left P [] i q s = absurd s
+some_left P (p ∷ ps) zero q s = inr s
+some_left P (p ∷ ps) (suc i) q (inl s) = inl s
+some_left P (p ∷ ps) (suc i) q (inr s) = inr (some_left P ps i q s)
 
-pub some_last : (P : Payload → Type 0) (ps : List Payload) (q : Payload) → P q →
-    SomeOf P (ps ++ q ∷ [])
+pub some_put : (P : Payload → Type 0) (ps : List Payload) (i : ℕ) (q : Payload) → P q →
+    SomeOf P (insert ps i q)
 unfolding SomeOf
-some_last P [] q s = inl s
-some_last P (p ∷ ps) q s = inr (some_last P ps q s)
+some_put P [] zero q s = inl s
+some_put P [] (suc i) q s = inl s
+some_put P (p ∷ ps) zero q s = inl s
+some_put P (p ∷ ps) (suc i) q s = inr (some_put P ps i q s)
 
 -- one of which something is so, where something else is so of all
 pub some_with : (P Q R : Payload → Type 0) (ps : List Payload) → ((p : Payload) → P p → Q p → R p) →
@@ -60,24 +64,6 @@ unfolding SomeOf
 some_map Q R [] k s = absurd s
 some_map Q R (p ∷ ps) k (inl s) = inl (k p s)
 some_map Q R (p ∷ ps) k (inr s) = inr (some_map Q R ps k s)
-
-all_at : (P : Payload → Type 0) (ps : List Payload) (i : ℕ) (d : Payload) → AllByRecursion P ps →
-    i < length ps → P (get_or ps i d)
-all_at P [] i d h l = absurd (omega (arith, l))
-all_at P (p ∷ ps) zero d h l = h.0
-all_at P (p ∷ ps) (suc i) d h l = all_at P ps i d h.1 (omega (arith, l))
-
-all_remove : (P : Payload → Type 0) (ps : List Payload) (i : ℕ) → AllByRecursion P ps →
-    AllByRecursion P (remove ps i)
-all_remove P [] zero h = h
-all_remove P [] (suc i) h = h
-all_remove P (p ∷ ps) zero h = h.1
-all_remove P (p ∷ ps) (suc i) h = (h.0, all_remove P ps i h.1)
-
-pub all_push : (P : Payload → Type 0) (ps : List Payload) (q : Payload) → AllByRecursion P ps →
-    P q → AllByRecursion P (ps ++ q ∷ [])
-all_push P [] q h p = (p, tt)
-all_push P (r ∷ ps) q h p = (h.0, all_push P ps q h.1 p)
 
 -- ---- What has come.
 

@@ -5,12 +5,13 @@ use Rattle.std.specs.List.{AllByRecursion}
 use Rattle.std.proofs.lemmas.Bool.{cases_Bool, cases_lt, and_parts, or_cases, or_parts, eqb-true, leb-true}
 use Rattle.std.proofs.lemmas.List.{length-drop}
 use Rattle.tcp_waiting.specs.Numbers.{onward, age}
-use Rattle.tcp_waiting.specs.Payload.{Payload, payload, has_as_much}
+use Rattle.tcp_waiting.specs.Payload.{Payload, payload, has_as_much, put, place_of, key_of}
 use Rattle.tcp_flow.specs.Flow.{Flow, Setting, Arrival, Octets, End, Acknowledged, left, holding, gone_on, payload_came, step, after}
 use Rattle.tcp_flow.specs.Laws.{IsSettled}
 use Rattle.tcp_flow.specs.Order.{closes_of, Agrees, StandsIn}
 use Rattle.tcp_flow.proofs.Closings.{came_more}
-use Rattle.tcp_flow.proofs.Content.{SomeOf, some_left, some_last, some_with, all_push, Case, Piece, Reaches, Covered, So, HasGone, left_live, some_octets, so_keeps}
+use Rattle.tcp_waiting.proofs.Held.{all_insert}
+use Rattle.tcp_flow.proofs.Content.{SomeOf, some_left, some_put, some_with, Case, Piece, Reaches, Covered, So, HasGone, left_live, some_octets, so_keeps}
 use Rattle.tcp_flow.proofs.Direct.{came_settled}
 use Rattle.tcp_flow.proofs.Places.{age_before, age_behind, same_place, place_further, drop_content}
 use Rattle.tcp_flow.proofs.Preserving.{gone_on_keeps, relieved_keeps}
@@ -56,17 +57,18 @@ place_left x r place (inr l) k small within inside e =
     (omega (arith, small, within)) in
     (old, (omega arith, inr (omega (arith, old, l))))
 
-covered_push : (x : Case) (r : ℕ) (ps : List Payload) (q : Payload) → Covered x r ps →
-    Covered x r (ps ++ q ∷ [])
+covered_left : (x : Case) (r : ℕ) (ps : List Payload) (q : Payload) → Covered x r ps →
+    Covered x r (put q ps)
 unfolding Covered
-covered_push x r ps q (inl a) = inl a
-covered_push x r ps q (inr (inl a)) = inr (inl a)
-covered_push x r ps q (inr (inr a)) = inr (inr (some_left (Reaches x r) ps q a))
+covered_left x r ps q (inl a) = inl a
+covered_left x r ps q (inr (inl a)) = inr (inl a)
+covered_left x r ps q (inr (inr a)) =
+    inr (inr (some_left (Reaches x r) ps (place_of (key_of q) ps) q a))
 
-last_covered : (x : Case) (r : ℕ) (ps : List Payload) (q : Payload) → Reaches x r q →
-    Covered x r (ps ++ q ∷ [])
+covered_put : (x : Case) (r : ℕ) (ps : List Payload) (q : Payload) → Reaches x r q →
+    Covered x r (put q ps)
 unfolding Covered
-last_covered x r ps q h = inr (inr (some_last (Reaches x r) ps q h))
+covered_put x r ps q h = inr (inr (some_put (Reaches x r) ps (place_of (key_of q) ps) q h))
 
 -- a payload that adds nothing
 nothing_so : (x : Case) (U : ℕ → Type 0) (K : Type 0) (f : Flow) (number place k : ℕ)
@@ -181,7 +183,7 @@ came_so A x U K L f n place octets small agrees spans new so =
             spans =
                 λ u c l. omega (arith, spans u c (omega (arith, l)), long, less);
           } in
-          let h : Flow = record f { held = f.held ++ q ∷ [] } in
+          let h : Flow = record f { held = put q f.held } in
           let held : So x U L h =
           record {
             same = so.same;
@@ -193,12 +195,13 @@ came_so A x U K L f n place octets small agrees spans new so =
             said = so.said;
             count = so.count;
             least = so.least;
-            held = all_push (λ p. p.flow ≡ x.id → Piece x U p) f.held q so.held (λ o. piece);
+            held = all_insert (λ p. p.flow ≡ x.id → Piece x U p) f.held
+                (place_of (key_of q) f.held) q so.held (λ o. piece);
             covered =
                 λ c.
                 elim (new c) [
-                  | inl has ↦ covered_push x so.r f.held q (so.covered has)
-                  | inr own ↦ last_covered x so.r f.held q (record {
+                  | inl has ↦ covered_left x so.r f.held q (so.covered has)
+                  | inr own ↦ covered_put x so.r f.held q (record {
                     own = so.same;
                     place = place + k;
                     agrees = rest;

@@ -1,40 +1,81 @@
 -- A payload that is due at once is taken from where it is: to hold it first makes no difference.
 -- Behind going on nothing of a flow is due.
-use Rattle.std.proofs.Common.{◌≡◌, ℕ, zero, suc, ◌+◌, ◌^◌, ◌<◌, ◌≤◌, Bool, true, false, cond, nat_eq, nat_lt, nat_le, ◌&&◌, ◌||◌, not, List, [], ◌∷◌, ◌++◌, length, drop, get_or, Option, Some, None, is_some, IfSome, refl, sym, ◌∙◌, ap, subst, arith, inl, inr}
+use Rattle.std.proofs.Common.{◌≡◌, ℕ, zero, suc, ◌+◌, ◌^◌, ◌<◌, ◌≤◌, Bool, true, false, cond, nat_eq, nat_lt, nat_le, ◌&&◌, ◌||◌, not, List, [], ◌∷◌, ◌++◌, length, drop, get_or, Option, Some, None, is_some, IfSome, refl, sym, ◌∙◌, ap, subst, arith, add-one, inl, inr}
 use Rattle.std.specs.Option.{option_map}
-use Rattle.std.specs.List.{remove}
+use Rattle.std.specs.List.{insert, remove}
 use Rattle.std.proofs.lemmas.Bool.{cases_Bool, cases_eq, cases_lt, and_parts, or_parts, ltb-true, lt-ltb, le-ltb, true≢false, eqb-true, eqb-false, eq-eqb, ne_eqb, both_ways, cond-true, cond-false, not-true, not-false, or_from, and_left, and_right, not_from_true}
-use Rattle.std.proofs.lemmas.List.{length-append, get_or_default}
+use Rattle.std.proofs.lemmas.List.{get_or_default}
+use Rattle.std.proofs.lemmas.List.Edits.{length-insert, get_or-insert_at}
 use Rattle.tcp_flow.specs.declared.flow.CloseCause.TheVariants.{Fin, Gap}
 use Rattle.tcp_waiting.specs.Numbers.{ahead, age, onward, is_to_come, rank}
-use Rattle.tcp_waiting.specs.Payload.{Payload, payload, earlier, first, has_as_much, window}
+use Rattle.tcp_waiting.specs.Payload.{Payload, payload, earlier, first, has_as_much, window, put, place_of, key_of}
 use Rattle.tcp_flow.specs.Flow.{Flow, Reader, Setting, first_of, is_due, at, taken, drained_at_most, drained, fin_is_reached, closed, without_stale_fin, ended, gone_on, gap, is_too_much, within_bounds, acknowledgement_came, holding, payload_came, left, fin_came}
 use Rattle.tcp_flow.specs.Laws.{AreLater, IsSettled}
-use Rattle.tcp_waiting.proofs.Firsts.{first_within}
+use Rattle.tcp_waiting.proofs.Order.{both, first_here, first_within, place_within}
 use Rattle.tcp_flow.proofs.Steps.{length_remove, flowing_none, flowing_stays, flowing_takes, due_not, relieved_stops, came_held}
 use Rattle.tcp_flow.proofs.Truth.{reached}
 use Rattle.tcp_flow.proofs.Room.{Stays, taken_stays, first_some, none_some, left_flow, much_some}
 
-last_at : (ps : List Payload) (q d : Payload) → get_or (ps ++ q ∷ []) (length ps) d ≡ q
-last_at [] q d = refl
-last_at (p ∷ ps) q d = last_at ps q d
+put_gone : (ps : List Payload) (i : ℕ) (q : Payload) → i ≤ length ps →
+    remove (insert ps i q) i ≡ ps
+put_gone ps zero q l = refl
+put_gone [] (suc i) q l = absurd (omega (arith, l))
+put_gone (p ∷ ps) (suc i) q l =
+    ap (λ (xs : List Payload). p ∷ xs) (put_gone ps i q (omega (arith, l)))
 
-last_gone : (ps : List Payload) (q : Payload) → remove (ps ++ q ∷ []) (length ps) ≡ ps
-last_gone [] q = refl
-last_gone (p ∷ ps) q = ap (λ (xs : List Payload). p ∷ xs) (last_gone ps q)
+either_place : (b : Bool) (i j : ℕ) (P : ℕ → Type 0)
+    → P i → P j → IfSome (cond b (Some i) (Some j)) P
+either_place true i j P p q = p
+either_place false i j P p q = q
+
+least_by : (id next n : ℕ) (p : Payload) (ps : List Payload) (c : Bool) (r : Option ℕ) →
+    nat_eq p.flow id ≡ c → (p.flow ≡ id → n < rank next p.number)
+    → IfSome r (λ i. n < rank next (get_or ps i (payload 0 0 [])).number)
+    → IfSome (cond c (earlier next p ps r) (option_map suc r))
+    (λ i. n < rank next (get_or (p ∷ ps) i (payload 0 0 [])).number)
+unfolding earlier
+least_by id next n p ps true None e own h = own (eqb-true p.flow id e)
+least_by id next n p ps true (Some k) e own h =
+    either_place (nat_lt (rank next (get_or ps k p).number) (rank next p.number)) (suc k) 0
+    (λ i. n < rank next (get_or (p ∷ ps) i (payload 0 0 [])).number) h
+    (own (eqb-true p.flow id e))
+least_by id next n p ps false None e own h = tt
+least_by id next n p ps false (Some k) e own h = h
+
+-- the first of what is later than a rank is later
+least_later : (id next n : ℕ) (ps : List Payload) → AreLater id next n ps →
+    IfSome (first id next ps) (λ i. n < rank next (get_or ps i (payload 0 0 [])).number)
+unfolding AreLater first
+least_later id next n [] h = tt
+least_later id next n (p ∷ ps) h =
+    least_by id next n p ps (nat_eq p.flow id) (first id next ps) refl h.0
+    (least_later id next n ps h.1)
 
 -- what is before all others is first
-first_last : (id next : ℕ) (q : Payload) (ps : List Payload) → q.flow ≡ id →
-    AreLater id next (rank next q.number) ps → first id next (ps ++ q ∷ []) ≡ Some (length ps)
+first_before : (id next : ℕ) (q : Payload) (ps : List Payload) → q.flow ≡ id →
+    AreLater id next (rank next q.number) ps → first id next (q ∷ ps) ≡ Some 0
+unfolding first
+first_before id next q ps own h = rw (eq-eqb q.flow id own) (first_here next q ps
+    (first id next ps) (both (first id next ps) _ _ _ (λ k w l. omega (
+      arith,
+      l,
+      ap (λ (p : Payload). rank next p.number) (get_or_default ps k q (payload 0 0 []) w),
+    )) (first_within id next ps) (least_later id next (rank next q.number) ps h)))
+
+first_put : (id next : ℕ) (q : Payload) (ps : List Payload) (i : ℕ) → q.flow ≡ id →
+    i ≤ length ps → AreLater id next (rank next q.number) ps
+    → first id next (insert ps i q) ≡ Some i
 unfolding first earlier AreLater
-first_last id next q [] own h = rw (eq-eqb q.flow id own) refl
-first_last id next q (p ∷ ps) own h =
-    let e : first id next (ps ++ q ∷ []) ≡ Some (length ps) = first_last id next q ps own h.1 in
+first_put id next q ps zero own l h = first_before id next q ps own h
+first_put id next q [] (suc i) own l h = absurd (omega (arith, l))
+first_put id next q (p ∷ ps) (suc i) own l h =
+    let l' : i ≤ length ps = omega (arith, l) in
+    let e : first id next (insert ps i q) ≡ Some i = first_put id next q ps i own l' h.1 in
     elim (cases_eq p.flow id) [
       | inl x ↦ rw (
         eq-eqb p.flow id x,
         e,
-        last_at ps q p,
+        get_or-insert_at ps i q p l',
         lt-ltb (rank next q.number) (rank next p.number) (h.0 x),
       ) refl
       | inr x ↦ rw (ne_eqb p.flow id x, e) refl
@@ -47,23 +88,24 @@ pub gone_on_direct : (F : Reader) (f : Flow) (q : Payload) → q.flow ≡ f.id �
     → gone_on F (holding f q) ≡ gone_on F (taken F f q)
 unfolding gone_on drained holding first_of at is_due
 gone_on_direct F f q own h due =
-    let g : Flow = record f { held = f.held ++ q ∷ [] } in
-    let i : ℕ = length f.held in
-    let e : first_of g ≡ Some i = first_last f.id f.next q f.held own h in
-    let here : at g i ≡ q = last_at f.held q (payload 0 0 []) in
-    let now : is_due g i ≡ true = rw (last_at f.held q (payload 0 0 []), due) refl in
-    let n : length g.held ≡ suc i = rw (length-append f.held (q ∷ [])) (omega arith) in
-    let goes : drained_at_most F (suc i) g
-    ≡ drained_at_most F i (taken F (record g { held = remove g.held i }) (at g i)) =
-    flowing_takes F i g i e now in
-    let same : drained_at_most F i (taken F (record g { held = remove g.held i }) (at g i))
-    ≡ drained_at_most F i (taken F f q) =
-    rw (last_gone f.held q, last_at f.held q (payload 0 0 [])) refl in
+    let g : Flow = record f { held = put q f.held } in
+    let i : ℕ = place_of (key_of q) f.held in
+    let m : ℕ = length f.held in
+    let l : i ≤ m = place_within (key_of q) f.held in
+    let e : first_of g ≡ Some i = first_put f.id f.next q f.held i own l h in
+    let here : at g i ≡ q = get_or-insert_at f.held i q (payload 0 0 []) l in
+    let now : is_due g i ≡ true = rw (here, due) refl in
+    let n : length g.held ≡ suc m = length-insert f.held i q l ∙ add-one m in
+    let goes : drained_at_most F (suc m) g
+    ≡ drained_at_most F m (taken F (record g { held = remove g.held i }) (at g i)) =
+    flowing_takes F m g i e now in
+    let same : drained_at_most F m (taken F (record g { held = remove g.held i }) (at g i))
+    ≡ drained_at_most F m (taken F f q) = rw (put_gone f.held i q l, here) refl in
     let s : Stays f (taken F f q) = taken_stays F f q in
-    let m : i ≡ length (taken F f q).held = ap length (sym s.held) in
+    let o : m ≡ length (taken F f q).held = ap length (sym s.held) in
     ap (λ (d : Flow). without_stale_fin (ended F d))
     (ap (λ (k : ℕ). drained_at_most F k g) n ∙ goes ∙ same
-    ∙ ap (λ (k : ℕ). drained_at_most F k (taken F f q)) m)
+    ∙ ap (λ (k : ℕ). drained_at_most F k (taken F f q)) o)
 
 -- nothing of its own is later than anything
 later_none : (id next n : ℕ) (ps : List Payload) → is_some (first id next ps) ≡ false →
@@ -368,39 +410,13 @@ due_number next live p q small bound l e h =
 
 -- ---- What is to come is held, and nothing is due.
 
-either_place : (b : Bool) (i j : ℕ) (P : ℕ → Type 0)
-    → P i → P j → IfSome (cond b (Some i) (Some j)) P
-either_place true i j P p q = p
-either_place false i j P p q = q
-
-least_by : (id next n : ℕ) (p : Payload) (ps : List Payload) (c : Bool) (r : Option ℕ) →
-    nat_eq p.flow id ≡ c → (p.flow ≡ id → n < rank next p.number)
-    → IfSome r (λ i. n < rank next (get_or ps i (payload 0 0 [])).number)
-    → IfSome (cond c (earlier next p ps r) (option_map suc r))
-    (λ i. n < rank next (get_or (p ∷ ps) i (payload 0 0 [])).number)
-unfolding earlier
-least_by id next n p ps true None e own h = own (eqb-true p.flow id e)
-least_by id next n p ps true (Some k) e own h =
-    either_place (nat_lt (rank next (get_or ps k p).number) (rank next p.number)) (suc k) 0
-    (λ i. n < rank next (get_or (p ∷ ps) i (payload 0 0 [])).number) h
-    (own (eqb-true p.flow id e))
-least_by id next n p ps false None e own h = tt
-least_by id next n p ps false (Some k) e own h = h
-
--- the first of what is later than a rank is later
-least_later : (id next n : ℕ) (ps : List Payload) → AreLater id next n ps →
-    IfSome (first id next ps) (λ i. n < rank next (get_or ps i (payload 0 0 [])).number)
-unfolding AreLater first
-least_later id next n [] h = tt
-least_later id next n (p ∷ ps) h =
-    least_by id next n p ps (nat_eq p.flow id) (first id next ps) refl h.0
-    (least_later id next n ps h.1)
-
-later_push : (id next n : ℕ) (ps : List Payload) (q : Payload) → AreLater id next n ps →
-    n < rank next q.number → AreLater id next n (ps ++ q ∷ [])
+later_put : (id next n : ℕ) (ps : List Payload) (i : ℕ) (q : Payload) → AreLater id next n ps →
+    n < rank next q.number → AreLater id next n (insert ps i q)
 unfolding AreLater
-later_push id next n [] q h l = ((λ o. l), tt)
-later_push id next n (p ∷ ps) q h l = (h.0, later_push id next n ps q h.1 l)
+later_put id next n [] zero q h l = ((λ o. l), tt)
+later_put id next n [] (suc i) q h l = ((λ o. l), tt)
+later_put id next n (p ∷ ps) zero q h l = ((λ o. l), h)
+later_put id next n (p ∷ ps) (suc i) q h l = (h.0, later_put id next n ps i q h.1 l)
 
 come_by_place : (next n : ℕ) → 2 ^ 31 < rank next n → is_to_come next n ≡ true
 come_by_place next n h =
@@ -414,8 +430,9 @@ pub gone_on_held : (F : Reader) (f : Flow) (q : Payload) → IsSettled f → is_
     → without_stale_fin (ended F (holding f q)) ≡ gone_on F (holding f q)
 unfolding gone_on drained holding first_of at
 gone_on_held F f q t live come =
-    let g : Flow = record f { held = f.held ++ q ∷ [] } in
-    let later : AreLater f.id f.next (2 ^ 31) g.held = later_push f.id f.next (2 ^ 31) f.held q
+    let g : Flow = record f { held = put q f.held } in
+    let later : AreLater f.id f.next (2 ^ 31) g.held = later_put f.id f.next (2 ^ 31) f.held
+    (place_of (key_of q) f.held) q
     (t.live live) (to_come_place f.next q.number come) in
     let least = least_later f.id f.next (2 ^ 31) g.held later in
     let stays : drained_at_most F (length g.held) g ≡ g =

@@ -1,9 +1,9 @@
 -- Flows side by side: a step of one leaves what the others hold, and so leaves them settled and
 -- without a hole.
 use Rattle.std.proofs.Common.{◌≡◌, ℕ, zero, suc, ◌+◌, ◌<◌, ◌≤◌, ◌^◌, Bool, true, false, cond, nat_eq, ◌&&◌, ◌||◌, List, [], ◌∷◌, ◌++◌, length, get_or, Some, is_some, refl, sym, ◌∙◌, ap, subst, arith}
-use Rattle.std.specs.List.{remove}
+use Rattle.std.specs.List.{insert, remove}
 use Rattle.std.proofs.lemmas.Bool.{or_parts, eq-eqb, ne_eqb, eqb-true}
-use Rattle.tcp_waiting.specs.Payload.{Payload, payload, first, blocks_of, has_as_much}
+use Rattle.tcp_waiting.specs.Payload.{Payload, payload, first, blocks_of, has_as_much, put, place_of, key_of}
 use Rattle.tcp_waiting.specs.Numbers.{age, rank}
 use Rattle.tcp_flow.specs.Flow.{Flow, Reader, Setting, Arrival, Octets, End, Acknowledged, held_by_others, first_of, left, gone_on, gap, within_bounds, holding, payload_came, fin_came, step}
 use Rattle.tcp_flow.specs.Laws.{AreLater, IsSettled}
@@ -45,12 +45,14 @@ others_blocks id (p ∷ ps) = either_less (nat_eq p.flow id) ps (held_by_others 
     (others_blocks id ps)
 
 -- a payload of the flow comes
-others_push : (id : ℕ) (ps : List Payload) (q : Payload) → q.flow ≡ id →
-    held_by_others id (ps ++ q ∷ []) ≡ held_by_others id ps
+others_put : (id : ℕ) (ps : List Payload) (i : ℕ) (q : Payload) → q.flow ≡ id →
+    held_by_others id (insert ps i q) ≡ held_by_others id ps
 unfolding held_by_others
-others_push id [] q own = rw (eq-eqb q.flow id own) refl
-others_push id (p ∷ ps) q own = ap (λ (qs : List Payload). cond (nat_eq p.flow id) qs (p ∷ qs))
-    (others_push id ps q own)
+others_put id [] zero q own = rw (eq-eqb q.flow id own) refl
+others_put id [] (suc i) q own = rw (eq-eqb q.flow id own) refl
+others_put id (p ∷ ps) zero q own = rw (eq-eqb q.flow id own) refl
+others_put id (p ∷ ps) (suc i) q own = ap (λ (qs : List Payload).
+    cond (nat_eq p.flow id) qs (p ∷ qs)) (others_put id ps i q own)
 
 OthersHold : List Payload → ℕ → List Payload → Type 0
 OthersHold rest id ps = held_by_others id ps ≡ rest
@@ -75,11 +77,12 @@ came_others A f p own =
     let P = Holds (OthersHold (held_by_others f.id f.held)) f.id in
     let k = others_keeps A.faulted (held_by_others f.id f.held) f.id in
     let q : Payload = left f.next (is_some f.live) p in
-    let h : Flow = record f { held = f.held ++ q ∷ [] } in
+    let h : Flow = record f { held = put q f.held } in
     let start : P h = record {
       own = refl;
       held =
-          others_push f.id f.held q (left_flow f.next (is_some f.live) p ∙ own);
+          others_put f.id f.held (place_of (key_of q) f.held) q
+          (left_flow f.next (is_some f.live) p ∙ own);
     } in
     either P (nat_eq (length q.octets) 0 || has_as_much f.id q.number (length q.octets) f.held) f
     (within_bounds A (length f.held + 1) (gone_on A.faulted h)) (same_others f)

@@ -1,16 +1,17 @@
 -- The pool's blocks suffice behind each payload: the gaps end, and what other flows hold is left
 -- alone.
 use Rattle.std.proofs.Common.{◌≡◌, ℕ, zero, suc, ◌+◌, ◌-◌, ◌/◌, ◌<◌, ◌≤◌, Bool, true, false, cond, nat_eq, nat_lt, ◌&&◌, ◌||◌, not, List, [], ◌∷◌, ◌++◌, length, drop, get_or, Option, Some, None, is_some, refl, sym, ◌∙◌, ap, subst, arith, inl, inr}
-use Rattle.std.specs.List.{remove}
+use Rattle.std.specs.List.{insert, remove}
 use Rattle.std.proofs.lemmas.Bool.{cases_Bool, and_cases, or_cases, or_parts, and_parts, ltb-false, true≢false, eq-eqb, or_left, or_right, and_left, cond-true, cond-false}
-use Rattle.std.proofs.lemmas.List.{nil_from_length, length-append}
+use Rattle.std.proofs.lemmas.List.{nil_from_length}
+use Rattle.std.proofs.lemmas.List.Edits.{length-insert}
 use Rattle.tcp_flow.specs.declared.flow.CloseCause.{CloseCause}
 use Rattle.tcp_flow.specs.declared.flow.CloseCause.TheVariants.{Gap, Fault}
 use Rattle.std.specs.Option.{option_map}
 use Rattle.tcp_waiting.specs.Numbers.{ahead, age, is_to_come, onward, rank}
-use Rattle.tcp_waiting.specs.Payload.{Payload, payload, window, earlier, first, blocks_of, is_far, has_as_much}
+use Rattle.tcp_waiting.specs.Payload.{Payload, payload, window, earlier, first, blocks_of, is_far, has_as_much, put, place_of, key_of}
 use Rattle.tcp_flow.specs.Flow.{Flow, Event, Begins, Delivers, Closes, Reader, Setting, left, with_event, delivered, begun, taken, stream_at, first_of, at, drained_at_most, drained, closed, gone_on, gap, is_too_much, within_bounds, acknowledgement_came, holding, payload_came, fin_came}
-use Rattle.tcp_waiting.proofs.Firsts.{first_within, first_own}
+use Rattle.tcp_waiting.proofs.Order.{first_within, first_own, place_within}
 use Rattle.tcp_flow.proofs.Steps.{length_remove, flowing_takes, due_now}
 use Rattle.tcp_flow.proofs.Preserving.{gap_keeps, Keeps, flowing_by, rest_keeps, gone_on_keeps, relieved_keeps, missed_keeps}
 
@@ -127,12 +128,14 @@ others_remove id (p ∷ ps) (suc i) h own =
     ap (λ (n : ℕ). cond (nat_eq p.flow id) 0 ((length p.octets + 1023) / 1024) + n)
     (others_remove id ps i (omega (arith, h)) own)
 
-others_push : (id : ℕ) (ps : List Payload) (q : Payload) → q.flow ≡ id →
-    others id (ps ++ q ∷ []) ≡ others id ps
+others_put : (id : ℕ) (ps : List Payload) (i : ℕ) (q : Payload) → q.flow ≡ id →
+    others id (insert ps i q) ≡ others id ps
 unfolding others
-others_push id [] q own = rw (eq-eqb q.flow id own) refl
-others_push id (p ∷ ps) q own = ap (λ (n : ℕ).
-    cond (nat_eq p.flow id) 0 ((length p.octets + 1023) / 1024) + n) (others_push id ps q own)
+others_put id [] zero q own = rw (eq-eqb q.flow id own) refl
+others_put id [] (suc i) q own = rw (eq-eqb q.flow id own) refl
+others_put id (p ∷ ps) zero q own = rw (eq-eqb q.flow id own) (omega arith)
+others_put id (p ∷ ps) (suc i) q own = ap (λ (n : ℕ).
+    cond (nat_eq p.flow id) 0 ((length p.octets + 1023) / 1024) + n) (others_put id ps i q own)
 
 least : (b : Bool) (n : ℕ) → cond b 0 n ≤ n
 least true n = omega arith
@@ -342,9 +345,10 @@ blocks_either : (blocks : ℕ) (b : Bool) (f g : Flow) → blocks_of f.held ≤ 
 blocks_either blocks true f g e d = e
 blocks_either blocks false f g e d = d
 
-most_push : (ps : List Payload) (q : Payload) → AtMost (length ps + 1) 0 (ps ++ q ∷ [])
+most_put : (ps : List Payload) (q : Payload) → AtMost (length ps + 1) 0 (put q ps)
 unfolding AtMost
-most_push ps q = omega (arith, length-append ps (q ∷ []))
+most_put ps q =
+    omega (arith, length-insert ps (place_of (key_of q) ps) q (place_within (key_of q) ps))
 
 others_own : (f r : Flow) → Holds (IsOthers (others f.id f.held)) f.id r →
     others r.id r.held ≡ others f.id f.held
@@ -373,17 +377,17 @@ pub room_after : (A : Setting) (f : Flow) (p : Payload) → p.flow ≡ f.id →
 unfolding payload_came holding IsOthers AtMost
 room_after A f p own room =
     let q : Payload = left f.next (is_some f.live) p in
-    let h : Flow = record f { held = f.held ++ q ∷ [] } in
+    let h : Flow = record f { held = put q f.held } in
     let g : Flow = gone_on A.faulted h in
     let r : Flow = within_bounds A (length f.held + 1) g in
     let few : length g.held ≤ length f.held + 1 =
     (gone_on_keeps A.faulted (Holds (AtMost (length f.held + 1)) f.id)
     (most_keeps A.faulted (length f.held + 1) f.id) h
-    (record { own = refl; held = most_push f.held q })).held in
+    (record { own = refl; held = most_put f.held q })).held in
     let start : Holds (IsOthers (others f.id f.held)) f.id h =
     record {
       own = refl;
-      held = others_push f.id f.held q
+      held = others_put f.id f.held (place_of (key_of q) f.held) q
           (left_flow f.next (is_some f.live) p ∙ own);
     } in
     let k : Keeps A.faulted (Holds (IsOthers (others f.id f.held)) f.id) =

@@ -3,7 +3,7 @@ use Rattle.std.proofs.Common.{◌≡◌, ℕ, zero, suc, ◌+◌, ◌-◌, ◌<�
 use Rattle.std.specs.List.{remove}
 use Rattle.std.proofs.lemmas.Bool.{cond-true, cond-false, and_left, and_right, and_from}
 use Rattle.tcp_waiting.specs.Numbers.{is_to_come}
-use Rattle.tcp_waiting.proofs.Firsts.{first_within, first_own}
+use Rattle.tcp_waiting.proofs.Order.{first_within, first_own}
 use Rattle.tcp_waiting.specs.Payload.{Payload, payload, first, has_as_much}
 use Rattle.tcp_flow.specs.Flow.{Flow, Reader, left, delivered, begun, taken, stream_at, first_of, is_due, at, drained_at_most, Setting, is_too_much, within_bounds, gap, acknowledgement_came, payload_came, gone_on, holding}
 

@@ -4,7 +4,7 @@ use Rattle.std.specs.List.{remove}
 use Rattle.tcp_flow.specs.declared.flow.CloseCause.{CloseCause}
 use Rattle.tcp_flow.specs.declared.flow.CloseCause.TheVariants.{Fault}
 use Rattle.tcp_waiting.specs.Numbers.{onward, age}
-use Rattle.tcp_waiting.specs.Payload.{Payload, payload, has_as_much}
+use Rattle.tcp_waiting.specs.Payload.{Payload, payload, has_as_much, put}
 use Rattle.tcp_flow.specs.Flow.{Flow, Event, Begins, Delivers, Closes, flow_of, Reader, Setting, Arrival, Octets, End, Acknowledged, left, with_event, delivered, begun, taken, stream_at, at, closed, holding, gone_on, within_bounds, payload_came, fin_came, gap, step}
 use Rattle.tcp_flow.proofs.Preserving.{Keeps, cond_keeps, gone_on_keeps, relieved_keeps, missed_keeps, gap_keeps}
 
@@ -119,7 +119,7 @@ module _ (Q : List Event → Type 0) (id : ℕ) (more : IsKept Q id) where
   unfolding payload_came holding
   came_told A f p t =
       let q : Payload = left f.next (is_some f.live) p in
-      let h : Flow = record f { held = f.held ++ q ∷ [] } in
+      let h : Flow = record f { held = put q f.held } in
       let k : Keeps A.faulted (Told Q id) = told_keeps A.faulted in
       cond_keeps (Told Q id) (nat_eq (length q.octets) 0
       || has_as_much f.id q.number (length q.octets) f.held) f

@@ -1,14 +1,14 @@
 -- Streams are gapless, whatever comes.
 use Rattle.std.proofs.Common.{◌≡◌, ℕ, zero, suc, ◌+◌, ◌-◌, ◌^◌, ◌<◌, ◌≤◌, Bool, true, false, cond, nat_eq, nat_lt, ◌&&◌, ◌||◌, not, List, [], ◌∷◌, ◌++◌, length, drop, get_or, Option, Some, None, refl, sym, ◌∙◌, ap, subst, arith, inl, inr, is_some}
-use Rattle.std.specs.List.{remove}
+use Rattle.std.specs.List.{insert, remove}
 use Rattle.std.proofs.lemmas.Bool.{cases_lt, cases_Bool, lt-ltb, le-ltb, ltb-false, and_cases, cond-true, cond-false, not-true, and_right, not_from_true, both_ways}
 use Rattle.std.proofs.lemmas.List.{drop-drop, get_or-append_right, get_or_append_left, length-append}
 use Rattle.tcp_flow.specs.declared.flow.CloseCause.TheVariants.{Fault}
 use Rattle.tcp_waiting.specs.Numbers.{ahead, onward, age, is_to_come}
-use Rattle.tcp_waiting.specs.Payload.{Payload, payload, window, has_as_much}
+use Rattle.tcp_waiting.specs.Payload.{Payload, payload, window, has_as_much, put, place_of, key_of}
 use Rattle.tcp_flow.specs.Flow.{gap, Flow, Event, Begins, Delivers, Closes, Reader, Setting, left, with_event, delivered, begun, taken, stream_at, first_of, is_due, at, closed, payload_came, holding, within_bounds, gone_on, fin_came, acknowledgement_came}
 use Rattle.tcp_flow.specs.Laws.{IsPartOf, OwnMayFollow, MayFollow, AllFollow, AllArePartsOf, due_of, IsGapless}
-use Rattle.tcp_waiting.proofs.Firsts.{first_within, first_own}
+use Rattle.tcp_waiting.proofs.Order.{first_within, first_own}
 use Rattle.tcp_flow.proofs.Preserving.{gap_keeps, Keeps, relieved_keeps, gone_on_keeps, missed_keeps}
 
 onward_onward : (n k a : ℕ) → onward (onward n k) a ≡ onward n (k + a)
@@ -72,11 +72,13 @@ have_remove payloads [] (suc i) h = h
 have_remove payloads (p ∷ ps) zero h = h.1
 have_remove payloads (p ∷ ps) (suc i) h = (h.0, have_remove payloads ps i h.1)
 
-pub have_push : (payloads ps : List Payload) (p : Payload) → AllArePartsOf payloads ps →
-    IsPartOf payloads p.flow p.number p.octets → AllArePartsOf payloads (ps ++ p ∷ [])
+have_put : (payloads ps : List Payload) (i : ℕ) (p : Payload) → AllArePartsOf payloads ps →
+    IsPartOf payloads p.flow p.number p.octets → AllArePartsOf payloads (insert ps i p)
 unfolding AllArePartsOf
-have_push payloads [] p h q = (q, tt)
-have_push payloads (r ∷ ps) p h q = (h.0, have_push payloads ps p h.1 q)
+have_put payloads [] zero p h q = (q, tt)
+have_put payloads [] (suc i) p h q = (q, tt)
+have_put payloads (r ∷ ps) zero p h q = (q, h)
+have_put payloads (r ∷ ps) (suc i) p h q = (h.0, have_put payloads ps i p h.1 q)
 
 either : {X : Type 0} (P : X → Type 0) (b : Bool) (x y : X) → P x → P y → P (cond b x y)
 either P true x y p q = p
@@ -341,12 +343,12 @@ came_true A payloads' f p small t =
     let q : Payload = left f.next (is_some f.live) p in
     let u : IsGapless all f = true_grows payloads' p f t in
     let k : Keeps A.faulted (IsGapless all) = true_keeps A.faulted all in
-    let h : Flow = record f { held = f.held ++ q ∷ [] } in
+    let h : Flow = record f { held = put q f.held } in
     let v : IsGapless all h = record {
       next = u.next;
       held =
-          have_push all f.held q u.held (left_all all f.next (is_some f.live) p
-          (has_last payloads' p small));
+          have_put all f.held (place_of (key_of q) f.held) q u.held
+          (left_all all f.next (is_some f.live) p (has_last payloads' p small));
       events = u.events;
     } in
     either (IsGapless all) (nat_eq (length q.octets) 0

@@ -5,7 +5,7 @@ use Rattle.std.specs.List.{remove}
 use Rattle.tcp_flow.specs.declared.flow.CloseCause.{CloseCause}
 use Rattle.tcp_flow.specs.declared.flow.CloseCause.TheVariants.{Fin, Gap, Fault}
 use Rattle.tcp_segment.specs.declared.endpoint.Flow as endpoints
-use Rattle.tcp_waiting.specs.Payload.{Payload, payload, window, first, blocks_of, is_far, has_as_much}
+use Rattle.tcp_waiting.specs.Payload.{Payload, payload, window, first, blocks_of, is_far, has_as_much, put}
 use Rattle.tcp_waiting.specs.Numbers.{ahead, onward, age, is_to_come}
 
 -- what happens in a capture beside its flows: a packet arrives, at a time in nanoseconds since
@@ -48,7 +48,7 @@ setting faulted blocks = record { faulted = faulted; blocks = blocks }
 
 -- a flow: its id, the number that is due, the number that its live stream began with, a FIN to
 -- come;
--- what this and other flows hold, in the order of coming; and what has happened in all of them
+-- what this and other flows hold, in its order; and what has happened in all of them
 pub record Flow : Type 0 where
   pub id : ℕ
   pub next : ℕ
@@ -215,7 +215,7 @@ within_bounds A (suc count) f =
     elim (is_too_much A f) [ true ↦ within_bounds A count (gap A.faulted f) | false ↦ f ]
 
 unfoldable pub holding : Flow → Payload → Flow
-holding f p = record f { held = f.held ++ p ∷ [] }
+holding f p = record f { held = put p f.held }
 
 -- a payload comes
 unfoldable pub payload_came : Setting → Flow → Payload → Flow

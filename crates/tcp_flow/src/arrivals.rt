@@ -189,7 +189,7 @@ impl FlowState {
             return Ok(());
         }
         let count = pool.len() + 1;
-        pool.hold(self.id, number, octets);
+        pool.hold(self.id, self.next, number, octets);
         // All that is held is to come, and so nothing is looked for.
         self.end_at_fin(pool, to)?;
         self.keep_within_bounds(count, pool, to)

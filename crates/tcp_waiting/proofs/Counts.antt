@@ -1,6 +1,6 @@
 -- How many payloads a flow holds.
 use Rattle.std.proofs.Common.{◌≡◌, ℕ, zero, suc, ◌+◌, ◌<◌, ◌≤◌, Bool, true, false, cond, nat_eq, List, [], ◌∷◌, ◌++◌, length, get_or, None, refl, ap, arith}
-use Rattle.std.specs.List.{remove}
+use Rattle.std.specs.List.{insert, remove}
 use Rattle.std.proofs.lemmas.Bool.{eq-eqb}
 use Rattle.tcp_waiting.specs.declared.pool.Waiting.{Waiting}
 use Rattle.tcp_waiting.specs.Layout.{payload_in, held_in}
@@ -8,11 +8,13 @@ use Rattle.tcp_waiting.proofs.Held.{length_held, get_held, remove_held}
 use Rattle.tcp_waiting.specs.Payload.{Payload, count_of, first, is_far, has_as_much}
 
 -- one more waits
-pub count_push : (id : ℕ) (ps : List Payload) (p : Payload) →
-    count_of id (ps ++ p ∷ []) ≡ count_of id ps + cond (nat_eq p.flow id) 1 0
+pub count_insert : (id : ℕ) (ps : List Payload) (i : ℕ) (p : Payload) →
+    count_of id (insert ps i p) ≡ count_of id ps + cond (nat_eq p.flow id) 1 0
 unfolding count_of
-count_push id [] p = omega arith
-count_push id (q ∷ ps) p = omega (arith, count_push id ps p)
+count_insert id [] zero p = omega arith
+count_insert id [] (suc i) p = omega arith
+count_insert id (q ∷ ps) zero p = omega arith
+count_insert id (q ∷ ps) (suc i) p = omega (arith, count_insert id ps i p)
 
 -- one is removed
 pub count_remove : (id : ℕ) (ps : List Payload) (i : ℕ) (d : Payload) → i < length ps →

@@ -1,12 +1,12 @@
 -- What waits, by where it is in the pool's memory.
-use Rattle.std.proofs.Common.{Result, IsOk, is_ok, cond, ◌≡◌, ℕ, zero, suc, ◌+◌, ◌<◌, ◌≤◌, List, [], ◌∷◌, ◌++◌, length, get_or, refl, ap, sym, ◌∙◌, subst, arith, length-append}
-use Rattle.std.specs.List.{remove}
-use Rattle.std.proofs.lemmas.List.{length-map, get_or-map, map-append, take-append-le}
+use Rattle.std.proofs.Common.{Result, Ok, Err, OnOk, OnErr, IsOk, is_ok, cond, ◌≡◌, ℕ, zero, suc, ◌+◌, ◌<◌, ◌≤◌, List, [], ◌∷◌, ◌++◌, length, get_or, refl, ap, sym, ◌∙◌, arith}
+use Rattle.std.specs.List.{AllByRecursion, insert, remove}
+use Rattle.std.proofs.lemmas.List.{length-map, get_or-map, take-append-le, length-take, length-drop}
 use Rattle.std.proofs.lemmas.Bool.{cond-true}
 use Rattle.std.proofs.Math.Seq.{drop-append_seam, take-length}
 use Rattle.tcp_waiting.specs.declared.pool.Waiting.{Waiting}
 use Rattle.tcp_waiting.specs.Payload.{Payload, payload}
-use Rattle.tcp_waiting.specs.Layout.{octets_at, payload_in, held_in, IsLaid}
+use Rattle.tcp_waiting.specs.Layout.{octets_at, payload_in, held_in, AreWithin}
 
 pub length_held : (all : List ℕ) (ws : List Waiting) → length (held_in all ws) ≡ length ws
 length_held all ws = length-map ws (payload_in all)
@@ -22,88 +22,72 @@ remove_held all [] (suc i) = refl
 remove_held all (w ∷ ws) zero = refl
 remove_held all (w ∷ ws) (suc i) = ap (λ xs. payload_in all w ∷ xs) (remove_held all ws i)
 
--- what is laid in memory is within it
-pub record IsWithin (low : ℕ) (w : Waiting) (top : ℕ) : Type 0 where
-  pub from : low ≤ w.from
-  pub count : 0 < w.count
-  pub ends : w.from + w.count ≤ top
+insert_held : (all : List ℕ) (ws : List Waiting) (i : ℕ) (w : Waiting) →
+    held_in all (insert ws i w) ≡ insert (held_in all ws) i (payload_in all w)
+insert_held all [] zero w = refl
+insert_held all [] (suc i) w = refl
+insert_held all (v ∷ ws) zero w = refl
+insert_held all (v ∷ ws) (suc i) w = ap (λ xs. payload_in all v ∷ xs) (insert_held all ws i w)
 
-pub low_top : (low : ℕ) (ws : List Waiting) (top : ℕ) → IsLaid low ws top → low ≤ top
-unfolding IsLaid
-low_top low [] top h = h
-low_top low (w ∷ ws) top h = let k : w.from + w.count ≤ top =
-    low_top (w.from + w.count) ws top h.2 in omega (arith, h.0)
+-- what all of some are, those are with one more, and with one less
+pub all_insert : {X : Type 0} (P : X → Type 0) (xs : List X) (i : ℕ) (x : X) →
+    AllByRecursion P xs → P x → AllByRecursion P (insert xs i x)
+all_insert P [] zero x h p = (p, tt)
+all_insert P [] (suc i) x h p = (p, tt)
+all_insert P (y ∷ xs) zero x h p = (p, h)
+all_insert P (y ∷ xs) (suc i) x h p = (h.0, all_insert P xs i x h.1 p)
 
-pub laid_within : (low : ℕ) (ws : List Waiting) (top : ℕ) (i : ℕ) (w : Waiting) →
-    IsLaid low ws top → i < length ws → w ≡ get_or ws i w → IsWithin low w top
-unfolding IsLaid
-laid_within low [] top i w h l is = absurd (omega (arith, l))
-laid_within low (v ∷ ws) top zero w h l is =
-    subst (λ (u : Waiting). IsWithin low u top) (sym is)
-    (record { from = h.0; count = h.1; ends = low_top (v.from + v.count) ws top h.2 })
-laid_within low (v ∷ ws) top (suc i) w h l is =
-    let k : IsWithin (v.from + v.count) w top =
-    laid_within (v.from + v.count) ws top i w h.2 (omega (arith, l)) is in
-    record { from = omega (arith, h.0, k.from); count = k.count; ends = k.ends }
+pub all_remove : {X : Type 0} (P : X → Type 0) (xs : List X) (i : ℕ) →
+    AllByRecursion P xs → AllByRecursion P (remove xs i)
+all_remove P [] zero h = h
+all_remove P [] (suc i) h = h
+all_remove P (y ∷ xs) zero h = h.1
+all_remove P (y ∷ xs) (suc i) h = (h.0, all_remove P xs i h.1)
 
-pub laid_none : (ws : List Waiting) (top : ℕ) → ws ≡ [] → IsLaid 0 ws top
-unfolding IsLaid
-laid_none ws top e = subst (λ (xs : List Waiting). IsLaid 0 xs top) (sym e) (omega arith)
+pub all_at : {X : Type 0} (P : X → Type 0) (xs : List X) (i : ℕ) (x : X) →
+    AllByRecursion P xs → i < length xs → P (get_or xs i x)
+all_at P [] i x h l = absurd (omega (arith, l))
+all_at P (y ∷ xs) zero x h l = h.0
+all_at P (y ∷ xs) (suc i) x h l = all_at P xs i x h.1 (omega (arith, l))
 
-pub laid_lower : (low lower : ℕ) (ws : List Waiting) (top : ℕ) → lower ≤ low → IsLaid low ws top →
-    IsLaid lower ws top
-unfolding IsLaid
-laid_lower low lower [] top l h = omega (arith, h)
-laid_lower low lower (w ∷ ws) top l h = (omega (arith, h.0), h.1, h.2)
+pub within_more : (top more : ℕ) (ws : List Waiting) → top ≤ more → AreWithin top ws →
+    AreWithin more ws
+within_more top more [] l h = tt
+within_more top more (w ∷ ws) l h = (omega (arith, h.0), within_more top more ws l h.1)
 
-pub laid_remove : (low : ℕ) (ws : List Waiting) (top : ℕ) (i : ℕ) → IsLaid low ws top →
-    IsLaid low (remove ws i) top
-unfolding IsLaid
-laid_remove low [] top zero h = h
-laid_remove low [] top (suc i) h = h
-laid_remove low (w ∷ ws) top zero h = laid_lower (w.from + w.count) low ws top (omega (arith, h.0))
-    h.2
-laid_remove low (w ∷ ws) top (suc i) h = (h.0, h.1, laid_remove (w.from + w.count) ws top i h.2)
+-- a payload is as long as it says
+pub length_octets : (all : List ℕ) (from count : ℕ) → from + count ≤ length all →
+    length (octets_at all from count) ≡ count
+length_octets all from count h = simp (length-take, length-drop) (omega arith)
 
-pub laid_more : (low : ℕ) (ws : List Waiting) (top : ℕ) (w : Waiting) → IsLaid low ws top →
-    top ≤ w.from → 0 < w.count → IsLaid low (ws ++ w ∷ []) (w.from + w.count)
-unfolding IsLaid
-laid_more low [] top w h f c = (omega (arith, h), c, omega arith)
-laid_more low (v ∷ ws) top w h f c = (h.0, h.1, laid_more (v.from + v.count) ws top w h.2 f c)
-
--- octets behind what is laid change nothing
-pub octets_more : (all more : List ℕ) (from count : ℕ) → from + count ≤ length all →
+-- octets behind what waits change nothing
+octets_more : (all more : List ℕ) (from count : ℕ) → from + count ≤ length all →
     octets_at (all ++ more) from count ≡ octets_at all from count
 octets_more all more zero count h = take-append-le count all more (omega (arith, h))
 octets_more [] more (suc from) count h = absurd (omega (arith, h))
 octets_more (x ∷ all) more (suc from) count h = octets_more all more from count (omega (arith, h))
 
-pub held_more : (all more : List ℕ) (low : ℕ) (ws : List Waiting) → IsLaid low ws (length all) →
+pub held_more : (all more : List ℕ) (ws : List Waiting) → AreWithin (length all) ws →
     held_in (all ++ more) ws ≡ held_in all ws
-unfolding IsLaid
-held_more all more low [] h = refl
-held_more all more low (w ∷ ws) h =
-    let e : octets_at (all ++ more) w.from w.count ≡ octets_at all w.from w.count =
-    octets_more all more w.from w.count (low_top (w.from + w.count) ws (length all) h.2) in
-    rw (e, held_more all more (w.from + w.count) ws h.2) refl
+held_more all more [] h = refl
+held_more all more (w ∷ ws) h =
+    rw (octets_more all more w.from w.count h.0, held_more all more ws h.1) refl
 
 -- one more waits, its octets behind all
-pub held_pushed : (all more : List ℕ) (low : ℕ) (ws : List Waiting) (w : Waiting) →
-    IsLaid low ws (length all) → w.from ≡ length all → w.count ≡ length more
-    → held_in (all ++ more) (ws ++ w ∷ []) ≡ held_in all ws ++ payload w.flow w.number more ∷ []
-held_pushed all more low ws w h f c =
+pub held_inserted : (all more : List ℕ) (ws : List Waiting) (i : ℕ) (w : Waiting) →
+    AreWithin (length all) ws → w.from ≡ length all → w.count ≡ length more
+    → held_in (all ++ more) (insert ws i w)
+    ≡ insert (held_in all ws) i (payload w.flow w.number more)
+held_inserted all more ws i w h f c =
     let here : octets_at (all ++ more) w.from w.count ≡ more =
     rw (f, c, drop-append_seam all more) (take-length more) in
-    map-append (payload_in (all ++ more)) ws (w ∷ []) ∙ rw (held_more all more low ws h, here) refl
-
-pub laid_pushed : (all more : List ℕ) (low : ℕ) (ws : List Waiting) (w : Waiting) →
-    IsLaid low ws (length all) → w.from ≡ length all → w.count ≡ length more → 0 < length more
-    → IsLaid low (ws ++ w ∷ []) (length (all ++ more))
-laid_pushed all more low ws w h f c some =
-    let e : w.from + w.count ≡ length (all ++ more) = rw (f, c) (sym (length-append all more)) in
-    subst (λ (top : ℕ). IsLaid low (ws ++ w ∷ []) top) e
-    (laid_more low ws (length all) w h (omega (arith, f)) (omega (arith, c)))
+    insert_held (all ++ more) ws i w ∙ rw (held_more all more ws h, here) refl
 
 pub ok_items : {U E X : Type 0} (r : Result U E) (xs a b : List X) → IsOk r →
     xs ≡ cond (is_ok r) a b → xs ≡ a
 ok_items r xs a b h e = e ∙ cond-true (is_ok r) a b h
+
+-- what is so on Ok, where there is no cause of an Err
+pub ok_so : {U E : Type 0} (r : Result U E) (P Q : Type 0) → OnErr r P → (P → ⊥) → OnOk r Q → Q
+ok_so (Ok u) P Q e n q = q
+ok_so (Err u) P Q e n q = absurd (n e)

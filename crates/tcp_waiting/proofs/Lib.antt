@@ -1,5 +1,6 @@
 pub mod Counts
-pub mod Firsts
+pub mod Ends
 pub mod Held
+pub mod Order
 pub mod Packing
 pub mod Queries

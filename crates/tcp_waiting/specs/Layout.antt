@@ -1,9 +1,11 @@
--- How a pool's memory is laid out: the octets of its payloads one behind the other, in the order of
--- coming, with holes.
-use Rattle.std.specs.Prelude.{◌≡◌, ℕ, ◌+◌, ◌*◌, ◌<◌, ◌≤◌, List, [], ◌∷◌, ◌++◌, length, get_or, map, take, drop}
+-- How a pool's memory is laid out: where the octets of each payload are, in the order of what waits.
+use Rattle.std.specs.Prelude.{◌≡◌, ℕ, ◌+◌, ◌*◌, ◌^◌, ◌<◌, ◌≤◌, Bool, false, not, nat_eq, nat_lt, ◌&&◌, ◌||◌, List, [], ◌∷◌, ◌++◌, length, get_or, map, take, drop, Option, Some, None}
+use Rattle.std.specs.List.{AllByRecursion}
 use Rattle.std.specs.Vec.{vec_capacity}
-use Rattle.tcp_waiting.specs.Payload.{Payload, payload, blocks_of, count_of}
+use Rattle.std.specs.VecDeque.{deque_capacity}
+use Rattle.tcp_waiting.specs.Payload.{Payload, payload, blocks_of, count_of, key_of, ends_far}
 use Rattle.tcp_waiting.specs.Pool.{PoolView}
+use Rattle.tcp_waiting.specs.declared.pool.Near.{Near}
 use Rattle.tcp_waiting.specs.declared.pool.Waiting.{Waiting}
 use Rattle.tcp_waiting.specs.declared.pool.Pool.TheInside.{Inside}
 
@@ -17,10 +19,36 @@ payload_in all w = payload w.flow w.number (octets_at all w.from w.count)
 abbrev pub held_in : List ℕ → List Waiting → List Payload
 held_in all ws = map (payload_in all) ws
 
--- each has an octet at least, and is behind the one before it
-unfoldable pub IsLaid : ℕ → List Waiting → ℕ → Type 0
-IsLaid low [] top = low ≤ top
-IsLaid low (w ∷ ws) top = (low ≤ w.from) × (0 < w.count) × IsLaid (w.from + w.count) ws top
+-- each is within the octets
+abbrev pub AreWithin : ℕ → List Waiting → Type 0
+AreWithin top ws = AllByRecursion (λ w. w.from + w.count ≤ top) ws
+
+-- a payload that may wait: it has an octet, and a number of 32 bits
+pub record IsSmall (p : Payload) : Type 0 where
+  pub number : p.number < 2 ^ 32
+  pub some : 0 < length p.octets
+  pub short : length p.octets < 2 ^ 32
+
+abbrev pub AreSmall : List Payload → Type 0
+AreSmall ps = AllByRecursion IsSmall ps
+
+-- none stands before one in front of it
+unfoldable pub AreOrdered : List Payload → Type 0
+AreOrdered [] = Unit {0}
+AreOrdered (p ∷ ps) = AllByRecursion (λ q. key_of p ≤ key_of q) ps × AreOrdered ps
+
+-- whether the payload at a place is one of a flow
+abbrev pub stands_at : ℕ → ℕ → List Payload → Bool
+stands_at place id ps =
+    nat_lt place (length ps) && nat_eq (get_or ps place (payload 0 0 [])).flow id
+
+-- whether one of the payloads that a flow holds ends more than W behind `next`, but for those with a
+-- number and a length
+unfoldable pub is_far_but : ℕ → ℕ → ℕ → ℕ → List Payload → Bool
+is_far_but id next number count [] = false
+is_far_but id next number count (p ∷ ps) =
+    (nat_eq p.flow id && not (nat_eq p.number number && nat_eq (length p.octets) count)
+    && ends_far next p.number (length p.octets)) || is_far_but id next number count ps
 
 abbrev pub store_of : Inside → PoolView
 store_of a = record { held = held_in a.octets.items a.waiting.items; blocks = a.blocks }
@@ -28,20 +56,29 @@ store_of a = record { held = held_in a.octets.items a.waiting.items; blocks = a.
 -- nothing that was taken is too small
 pub record IsRoomy (a : Inside) : Type 0 where
   pub most : a.blocks ≤ 1048576
-  pub places : a.blocks + 256 ≤ vec_capacity a.waiting
-  pub octets : 2048 * (a.blocks + 256) ≤ vec_capacity a.octets
+  pub places : a.blocks + 256 ≤ deque_capacity a.waiting
+  pub octets : 1024 * (a.blocks + 256) ≤ vec_capacity a.octets
+  pub spare : 1024 * (a.blocks + 256) ≤ vec_capacity a.spare
+  pub fits : length a.octets.items ≤ 1024 * (a.blocks + 256)
 
 -- of each flow below how many there are counts, how many payloads it holds
 abbrev pub AreCounts : List ℕ → List Payload → Type 0
 AreCounts counts held =
     (flow : ℕ) → flow < length counts → get_or counts flow 0 ≡ count_of flow held
 
-abbrev pub IsSound : Inside → Type 0
-IsSound a =
-    IsLaid 0 a.waiting.items (length a.octets.items)
-    × IsRoomy a
-    × (a.used ≡ blocks_of (held_in a.octets.items a.waiting.items))
-    × AreCounts a.counts.items (held_in a.octets.items a.waiting.items)
+-- of each flow, what is known of the ends of what it holds
+abbrev pub AreNears : List (Option Near) → List Payload → Type 0
+AreNears nears held = (flow : ℕ) (n : Near) → get_or nears flow None ≡ Some n →
+    is_far_but flow n.base n.number n.count held ≡ false
+
+pub record IsSound (a : Inside) : Type 0 where
+  pub within : AreWithin (length a.octets.items) a.waiting.items
+  pub roomy : IsRoomy a
+  pub ordered : AreOrdered (held_in a.octets.items a.waiting.items)
+  pub small : AreSmall (held_in a.octets.items a.waiting.items)
+  pub used : a.used ≡ blocks_of (held_in a.octets.items a.waiting.items)
+  pub counts : AreCounts a.counts.items (held_in a.octets.items a.waiting.items)
+  pub nears : AreNears a.nears.items (held_in a.octets.items a.waiting.items)
 
 -- the octets that wait, one behind the other without holes
 unfoldable pub packed : List ℕ → List Waiting → List ℕ

@@ -1,5 +1,6 @@
 -- Payloads that wait: which of a flow is first, what they take, and how far they reach (meaning).
-use Rattle.std.specs.Prelude.{ℕ, suc, ◌+◌, ◌/◌, Bool, false, cond, nat_lt, nat_le, nat_eq, ◌&&◌, ◌||◌, List, [], ◌∷◌, length, Option, Some, None, get_or}
+use Rattle.std.specs.Prelude.{ℕ, suc, ◌+◌, ◌*◌, ◌^◌, ◌/◌, Bool, false, cond, nat_lt, nat_le, nat_eq, ◌&&◌, ◌||◌, List, [], ◌∷◌, length, Option, Some, None, get_or}
+use Rattle.std.specs.List.{insert}
 use Rattle.std.specs.Option.{option_map}
 use Rattle.tcp_waiting.specs.Numbers.{ahead, rank}
 
@@ -12,11 +13,28 @@ pub record Payload : Type 0 where
 abbrev pub payload : ℕ → ℕ → List ℕ → Payload
 payload flow number octets = record { flow = flow; number = number; octets = octets }
 
+-- the order of what waits, as one number: by flow, then by the number of the first octet, then by
+-- length, which is less than 2^32
+abbrev pub key : ℕ → ℕ → ℕ → ℕ
+key flow number count = (flow * 2 ^ 32 + number) * 2 ^ 32 + count
+
+abbrev pub key_of : Payload → ℕ
+key_of p = key p.flow p.number (length p.octets)
+
+-- where in this order a payload stands, or would stand: behind those before it
+unfoldable pub place_of : ℕ → List Payload → ℕ
+place_of k [] = 0
+place_of k (p ∷ ps) = cond (nat_lt (key_of p) k) (suc (place_of k ps)) 0
+
+-- one more waits
+abbrev pub put : Payload → List Payload → List Payload
+put p ps = insert ps (place_of (key_of p) ps) p
+
 -- W: how far behind `next` a held payload may end
 abbrev pub window : ℕ
 window = 1048576
 
--- which of the payloads that a flow holds is first, by its rank and then by its coming
+-- which of the payloads that a flow holds is first: by its rank, and then by their order
 unfoldable pub earlier : ℕ → Payload → List Payload → Option ℕ → Option ℕ
 earlier next p ps None = Some 0
 earlier next p ps (Some i) =
@@ -38,11 +56,15 @@ unfoldable pub blocks_of : List Payload → ℕ
 blocks_of [] = 0
 blocks_of (p ∷ ps) = (length p.octets + 1023) / 1024 + blocks_of ps
 
+-- whether a payload ends more than W behind `next`
+abbrev pub ends_far : ℕ → ℕ → ℕ → Bool
+ends_far next number count = nat_lt window (ahead next number + count)
+
 -- whether one of the payloads that a flow holds ends more than W behind `next`
 unfoldable pub is_far : ℕ → ℕ → List Payload → Bool
 is_far id next [] = false
 is_far id next (p ∷ ps) =
-    (nat_eq p.flow id && nat_lt window (ahead next p.number + length p.octets)) || is_far id next ps
+    (nat_eq p.flow id && ends_far next p.number (length p.octets)) || is_far id next ps
 
 -- whether one of the payloads that a flow holds has the number and at least the length
 unfoldable pub has_as_much : ℕ → ℕ → ℕ → List Payload → Bool

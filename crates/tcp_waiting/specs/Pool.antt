@@ -1,4 +1,4 @@
--- What waits in a pool, and how many blocks it has.
+-- What waits in a pool, in its order, and how many blocks it has.
 use Rattle.std.specs.Prelude.{ℕ, List}
 use Rattle.tcp_waiting.specs.Payload.{Payload}
 

@@ -1,15 +1,17 @@
-//! The payloads that wait, of all flows, in the order of coming, in memory that is taken once.
+//! The payloads that wait, of all flows, in their order, in memory that is taken once.
 
-ghost use Rattle.std.specs.Prelude.{◌≡◌, ℕ, true, cond, ◌≤◌, ◌<◌, ◌+◌, ◌*◌, ◌/◌, ◌^◌, ◌++◌, ◌∷◌, [], length, IfOk, get_or, Some, nat_eq, nat_le, nat_lt, ◌&&◌};
-ghost use Rattle.tcp_waiting.specs.Numbers.{ahead as spec_ahead};
+ghost use Rattle.std.specs.Prelude.{◌≡◌, ℕ, true, false, cond, ◌≤◌, ◌<◌, ◌+◌, ◌*◌, ◌/◌, ◌^◌, [], length, IfOk, IfSome, None, get_or, set, nat_eq, nat_lt};
 ghost use Rattle.std.specs.List.{remove};
 ghost use Rattle.std.specs.Vec.{vec_capacity};
-ghost use Rattle.tcp_waiting.specs.Payload.{payload, count_of, first, blocks_of, has_as_much, is_far};
-ghost use Rattle.tcp_waiting.specs.Layout.{IsLaid, counts, held_in, moved, packed};
+ghost use Rattle.std.specs.VecDeque.{deque_capacity};
+ghost use Rattle.tcp_waiting.specs.Payload.{payload, count_of, first, blocks_of, has_as_much, is_far, put, place_of, key as spec_key, ends_far as spec_ends_far};
+ghost use Rattle.tcp_waiting.specs.Layout.{AreWithin, counts, held_in, stands_at, is_far_but};
 
-use crate::numbers::{ahead, rank};
+use crate::numbers::{ahead, is_to_come};
 use std::alloc::{AllocError, Global};
+use std::collections::VecDeque;
 use std::marker::Model;
+use std::mem::swap;
 
 /// How far behind the number that is due a payload may end.
 pub const WINDOW: usize = 1_048_576;
@@ -23,30 +25,23 @@ pub(crate) struct Waiting {
     count: usize,
 }
 
-impl Waiting {
-    fn is_as_much(&self, flow: u32, number: u32, count: usize) -> bool
-        ensures { result ≡
-            (nat_eq self.now.flow flow && nat_eq self.now.number number
-            && nat_le count self.now.count) }
-    {
-        self.flow == flow && self.number == number && count <= self.count
-    }
-
-    fn ends_far(&self, flow: u32, next: u32) -> bool
-        requires { self.now.count < 2 ^ 63 }
-        ensures { result ≡ (nat_eq self.now.flow flow && nat_lt 1_048_576
-            (spec_ahead next self.now.number + self.now.count)) }
-    {
-        self.flow == flow && WINDOW < ahead(next, self.number) as usize + self.count
-    }
+/// Of what a flow holds, all but payloads of this number and length end near behind a base.
+#[derive(Clone, Copy)]
+pub(crate) struct Near {
+    base: u32,
+    number: u32,
+    count: usize,
 }
 
 /// The payloads that wait, of all flows, and the blocks that they take.
 #[derive(Drop)]
 pub struct Pool {
-    waiting: Vec<Waiting>,
+    waiting: VecDeque<Waiting>,
     octets: Vec<u8>,
+    /// What waits is copied to it when there is no room else, and it is the other's place then.
+    spare: Vec<u8>,
     counts: Vec<usize>,
+    nears: Vec<Option<Near>>,
     blocks: usize,
     used: usize,
 }
@@ -73,13 +68,17 @@ impl Pool {
         ensures blocks { IfOk result (λ p. p.blocks ≡ blocks) }
     {
         let most = blocks + 256;
-        let waiting = Vec::with_capacity(alloc, most)?;
-        let octets = Vec::with_capacity(alloc, 2048 * most)?;
+        let waiting = VecDeque::with_capacity(alloc, most)?;
+        let octets = Vec::with_capacity(alloc, 1024 * most)?;
+        let spare = Vec::with_capacity(alloc, 1024 * most)?;
         let counts = vec![in alloc; 0; flows]?;
+        let nears = vec![in alloc; None; flows]?;
         Ok(Pool {
             waiting,
             octets,
+            spare,
             counts,
+            nears,
             blocks,
             used: 0,
         })
@@ -93,35 +92,49 @@ impl Pool {
         self.waiting.len()
     }
 
+    /// Where a payload with this key stands in the order, or would stand.
+    fn place(&self, wanted: u128) -> usize
+        ensures place { result ≡ place_of wanted self.now.held }
+    {
+        let mut low = 0;
+        let mut high = self.waiting.len();
+        while low < high {
+            let middle = low + (high - low) / 2;
+            let here = self.waiting[middle];
+            if key(here.flow, here.number, here.count) < wanted {
+                low = middle + 1;
+            } else {
+                high = middle;
+            }
+        }
+        low
+    }
+
+    /// Whether the payload at a place is one of a flow.
+    fn stands_at(&self, place: usize, flow: u32) -> bool
+        ensures { result ≡ stands_at place flow self.now.held }
+    {
+        place < self.waiting.len() && self.waiting[place].flow == flow
+    }
+
     /// Which of the payloads that a flow holds is first.
     pub fn first(&self, flow: u32, next: u32) -> Option<usize>
         ensures { result ≡ first flow next self.now.held }
     {
+        // What is known of the pool is known once it is read.
+        let _waiting = &self.waiting;
         if self.holds_none(flow) {
             return None;
         }
-        let mut found: Option<usize> = None;
-        let mut index = self.waiting.len();
-        while index > 0 {
-            index -= 1;
-            let here = self.waiting[index];
-            if here.flow == flow {
-                found = match found {
-                    Some(best) => {
-                        let other = self.waiting[best];
-                        let there = rank(next, other.number);
-                        let here = rank(next, here.number);
-                        if there < here {
-                            Some(best)
-                        } else {
-                            Some(index)
-                        }
-                    }
-                    None => Some(index),
-                };
-            }
+        let oldest = self.place(key(flow, next.wrapping_add(0x8000_0000), 0));
+        if self.stands_at(oldest, flow) {
+            return Some(oldest);
         }
-        found
+        let least = self.place(key(flow, 0, 0));
+        if self.stands_at(least, flow) {
+            return Some(least);
+        }
+        None
     }
 
     /// Whether a flow is known to hold nothing.
@@ -155,15 +168,8 @@ impl Pool {
         if self.holds_none(flow) {
             return false;
         }
-        let mut index = 0;
-        while index < self.waiting.len() {
-            let here = self.waiting[index];
-            if here.is_as_much(flow, number, count) {
-                return true;
-            }
-            index += 1;
-        }
-        false
+        let place = self.place(key(flow, number, count));
+        self.stands_at(place, flow) && self.waiting[place].number == number
     }
 
     /// Whether one of the payloads that a flow holds ends too far behind the number that is due.
@@ -173,10 +179,55 @@ impl Pool {
         if self.holds_none(flow) {
             return false;
         }
+        match self.others_are_near(flow, next) {
+            Some(last) => {
+                ends_far(next, last.number, last.count)
+                    && self.has_as_much(flow, last.number, last.count)
+            }
+            None => self.finds_far(flow, next),
+        }
+    }
+
+    /// The payload but for which all that a flow holds is known to end near behind the number that
+    /// is due.
+    fn others_are_near(&self, flow: u32, next: u32) -> Option<Near>
+        ensures { IfSome result (λ n. is_far_but flow next n.number n.count self.now.held ≡ false) }
+    {
+        let Some(near) = self.near(flow) else {
+            return None;
+        };
+        if near.base == next {
+            return Some(near);
+        }
+        let Some(index) = self.first(flow, next) else {
+            return None;
+        };
+        if ahead(near.base, next) <= 0x8000_0000 && is_to_come(next, self.waiting[index].number) {
+            return Some(near);
+        }
+        None
+    }
+
+    /// What is known of the ends of what a flow holds.
+    fn near(&self, flow: u32) -> Option<Near>
+        ensures { IfSome result (λ n.
+            is_far_but flow n.base n.number n.count self.now.held ≡ false) }
+    {
+        if (flow as usize) < self.nears.len() {
+            return self.nears[flow as usize];
+        }
+        None
+    }
+
+    /// Whether one of the payloads that a flow holds ends too far behind the number that is due:
+    /// each is looked at.
+    fn finds_far(&self, flow: u32, next: u32) -> bool
+        ensures { result ≡ is_far flow next self.now.held }
+    {
         let mut index = 0;
         while index < self.waiting.len() {
             let here = self.waiting[index];
-            if here.ends_far(flow, next) {
+            if here.flow == flow && ends_far(next, here.number, here.count) {
                 return true;
             }
             index += 1;
@@ -198,28 +249,49 @@ impl Pool {
         self.blocks
     }
 
-    /// A payload waits: its octets are copied.
-    pub fn hold(&mut self, flow: u32, number: u32, octets: &[u8])
+    /// A payload waits: its octets are copied. What a flow holds is looked through faster behind it,
+    /// if `next` is the number that is due there.
+    pub fn hold(&mut self, flow: u32, next: u32, number: u32, octets: &[u8])
         requires some { 0 < length octets.now }
         requires room { blocks_of self.old.held +
             (length octets.now + 1023) / 1024 ≤ self.old.blocks + 256 }
-        ensures held { self.new.held ≡ self.old.held ++ payload flow number octets.now ∷ [] }
+        ensures held { self.new.held ≡ put (payload flow number octets.now) self.old.held }
         ensures blocks { self.new.blocks ≡ self.old.blocks }
     {
-        let most = 2048 * (self.blocks + 256);
-        make_room(&mut self.waiting, &mut self.octets, octets.len(), most);
-        let from = self.octets.len();
+        let most = 1024 * (self.blocks + 256);
         let count = octets.len();
+        let near = if self.is_far(flow, next) {
+            None
+        } else {
+            Some(Near {
+                base: next,
+                number,
+                count,
+            })
+        };
+        let place = self.place(key(flow, number, count));
+        note(&mut self.nears, flow, near);
+        make_room(
+            &mut self.waiting,
+            &mut self.octets,
+            &mut self.spare,
+            count,
+            most,
+        );
+        let from = self.octets.len();
         self.used += blocks_for(count);
         count_more(&mut self.counts, flow);
         // Neither fails: there has been room for the most octets and payloads since the pool was made.
         let _copied = self.octets.extend_from_slice(octets);
-        let _noted = self.waiting.push(Waiting {
-            flow,
-            number,
-            from,
-            count,
-        });
+        let _noted = self.waiting.insert(
+            place,
+            Waiting {
+                flow,
+                number,
+                from,
+                count,
+            },
+        );
     }
 
     /// Gives a payload's memory back.
@@ -233,6 +305,20 @@ impl Pool {
         count_less(&mut self.counts, removed.flow);
         self.waiting.remove(index);
     }
+}
+
+/// The order of what waits, as one number: by flow, then by number, then by length.
+fn key(flow: u32, number: u32, count: usize) -> u128
+    ensures { result ≡ spec_key flow number count }
+{
+    (u128::from(flow) * 0x1_0000_0000 + u128::from(number)) * 0x1_0000_0000 + count as u128
+}
+
+/// Whether a payload ends too far behind the number that is due.
+fn ends_far(next: u32, number: u32, count: usize) -> bool
+    ensures { result ≡ spec_ends_far next number count }
+{
+    WINDOW < (ahead(next, number) as usize).saturating_add(count)
 }
 
 /// How many blocks so many octets take.
@@ -269,45 +355,67 @@ fn count_less(counts: &mut Vec<usize>, flow: u32)
     }
 }
 
-/// Closes the holes between what waits.
-fn pack(waiting: &mut Vec<Waiting>, octets: &mut Vec<u8>)
-    requires laid { IsLaid 0 waiting.old.items (length octets.old.items) }
-    ensures items { waiting.new.items ≡ moved 0 waiting.old.items }
-    ensures octets { octets.new.items ≡ packed octets.old.items waiting.old.items }
-    ensures places { vec_capacity waiting.new ≡ vec_capacity waiting.old }
-    ensures room { vec_capacity octets.new ≡ vec_capacity octets.old }
+/// What is known of the ends of what a flow holds, from now on.
+fn note(nears: &mut Vec<Option<Near>>, flow: u32, near: Option<Near>)
+    ensures { nears.new.items ≡ set nears.old.items flow near }
 {
-    let mut to = 0;
+    let at = flow as usize;
+    if at < nears.len() {
+        nears[at] = near;
+    }
+}
+
+/// Copies what waits to the spare memory, without holes, and has it in place of the other.
+fn pack(waiting: &mut VecDeque<Waiting>, octets: &mut Vec<u8>, spare: &mut Vec<u8>)
+    requires within { AreWithin (length octets.old.items) waiting.old.items }
+    requires room { counts waiting.old.items ≤ vec_capacity spare.old }
+    ensures held { held_in octets.new.items waiting.new.items
+        ≡ held_in octets.old.items waiting.old.items }
+    ensures within { AreWithin (length octets.new.items) waiting.new.items }
+    ensures fits { length octets.new.items ≡ counts waiting.old.items }
+    ensures places { deque_capacity waiting.new ≡ deque_capacity waiting.old }
+    ensures room { vec_capacity spare.old ≤ vec_capacity octets.new }
+    ensures spare { vec_capacity spare.new ≡ vec_capacity octets.old }
+{
+    spare.clear();
     let mut index = 0;
     while index < waiting.len() {
         let here = waiting[index];
-        octets.copy_within(here.from..here.from + here.count, to);
+        let from = spare.len();
+        // It doesn't fail: the spare memory has room for all.
+        let _copied = spare.extend_from_slice(&octets[here.from..here.from + here.count]);
         waiting[index] = Waiting {
             flow: here.flow,
             number: here.number,
-            from: to,
+            from,
             count: here.count,
         };
-        to += here.count;
         index += 1;
     }
-    octets.truncate(to);
+    swap(octets, spare);
 }
 
 /// Closes the holes, where there is no room else.
-fn make_room(waiting: &mut Vec<Waiting>, octets: &mut Vec<u8>, count: usize, most: usize)
-    requires laid { IsLaid 0 waiting.old.items (length octets.old.items) }
+fn make_room(
+    waiting: &mut VecDeque<Waiting>,
+    octets: &mut Vec<u8>,
+    spare: &mut Vec<u8>,
+    count: usize,
+    most: usize,
+)
+    requires within { AreWithin (length octets.old.items) waiting.old.items }
     requires bound { most < 2 ^ 62 }
     requires room { counts waiting.old.items + count ≤ most }
+    requires spare { (most ≤ vec_capacity spare.old) × (most ≤ vec_capacity octets.old) }
     ensures held { held_in octets.new.items waiting.new.items
         ≡ held_in octets.old.items waiting.old.items }
-    ensures laid { IsLaid 0 waiting.new.items (length octets.new.items) }
+    ensures within { AreWithin (length octets.new.items) waiting.new.items }
     ensures fits { length octets.new.items + count ≤ most }
-    ensures len { length waiting.new.items ≡ length waiting.old.items }
-    ensures places { vec_capacity waiting.new ≡ vec_capacity waiting.old }
-    ensures room { vec_capacity octets.new ≡ vec_capacity octets.old }
+    ensures places { deque_capacity waiting.new ≡ deque_capacity waiting.old }
+    ensures room { most ≤ vec_capacity octets.new }
+    ensures spare { most ≤ vec_capacity spare.new }
 {
     if octets.len() + count > most {
-        pack(waiting, octets);
+        pack(waiting, octets, spare);
     }
 }

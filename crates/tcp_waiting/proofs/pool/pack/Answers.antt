@@ -1,122 +1,105 @@
-use Rattle.std.proofs.Common.{◌<◌, length, arith, refl, ◌∙◌}
-use Rattle.tcp_waiting.proofs.Packing.{IsNext, pack_start, next_of, pack_step, pack_end, length_places}
+use Rattle.std.proofs.Common.{◌≡◌, ◌<◌, ◌≤◌, ◌+◌, ◌-◌, ◌++◌, List, ℕ, length, take, drop, arith, refl, ◌∙◌, sym, ap}
+use Rattle.tcp_waiting.specs.Layout.{counts, octets_at}
+use Rattle.tcp_waiting.proofs.Held.{ok_items}
+use Rattle.tcp_waiting.proofs.Packing.{IsPacked, pack_start, next_of, pack_step, pack_end, length_places, length_copied, counts_take}
+use Rattle.tcp_waiting.proofs.Queries.{here}
 use Rattle.tcp_waiting.proofs.pool.pack.Goals as goal
 
 pub loop-index-init : goal.loop-index-init
 loop-index-init c = (
-  pack_start c.args.octets.now.items c.args.waiting.now.items c.requires.laid,
+  pack_start c.args.octets.now.items c.args.waiting.now.items c.clear.new.self.items
+      c.clear.ensures.items,
   refl,
-  refl,
+  omega arith,
 )
 
 pub overflow_add-here : goal.overflow_add-here
 overflow_add-here c =
-    let h : c.loop-index.index < length c.args.waiting.now.items =
-    omega (
-      arith,
-      length_places c.args.octets.now.items c.args.waiting.now.items
-          c.loop-index.index c.loop-index.to c.loop-index.octets.items c.loop-index.waiting.items
-          c.loop-index.invariant.0,
-    ) in
-    let n : IsNext c.args.octets.now.items c.args.waiting.now.items c.loop-index.index
-    c.loop-index.to c.index-here.result.now c.loop-index.octets.items =
-    next_of c.args.octets.now.items c.args.waiting.now.items c.loop-index.index c.loop-index.to
-    c.loop-index.octets.items c.loop-index.waiting.items c.loop-index.invariant.0 h
-    c.index-here.result.now c.index-here.ensures in
-    omega (arith, n.ends, n.count)
+    let all = c.args.octets.now.items in
+    let ws = c.args.waiting.now.items in
+    let k = c.loop-index.index in
+    let w = c.index-here.result.now in
+    let p = c.loop-index.invariant.0 in
+    let h : k < length ws =
+    omega (arith, length_places all ws k c.loop-index.spare.items c.loop-index.waiting.items p) in
+    let n = here all ws k w c.requires.within h
+    (next_of all ws k c.loop-index.spare.items c.loop-index.waiting.items p h w
+    c.index-here.ensures) in
+    omega (arith, n.ends, ap length c.deref.ensures.value)
 
-pub copy_within-requires-clause-in_bounds : goal.copy_within-requires-clause-in_bounds
-copy_within-requires-clause-in_bounds c =
-    let h : c.loop-index.index < length c.args.waiting.now.items =
-    omega (
-      arith,
-      length_places c.args.octets.now.items c.args.waiting.now.items
-          c.loop-index.index c.loop-index.to c.loop-index.octets.items c.loop-index.waiting.items
-          c.loop-index.invariant.0,
-    ) in
-    let n : IsNext c.args.octets.now.items c.args.waiting.now.items c.loop-index.index
-    c.loop-index.to c.index-here.result.now c.loop-index.octets.items =
-    next_of c.args.octets.now.items c.args.waiting.now.items c.loop-index.index c.loop-index.to
-    c.loop-index.octets.items c.loop-index.waiting.items c.loop-index.invariant.0 h
-    c.index-here.result.now c.index-here.ensures in
-    omega (arith, n.ends, n.count)
-
-pub copy_within-requires-clause-dest_in_bounds : goal.copy_within-requires-clause-dest_in_bounds
-copy_within-requires-clause-dest_in_bounds c =
-    let h : c.loop-index.index < length c.args.waiting.now.items =
-    omega (
-      arith,
-      length_places c.args.octets.now.items c.args.waiting.now.items
-          c.loop-index.index c.loop-index.to c.loop-index.octets.items c.loop-index.waiting.items
-          c.loop-index.invariant.0,
-    ) in
-    let n : IsNext c.args.octets.now.items c.args.waiting.now.items c.loop-index.index
-    c.loop-index.to c.index-here.result.now c.loop-index.octets.items =
-    next_of c.args.octets.now.items c.args.waiting.now.items c.loop-index.index c.loop-index.to
-    c.loop-index.octets.items c.loop-index.waiting.items c.loop-index.invariant.0 h
-    c.index-here.result.now c.index-here.ensures in
-    omega (arith, n.ends, n.count, n.low)
-
-pub overflow_add-to : goal.overflow_add-to
-overflow_add-to c =
-    let h : c.loop-index.index < length c.args.waiting.now.items =
-    omega (
-      arith,
-      length_places c.args.octets.now.items c.args.waiting.now.items
-          c.loop-index.index c.loop-index.to c.loop-index.octets.items c.loop-index.waiting.items
-          c.loop-index.invariant.0,
-    ) in
-    let n : IsNext c.args.octets.now.items c.args.waiting.now.items c.loop-index.index
-    c.loop-index.to c.index-here.result.now c.loop-index.octets.items =
-    next_of c.args.octets.now.items c.args.waiting.now.items c.loop-index.index c.loop-index.to
-    c.loop-index.octets.items c.loop-index.waiting.items c.loop-index.invariant.0 h
-    c.index-here.result.now c.index-here.ensures in
-    omega (arith, n.ends, n.count, n.low)
+pub slice_bounds-extend_from_slice-end : goal.slice_bounds-extend_from_slice-end
+slice_bounds-extend_from_slice-end c =
+    let all = c.args.octets.now.items in
+    let ws = c.args.waiting.now.items in
+    let k = c.loop-index.index in
+    let w = c.index-here.result.now in
+    let p = c.loop-index.invariant.0 in
+    let h : k < length ws =
+    omega (arith, length_places all ws k c.loop-index.spare.items c.loop-index.waiting.items p) in
+    let n = here all ws k w c.requires.within h
+    (next_of all ws k c.loop-index.spare.items c.loop-index.waiting.items p h w
+    c.index-here.ensures) in
+    omega (arith, n.ends, ap length c.deref.ensures.value)
 
 pub loop-index-smaller : goal.loop-index-smaller
 loop-index-smaller c =
-    let h : c.loop-index.index < length c.args.waiting.now.items =
-    omega (
+    let h : c.loop-index.index < length c.args.waiting.now.items = omega (
       arith,
-      length_places c.args.octets.now.items c.args.waiting.now.items
-          c.loop-index.index c.loop-index.to c.loop-index.octets.items c.loop-index.waiting.items
-          c.loop-index.invariant.0,
+      length_places c.args.octets.now.items c.args.waiting.now.items c.loop-index.index
+          c.loop-index.spare.items c.loop-index.waiting.items c.loop-index.invariant.0,
     ) in
     omega (arith, h)
 
 pub loop-index-preserved : goal.loop-index-preserved
 loop-index-preserved c =
-    let h : c.loop-index.index < length c.args.waiting.now.items =
-    omega (
+    let all = c.args.octets.now.items in
+    let ws = c.args.waiting.now.items in
+    let k = c.loop-index.index in
+    let w = c.index-here.result.now in
+    let p = c.loop-index.invariant.0 in
+    let now = c.loop-index.spare.items in
+    let h : k < length ws =
+    omega (arith, length_places all ws k now c.loop-index.waiting.items p) in
+    let same = next_of all ws k now c.loop-index.waiting.items p h w c.index-here.ensures in
+    let long : length now ≡ counts (take k ws) =
+    length_copied all ws k now c.loop-index.waiting.items c.requires.within p in
+    let n = here all ws k w c.requires.within h same in
+    let m : w.from + w.count - w.from ≡ w.count = omega arith in
+    let here_from : c.len-from.result ≡ length now = omega (arith, c.len-from.ensures) in
+    let copied : c.extend_from_slice-copied.new.self.items ≡ now ++ octets_at all w.from w.count =
+    ok_items c.extend_from_slice-copied.result _ _ _
+    (c.extend_from_slice-copied.ensures.succeeds (rw (m, c.deref.ensures.value) (omega (
       arith,
-      length_places c.args.octets.now.items c.args.waiting.now.items
-          c.loop-index.index c.loop-index.to c.loop-index.octets.items c.loop-index.waiting.items
-          c.loop-index.invariant.0,
-    ) in (
-      rw c.copy_within.ensures.items (pack_step c.args.octets.now.items c.args.waiting.now.items
-          c.loop-index.index c.loop-index.to c.loop-index.octets.items c.loop-index.waiting.items
-          c.loop-index.invariant.0 h c.index-here.result.now c.index-here.ensures),
+      n.count,
+      long,
+      counts_take k ws w h same,
+      c.requires.room,
+      c.clear.ensures.capacity,
+      c.loop-index.invariant.2,
+    )))) c.extend_from_slice-copied.ensures.items ∙ rw (m, c.deref.ensures.value) refl in (
+      rw (copied, here_from) (pack_step all ws k now c.loop-index.waiting.items
+          c.requires.within p h w c.index-here.ensures),
       c.loop-index.invariant.1,
-      c.copy_within.ensures.capacity ∙ c.loop-index.invariant.2,
+      omega (arith, c.loop-index.invariant.2, c.extend_from_slice-copied.ensures.capacity),
     )
 
-pub returns-clause-items : goal.returns-clause-items
-returns-clause-items c = (pack_end c.args.octets.now.items c.args.waiting.now.items
-    c.loop-index.index c.loop-index.to c.loop-index.octets.items c.loop-index.waiting.items
-    c.loop-index.invariant.0 (omega (
-      arith,
-      length_places c.args.octets.now.items c.args.waiting.now.items c.loop-index.index
-          c.loop-index.to c.loop-index.octets.items c.loop-index.waiting.items
-          c.loop-index.invariant.0,
-    ))).0
-
-pub returns-clause-octets : goal.returns-clause-octets
-returns-clause-octets c = c.truncate.ensures.items
-    ∙ (pack_end c.args.octets.now.items c.args.waiting.now.items c.loop-index.index c.loop-index.to
-    c.loop-index.octets.items c.loop-index.waiting.items c.loop-index.invariant.0
+packed : (c : goal.After-swap) → IsPacked c.args.octets.now.items c.args.waiting.now.items
+    c.swap.new.x.items c.loop-index.waiting.items
+packed c =
+    let p = pack_end c.args.octets.now.items c.args.waiting.now.items c.loop-index.index
+    c.loop-index.spare.items c.loop-index.waiting.items c.requires.within c.loop-index.invariant.0
     (omega (
       arith,
       length_places c.args.octets.now.items c.args.waiting.now.items c.loop-index.index
-          c.loop-index.to c.loop-index.octets.items c.loop-index.waiting.items
-          c.loop-index.invariant.0,
-    ))).1
+          c.loop-index.spare.items c.loop-index.waiting.items c.loop-index.invariant.0,
+    )) in
+    rw c.swap.ensures.x_after p
+
+pub returns-clause-held : goal.returns-clause-held
+returns-clause-held c = (packed c).held
+
+pub returns-clause-within : goal.returns-clause-within
+returns-clause-within c = (packed c).within
+
+pub returns-clause-fits : goal.returns-clause-fits
+returns-clause-fits c = (packed c).fits

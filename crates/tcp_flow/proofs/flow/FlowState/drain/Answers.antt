@@ -3,7 +3,7 @@ use Rattle.std.specs.List.{remove}
 use Rattle.tcp_waiting.specs.Payload.{Payload, payload}
 use Rattle.tcp_flow.specs.Flow.{Flow, Event, first_of, at, is_due, drained_at_most, drained, taken}
 use Rattle.tcp_flow.specs.State.{state, IsState}
-use Rattle.tcp_waiting.proofs.Firsts.{first_within}
+use Rattle.tcp_waiting.proofs.Order.{first_within}
 use Rattle.tcp_flow.proofs.Steps.{flowing_none, flowing_stays, drain_takes, length_remove, due_now, due_reached, due_not}
 use Rattle.tcp_flow.proofs.States.{by_state, held_of}
 use Rattle.tcp_flow.proofs.flow.FlowState.drain.Goals as goal

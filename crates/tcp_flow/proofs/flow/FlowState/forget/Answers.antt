@@ -1,6 +1,6 @@
 use Rattle.std.proofs.Common.{◌≡◌, ◌<◌, ◌≤◌, [], List, length, get_or, is_some, refl, sym, ◌∙◌, ap, subst, arith}
 use Rattle.tcp_waiting.specs.Payload.{Payload, payload, blocks_of}
-use Rattle.tcp_waiting.proofs.Firsts.{first_within, first_own}
+use Rattle.tcp_waiting.proofs.Order.{first_within, first_own}
 use Rattle.tcp_flow.specs.Flow.{held_by_others, forgotten}
 use Rattle.tcp_flow.specs.State.{state}
 use Rattle.tcp_flow.proofs.Steps.{length_remove}

@@ -1,154 +1,188 @@
-use Rattle.std.proofs.Common.{◌≡◌, ◌<◌, ◌≤◌, ◌+◌, ◌/◌, ◌++◌, ◌∷◌, [], length, List, arith, refl, ◌∙◌, ap}
+use Rattle.std.proofs.Common.{◌≡◌, ◌<◌, ◌≤◌, ◌+◌, ◌*◌, ◌/◌, ◌^◌, ◌++◌, [], length, length-append, get_or, List, ℕ, Option, Some, None, IfSome, true, false, arith, refl, sym, subst, ◌∙◌, ap, inl, inr}
+use Rattle.std.specs.List.{insert}
+use Rattle.tcp_waiting.specs.declared.pool.Near.{Near}
 use Rattle.tcp_waiting.specs.declared.pool.Waiting.{Waiting}
-use Rattle.tcp_waiting.specs.Payload.{Payload, payload, blocks_of, count_of}
-use Rattle.tcp_waiting.specs.Layout.{held_in}
-use Rattle.tcp_waiting.proofs.Held.{length_held, held_pushed, laid_pushed, ok_items}
-use Rattle.tcp_waiting.proofs.Counts.{count_push, count_most}
-use Rattle.tcp_waiting.proofs.Queries.{blocks_push}
+use Rattle.tcp_waiting.specs.Payload.{Payload, payload, blocks_of, count_of, key_of, place_of, put}
+use Rattle.tcp_waiting.specs.Layout.{held_in, IsSmall, is_far_but}
+use Rattle.tcp_waiting.specs.Pool.{PoolView}
+use Rattle.tcp_waiting.proofs.Held.{length_held, held_inserted, all_insert, within_more, ok_items, ok_so}
+use Rattle.tcp_waiting.proofs.Counts.{count_insert, count_most}
+use Rattle.tcp_waiting.proofs.Ends.{far_insert, far_none_but, itself, another, set_cases}
+use Rattle.tcp_waiting.proofs.Order.{place_within, ordered_insert}
+use Rattle.tcp_waiting.proofs.Queries.{blocks_insert}
 use Rattle.tcp_waiting.proofs.Packing.{counts_blocks, length_blocks}
+use Rattle.tcp_waiting.proofs.pool.Pool.hold.Goals.{then-is_far, else-is_far}
 use Rattle.tcp_waiting.proofs.pool.Pool.hold.Goals as goal
 
-pub make_room-requires : goal.make_room-requires
-make_room-requires c =
-    let room : blocks_of (held_in c.self.inside.octets.items c.self.inside.waiting.items) +
-    (length c.args.octets.now + 1023) / 1024 ≤ c.self.inside.blocks + 256 =
+pub make_room-requires-clause-room : goal.make_room-requires-clause-room
+make_room-requires-clause-room c =
+    let a = c.self.inside in
+    let room : blocks_of (held_in a.octets.items a.waiting.items) +
+    (length c.args.octets.now + 1023) / 1024 ≤ a.blocks + 256 =
     rw (← c.self.view_is) at c.requires.room in
-    record {
-      laid = c.self.invariant.0;
-      bound = omega (arith, c.self.invariant.1.most);
-      room = omega (
-        arith,
-        counts_blocks c.self.inside.octets.items 0 c.self.inside.waiting.items
-            c.self.invariant.0,
-        room,
-      );
-    }
-
-pub invariant_of-self : goal.invariant_of-self
-invariant_of-self c =
-    let room : blocks_of (held_in c.self.inside.octets.items c.self.inside.waiting.items) +
-    (length c.args.octets.now + 1023) / 1024 ≤ c.self.inside.blocks + 256 =
-    rw (← c.self.view_is) at c.requires.room in
-    let v : Waiting = record {
-      flow = c.args.flow;
-      number = c.args.number;
-      from = c.len-from.result;
-      count = length c.args.octets.now;
-    } in
-    let octets : c.extend_from_slice-copied.new.self.items ≡ c.make_room.new.octets.items
-    ++ c.args.octets.now =
-    ok_items c.extend_from_slice-copied.result _ _ _
-    (c.extend_from_slice-copied.ensures.succeeds
-    (omega (
-      arith,
-      c.make_room.ensures.fits,
-      c.make_room.ensures.room,
-      c.self.invariant.1.octets,
-    ))) c.extend_from_slice-copied.ensures.items in
-    let waiting : c.push-noted.new.self.items ≡ c.make_room.new.waiting.items ++ v ∷ [] =
-    ok_items c.push-noted.result _ _ _ (c.push-noted.ensures.succeeds
-    (omega (
-      arith,
-      c.make_room.ensures.len,
-      c.make_room.ensures.places,
-      c.self.invariant.1.places,
-      length_blocks c.self.inside.octets.items 0
-          c.self.inside.waiting.items c.self.invariant.0,
-      room,
-      c.requires.some,
-    )))
-    c.push-noted.ensures.items in
-    let before = held_in c.self.inside.octets.items c.self.inside.waiting.items in
-    let p = payload c.args.flow c.args.number c.args.octets.now in
-    let held : held_in c.extend_from_slice-copied.new.self.items c.push-noted.new.self.items
-    ≡ before ++ p ∷ [] =
-    rw (octets, waiting)
-    (held_pushed c.make_room.new.octets.items c.args.octets.now 0 c.make_room.new.waiting.items v
-    c.make_room.ensures.laid (omega (arith, c.len-from.ensures)) refl
-    ∙ ap (λ (ps : List Payload). ps ++ p ∷ []) c.make_room.ensures.held) in (
-      rw (octets, waiting) (laid_pushed c.make_room.new.octets.items c.args.octets.now 0
-          c.make_room.new.waiting.items v c.make_room.ensures.laid
-          (omega (arith, c.len-from.ensures)) refl c.requires.some),
-      record {
-        most = c.self.invariant.1.most;
-        places = omega (
-          arith,
-          c.push-noted.ensures.capacity,
-          c.make_room.ensures.places,
-          c.self.invariant.1.places,
-        );
-        octets = omega (
-          arith,
-          c.extend_from_slice-copied.ensures.capacity,
-          c.make_room.ensures.room,
-          c.self.invariant.1.octets,
-        );
-      },
-      omega (
-        arith,
-        c.self.invariant.2,
-        c.blocks_for.ensures,
-        ap blocks_of held,
-        blocks_push before p,
-      ),
-      (λ flow l.
-          let l' : flow < length c.self.inside.counts.items =
-          omega (arith, l, c.count_more.ensures.len) in
-          omega (
-            arith,
-            c.count_more.ensures.counts flow l',
-            c.self.invariant.3 flow l',
-            ap (count_of flow) held,
-            count_push flow before p,
-          )),
-    )
+    omega (arith, counts_blocks a.octets.items a.waiting.items c.self.invariant.within, room)
 
 pub count_more-requires : goal.count_more-requires
 count_more-requires c at l =
     let a = c.self.inside in
     omega (
       arith,
-      c.self.invariant.3 at l,
+      c.self.invariant.counts at l,
       count_most at (held_in a.octets.items a.waiting.items),
       length_held a.octets.items a.waiting.items,
     )
 
-pub returns-clause-held : goal.returns-clause-held
-returns-clause-held c =
-    let room : blocks_of (held_in c.self.inside.octets.items c.self.inside.waiting.items) +
-    (length c.args.octets.now + 1023) / 1024 ≤ c.self.inside.blocks + 256 =
+pub insert-noted-requires : goal.insert-noted-requires
+insert-noted-requires c =
+    let a = c.self.inside in
+    let same = ap length c.make_room.ensures.held in
+    omega (
+      arith,
+      same,
+      c.place-place.ensures.place,
+      place_within c.key.result c.args.self.now.held,
+      ap (λ (v : PoolView). length v.held) c.self.view_is,
+      length_held a.octets.items a.waiting.items,
+      length_held c.make_room.new.octets.items c.make_room.new.waiting.items,
+    )
+
+-- what waits behind it, by where it is
+record IsHeld (c : goal.After-insert-noted) : Type 0 where
+  octets : c.extend_from_slice-copied.new.self.items ≡ c.make_room.new.octets.items
+      ++ c.args.octets.now
+  waiting : c.insert-noted.new.self.items
+      ≡ insert c.make_room.new.waiting.items c.place-place.result (record {
+        flow = c.args.flow;
+        number = c.args.number;
+        from = c.len-from.result;
+        count = length c.args.octets.now;
+      })
+  held : held_in c.extend_from_slice-copied.new.self.items c.insert-noted.new.self.items
+      ≡ put (payload c.args.flow c.args.number c.args.octets.now)
+      (held_in c.self.inside.octets.items c.self.inside.waiting.items)
+
+held_is : (c : goal.After-insert-noted) → IsHeld c
+held_is c =
+    let a = c.self.inside in
+    let mr = c.make_room.new in
+    let before = held_in a.octets.items a.waiting.items in
+    let room : blocks_of before + (length c.args.octets.now + 1023) / 1024 ≤ a.blocks + 256 =
     rw (← c.self.view_is) at c.requires.room in
+    let p = payload c.args.flow c.args.number c.args.octets.now in
     let v : Waiting = record {
       flow = c.args.flow;
       number = c.args.number;
       from = c.len-from.result;
       count = length c.args.octets.now;
     } in
-    let octets : c.extend_from_slice-copied.new.self.items ≡ c.make_room.new.octets.items
-    ++ c.args.octets.now =
-    ok_items c.extend_from_slice-copied.result _ _ _
-    (c.extend_from_slice-copied.ensures.succeeds
-    (omega (
+    let octets : c.extend_from_slice-copied.new.self.items ≡ mr.octets.items ++ c.args.octets.now =
+    ok_items c.extend_from_slice-copied.result _ _ _ (c.extend_from_slice-copied.ensures.succeeds
+    (omega (arith, c.make_room.ensures.fits, c.make_room.ensures.room)))
+    c.extend_from_slice-copied.ensures.items in
+    let waiting : c.insert-noted.new.self.items
+    ≡ insert mr.waiting.items c.place-place.result v = ok_so c.insert-noted.result _ _
+    c.insert-noted.ensures.full (λ h. omega (
       arith,
-      c.make_room.ensures.fits,
-      c.make_room.ensures.room,
-      c.self.invariant.1.octets,
-    ))) c.extend_from_slice-copied.ensures.items in
-    let waiting : c.push-noted.new.self.items ≡ c.make_room.new.waiting.items ++ v ∷ [] =
-    ok_items c.push-noted.result _ _ _ (c.push-noted.ensures.succeeds
-    (omega (
-      arith,
-      c.make_room.ensures.len,
+      h,
+      ap length c.make_room.ensures.held,
       c.make_room.ensures.places,
-      c.self.invariant.1.places,
-      length_blocks c.self.inside.octets.items 0
-          c.self.inside.waiting.items c.self.invariant.0,
+      c.self.invariant.roomy.places,
+      length_held a.octets.items a.waiting.items,
+      length_held mr.octets.items mr.waiting.items,
+      length_blocks before c.self.invariant.small,
       room,
       c.requires.some,
-    )))
-    c.push-noted.ensures.items in
-    rw (octets, waiting, ← c.self.view_is)
-    (held_pushed c.make_room.new.octets.items c.args.octets.now 0 c.make_room.new.waiting.items v
-    c.make_room.ensures.laid (omega (arith, c.len-from.ensures)) refl
-    ∙ ap (λ (ps : List Payload). ps ++ payload c.args.flow c.args.number c.args.octets.now ∷ [])
-    c.make_room.ensures.held)
+    )) c.insert-noted.ensures.items in
+    let place : c.place-place.result ≡ place_of (key_of p) before =
+    rw (← c.self.view_is) at (c.place-place.ensures.place
+    ∙ ap (λ (k : ℕ). place_of k c.args.self.now.held) c.key.ensures) in
+    record {
+      octets = octets;
+      waiting = waiting;
+      held = rw (octets, waiting) (held_inserted mr.octets.items c.args.octets.now
+          mr.waiting.items c.place-place.result v c.make_room.ensures.within
+          (omega (arith, c.len-from.ensures)) refl
+          ∙ rw (c.make_room.ensures.held, place) refl);
+    }
+
+pub invariant_of-self : goal.invariant_of-self
+invariant_of-self c =
+    let a = c.self.inside in
+    let mr = c.make_room.new in
+    let before = held_in a.octets.items a.waiting.items in
+    let room : blocks_of before + (length c.args.octets.now + 1023) / 1024 ≤ a.blocks + 256 =
+    rw (← c.self.view_is) at c.requires.room in
+    let p = payload c.args.flow c.args.number c.args.octets.now in
+    let place = place_of (key_of p) before in
+    let h = held_is c in
+    let top : length c.extend_from_slice-copied.new.self.items
+    ≡ length mr.octets.items + length c.args.octets.now =
+    ap length h.octets ∙ length-append mr.octets.items c.args.octets.now in
+    let known : IfSome c.if-is_far.near (λ m. is_far_but c.args.flow m.base m.number m.count
+    (put p before) ≡ false) = elim c.if-is_far.branch [
+      | then-is_far b ↦ rw b.near-is tt
+      | else-is_far b ↦
+          rw b.near-is (far_insert c.args.flow c.args.next c.args.number
+          (length c.args.octets.now) before place p
+          (far_none_but c.args.flow c.args.next c.args.number (length c.args.octets.now) before
+          (rw (← c.self.view_is) at (sym c.is_far.ensures ∙ b.if-is_far.false)))
+          (itself c.args.flow c.args.next p))
+    ] in
+    record {
+      within = rw (h.waiting, top) (all_insert
+          (λ (w : Waiting). w.from + w.count ≤ length mr.octets.items + length c.args.octets.now)
+          mr.waiting.items c.place-place.result _ (within_more (length mr.octets.items)
+          (length mr.octets.items + length c.args.octets.now) mr.waiting.items (omega arith)
+          c.make_room.ensures.within) (omega (arith, c.len-from.ensures)));
+      roomy = record {
+        most = c.self.invariant.roomy.most;
+        places = omega (
+          arith,
+          c.insert-noted.ensures.capacity,
+          c.make_room.ensures.places,
+          c.self.invariant.roomy.places,
+        );
+        octets = omega (
+          arith,
+          c.extend_from_slice-copied.ensures.capacity,
+          c.make_room.ensures.room,
+        );
+        spare = omega (arith, c.make_room.ensures.spare);
+        fits = omega (arith, top, c.make_room.ensures.fits);
+      };
+      ordered = rw h.held (ordered_insert p before c.self.invariant.ordered);
+      small = rw h.held (all_insert IsSmall before place p c.self.invariant.small (record {
+        number = omega (arith, c.ranges.number.fits);
+        some = c.requires.some;
+        short = omega (arith, room, c.self.invariant.roomy.most);
+      }));
+      used = omega (
+        arith,
+        c.self.invariant.used,
+        c.blocks_for.ensures,
+        ap blocks_of h.held,
+        blocks_insert before place p,
+      );
+      counts = λ flow l.
+          (let l' : flow < length a.counts.items = omega (arith, l, c.count_more.ensures.len) in
+          omega (
+            arith,
+            c.count_more.ensures.counts flow l',
+            c.self.invariant.counts flow l',
+            ap (count_of flow) h.held,
+            count_insert flow before place p,
+          ));
+      nears = λ flow n is. rw h.held (elim (set_cases a.nears.items c.args.flow flow
+          c.if-is_far.near n (ap (λ (xs : List (Option Near)). get_or xs flow None)
+          (sym c.note.ensures) ∙ is)) [
+            | inl e ↦ subst (λ (id : ℕ). is_far_but id n.base n.number n.count (put p before)
+                ≡ false) (sym e.0) (subst (λ (o : Option Near). IfSome o (λ m.
+                is_far_but c.args.flow m.base m.number m.count (put p before) ≡ false)) e.1 known)
+            | inr e ↦ far_insert flow n.base n.number n.count before place p
+                (c.self.invariant.nears flow n e.1)
+                (another flow n.base n.number n.count p e.0)
+          ]);
+    }
+
+pub returns-clause-held : goal.returns-clause-held
+returns-clause-held c = rw (← c.self.view_is) (held_is c).held

@@ -1,6 +1,7 @@
 use Rattle.std.proofs.Common.{◌≡◌, ◌<◌, ◌+◌, ◌-◌, [], length, arith, refl, ap}
 use Rattle.tcp_waiting.specs.Payload.{payload}
-use Rattle.tcp_waiting.proofs.Held.{IsWithin, length_held, get_held, laid_within}
+use Rattle.tcp_waiting.proofs.Held.{length_held, get_held}
+use Rattle.tcp_waiting.proofs.Queries.{here}
 use Rattle.tcp_waiting.proofs.pool.Pool.octets.Goals as goal
 
 pub index-here-requires : goal.index-here-requires
@@ -19,9 +20,8 @@ overflow_add-result c =
       length_held c.self.inside.octets.items c.self.inside.waiting.items,
       rw (← c.self.view_is) at c.requires,
     ) in
-    let k : IsWithin 0 c.index-here.result.now (length c.self.inside.octets.items) =
-    laid_within 0 c.self.inside.waiting.items (length c.self.inside.octets.items) c.args.index
-    c.index-here.result.now c.self.invariant.0 h c.index-here.ensures in
+    let k = here c.self.inside.octets.items c.self.inside.waiting.items c.args.index
+    c.index-here.result.now c.self.invariant.within h c.index-here.ensures in
     omega (arith, k.ends, ap length c.deref.ensures.value)
 
 pub slice_bounds-result-end : goal.slice_bounds-result-end
@@ -32,9 +32,8 @@ slice_bounds-result-end c =
       length_held c.self.inside.octets.items c.self.inside.waiting.items,
       rw (← c.self.view_is) at c.requires,
     ) in
-    let k : IsWithin 0 c.index-here.result.now (length c.self.inside.octets.items) =
-    laid_within 0 c.self.inside.waiting.items (length c.self.inside.octets.items) c.args.index
-    c.index-here.result.now c.self.invariant.0 h c.index-here.ensures in
+    let k = here c.self.inside.octets.items c.self.inside.waiting.items c.args.index
+    c.index-here.result.now c.self.invariant.within h c.index-here.ensures in
     omega (arith, k.ends, ap length c.deref.ensures.value)
 
 pub returns : goal.returns

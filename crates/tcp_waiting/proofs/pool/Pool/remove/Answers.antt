@@ -1,32 +1,15 @@
-use Rattle.std.proofs.Common.{◌<◌, length, arith, refl, sym, subst, ap, List}
-use Rattle.tcp_waiting.specs.Layout.{IsLaid, held_in}
+use Rattle.std.proofs.Common.{◌≡◌, ◌<◌, ◌≤◌, ◌+◌, length, arith, refl, sym, subst, ap, List, Option}
+use Rattle.std.specs.List.{remove}
+use Rattle.std.specs.Option.{OnSome}
+use Rattle.tcp_waiting.specs.Layout.{AreWithin, AreOrdered, AreSmall, IsSmall, held_in}
 use Rattle.tcp_waiting.specs.Payload.{blocks_of, count_of}
-use Rattle.tcp_waiting.proofs.Queries.{here, removed_blocks}
 use Rattle.tcp_waiting.proofs.Counts.{removed_counts, one_own}
+use Rattle.tcp_waiting.proofs.Ends.{far_remove}
+use Rattle.tcp_waiting.proofs.Held.{length_held, remove_held, all_remove}
+use Rattle.tcp_waiting.proofs.Order.{ordered_remove}
+use Rattle.tcp_waiting.proofs.Queries.{here, removed_blocks}
 use Rattle.tcp_waiting.specs.declared.pool.Waiting.{Waiting}
-use Rattle.tcp_waiting.proofs.Held.{length_held, remove_held, laid_remove}
 use Rattle.tcp_waiting.proofs.pool.Pool.remove.Goals as goal
-
-pub remove-requires : goal.remove-requires
-remove-requires c = omega (
-  arith,
-  length_held c.self.inside.octets.items
-      c.self.inside.waiting.items,
-  rw (← c.self.view_is) at c.requires,
-)
-
-pub blocks_for-requires : goal.blocks_for-requires
-blocks_for-requires c =
-    let a = c.self.inside in
-    let within : c.args.index < length a.waiting.items =
-    omega (
-      arith,
-      length_held a.octets.items a.waiting.items,
-      rw (← c.self.view_is) at c.requires,
-    ) in
-    let h = here a.octets.items a.waiting.items c.args.index c.index-removed.result.now
-    c.self.invariant.0 within c.index-removed.ensures in
-    omega (arith, h.ends)
 
 pub overflow_sub-self : goal.overflow_sub-self
 overflow_sub-self c =
@@ -39,45 +22,10 @@ overflow_sub-self c =
     ) in
     omega (
       arith,
-      c.self.invariant.2,
+      c.self.invariant.used,
       c.blocks_for.ensures,
       removed_blocks a.octets.items a.waiting.items c.args.index c.index-removed.result.now
-          c.self.invariant.0 within c.index-removed.ensures,
-    )
-
-pub invariant_of-self : goal.invariant_of-self
-invariant_of-self c =
-    let a = c.self.inside in
-    let within : c.args.index < length a.waiting.items =
-    omega (
-      arith,
-      length_held a.octets.items a.waiting.items,
-      rw (← c.self.view_is) at c.requires,
-    ) in
-    let less = removed_blocks a.octets.items a.waiting.items c.args.index c.index-removed.result.now
-    c.self.invariant.0 within c.index-removed.ensures in
-    let same = ap (λ (ws : List Waiting). blocks_of (held_in a.octets.items ws))
-    c.remove.ensures.items in (
-      subst (λ (ws : List Waiting). IsLaid 0 ws (length a.octets.items))
-          (sym c.remove.ensures.items) (laid_remove 0 a.waiting.items (length a.octets.items)
-          c.args.index c.self.invariant.0),
-      record {
-        most = c.self.invariant.1.most;
-        places = omega (arith, c.self.invariant.1.places, c.remove.ensures.capacity);
-        octets = c.self.invariant.1.octets;
-      },
-      omega (arith, c.self.invariant.2, c.blocks_for.ensures, less, same),
-      (λ flow l.
-          let l' : flow < length a.counts.items = omega (arith, l, c.count_less.ensures.len) in
-          omega (
-            arith,
-            c.count_less.ensures.counts flow l',
-            c.self.invariant.3 flow l',
-            ap (λ (ws : List Waiting). count_of flow (held_in a.octets.items ws))
-                c.remove.ensures.items,
-            removed_counts a.octets.items a.waiting.items c.args.index c.index-removed.result.now
-                flow within c.index-removed.ensures,
-          )),
+          c.self.invariant.within within c.index-removed.ensures,
     )
 
 pub count_less-requires : goal.count_less-requires
@@ -93,11 +41,70 @@ count_less-requires c l =
     let own = removed_counts a.octets.items a.waiting.items c.args.index w w.flow within
     c.index-removed.ensures in
     let own_one = one_own w.flow in
-    omega (arith, c.self.invariant.3 w.flow l, own, own_one)
+    omega (arith, c.self.invariant.counts w.flow l, own, own_one)
+
+gone : (c : goal.After-remove) → c.remove.new.self.items
+    ≡ remove c.self.inside.waiting.items c.args.index
+gone c =
+    let a = c.self.inside in
+    let within : c.args.index < length a.waiting.items =
+    omega (
+      arith,
+      length_held a.octets.items a.waiting.items,
+      rw (← c.self.view_is) at c.requires,
+    ) in
+    subst (λ (r : Option Waiting). OnSome r (c.remove.new.self.items
+    ≡ remove a.waiting.items c.args.index))
+    (c.remove.ensures.succeeds c.index-removed.result.now (omega (arith, within)))
+    c.remove.ensures.items
+
+pub invariant_of-self : goal.invariant_of-self
+invariant_of-self c =
+    let a = c.self.inside in
+    let w = c.index-removed.result.now in
+    let within : c.args.index < length a.waiting.items =
+    omega (
+      arith,
+      length_held a.octets.items a.waiting.items,
+      rw (← c.self.view_is) at c.requires,
+    ) in
+    let before = held_in a.octets.items a.waiting.items in
+    let held : held_in a.octets.items c.remove.new.self.items ≡ remove before c.args.index =
+    rw (gone c) (remove_held a.octets.items a.waiting.items c.args.index) in
+    record {
+      within = rw (gone c) (all_remove (λ (v : Waiting). v.from + v.count ≤ length a.octets.items)
+          a.waiting.items c.args.index c.self.invariant.within);
+      roomy = record {
+        most = c.self.invariant.roomy.most;
+        places = omega (arith, c.self.invariant.roomy.places, c.remove.ensures.capacity);
+        octets = c.self.invariant.roomy.octets;
+        spare = c.self.invariant.roomy.spare;
+        fits = c.self.invariant.roomy.fits;
+      };
+      ordered = rw held (ordered_remove before c.args.index c.self.invariant.ordered);
+      small = rw held (all_remove IsSmall before c.args.index c.self.invariant.small);
+      used = omega (
+        arith,
+        c.self.invariant.used,
+        c.blocks_for.ensures,
+        removed_blocks a.octets.items a.waiting.items c.args.index w c.self.invariant.within within
+            c.index-removed.ensures,
+        ap (λ (ws : List Waiting). blocks_of (held_in a.octets.items ws)) (gone c),
+      );
+      counts = λ flow l.
+          (let l' : flow < length a.counts.items = omega (arith, l, c.count_less.ensures.len) in
+          omega (
+            arith,
+            c.count_less.ensures.counts flow l',
+            c.self.invariant.counts flow l',
+            ap (λ (ws : List Waiting). count_of flow (held_in a.octets.items ws)) (gone c),
+            removed_counts a.octets.items a.waiting.items c.args.index w flow within
+                c.index-removed.ensures,
+          ));
+      nears = λ flow n is. rw held (far_remove flow n.base n.number n.count before c.args.index
+          (c.self.invariant.nears flow n is));
+    }
 
 pub returns-clause-held : goal.returns-clause-held
-returns-clause-held c = rw (← c.self.view_is, c.remove.ensures.items)
+returns-clause-held c = rw (← c.self.view_is, gone c)
     (remove_held c.self.inside.octets.items c.self.inside.waiting.items c.args.index)
-
-pub returns-clause-blocks : goal.returns-clause-blocks
-returns-clause-blocks c = rw (← c.self.view_is) refl

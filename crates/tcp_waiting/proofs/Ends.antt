@@ -1,0 +1,258 @@
+-- How far what a flow holds reaches: what is known of it stays so, and answers for another number.
+use Rattle.std.proofs.Common.{◌≡◌, ◌⊎◌, ℕ, zero, suc, ◌+◌, ◌-◌, ◌%◌, ◌^◌, ◌<◌, ◌≤◌, Bool, true, false, cond, not, nat_eq, nat_lt, nat_le, ◌&&◌, ◌||◌, List, [], ◌∷◌, length, get_or, set, Option, Some, None, refl, ap, sym, ◌∙◌, subst, arith, inl, inr}
+use Rattle.std.specs.List.{insert, remove}
+use Rattle.std.specs.Option.{option_map}
+use Rattle.std.proofs.lemmas.Bool.{eqb-true, eqb-false, eq-eqb, ne_eqb, ltb-true, ltb-false, lt-ltb, le-ltb, lt-leb, leb-true, leb-false, le-leb, and_parts, and_cases, and_from, and_left, and_right, or_parts, or_from, both_ways, false_from_ne_true, true_from_ne_false, not-true, not-false, not_from_true, cases_lt}
+use Rattle.std.proofs.lemmas.Option.{none-some}
+use Rattle.tcp_waiting.specs.Numbers.{ahead, rank}
+use Rattle.tcp_waiting.specs.Payload.{Payload, payload, earlier, first, is_far, ends_far, has_as_much, window}
+use Rattle.tcp_waiting.specs.Layout.{AreSmall, is_far_but}
+use Rattle.tcp_waiting.proofs.Order.{same_at}
+
+-- whether a payload of the flow is one of those that end far
+abbrev pub counts_far : ℕ → ℕ → ℕ → ℕ → Payload → Bool
+counts_far id next number count p =
+    nat_eq p.flow id && not (nat_eq p.number number && nat_eq (length p.octets) count)
+    && ends_far next p.number (length p.octets)
+
+pub far_insert : (id next number count : ℕ) (ps : List Payload) (i : ℕ) (p : Payload) →
+    is_far_but id next number count ps ≡ false → counts_far id next number count p ≡ false
+    → is_far_but id next number count (insert ps i p) ≡ false
+unfolding is_far_but
+far_insert id next number count [] zero p h c = or_from (counts_far id next number count p) false c
+    refl
+far_insert id next number count [] (suc i) p h c = or_from (counts_far id next number count p) false
+    c refl
+far_insert id next number count (q ∷ ps) zero p h c = or_from (counts_far id next number count p)
+    (counts_far id next number count q || is_far_but id next number count ps) c h
+far_insert id next number count (q ∷ ps) (suc i) p h c =
+    let e = or_parts (counts_far id next number count q) (is_far_but id next number count ps) h in
+    or_from (counts_far id next number count q) (is_far_but id next number count (insert ps i p))
+    e.0 (far_insert id next number count ps i p e.1 c)
+
+pub far_remove : (id next number count : ℕ) (ps : List Payload) (i : ℕ) →
+    is_far_but id next number count ps ≡ false
+    → is_far_but id next number count (remove ps i) ≡ false
+unfolding is_far_but
+far_remove id next number count [] zero h = h
+far_remove id next number count [] (suc i) h = h
+far_remove id next number count (q ∷ ps) zero h =
+    (or_parts (counts_far id next number count q) (is_far_but id next number count ps) h).1
+far_remove id next number count (q ∷ ps) (suc i) h =
+    let e = or_parts (counts_far id next number count q) (is_far_but id next number count ps) h in
+    or_from (counts_far id next number count q) (is_far_but id next number count (remove ps i)) e.0
+    (far_remove id next number count ps i e.1)
+
+fewer : (a b c : Bool) → (a && c) ≡ false → (a && b && c) ≡ false
+fewer true true c h = h
+fewer true false c h = refl
+fewer false b c h = refl
+
+-- where none ends far, none but some does
+pub far_none_but : (id next number count : ℕ) (ps : List Payload) → is_far id next ps ≡ false →
+    is_far_but id next number count ps ≡ false
+unfolding is_far is_far_but
+far_none_but id next number count [] h = refl
+far_none_but id next number count (p ∷ ps) h =
+    let e = or_parts (nat_eq p.flow id && ends_far next p.number (length p.octets))
+    (is_far id next ps) h in
+    or_from (counts_far id next number count p) (is_far_but id next number count ps)
+    (fewer (nat_eq p.flow id) (not (nat_eq p.number number && nat_eq (length p.octets) count))
+    (ends_far next p.number (length p.octets)) e.0)
+    (far_none_but id next number count ps e.1)
+
+-- the payload itself isn't counted
+pub itself : (id next : ℕ) (p : Payload) → counts_far id next p.number (length p.octets) p ≡ false
+itself id next p =
+    rw (eq-eqb p.number p.number refl, eq-eqb (length p.octets) (length p.octets) refl)
+    (and_left (nat_eq p.flow id && false) (ends_far next p.number (length p.octets))
+    (and_right (nat_eq p.flow id) false refl))
+
+-- nor is one of another flow
+pub another : (id next number count : ℕ) (p : Payload) → (p.flow ≡ id → ⊥) →
+    counts_far id next number count p ≡ false
+another id next number count p h = and_left
+    (nat_eq p.flow id && not (nat_eq p.number number && nat_eq (length p.octets) count))
+    (ends_far next p.number (length p.octets)) (and_left (nat_eq p.flow id)
+    (not (nat_eq p.number number && nat_eq (length p.octets) count)) (ne_eqb p.flow id h))
+
+-- ---- The answer by the one that is left out.
+
+shorter : (next number count more : ℕ) → count ≤ more → ends_far next number more ≡ false →
+    ends_far next number count ≡ false
+shorter next number count more h e = le-ltb window (ahead next number + count)
+    (omega (arith, ltb-false window (ahead next number + more) e))
+
+by_cases : (own same long as_long far it rest : Bool) →
+    (own && not (same && long) && far) ≡ false
+    → (same ≡ true → long ≡ true → (far ≡ it) × (as_long ≡ true))
+    → (same ≡ true → far ≡ false → as_long ≡ true → it ≡ false)
+    → ((own && far) || (it && rest)) ≡ (it && ((own && same && as_long) || rest))
+by_cases false same long as_long far it rest h q r = refl
+by_cases true false long as_long far it rest h q r = rw h refl
+by_cases true true true as_long far true rest h q r =
+    rw ((q refl refl).0, (q refl refl).1) refl
+by_cases true true true as_long far false rest h q r = rw (q refl refl).0 refl
+by_cases true true false true far it rest h q r = rw (h, r refl h refl) refl
+by_cases true true false false far it rest h q r = rw h refl
+
+one_far : (id next number count : ℕ) (p : Payload) → counts_far id next number count p ≡ false →
+    (rest : Bool) → ((nat_eq p.flow id && ends_far next p.number (length p.octets))
+    || (ends_far next number count && rest))
+    ≡ (ends_far next number count && ((nat_eq p.flow id && nat_eq p.number number
+    && nat_le count (length p.octets)) || rest))
+one_far id next number count p h rest = by_cases (nat_eq p.flow id) (nat_eq p.number number)
+    (nat_eq (length p.octets) count) (nat_le count (length p.octets))
+    (ends_far next p.number (length p.octets)) (ends_far next number count) rest h
+    (λ n l. (
+      (let x : p.number ≡ number = eqb-true p.number number n in
+          let y : length p.octets ≡ count = eqb-true (length p.octets) count l in
+          rw (x, y) refl),
+      le-leb count (length p.octets) (omega (arith, eqb-true (length p.octets) count l)),
+    ))
+    (λ n f l. shorter next number count (length p.octets) (leb-true count (length p.octets) l)
+    (subst (λ (m : ℕ). ends_far next m (length p.octets) ≡ false) (eqb-true p.number number n) f))
+
+pub far_by : (id next number count : ℕ) (ps : List Payload) →
+    is_far_but id next number count ps ≡ false
+    → is_far id next ps ≡ (ends_far next number count && has_as_much id number count ps)
+unfolding is_far is_far_but has_as_much
+far_by id next number count [] h = sym (and_right (ends_far next number count) false refl)
+far_by id next number count (p ∷ ps) h =
+    let e = or_parts (counts_far id next number count p) (is_far_but id next number count ps) h in
+    rw (far_by id next number count ps e.1)
+    (one_far id next number count p e.0 (has_as_much id number count ps))
+
+-- ---- Another number that is due.
+
+near_on : (base next number count : ℕ) → next < 2 ^ 32 → number < 2 ^ 32 →
+    ahead base next ≤ 2 ^ 31 → ahead next number < 2 ^ 31 → ends_far base number count ≡ false
+    → ends_far next number count ≡ false
+near_on base next number count n m a c h = le-ltb window (ahead next number + count)
+    (omega (arith, n, m, a, c, ltb-false window (ahead base number + count) h))
+
+one_on : (id base next number count : ℕ) (p : Payload) → next < 2 ^ 32 →
+    p.number < 2 ^ 32 → ahead base next ≤ 2 ^ 31
+    → (p.flow ≡ id → ahead next p.number < 2 ^ 31) → counts_far id base number count p ≡ false
+    → counts_far id next number count p ≡ false
+one_on id base next number count p n m a c h = false_from_ne_true
+    (counts_far id next number count p) (λ e.
+    let out : Bool = not (nat_eq p.number number && nat_eq (length p.octets) count) in
+    let there : Bool = ends_far next p.number (length p.octets) in
+    let here : Bool = ends_far base p.number (length p.octets) in
+    let x = and_parts (nat_eq p.flow id && out) there e in
+    let own = (and_parts (nat_eq p.flow id) out x.0).0 in
+    let far : here ≡ true = true_from_ne_false here (λ g. both_ways there
+    (near_on base next p.number (length p.octets) n m a (c (eqb-true p.flow id own)) g) x.1) in
+    both_ways (counts_far id base number count p) h
+    (and_from (nat_eq p.flow id && out) here x.0 far))
+
+-- all that a flow holds is ahead
+abbrev pub AreAhead : ℕ → ℕ → List Payload → Type 0
+AreAhead id next ps = (j : ℕ) (d : Payload) → j < length ps → (get_or ps j d).flow ≡ id →
+    ahead next (get_or ps j d).number < 2 ^ 31
+
+pub far_on : (id base next number count : ℕ) (ps : List Payload) → next < 2 ^ 32 →
+    ahead base next ≤ 2 ^ 31 → AreSmall ps → AreAhead id next ps
+    → is_far_but id base number count ps ≡ false → is_far_but id next number count ps ≡ false
+unfolding is_far_but
+far_on id base next number count [] n a s c h = refl
+far_on id base next number count (p ∷ ps) n a s c h =
+    let e = or_parts (counts_far id base number count p) (is_far_but id base number count ps) h in
+    or_from (counts_far id next number count p) (is_far_but id next number count ps)
+    (one_on id base next number count p n s.0.number a (λ own. c 0 p (omega arith) own) e.0)
+    (far_on id base next number count ps n a s.1
+    (λ j d l own. c (suc j) d (omega (arith, l)) own) e.1)
+
+-- ---- What the first of a flow says of all.
+
+-- no payload of the flow has a lesser rank than the one at an index, if any
+abbrev pub AreNotBefore : ℕ → ℕ → List Payload → Option ℕ → Type 0
+AreNotBefore id next ps None = (j : ℕ) (d : Payload) → j < length ps → (get_or ps j d).flow ≡ id → ⊥
+AreNotBefore id next ps (Some i) = (i < length ps) × ((j : ℕ) (d : Payload) → j < length ps →
+    (get_or ps j d).flow ≡ id → rank next (get_or ps i d).number ≤ rank next (get_or ps j d).number)
+
+in_each : (id : ℕ) (p : Payload) (ps : List Payload) (Q : ℕ → Payload → Payload → Type 0) →
+    ((d : Payload) → p.flow ≡ id → Q 0 d p)
+    → ((j : ℕ) (d : Payload) → j < length ps → (get_or ps j d).flow ≡ id
+    → Q (suc j) d (get_or ps j d))
+    → (j : ℕ) (d : Payload) → j < length (p ∷ ps) → (get_or (p ∷ ps) j d).flow ≡ id
+    → Q j d (get_or (p ∷ ps) j d)
+in_each id p ps Q q h zero d l own = q d own
+in_each id p ps Q q h (suc j) d l own = h j d (omega (arith, l)) own
+
+least_by : (id next : ℕ) (p : Payload) (ps : List Payload) (c : Bool) (r : Option ℕ) →
+    (c ≡ false → p.flow ≡ id → ⊥) → AreNotBefore id next ps r
+    → AreNotBefore id next (p ∷ ps) (cond c (earlier next p ps r) (option_map suc r))
+unfolding earlier
+least_by id next p ps true None n h = (
+  omega arith,
+  in_each id p ps (λ j d q. rank next p.number ≤ rank next q.number) (λ d own. omega arith)
+      (λ j d l own. absurd (h j d l own)),
+)
+least_by id next p ps true (Some k) n h =
+    elim (nat_lt (rank next (get_or ps k p).number) (rank next p.number)) as
+    (λ b. nat_lt (rank next (get_or ps k p).number) (rank next p.number) ≡ b →
+    AreNotBefore id next (p ∷ ps) (cond b (Some (suc k)) (Some 0))) [
+      | true ↦ (λ e. (
+        omega (arith, h.0),
+        in_each id p ps (λ j d q. rank next (get_or ps k d).number ≤ rank next q.number)
+            (λ d own. omega (
+              arith,
+              ltb-true (rank next (get_or ps k p).number) (rank next p.number) e,
+              ap (λ (q : Payload). rank next q.number) (same_at ps k d p h.0),
+            )) h.1,
+      ))
+      | false ↦ (λ e. (
+        omega arith,
+        in_each id p ps (λ j d q. rank next p.number ≤ rank next q.number) (λ d own. omega arith)
+            (λ j d l own. omega (
+              arith,
+              ltb-false (rank next (get_or ps k p).number) (rank next p.number) e,
+              ap (λ (q : Payload). rank next q.number) (same_at ps k d p h.0),
+              h.1 j d l own,
+            )),
+      ))
+    ] refl
+least_by id next p ps false None n h =
+    in_each id p ps (λ j d q. ⊥) (λ d own. n refl own) h
+least_by id next p ps false (Some k) n h = (
+  omega (arith, h.0),
+  in_each id p ps (λ j d q. rank next (get_or ps k d).number ≤ rank next q.number)
+      (λ d own. absurd (n refl own)) h.1,
+)
+
+pub first_least : (id next : ℕ) (ps : List Payload) →
+    AreNotBefore id next ps (first id next ps)
+unfolding first
+first_least id next [] = λ j d l own. absurd (omega (arith, l))
+first_least id next (p ∷ ps) = least_by id next p ps (nat_eq p.flow id) (first id next ps)
+    (λ e own. eqb-false p.flow id e own) (first_least id next ps)
+
+-- where the first is to come, all are ahead
+pub all_ahead : (id next : ℕ) (ps : List Payload) (i : ℕ) → first id next ps ≡ Some i →
+    ((d : Payload) → ahead next (get_or ps i d).number < 2 ^ 31) → AreAhead id next ps
+all_ahead id next ps i is h =
+    let least : AreNotBefore id next ps (Some i) =
+    subst (λ (r : Option ℕ). AreNotBefore id next ps r) is (first_least id next ps) in
+    λ j d l own. omega (arith, least.1 j d l own, h d)
+
+-- ---- What is known of each flow.
+
+none_there : {X : Type 0} (j : ℕ) (x : X) → get_or [] j None ≡ Some x → ⊥
+none_there zero x h = none-some x h
+none_there (suc j) x h = none-some x h
+
+-- what stands in a list once an element is set: that, or what stood there
+pub set_cases : {X : Type 0} (xs : List (Option X)) (i j : ℕ) (v : Option X) (x : X) →
+    get_or (set xs i v) j None ≡ Some x
+    → ((j ≡ i) × (v ≡ Some x)) ⊎ ((i ≡ j → ⊥) × (get_or xs j None ≡ Some x))
+set_cases [] zero j v x h = absurd (none_there j x h)
+set_cases [] (suc i) j v x h = absurd (none_there j x h)
+set_cases (y ∷ xs) zero zero v x h = inl (refl, h)
+set_cases (y ∷ xs) zero (suc j) v x h = inr ((λ e. omega (arith, e)), h)
+set_cases (y ∷ xs) (suc i) zero v x h = inr ((λ e. omega (arith, e)), h)
+set_cases (y ∷ xs) (suc i) (suc j) v x h = elim (set_cases xs i j v x h) [
+  | inl a ↦ inl (ap suc a.0, a.1)
+  | inr b ↦ inr ((λ e. b.0 (omega (arith, e))), b.1)
+]
