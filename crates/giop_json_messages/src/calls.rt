@@ -3,7 +3,6 @@
 use crate::half::Half;
 use crate::objects::{Room, Settings, put_ascii};
 use crate::rows::Call;
-use giop_json_values::Text;
 use giop_lines::{Said, Value};
 use giop_print::Out;
 use giop_view_parts::{
@@ -18,6 +17,8 @@ pub struct Calls {
     alloc: Global,
     settings: Settings,
     room: Room,
+    // For the members after those of the bodies.
+    back: Room,
     // The Requests that wait for their replies; by their connections and by when they began too.
     waiting: Pool<Half>,
     by_connection: BTreeMap<(u64, u64), Key>,
@@ -33,6 +34,7 @@ impl Calls {
             alloc,
             settings,
             room: Room::new(alloc),
+            back: Room::new(alloc),
             waiting: Pool::new(alloc),
             by_connection: BTreeMap::new(alloc),
             early: Pool::new(alloc),
@@ -76,9 +78,11 @@ impl Calls {
             row.extend_from_slice(if body.is_empty() { b"null" } else { body })?;
         }
         row.push(b',')?;
-        let mut back = Text::new(Vec::new(self.alloc));
+        let mut back = self.back.text();
         call.put_back(&mut back)?;
-        row.extend_from_slice(&back.into_octets())?;
+        let back = back.into_octets();
+        row.extend_from_slice(&back)?;
+        self.back.give(back);
         row.push(b'\n')?;
         put_ascii(out, &row)?;
         self.room.give(row);
