@@ -107,7 +107,7 @@ impl Calls {
             self.put_call(out, open, Some(other), None)?;
         }
         let mut request = request;
-        request.own.wait();
+        request.own.wait(open.spare());
         if let Some(of) = request.own.connection {
             self.by_connection.insert((of.id, request.order), key)?;
         }
@@ -132,7 +132,7 @@ impl Calls {
             return self.put_call(out, open, None, Some(reply));
         }
         let mut reply = reply;
-        reply.own.wait();
+        reply.own.wait(open.spare());
         self.early.insert(key, reply)?;
         Ok(())
     }
@@ -265,7 +265,7 @@ impl Maker for Calls {
         open: &mut Open<Half>,
     ) -> Result<(), ViewFault> {
         match stream.connection {
-            Some(of) if ending.is_over && ending.is_last => self.end_connection(out, open, of),
+            Some(of) if ending.is_end() => self.end_connection(out, open, of),
             _ => Ok(()),
         }
     }
