@@ -407,7 +407,10 @@ fn common_front(left: &[u8], right: &[u8]) -> usize {
 fn part_end(path: &[u8], start: usize) -> usize {
     let first = start.saturating_add(1);
     let behind = path.get(first..).unwrap_or_default();
-    match behind.iter().position(|octet| *octet == b'.' || *octet == b'[') {
+    match behind
+        .iter()
+        .position(|octet| *octet == b'.' || *octet == b'[')
+    {
         None => path.len(),
         Some(place) => first + place,
     }

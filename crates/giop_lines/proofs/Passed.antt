@@ -75,7 +75,8 @@ record Pairs (digits : List ℕ) : Type 0 where
   spelled : digits ≡ flat_map hex_octet octets
 
 pairs : (ds : List ℕ) → length ds % 2 ≡ 0 → list_all is_hex_digit ds ≡ true → Pairs ds
-pairs [] even e = record { octets = []; small = All-nil (λ x. x < 256); many = refl; spelled = refl }
+pairs [] even e =
+    record { octets = []; small = All-nil (λ x. x < 256); many = refl; spelled = refl }
 pairs (a ∷ []) even e = absurd (omega (arith, even))
 pairs (a ∷ b ∷ ds) even e =
     let h = both (is_hex_digit a) (list_all is_hex_digit (b ∷ ds)) e in
