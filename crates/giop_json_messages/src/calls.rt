@@ -3,7 +3,6 @@
 use crate::half::Half;
 use crate::objects::{Room, Settings, put_ascii};
 use crate::rows::Call;
-use giop_json_values::Text;
 use giop_lines::{Said, Value};
 use giop_print::Out;
 use giop_view_parts::{
@@ -18,6 +17,8 @@ pub struct Calls {
     alloc: Global,
     settings: Settings,
     room: Room,
+    // For the members after those of the bodies.
+    back: Room,
     // The Requests that wait for their replies; by their connections and by when they began too.
     waiting: Pool<Half>,
     by_connection: BTreeMap<(u64, u64), Key>,
@@ -33,6 +34,7 @@ impl Calls {
             alloc,
             settings,
             room: Room::new(alloc),
+            back: Room::new(alloc),
             waiting: Pool::new(alloc),
             by_connection: BTreeMap::new(alloc),
             early: Pool::new(alloc),
@@ -76,9 +78,11 @@ impl Calls {
             row.extend_from_slice(if body.is_empty() { b"null" } else { body })?;
         }
         row.push(b',')?;
-        let mut back = Text::new(Vec::new(self.alloc));
+        let mut back = self.back.text();
         call.put_back(&mut back)?;
-        row.extend_from_slice(&back.into_octets())?;
+        let back = back.into_octets();
+        row.extend_from_slice(&back)?;
+        self.back.give(back);
         row.push(b'\n')?;
         put_ascii(out, &row)?;
         self.room.give(row);
@@ -103,7 +107,7 @@ impl Calls {
             self.put_call(out, open, Some(other), None)?;
         }
         let mut request = request;
-        request.own.wait();
+        request.own.wait(open.spare());
         if let Some(of) = request.own.connection {
             self.by_connection.insert((of.id, request.order), key)?;
         }
@@ -128,7 +132,7 @@ impl Calls {
             return self.put_call(out, open, None, Some(reply));
         }
         let mut reply = reply;
-        reply.own.wait();
+        reply.own.wait(open.spare());
         self.early.insert(key, reply)?;
         Ok(())
     }
@@ -261,7 +265,7 @@ impl Maker for Calls {
         open: &mut Open<Half>,
     ) -> Result<(), ViewFault> {
         match stream.connection {
-            Some(of) if ending.is_over && ending.is_last => self.end_connection(out, open, of),
+            Some(of) if ending.is_end() => self.end_connection(out, open, of),
             _ => Ok(()),
         }
     }

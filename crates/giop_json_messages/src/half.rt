@@ -2,8 +2,9 @@
 
 use giop_json_values::{Options, Values};
 use giop_lines::{Content, Said, Value};
-use giop_view_parts::{Of, Own, Stream, replace};
+use giop_view_parts::{Message, Of, Own, Stream, replace};
 use std::alloc::{AllocError, Global};
+use std::mem;
 
 /// How many octets of an object key are written.
 const OBJECT_MAX: usize = 128;
@@ -122,9 +123,12 @@ impl Half {
         Ok(())
     }
 
-    /// Keeps no room but that of what it holds: the message waits.
-    pub(crate) fn wait(&mut self) {
-        self.values = Values::new(self.alloc);
+    /// Keeps no room but that of what it holds: the message waits. Another one may have it.
+    pub(crate) fn wait(&mut self, other: Option<&mut Message<Half>>) {
+        let room = mem::replace(&mut self.values, Values::new(self.alloc));
+        if let Some(message) = other {
+            message.own.values = room;
+        }
     }
 
     /// Drops the text.

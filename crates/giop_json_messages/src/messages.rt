@@ -1,5 +1,8 @@
 //! An object for each message, stream and capture, once it is over.
 
+ghost use Rattle.std.specs.Prelude.{◌≡◌, ◌++◌, [], codes, if◌then◌else◌, OnOk};
+ghost use Rattle.giop_json_messages.specs.Members.{begins_member};
+
 use crate::message::{Parts, put_front, put_later_line, put_values};
 use crate::objects::{Room, Settings, put_ascii, put_later};
 use giop_json_values::Text;
@@ -48,9 +51,7 @@ impl Messages {
         put_front(&mut front, message, is_last)?;
         let mut values = put_values(self.alloc, message, is_last)?;
         let mut front = front.into_octets();
-        if let Some(b'"') = values.first() {
-            front.push(b',')?;
-        }
+        separate(&mut front, &values)?;
         values.push(b'\n')?;
         out.put_all(&front)?;
         put_ascii(out, &values)?;
@@ -212,6 +213,17 @@ impl Maker for Messages {
             is_loss: false,
         })
     }
+}
+
+/// Adds a comma to the first members of an object, if others follow.
+fn separate(front: &mut Vec<u8>, others: &[u8]) -> Result<(), AllocError>
+    ensures { OnOk result (front.new.items ≡ front.old.items
+        ++ (if begins_member others.now then codes "," else [])) }
+{
+    if let [b'"', ..] = others {
+        front.push(b',')?;
+    }
+    Ok(())
 }
 
 /// Writes the number of a stream and its ends.

@@ -1,5 +1,8 @@
 //! The objects and lists that are open, by the paths that they stand at.
 
+ghost use Rattle.std.specs.Prelude.{◌≡◌, ◌++◌, [], if◌then◌else◌, map, take, drop, OnOk};
+ghost use Rattle.giop_json_values.specs.Nesting.{is_list, closers};
+
 use crate::text::{Text, shown_text};
 use giop_lines::number;
 use std::alloc::{AllocError, Global};
@@ -54,8 +57,10 @@ struct Frame {
 }
 
 impl Frame {
-    fn is_list(&self) -> bool {
-        self.shape == Shape::List
+    fn is_list(&self) -> bool
+        ensures { result ≡ is_list self.now.shape }
+    {
+        matches!(self.shape, Shape::List)
     }
 
     fn is_open_encapsulation(&self) -> bool {
@@ -104,11 +109,12 @@ impl Frames {
     }
 
     /// Closes all at the end of a part.
-    pub(crate) fn close(&mut self, text: &mut Text) -> Result<(), AllocError> {
+    pub(crate) fn close(&mut self, text: &mut Text) -> Result<(), AllocError>
+        ensures { OnOk result (text.new.tokens ≡ text.old.tokens ++ (if self.old.is_closed then []
+            else closers (map (λ f. f.shape) self.old.open.items))) }
+    {
         if !self.is_closed {
-            for frame in self.open.iter().rev() {
-                text.close(frame.is_list())?;
-            }
+            close_all(text, &self.open)?;
         }
         self.is_closed = true;
         Ok(())
@@ -172,11 +178,14 @@ impl Frames {
     }
 
     /// Closes all but the outermost so many.
-    pub(crate) fn close_to(&mut self, text: &mut Text, count: usize) -> Result<(), AllocError> {
-        for _ in count..self.open.len() {
-            if let Some(frame) = self.open.pop() {
-                text.close(frame.is_list())?;
-            }
+    pub(crate) fn close_to(&mut self, text: &mut Text, count: usize) -> Result<(), AllocError>
+        ensures closed { OnOk result (text.new.tokens ≡ text.old.tokens
+            ++ closers (map (λ f. f.shape) (drop count self.old.open.items))) }
+        ensures open { OnOk result (self.new.open.items ≡ take count self.old.open.items) }
+    {
+        if count < self.open.len() {
+            close_all(text, &self.open[count..])?;
+            self.open.truncate(count);
         }
         let end = self.open.last().map_or(0, |frame| frame.end);
         self.path.truncate(end);
@@ -370,6 +379,17 @@ impl Frames {
     }
 }
 
+/// Closes some, the last first.
+fn close_all(text: &mut Text, frames: &[Frame]) -> Result<(), AllocError>
+    ensures { OnOk result (text.new.tokens ≡ text.old.tokens
+        ++ closers (map (λ f. f.shape) frames.now)) }
+{
+    for closed in 0..frames.len() {
+        text.close(frames[frames.len() - 1 - closed].is_list())?;
+    }
+    Ok(())
+}
+
 /// How many of the first octets two paths share.
 fn common_front(left: &[u8], right: &[u8]) -> usize {
     if right.starts_with(left) {
@@ -385,12 +405,15 @@ fn common_front(left: &[u8], right: &[u8]) -> usize {
 
 /// Where the part of a path ends that begins at an octet.
 fn part_end(path: &[u8], start: usize) -> usize {
-    for (place, octet) in path.iter().enumerate().skip(start.saturating_add(1)) {
-        if *octet == b'.' || *octet == b'[' {
-            return place;
-        }
+    let first = start.saturating_add(1);
+    let behind = path.get(first..).unwrap_or_default();
+    match behind
+        .iter()
+        .position(|octet| *octet == b'.' || *octet == b'[')
+    {
+        None => path.len(),
+        Some(place) => first + place,
     }
-    path.len()
 }
 
 /// The last part of a path.

@@ -2,7 +2,7 @@
 //! by the user's choice.
 
 use crate::options::Characters;
-use crate::text::{Text, shown_size};
+use crate::text::{Text, shown_size, shown_text};
 use arrayvec::ArrayVec;
 use giop_lines::first_octet;
 use std::alloc::{AllocError, Global};
@@ -53,6 +53,9 @@ impl Letters {
 
     /// Adds a piece of the text of a line.
     pub(crate) fn add(&mut self, piece: &[u8], characters: Characters) -> Result<(), AllocError> {
+        if characters == Characters::Escapes {
+            return self.add_plain(shown_text(piece));
+        }
         let mut rest = piece;
         for _ in 0..piece.len() {
             let Some((octet, next)) = first_octet(rest) else {
@@ -123,7 +126,7 @@ impl Letters {
     fn add_escaped(&mut self, octet: u8) -> Result<(), AllocError> {
         if is_plain(octet) {
             let room = [octet];
-            return self.add_plain(crate::text::shown_text(&room));
+            return self.add_plain(shown_text(&room));
         }
         let digits = b"0123456789abcdef";
         let escape = [
@@ -132,7 +135,7 @@ impl Letters {
             digits[usize::from(octet / 16)],
             digits[usize::from(octet % 16)],
         ];
-        self.add_plain(crate::text::shown_text(&escape))
+        self.add_plain(shown_text(&escape))
     }
 
     /// No more comes: what has begun of a character is none.

@@ -147,9 +147,7 @@ impl Text {
     pub fn unsigned(&mut self, value: u64) -> Result<(), AllocError>
         ensures { Writes result self.old self.new (number (decimal value)) }
     {
-        let mut buffer = itoa::Buffer::new();
-        let digits = buffer.format(value);
-        self.count(digits.len());
+        self.count(digits_of(value));
         self.writer.u64(value)
     }
 
@@ -157,9 +155,7 @@ impl Text {
     pub fn signed(&mut self, value: i64) -> Result<(), AllocError>
         ensures { Writes result self.old self.new (number (signed_decimal value)) }
     {
-        let mut buffer = itoa::Buffer::new();
-        let digits = buffer.format(value);
-        self.count(digits.len());
+        self.count(digits_of(value.unsigned_abs()).saturating_add(usize::from(value < 0)));
         self.writer.i64(value)
     }
 
@@ -186,8 +182,32 @@ impl Text {
     }
 }
 
+/// How many decimal digits a number has.
+fn digits_of(number: u64) -> usize {
+    match number {
+        0..=9 => 1,
+        10..=99 => 2,
+        100..=999 => 3,
+        1_000..=9_999 => 4,
+        10_000..=99_999 => 5,
+        _ => itoa::Buffer::new().format(number).len(),
+    }
+}
+
+/// Whether each octet of a text is one of ASCII that JSON has no escape for.
+fn is_short(text: &[u8]) -> bool {
+    let mut is_short = true;
+    for octet in text {
+        is_short &= *octet < 0x80 && *octet != b'"' && *octet != b'\\';
+    }
+    is_short
+}
+
 /// How many octets a text has between the quotes of JSON in ASCII.
 pub(crate) fn shown_size(text: &[u8]) -> usize {
+    if is_short(text) {
+        return text.len();
+    }
     let mut size: usize = 0;
     for octet in text {
         size = size.saturating_add(match *octet {

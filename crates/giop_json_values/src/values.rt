@@ -1,5 +1,8 @@
 //! The values of a message, as members of its object.
 
+ghost use Rattle.std.specs.Prelude.{◌≡◌, ◌++◌, [], None, IsSome, IsTrue, IsFalse, OnOk};
+ghost use Rattle.json.specs.Print.{print};
+
 use crate::frames::{Frames, Key, Shape};
 use crate::options::{Characters, Options};
 use crate::pieces::{Form, Part};
@@ -74,7 +77,10 @@ impl Values {
     }
 
     /// Takes the text that was written, and goes on with none.
-    pub fn take_text(&mut self, alloc: Global) -> Vec<u8> {
+    pub fn take_text(&mut self, alloc: Global) -> Vec<u8>
+        ensures told { result.items ≡ self.old.text.before ++ print self.old.text.tokens }
+        ensures left { self.new.text.tokens ≡ [] }
+    {
         let text = mem::replace(&mut self.text, Text::new(Vec::new(alloc)));
         self.shown.clear();
         self.due = None;
@@ -215,6 +221,15 @@ impl Values {
             self.due_path.clear();
             self.due_path.extend_from_slice(part.path)?;
         }
+        self.add(options, part)
+    }
+
+    /// Adds a piece of a content; where no more of it is due, the content ends.
+    fn add(&mut self, options: Options, part: Part<'_>) -> Result<(), AllocError>
+        ensures more { IsTrue part.entry.more → OnOk result (IsSome self.new.due) }
+        ensures open { IsTrue part.entry.more → self.new.text ≡ self.old.text }
+        ensures last { IsFalse part.entry.more → OnOk result (self.new.due ≡ None) }
+    {
         self.due = Some(Due {
             form: part.form,
             offset: part.end(),
@@ -277,7 +292,9 @@ impl Values {
 
     /// Ends the content whose pieces came, where more of them were due, too.
     #[inline]
-    fn end_content(&mut self) -> Result<(), AllocError> {
+    fn end_content(&mut self) -> Result<(), AllocError>
+        ensures { OnOk result (self.new.due ≡ None) }
+    {
         if self.due.is_none() {
             return Ok(());
         }

@@ -1,7 +1,7 @@
 -- Decimal numbers without leading zeros.
 use Rattle.std.proofs.Common.{◌≡◌, ℕ, zero, suc, ◌-◌, ◌^◌, ◌<◌, ◌≤◌, false, eqb, List, [], ◌∷◌, length, get_or, take, sym, ap, subst, ◌∙◌, arith}
 use Rattle.std.proofs.Math.Nat.{pow-le-pow_right}
-use Rattle.std.specs.Prelude.{Result, Ok, Err}
+use Rattle.std.specs.Prelude.{Option, None, Result, Ok, Err}
 use Rattle.std.specs.Result.{OkIff, result_ok}
 use Rattle.std.specs.Char.{digit_value}
 use Rattle.std.specs.Fmt.{decimal}
@@ -57,12 +57,10 @@ digit_is b low high = omega (arith, digit_value_digit b (low, high))
 pub is_digit_octet : (b : ℕ) → digit_value b < 10 → (48 ≤ b) × (b ≤ 57)
 is_digit_octet b h = let k = digit_from_value b h in (omega arith, omega arith)
 
--- the digits before the last of at most twenty
-pub value_small : (ds : List ℕ) (i : ℕ) → i < length ds → length ds ≤ 20 → AllDigits 10 (take i ds)
-    → digits_value 10 (take i ds) < 10000000000000000000
-value_small ds i lt most h =
-    let l : length (take i ds) ≤ 19 = omega (arith, length-take i ds) in
-    omega (arith, digits_value-lt 10 (take i ds) h, pow-le-pow_right {n = 10} (omega arith) l)
+-- a text that is the spelling of no number below a limit
+pub not_below : (limit : ℕ) (ds : List ℕ) (r : Option ℕ) → r ≡ None
+    → ((n : ℕ) → n < limit → ds ≡ decimal n → ⊥) → IsNumberBelow limit ds r
+not_below limit ds r e h = subst (λ (o : Option ℕ). IsNumberBelow limit ds o) (sym e) h
 
 -- the digits of a number below a limit
 pub is_number : {E : Type 0} (limit : ℕ) → limit ≤ 2 ^ 64 → (ds : List ℕ) (n : ℕ) (v : Result ℕ E)

@@ -22,11 +22,11 @@ holds_at p (suc n) x t h =
       | inr g ↦ holds_at p n x (and_r _ (holds p n) t) (omega arith)
     ]
 
-low_digit : (d : ℕ) → d < 10 → hex_digit d ≡ d + 48
+pub low_digit : (d : ℕ) → d < 10 → hex_digit d ≡ d + 48
 unfolding holds
 low_digit d h = eqb→eq _ _ (holds_at (λ x. eqb (hex_digit x) (x + 48)) 10 d tt h)
 
-high_digit : (d : ℕ) → d < 6 → hex_digit (d + 10) ≡ d + 97
+pub high_digit : (d : ℕ) → d < 6 → hex_digit (d + 10) ≡ d + 97
 unfolding holds
 high_digit d h = eqb→eq _ _ (holds_at (λ x. eqb (hex_digit (x + 10)) (x + 97)) 6 d tt h)
 
@@ -67,7 +67,7 @@ escape_plain ds x rest e lt plain y next small other e2 =
     let no : true ≡ false = plain ∙ ap is_plain same ∙ other in
     absurd cc
 
-escaped_plain : (x : ℕ) → is_plain x ≡ true → escaped_octet x ≡ x ∷ []
+pub escaped_plain : (x : ℕ) → is_plain x ≡ true → escaped_octet x ≡ x ∷ []
 escaped_plain x e = rw e refl
 
 escaped_other : (x : ℕ) → is_plain x ≡ false → escaped_octet x ≡ codes "\\x" ++ hex_octet x

@@ -1,13 +1,14 @@
 -- How far a text was gone through: what was read of it, and what is left.
-use Rattle.std.proofs.Common.{◌≡◌, ℕ, zero, suc, ◌+◌, ◌≤◌, ◌<◌, Bool, true, false, not, List, [], ◌∷◌, ◌++◌, length, append_assoc, append-nil, length-append, flat_map, refl, sym, ap, subst, ◌∙◌, arith}
+use Rattle.std.proofs.Common.{◌≡◌, ℕ, ◌+◌, ◌-◌, ◌≤◌, ◌<◌, true, List, [], ◌∷◌, ◌++◌, length, get_or, take, drop, take_all, append_assoc, append-nil, length-append, flat_map, refl, sym, ap, subst, ◌∙◌, arith}
 use Rattle.std.specs.Prelude.{All, ◌==◌}
 use Rattle.std.proofs.lemmas.Bool.{eqb-true}
+use Rattle.std.proofs.lemmas.List.{take-append-le}
 use Rattle.std.proofs.lemmas.List.Concat.{flat_map-append}
 use Rattle.std.proofs.lemmas.List.Elements.{All-nil, All-cons, All-append}
-use Rattle.giop_print.specs.Text.{escaped, escaped_octet, hex, hex_octet}
+use Rattle.giop_print.specs.Text.{escaped, escaped_octet}
 use Rattle.giop_lines.specs.declared.paths.Part.{Part}
-use Rattle.giop_lines.specs.Texts.{IsText, AreOctets}
-use Rattle.giop_lines.specs.Paths.{part_text, IsRoot, IsInner}
+use Rattle.giop_lines.specs.Texts.{IsText}
+use Rattle.giop_lines.specs.Paths.{part_text, IsRoot, IsInner, IsPath}
 
 pub record Gone {A : Type 0} (is : A → Type 0) (spell : A → List ℕ) (text rest : List ℕ) (n : ℕ)
     : Type 0 where
@@ -50,40 +51,8 @@ text_gone most n text rest g le e =
       spelled = ends (λ x. x < 256) escaped_octet text rest n g e;
     }
 
-pub octets_gone : (n : ℕ) (text rest : List ℕ) → Gone (λ x. x < 256) hex_octet text rest n
-    → n ≤ 32 → length rest ≡ 0 → 0 < length text → AreOctets text
-unfolding hex
-octets_gone n text rest g le e some =
-    let is = ends (λ x. x < 256) hex_octet text rest n g e in
-    record {
-      octets = g.items;
-      small = g.are;
-      some = some_items g.items (omega (arith, ap length is));
-      few = omega (arith, g.many);
-      spelled = is;
-    }
-  where
-    some_items : (xs : List ℕ) → 0 < length (flat_map hex_octet xs) → 0 < length xs
-    some_items [] h = absurd (omega arith)
-    some_items (x ∷ xs) h = omega arith
-
 pub is_none : (n : ℕ) → (n == 0) ≡ true → n ≡ 0
 is_none n e = eqb-true n 0 e
-
-pub is_some : (b : Bool) (n : ℕ) → b ≡ (n == 0) → not b ≡ true → 0 < n
-is_some b zero e f = let no : false ≡ true = sym (ap not e) ∙ f in absurd cc
-is_some b (suc n) e f = omega arith
-
--- where something was read there is a text
-pub some_gone : (n : ℕ) (text rest : List ℕ) → Gone (λ x. x < 256) hex_octet text rest n → 0 < n
-    → 0 < length text
-some_gone n text rest g some =
-    subst (λ (xs : List ℕ). 0 < length xs) (sym g.spelled)
-    (some_items g.items (omega (arith, g.many)))
-  where
-    some_items : (xs : List ℕ) → 0 < length xs → 0 < length (flat_map hex_octet xs ++ rest)
-    some_items [] h = absurd (omega arith)
-    some_items (x ∷ xs) h = omega arith
 
 -- the same of a path after its root
 pub record PathGone (path rest : List ℕ) (n : ℕ) : Type 0 where
@@ -113,3 +82,37 @@ path_more path rest next n part g is e =
       spelled = g.spelled;
       gone = gone_more IsInner part_text g.behind rest next n part g.gone is e;
     }
+
+-- what stands before the rest is a path
+pub path_front : (text rest : List ℕ) (n : ℕ) → PathGone text rest n → n ≤ 24
+    → (path : List ℕ) × IsPath path × (text ≡ path ++ rest)
+path_front text rest n g few = (
+  g.root ++ flat_map part_text g.gone.items,
+  record {
+    root = g.root;
+    parts = g.gone.items;
+    is_root = g.is_root;
+    are_parts = g.gone.are;
+    few = omega (arith, g.gone.many, few);
+    spelled = refl;
+  },
+  g.spelled ∙ ap (λ (xs : List ℕ). g.root ++ xs) g.gone.spelled
+      ∙ sym (append_assoc g.root (flat_map part_text g.gone.items) rest),
+)
+
+pub before_rest : (text path rest : List ℕ) → text ≡ path ++ rest
+    → take (length text - length rest) text ≡ path
+before_rest text path rest e =
+    subst (λ (xs : List ℕ). take (length xs - length rest) xs ≡ path) (sym e)
+    (let k : length (path ++ rest) - length rest ≡ length path =
+    omega (arith, length-append path rest) in
+    ap (λ (n : ℕ). take n (path ++ rest)) k
+    ∙ take-append-le (length path) path rest (omega arith)
+    ∙ take_all (length path) path (omega arith))
+
+pub first_and_rest : (xs : List ℕ) (x : ℕ) → 0 < length xs → get_or xs 0 0 ≡ x
+    → xs ≡ x ∷ take (length xs - 1) (drop 1 xs)
+first_and_rest [] x some e = absurd (omega arith)
+first_and_rest (y ∷ ys) x some e =
+    ap (λ (z : ℕ). z ∷ ys) e
+    ∙ ap (λ (zs : List ℕ). x ∷ zs) (sym (take_all (length (y ∷ ys) - 1) ys (omega arith)))

@@ -2,4 +2,5 @@ mod Decimals
 mod Integers
 mod Digits
 mod Gone
+mod Passed
 mod Spelled

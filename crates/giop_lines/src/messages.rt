@@ -7,7 +7,7 @@ ghost use Rattle.giop_lines.specs.Lines.{said_text, fault_text, IsSaid};
 use crate::line::{Answers, Call, Fault, Said, Start, Time};
 use crate::names::{are_seconds, is_name, is_time, is_type, is_word};
 use crate::numbers::{number, ordinal, ulong};
-use crate::paths::is_path;
+use crate::paths::path;
 use crate::pieces::rest;
 use crate::values::{order, value};
 use crate::words::{after, first_word, without_more, word};
@@ -17,9 +17,7 @@ pub fn of_message(text: &[u8], is_captured: bool) -> Option<Said<'_>>
     ensures spelled { IfSome result (λ s. text.now ≡ said_text s) }
     ensures fields { IfSome result IsSaid }
 {
-    if let Some((path, behind)) = word(text)
-        && is_path(path)
-    {
+    if let Some((path, behind)) = path(text) {
         return Some(Said::Value(path, value(behind)?));
     }
     match text {

@@ -52,17 +52,26 @@ pub fn is_printed(text: &[u8]) -> bool
 pub fn is_letter(octet: u8) -> bool
     ensures { result ≡ is_letter octet }
 {
-    octet.is_ascii_lowercase()
-        || octet.is_ascii_uppercase()
-        || octet.is_ascii_digit()
-        || octet == b'_'
+    if octet >= b'a' {
+        octet <= b'z'
+    } else {
+        octet.is_ascii_uppercase() || octet.is_ascii_digit() || octet == b'_'
+    }
 }
 
 /// Whether this is the name of a type's part: 1 to 64 letters, digits and `_`, the first of them no digit.
 pub fn is_part_name(name: &[u8]) -> bool
     ensures { result ≡ is_part_name name.now }
 {
-    !name.is_empty() && name.len() <= PART_MAX && !name[0].is_ascii_digit() && are_letters(name)
+    are_letters(name) && is_part_of_letters(name)
+}
+
+/// The same of letters, digits and `_`.
+pub fn is_part_of_letters(name: &[u8]) -> bool
+    requires { list_all is_letter name.now ≡ true }
+    ensures { result ≡ is_part_name name.now }
+{
+    !name.is_empty() && name.len() <= PART_MAX && !name[0].is_ascii_digit()
 }
 
 fn are_letters(name: &[u8]) -> bool

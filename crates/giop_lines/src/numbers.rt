@@ -18,14 +18,14 @@ pub fn number(digits: &[u8]) -> Option<u64>
     if digits.len() > 1 && digits[0] == b'0' {
         return None;
     }
-    let mut n: u128 = 0;
+    let mut n: u64 = 0;
     for d in digits {
         if !d.is_ascii_digit() {
             return None;
         }
-        n = n * 10 + u128::from(*d - b'0');
+        n = n.checked_mul(10)?.checked_add(u64::from(*d - b'0'))?;
     }
-    u64::try_from(n).ok()
+    Some(n)
 }
 
 /// The number below 2 ^ 32 whose decimal digits these are.

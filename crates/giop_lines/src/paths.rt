@@ -1,11 +1,11 @@
 //! Paths: a root, and what is added for each part on the way (docs/FORMATS.md, Values).
 
 ghost use Rattle.std.specs.Prelude.{◌≡◌, ◌≤◌, ◌++◌, codes, true, length, IfSome};
-ghost use Rattle.std.specs.List.{prefix_len};
+ghost use Rattle.std.specs.List.{list_all, prefix_len};
 ghost use Rattle.giop_lines.specs.Names.{is_letter};
-ghost use Rattle.giop_lines.specs.Paths.{is_border, IsRoot, IsInner, IsFirstPart, IsPath};
+ghost use Rattle.giop_lines.specs.Paths.{is_border, part_text, IsRoot, IsInner, IsFirstPart, IsPath};
 
-use crate::names::{is_letter, is_part_name};
+use crate::names::{is_letter, is_part_of_letters};
 use crate::numbers::ulong;
 use crate::words::after;
 
@@ -36,6 +36,14 @@ fn name_len(text: &[u8]) -> usize
     text.len()
 }
 
+/// The letters, digits and `_` that a text begins with, and what follows them.
+fn letters(text: &[u8]) -> (&[u8], &[u8])
+    ensures spelled { text.now ≡ result.0.now ++ result.1.now }
+    ensures letters { list_all is_letter result.0.now ≡ true }
+{
+    text.split_at(name_len(text))
+}
+
 /// Whether a path ends here, or a part of it begins.
 fn is_border(text: &[u8]) -> bool
     ensures { result ≡ is_border text.now }
@@ -50,30 +58,34 @@ fn is_border(text: &[u8]) -> bool
 pub fn first_part(path: &[u8]) -> Option<(Part<'_>, &[u8])>
     ensures { IsFirstPart path.now result }
 {
-    match inner_part(path) {
-        Some(found) => Some(found),
-        None => root(path),
+    let (part, rest) = match root(path) {
+        Some((word, rest)) => (Part::Root(word), rest),
+        None => inner_part(path)?,
+    };
+    if is_border(rest) {
+        Some((part, rest))
+    } else {
+        None
     }
 }
 
-/// The same of a part after the root.
-fn inner_part(path: &[u8]) -> Option<(Part<'_>, &[u8])>
-    ensures first { IsFirstPart path.now result }
-    ensures inner { IfSome result (λ f. IsInner f.0) }
+/// The part that a text begins with, but for a root, and what follows it.
+fn inner_part(text: &[u8]) -> Option<(Part<'_>, &[u8])>
+    ensures { IfSome result (λ f. IsInner f.0 × (text.now ≡ part_text f.0 ++ f.1.now)) }
 {
-    if let Some(behind) = after(path, b"[") {
-        return index(behind);
+    match text {
+        [b'.', behind @ ..] => name(behind),
+        [b'[', behind @ ..] => index(behind),
+        _ => None,
     }
-    name(after(path, b".")?)
 }
 
 /// A member's name, after its dot.
 fn name(text: &[u8]) -> Option<(Part<'_>, &[u8])>
-    ensures first { IsFirstPart (codes "." ++ text.now) result }
-    ensures inner { IfSome result (λ f. IsInner f.0) }
+    ensures { IfSome result (λ f. IsInner f.0 × (codes "." ++ text.now ≡ part_text f.0 ++ f.1.now)) }
 {
-    let (name, rest) = text.split_at(name_len(text));
-    if is_part_name(name) && is_border(rest) {
+    let (name, rest) = letters(text);
+    if is_part_of_letters(name) {
         Some((Part::Name(name), rest))
     } else {
         None
@@ -82,60 +94,39 @@ fn name(text: &[u8]) -> Option<(Part<'_>, &[u8])>
 
 /// An element's number, after its bracket.
 fn index(text: &[u8]) -> Option<(Part<'_>, &[u8])>
-    ensures first { IsFirstPart (codes "[" ++ text.now) result }
-    ensures inner { IfSome result (λ f. IsInner f.0) }
+    ensures { IfSome result (λ f. IsInner f.0 × (codes "[" ++ text.now ≡ part_text f.0 ++ f.1.now)) }
 {
-    let (digits, behind) = text.split_at(name_len(text));
+    let (digits, behind) = letters(text);
     let rest = after(behind, b"]")?;
-    let index = ulong(digits)?;
-    if is_border(rest) {
-        Some((Part::Index(index), rest))
-    } else {
-        None
-    }
+    Some((Part::Index(ulong(digits)?), rest))
 }
 
-/// The root that a path begins with, and what follows it.
-fn root_word(text: &[u8]) -> Option<(&[u8], &[u8])>
-    ensures is_root { IfSome result (λ r. IsRoot r.0.now) }
-    ensures border { IfSome result (λ r. is_border r.1.now ≡ true) }
+/// The root that a text begins with, and what follows it.
+fn root(text: &[u8]) -> Option<(&[u8], &[u8])>
+    ensures root { IfSome result (λ r. IsRoot r.0.now) }
     ensures spelled { IfSome result (λ r. text.now ≡ r.0.now ++ r.1.now) }
 {
-    let (word, rest) = text.split_at(name_len(text));
-    if is_root(word) && is_border(rest) {
-        Some((word, rest))
-    } else {
-        None
+    if let Some(rest) = after(text, b"header") {
+        return Some((b"header", rest));
     }
+    if let Some(rest) = after(text, b"body") {
+        return Some((b"body", rest));
+    }
+    Some((b"exception", after(text, b"exception")?))
 }
 
-fn root(text: &[u8]) -> Option<(Part<'_>, &[u8])>
-    ensures { IsFirstPart text.now result }
+/// The path that a text begins with, before its first space, and what follows the space.
+pub fn path(text: &[u8]) -> Option<(&[u8], &[u8])>
+    ensures path { IfSome result (λ p. IsPath p.0.now) }
+    ensures spelled { IfSome result (λ p. text.now ≡ p.0.now ++ (codes " " ++ p.1.now)) }
 {
-    let (word, rest) = root_word(text)?;
-    Some((Part::Root(word), rest))
-}
-
-/// Whether a word is that of a root.
-fn is_root(word: &[u8]) -> bool
-    ensures { result ≡ true → IsRoot word.now }
-{
-    word == b"body".as_slice() || word == b"header".as_slice() || word == b"exception".as_slice()
-}
-
-/// Whether this is a path: a root, and at most 24 parts.
-pub fn is_path(path: &[u8]) -> bool
-    ensures { result ≡ true → IsPath path.now }
-{
-    let mut rest = match root_word(path) {
-        Some((_, rest)) => rest,
-        None => return false,
-    };
-    for _part in 0..PARTS_MAX {
-        match inner_part(rest) {
-            Some((_, next)) => rest = next,
-            None => return rest.is_empty(),
+    let (_, mut rest) = root(text)?;
+    for _part in 0..=PARTS_MAX {
+        if let [b' ', behind @ ..] = rest {
+            return Some((&text[..text.len() - rest.len()], behind));
         }
+        let (_, next) = inner_part(rest)?;
+        rest = next;
     }
-    rest.is_empty()
+    None
 }

@@ -1,13 +1,15 @@
 //! Pieces of a content: their offset, their octets, and whether more comes.
 
 ghost use Rattle.std.specs.Prelude.{◌≡◌, ◌++◌, codes, decimal, true, IfSome};
+ghost use Rattle.std.specs.List.{list_all};
+ghost use Rattle.giop_lines.specs.Numbers.{is_hex_digit};
 ghost use Rattle.giop_lines.specs.Texts.{AreOctets};
 ghost use Rattle.giop_lines.specs.Values.{value_text, IsValue, content_word, spaced_digits, IsHexadecimal, MayBeOctets};
 ghost use Rattle.giop_lines.specs.Lines.{said_text, IsSaid};
 
 use crate::line::{Content, Piece, Said, Value};
-use crate::numbers::{number, ulong};
-use crate::texts::{is_text, pair};
+use crate::numbers::{is_digit, number, ulong};
+use crate::texts::is_text;
 use crate::words::{after, before, without_more, word};
 
 /// The most octets of a piece.
@@ -17,14 +19,21 @@ const PIECE_MAX: u32 = 32;
 fn are_octets(digits: &[u8]) -> bool
     ensures { result ≡ true → AreOctets digits.now }
 {
-    let mut rest = digits;
-    for _octet in 0..PIECE_MAX {
-        match pair(rest) {
-            Some((_, next)) => rest = next,
-            None => return rest.is_empty() && !digits.is_empty(),
-        }
+    !digits.is_empty()
+        && digits.len() % 2 == 0
+        && digits.len() as u64 / 2 <= u64::from(PIECE_MAX)
+        && are_digits(digits)
+}
+
+/// Whether each octet is a lower-case hexadecimal digit.
+fn are_digits(digits: &[u8]) -> bool
+    ensures { result ≡ list_all is_hex_digit digits.now }
+{
+    let mut are = true;
+    for octet in digits {
+        are &= is_digit(*octet);
     }
-    rest.is_empty()
+    are
 }
 
 /// A piece of a string, behind its kind.

@@ -8,7 +8,7 @@ use crate::line::{Line, Said};
 use crate::messages::of_message;
 use crate::names::is_printed;
 use crate::numbers::ordinal;
-use crate::paths::is_path;
+use crate::paths::path;
 use crate::streams::{of_dump, of_stream};
 use crate::words::{after, first_word, word};
 
@@ -79,10 +79,11 @@ fn later(text: &[u8], stream: u64, message: u64) -> Option<Said<'_>>
     {
         return Some(Said::Later(text));
     }
-    if message == 0 || !is_path(front) {
+    if message == 0 {
         return None;
     }
-    let (kind, value) = word(behind?)?;
+    let (_, behind) = path(text)?;
+    let (kind, value) = word(behind)?;
     if is_new(kind, 1, &KINDS) && !value.is_empty() {
         Some(Said::Later(text))
     } else {

@@ -1,6 +1,7 @@
 //! The octets of a string as a line has them: what stands for itself, and escapes.
 
 ghost use Rattle.std.specs.Prelude.{◌≡◌, true};
+ghost use Rattle.std.specs.List.{list_all};
 ghost use Rattle.giop_print.specs.Text.{is_plain};
 ghost use Rattle.giop_lines.specs.Texts.{IsFirstOctet, IsEscaped, IsPair, IsText};
 
@@ -12,6 +13,17 @@ fn is_plain(octet: u8) -> bool
     ensures { result ≡ is_plain octet }
 {
     octet >= 0x20 && octet <= 0x7e && octet != b'"' && octet != b'\\'
+}
+
+/// Whether each octet stands for itself.
+fn are_plain(text: &[u8]) -> bool
+    ensures { result ≡ list_all is_plain text.now }
+{
+    let mut are = true;
+    for octet in text {
+        are &= is_plain(*octet);
+    }
+    are
 }
 
 /// The first octet of a text, and what follows it: an escape `\xHH` is one octet, which doesn't stand for itself.
@@ -52,6 +64,9 @@ pub fn pair(digits: &[u8]) -> Option<(u8, &[u8])>
 pub fn is_text(text: &[u8], most: u32) -> bool
     ensures { result ≡ true → IsText most text.now }
 {
+    if are_plain(text) {
+        return text.len() as u64 <= u64::from(most);
+    }
     let mut rest = text;
     for _octet in 0..most {
         match first_octet(rest) {

@@ -4,7 +4,6 @@ ghost use Rattle.std.specs.Prelude.{◌≡◌, ◌-◌, ◌&&◌, true, not};
 ghost use Rattle.giop_stat_counts.specs.Counts.{plus};
 
 use crate::message::Counted;
-use crate::seconds::nanoseconds;
 use crate::times::Times;
 use giop_view_parts::{Facts, Kind, Message, Status};
 use std::alloc::{AllocError, Global};
@@ -67,8 +66,12 @@ impl Row {
         &self.ids
     }
 
-    /// Counts a message.
-    pub(crate) fn add(&mut self, message: &Message<Counted>) -> Result<(), AllocError> {
+    /// Counts a message; of a reply the nanoseconds since its call, if they are known.
+    pub(crate) fn add(
+        &mut self,
+        message: &Message<Counted>,
+        time: Option<i128>,
+    ) -> Result<(), AllocError> {
         let facts = &message.facts;
         self.octets = self.octets.saturating_add(message.octets);
         self.faults = plus(self.faults, !facts.fault.is_none());
@@ -76,7 +79,7 @@ impl Row {
             Kind::Request if !facts.operation.is_empty() => {
                 self.add_call(message.key.stream > 0, facts.is_oneway)
             }
-            Kind::Reply => self.add_reply(facts)?,
+            Kind::Reply => self.add_reply(facts, time)?,
             _ => {}
         }
         if facts.raises.is_empty() {
@@ -95,14 +98,14 @@ impl Row {
         self.awaited = plus(self.awaited, is_captured && !is_oneway);
     }
 
-    fn add_reply(&mut self, reply: &Facts) -> Result<(), AllocError>
+    fn add_reply(&mut self, reply: &Facts, time: Option<i128>) -> Result<(), AllocError>
         ensures { self.new.replies ≡ plus self.old.replies true }
     {
         self.replies = plus(self.replies, true);
         self.answered = plus(self.answered, reply.answers.is_some());
         self.user = plus(self.user, reply.status == Status::User);
         self.system = plus(self.system, reply.status == Status::System);
-        match nanoseconds(&reply.seconds) {
+        match time {
             None => Ok(()),
             Some(time) => self.times.add(time),
         }

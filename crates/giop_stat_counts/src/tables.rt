@@ -3,6 +3,7 @@
 use crate::choice::By;
 use crate::message::Counted;
 use crate::row::{Row, plus};
+use crate::seconds::nanoseconds;
 use crate::table::Table;
 use crate::talks::Talks;
 use giop_json_values::shown_text;
@@ -93,9 +94,10 @@ impl Tables {
         message: &Message<Counted>,
     ) -> Result<(), AllocError> {
         let pair = self.place_of_ends(stream)?;
-        add_to(self.operations.row(place), message)?;
-        add_to(self.pairs.row(pair), message)?;
-        add_to(self.talks.row(stream.connection), message)
+        let time = nanoseconds(&message.facts.seconds);
+        add_to(self.operations.row(place), message, time)?;
+        add_to(self.pairs.row(pair), message, time)?;
+        add_to(self.talks.row(stream.connection), message, time)
     }
 
     /// Counts a fault of a stream, or a gap.
@@ -114,10 +116,14 @@ impl Tables {
     }
 }
 
-fn add_to(row: Option<&mut Row>, message: &Message<Counted>) -> Result<(), AllocError> {
+fn add_to(
+    row: Option<&mut Row>,
+    message: &Message<Counted>,
+    time: Option<i128>,
+) -> Result<(), AllocError> {
     match row {
         None => Ok(()),
-        Some(row) => row.add(message),
+        Some(row) => row.add(message, time),
     }
 }
 

@@ -1,6 +1,6 @@
 //! The connections that streams are of, by their two endpoints.
 
-ghost use Rattle.std.specs.Prelude.{◌≡◌, ◌<◌, ◌-◌, ◌↔◌, IsTrue};
+ghost use Rattle.std.specs.Prelude.{◌≡◌, ◌<◌, ◌-◌, ◌↔◌, ◌&&◌, IsTrue};
 
 use lru::LruCache;
 use std::alloc::{AllocError, Global};
@@ -68,6 +68,15 @@ pub struct Ending {
     pub is_over: bool,
     /// Whether none of its streams lives.
     pub is_last: bool,
+}
+
+impl Ending {
+    /// Whether no more lines of the connection come.
+    pub fn is_end(&self) -> bool
+        ensures { result ≡ (self.now.is_over && self.now.is_last) }
+    {
+        self.is_over && self.is_last
+    }
 }
 
 /// The connections that are known.

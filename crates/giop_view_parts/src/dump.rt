@@ -114,15 +114,25 @@ impl<V: Maker + Drop> Dump<V> {
             }
             self.end_current(out)?;
         }
-        if let Some(first) = self.streams.first_without_room(key.stream) {
-            self.end_stream(out, first)?;
+        match self.open.current_key() {
+            // Its stream is known.
+            Some(current) if current.stream == key.stream => {}
+            _ => self.enter_stream(out, key.stream)?,
         }
-        self.streams.enter(key.stream)?;
         if key.number == 0 {
             return self.take_of_stream(out, key.stream, said);
         }
         self.take_of_message(out, key, said)?;
         self.make_room(out)
+    }
+
+    /// Knows a stream, in the place of the one that began first where there is no room.
+    fn enter_stream<O: Out>(&mut self, out: &mut O, stream: u64) -> Result<(), ViewFault> {
+        if let Some(first) = self.streams.first_without_room(stream) {
+            self.end_stream(out, first)?;
+        }
+        self.streams.enter(stream)?;
+        Ok(())
     }
 
     /// Takes a line that tells of a message that has ended.

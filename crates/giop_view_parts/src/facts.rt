@@ -94,6 +94,7 @@ pub struct Facts {
     pub header: Option<Header>,
     /// The word of its type.
     pub word: Vec<u8>,
+    kind: Kind,
     has_time: bool,
     /// When it began.
     pub time: Vec<u8>,
@@ -131,6 +132,7 @@ impl Facts {
         Facts {
             header: None,
             word: Vec::new(alloc),
+            kind: Kind::Other,
             has_time: false,
             time: Vec::new(alloc),
             packet: 0,
@@ -153,6 +155,7 @@ impl Facts {
     pub(crate) fn clear(&mut self) {
         self.header = None;
         self.word.clear();
+        self.kind = Kind::Other;
         self.has_time = false;
         self.time.clear();
         self.packet = 0;
@@ -173,12 +176,12 @@ impl Facts {
 
     /// What the message is.
     pub fn kind(&self) -> Kind {
-        Kind::of(&self.word)
+        self.kind
     }
 
     /// Whether, after its end, a line may still tell its time, what it answers or what it raises.
     pub(crate) fn may_wait(&self) -> bool {
-        let is_other = self.header.is_some() && self.word.as_slice() != b"Reply".as_slice();
+        let is_other = self.header.is_some() && self.kind != Kind::Reply;
         let is_whole = self.has_time && (is_other || self.answers.is_some());
         let has_raised = self.has_exception || matches!(self.status, Status::User | Status::System);
         !is_whole || has_raised && self.raises.is_empty()
@@ -234,6 +237,7 @@ impl Facts {
             size: start.size,
             more: start.more,
         });
+        self.kind = Kind::of(start.kind);
         replace(&mut self.word, start.kind)
     }
 

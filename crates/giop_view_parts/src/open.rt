@@ -136,6 +136,14 @@ impl<M: Own> Open<M> {
         Ok(())
     }
 
+    /// A message that is over, whose room is kept, if there is one.
+    pub fn spare(&mut self) -> Option<&mut Message<M>> {
+        match self.spare.last_mut() {
+            None => None,
+            Some(message) => Some(message),
+        }
+    }
+
     /// Counts the current message, a Fragment, for the one that it continues, if that is open.
     pub(crate) fn join(&mut self, number: u64) {
         let Some(fragment) = &mut self.current else {

@@ -1,7 +1,8 @@
-use Rattle.std.proofs.Common.{◌≡◌, ◌<◌, ◌^◌, length, get_or, take, take_all, arith, sym}
+use Rattle.std.proofs.Common.{◌≡◌, ◌+◌, ◌<◌, ◌^◌, length, get_or, take, take_all, arith, sym}
 use Rattle.std.proofs.lemmas.Bool.{eqb-true}
 use Rattle.std.proofs.lemmas.Int.Digits.{digits_value_more, digits_more}
-use Rattle.giop_lines.proofs.Decimals.{AllDigits-at, is_written, is_short, digit_is, is_digit_octet, value_small, is_number, is_some_length}
+use Rattle.std.proofs.lemmas.Str.Parse.{digits_value-take-le}
+use Rattle.giop_lines.proofs.Decimals.{AllDigits-at, is_written, is_short, digit_is, is_digit_octet, written_is, is_some_length, not_below}
 use Rattle.giop_lines.proofs.numbers.number.Goals as goal
 use Rattle.giop_lines.proofs.numbers.number.Goals.{then-is_empty-via-then-is_empty, then-is_empty-via-else-is_empty+then-digits-gt-DIGITS_MAX, else-digits-gt1-via-then-digits-gt1+else-digits-eq48, else-digits-gt1-via-else-digits-gt1}
 
@@ -28,20 +29,23 @@ returns-then-not-is_ascii_digit c = λ n lt e.
     let t = c.if-not-is_ascii_digit.ensures.cases in
     omega (arith, t, d)
 
-pub overflow_mul-n : goal.overflow_mul-n
-overflow_mul-n c =
-    let b = value_small c.args.digits.now c.loop-d.d-index c.loop-d-test.true
-    c.if-digits-gt-DIGITS_MAX.false
-    c.loop-d.invariant.digits in
-    omega (arith, b)
+pub returns-in_err-checked_mul : goal.returns-in_err-checked_mul
+returns-in_err-checked_mul c = not_below (2 ^ 64) c.args.digits.now c.from_residual.result
+    c.from_residual.ensures λ m lt e.
+    let w = is_written c.args.digits.now m lt e in
+    let d = digits_value_more 10 c.args.digits.now c.loop-d.d-index c.loop-d-test.true in
+    let le = digits_value-take-le 10 c.args.digits.now (c.loop-d.d-index + 1) (omega arith) in
+    c.in_err-checked_mul.ensures (omega (arith, w.value, d, le, c.loop-d.invariant.value))
 
-pub overflow_add-n : goal.overflow_add-n
-overflow_add-n c =
-    let b = value_small c.args.digits.now c.loop-d.d-index c.loop-d-test.true
-    c.if-digits-gt-DIGITS_MAX.false
-    c.loop-d.invariant.digits in
+pub returns-in_err-n : goal.returns-in_err-n
+returns-in_err-n c = not_below (2 ^ 64) c.args.digits.now c.from_residual-in_err-n.result
+    c.from_residual-in_err-n.ensures λ m lt e.
+    let w = is_written c.args.digits.now m lt e in
+    let d = digits_value_more 10 c.args.digits.now c.loop-d.d-index c.loop-d-test.true in
+    let le = digits_value-take-le 10 c.args.digits.now (c.loop-d.d-index + 1) (omega arith) in
     let t = c.if-not-is_ascii_digit.ensures.cases in
-    omega (arith, b, t, c.from.ensures)
+    let v = digit_is (get_or c.args.digits.now c.loop-d.d-index 0) t.0 t.1 in
+    c.in_err-n.ensures (omega (arith, w.value, d, le, v, c.loop-d.invariant.value))
 
 pub loop-d-preserved : goal.loop-d-preserved
 loop-d-preserved c =
@@ -56,8 +60,11 @@ loop-d-preserved c =
             c.loop-d-test.true,
         v,
         c.from.ensures,
+        c.in_ok-checked_mul.ensures,
+        c.in_ok-n.ensures,
         c.loop-d.invariant.value,
       );
+      small = omega (arith, c.in_ok-n.ensures);
     }
 
 pub returns : goal.returns
@@ -69,10 +76,9 @@ returns c =
       | else-digits-gt1-via-then-digits-gt1+else-digits-eq48 v ↦ absurd (v.if-digits-eq48.false e)
       | else-digits-gt1-via-else-digits-gt1 v ↦ omega (arith, some)
     ] in
-    rw c.ok.ensures.value (is_number (2 ^ 64) (omega arith) ds c.loop-d.n c.try_from.result
-    (record {
+    written_is ds c.loop-d.n c.loop-d.invariant.small (record {
       some = some;
       digits = rw whole at c.loop-d.invariant.digits;
       value = sym (rw whole at c.loop-d.invariant.value);
       leading = leading;
-    }) c.try_from.ensures)
+    })

@@ -1,4 +1,4 @@
-use Rattle.std.proofs.Common.{◌≡◌, take}
+use Rattle.std.proofs.Common.{◌≡◌, ◌<◌, ◌^◌, take}
 use Rattle.std.specs.Str.Parse.{AllDigits, digits_value}
 use Rattle.giop_lines.proofs.numbers.number.Given as goal
 
@@ -6,5 +6,6 @@ abbrev pub invariant-loop-d : goal.invariant-loop-d
 invariant-loop-d l =
     record {
       digits : AllDigits 10 (take l.d-index l.digits);
+      small : l.n < 2 ^ 64;
       value : l.n ≡ digits_value 10 (take l.d-index l.digits);
     }

@@ -1,7 +1,12 @@
-use Rattle.std.proofs.Common.{◌<◌, arith, sym, ◌∙◌}
+use Rattle.std.proofs.Common.{◌<◌, rules, arith, sym, ◌∙◌}
 use Rattle.giop_print.specs.Text.{escaped_octet}
 use Rattle.giop_lines.proofs.Gone.{gone_more, text_gone, is_none}
+use Rattle.giop_lines.proofs.Passed.{plain_text}
 use Rattle.giop_lines.proofs.texts.is_text.Goals as goal
+
+pub returns-then-are_plain : goal.returns-then-are_plain
+returns-then-are_plain c = λ e.
+    plain_text c.args.most c.args.text.now (search rules) (search (rules, arith, e))
 
 pub loop-octet-preserved : goal.loop-octet-preserved
 loop-octet-preserved c =
