@@ -168,6 +168,7 @@ fn reader<'c, O: Flush + Drop, N: Notices + Drop, B: Beginning>(
         connections: asked.connections,
         messages: asked.messages,
         calls: asked.calls,
+        first_stream: asked.first_stream,
     };
     let Ok(conversations) = Conversations::new(alloc, catalogue, requests, limits, out) else {
         return Err(AllocError);
