@@ -115,7 +115,8 @@ module _ (S : Setup) (h : History) (due behind : ℕ → Option ℕ) (t : AreLas
           let x = follows id in
           (x.0, own_event x.0 id (Begins id n) (due id) (behind id) refl x.1)
 
-      by : (b : Bool) → (m == number_in S h.begun) ≡ b → IsLast (with_begun h id (number_in S h.begun) true) behind m
+      by : (b : Bool) → (m == number_in S h.begun) ≡ b →
+          IsLast (with_begun h id (number_in S h.begun) true) behind m
       by true is = record {
         flow = id;
         is = rw (eq-eqb id id refl) (sym (eqb-true _ _ is));

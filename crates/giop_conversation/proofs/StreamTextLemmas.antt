@@ -137,8 +137,8 @@ module _ (S : Setup) (written : List ℕ)
 
   on_begun : (h : History) (d : Dump) (id : ℕ) (o : Option Connection) →
       slice_get d.connections (id / 2) ≡ o →
-      AreShown S written h d → AreShown S written (with_begun h id (number_in S h.begun) (nat_lt (id / 2) S.connections))
-      (begun_in S d id o)
+      AreShown S written h d → AreShown S written
+      (with_begun h id (number_in S h.begun) (nat_lt (id / 2) S.connections)) (begun_in S d id o)
   on_begun h d id None is b =
       let past = no_room d.connections (id / 2) is in
       let none : nat_lt (id / 2) S.connections ≡ false =
@@ -193,8 +193,8 @@ module _ (S : Setup) (written : List ℕ)
                   (rules_in S (h.stream n).answers);
             });
         numbers = numbers_begun S h id true (λ is. room) b.numbers;
-        shows = more_lines S written h (with_begun h id (number_in S h.begun) true) d.text n (begin_lines s.flow
-            d.arrival.time) [] [] b.shows lines
+        shows = more_lines S written h (with_begun h id (number_in S h.begun) true) d.text n
+            (begin_lines s.flow d.arrival.time) [] [] b.shows lines
             (λ m number apart. refl) (λ number r o t. rw (append-nil r, append-nil o) t);
       })
 

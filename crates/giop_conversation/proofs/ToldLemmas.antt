@@ -52,15 +52,16 @@ module _ (S : Setup) (written : List ℕ) (events : List Event) where
       (arrival : Arrival) (first streams messages faults : ℕ) (cut : Bool) (tag lines : List ℕ) →
       Leads S (start S written) events d → Step S d e behind → behind.text ≡ d.text
       ++ with_tags tag lines →
-      (IsReady out behind.text → HoldsDump S rooms out arrival first streams messages faults cut behind) →
+      (IsReady out behind.text → HoldsDump S rooms out arrival first streams messages faults cut
+      behind) →
       WritesTagged r out d.text tag lines →
-      MatchResult r (λ _. HasTold S written (events ++ e ∷ []) rooms out arrival first streams messages
-      faults cut)
+      MatchResult r (λ _. HasTold S written (events ++ e ∷ []) rooms out arrival first streams
+      messages faults cut)
       (λ _. HasToldFront S written (events ++ e ∷ []) out)
-  told_or_front (Ok v) d behind e rooms out arrival first streams messages faults cut tag lines leads
-      step text holds writes = search (arith, leads_more)
-  told_or_front (Err v) d behind e rooms out arrival first streams messages faults cut tag lines leads
-      step text holds writes = search (arith, leads_more)
+  told_or_front (Ok v) d behind e rooms out arrival first streams messages faults cut tag lines
+      leads step text holds writes = search (arith, leads_more)
+  told_or_front (Err v) d behind e rooms out arrival first streams messages faults cut tag lines
+      leads step text holds writes = search (arith, leads_more)
 
   module _ (rooms : List Conversation) (out : Tagging) (arrival : Arrival)
       (first streams messages faults : ℕ) (cut : Bool) where
@@ -104,8 +105,8 @@ module _ (S : Setup) (written : List ℕ) (events : List Event) where
         }
 
     pub opened_beyond : (flow : ℕ) (endpoints : Flow) → Before → slice_get rooms (flow / 2) ≡ None →
-        HasTold S written (events ++ Opens flow endpoints ∷ []) rooms out arrival first streams messages
-        faults cut
+        HasTold S written (events ++ Opens flow endpoints ∷ []) rooms out arrival first streams
+        messages faults cut
     opened_beyond flow endpoints b beyond =
         let d = b.dump in
         let none = none_at S rooms d.connections (flow / 2) b.holds.connections beyond in
@@ -322,8 +323,8 @@ module _ (S : Setup) (written : List ℕ) (events : List Event) where
           is =
               ap (closed_in S d flow cause) (sym at.is);
         } in
-        told_or_front r d behind (Closes flow cause) rooms out' arrival first streams messages' faults'
-        cut'
+        told_or_front r d behind (Closes flow cause) rooms out' arrival first streams messages'
+        faults' cut'
         (stream_tag (half side at.connection).stream) (closed_lines S side cause at.connection)
         b.leads step refl
         (λ ready. record {
@@ -369,8 +370,8 @@ module _ (S : Setup) (written : List ℕ) (events : List Event) where
 
     pub closed_beyond : (flow : ℕ) (cause : CloseCause) → Before →
         slice_get rooms (flow / 2) ≡ None →
-        HasTold S written (events ++ Closes flow cause ∷ []) rooms out arrival first streams messages
-        faults cut
+        HasTold S written (events ++ Closes flow cause ∷ []) rooms out arrival first streams
+        messages faults cut
     closed_beyond flow cause b beyond =
         let d = b.dump in
         let none = none_at S rooms d.connections (flow / 2) b.holds.connections beyond in
@@ -390,7 +391,8 @@ module _ (S : Setup) (written : List ℕ) (events : List Event) where
 
     pub packet_told : (now : Option ℕ) → Before →
         HasTold S written (events ++ OfCapture (PacketArrives now) ∷ []) rooms out
-        (record { time = now; packet = sum_within arrival.packet 1 }) first streams messages faults cut
+        (record { time = now; packet = sum_within arrival.packet 1 }) first streams messages faults
+        cut
     packet_told now b =
         let d = b.dump in
         let h = b.holds in
