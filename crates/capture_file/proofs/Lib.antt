@@ -6,3 +6,4 @@ mod Sizes
 mod StateLemmas
 mod Taking
 mod WholeRecords
+mod PcapngFileReading

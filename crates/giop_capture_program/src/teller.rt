@@ -154,7 +154,7 @@ impl<'a, O: Flush + Drop, B: Beginning> CaptureListener for Teller<'a, O, B> {
         let Ok(is_faulty) = self.conversations.finish(packets, octets) else {
             return Err(ListenerFault);
         };
-        self.flush_out()?;
+        Teller::flush_out(self)?;
         Ok(is_faulty)
     }
 }
