@@ -1,11 +1,12 @@
 -- A pcapng file as it is written: a section header block, and other blocks (the PCAP Next Generation
 -- capture file format; meaning).
-use Rattle.std.specs.Prelude.{◌≡◌, ◌≢◌, ℕ, ◌+◌, ◌*◌, ◌%◌, ◌^◌, ◌<◌, ◌≤◌, List, [], ◌∷◌, ◌++◌, length, Option, None, Some, slice_get}
+use Rattle.std.specs.Prelude.{◌≡◌, ◌≢◌, ℕ, ◌+◌, ◌-◌, ◌*◌, ◌%◌, ◌^◌, ◌<◌, ◌≤◌, ◌==◌, ◌&&◌, ◌||◌, nat_lt, nat_le, Bool, true, List, [], ◌∷◌, ◌++◌, length, replicate, Option, None, Some, IfSome, slice_get, slice_index, if◌then◌else◌}
+use Rattle.std.specs.List.{AllByRecursion}
 use Rattle.std.specs.Int.{w16, to_be_bytes, to_le_bytes}
 use Rattle.capture_file.specs.declared.part.ByteOrder.{ByteOrder}
 use Rattle.capture_file.specs.declared.part.ByteOrder.TheVariants.{Big, Little}
 use Rattle.capture_file.specs.declared.part.Interface.{Interface}
-use Rattle.capture_file.specs.Blocks.{section_type, interface_type, simple_type, enhanced_type, most_interfaces, time_of}
+use Rattle.capture_file.specs.Blocks.{section_type, interface_type, simple_type, enhanced_type, most_interfaces, padded, ticks_of, time_of, cut}
 use Rattle.capture_file.specs.PcapFiles.{number_octets}
 use Rattle.capture_file.specs.Reading.{PacketRecord, packets, final_fault}
 
@@ -19,29 +20,55 @@ abbrev pub order_octets : ByteOrder → List ℕ
 order_octets Big = 0x1a ∷ 0x2b ∷ 0x3c ∷ 0x4d ∷ []
 order_octets Little = 0x4d ∷ 0x3c ∷ 0x2b ∷ 0x1a ∷ []
 
--- a block behind the section header: an interface, with its link type and snapshot length, and no
--- options; an enhanced packet, by the number of its interface, its time in units, how many octets it
--- had, and those that were captured, behind which others stand, as padding and options; and another,
--- of which nothing is read
+-- an option of an interface
+pub record BlockOption : Type 0 where
+  pub code : ℕ
+  pub value : List ℕ
+
+-- its value, and zeros up to a multiple of 4 octets
+abbrev pub value_octets : BlockOption → List ℕ
+value_octets x = x.value ++ replicate (padded (length x.value) - length x.value) 0
+
+abbrev pub option_octets : ByteOrder → BlockOption → List ℕ
+option_octets o x =
+    (half_octets o x.code ++ half_octets o (length x.value)) ++ value_octets x
+
+-- options, and their end
+unfoldable pub ended_options : ByteOrder → List BlockOption → List ℕ
+ended_options o [] = half_octets o 0 ++ half_octets o 0
+ended_options o (x ∷ xs) = option_octets o x ++ ended_options o xs
+
+abbrev pub options_octets : ByteOrder → List BlockOption → List ℕ
+options_octets o [] = []
+options_octets o (x ∷ xs) = ended_options o (x ∷ xs)
+
+-- a block behind the section header: an interface, with its link type, snapshot length and options;
+-- an enhanced packet, by the number of its interface, the halves of its time in units, how many
+-- octets it had, and those that were captured; a simple packet, of the first interface; and another,
+-- of which nothing is read. Behind the octets of a packet stand others, as padding and options.
 pub data PcapngBlock : Type 0 where
-  InterfaceBlock : ℕ → ℕ → PcapngBlock
+  InterfaceBlock : ℕ → ℕ → List BlockOption → PcapngBlock
   EnhancedBlock : ℕ → ℕ → ℕ → ℕ → List ℕ → List ℕ → PcapngBlock
+  SimpleBlock : ℕ → List ℕ → List ℕ → PcapngBlock
   OtherBlock : ℕ → List ℕ → PcapngBlock
 
 -- its type
 abbrev pub type_of : PcapngBlock → ℕ
-type_of (InterfaceBlock link snapshot) = interface_type
+type_of (InterfaceBlock link snapshot options) = interface_type
 type_of (EnhancedBlock interface high low original octets behind) = enhanced_type
+type_of (SimpleBlock original octets behind) = simple_type
 type_of (OtherBlock kind body) = kind
 
 -- what stands between its lengths
 abbrev pub body_octets : ByteOrder → PcapngBlock → List ℕ
-body_octets o (InterfaceBlock link snapshot) =
-    (half_octets o link ++ 0 ∷ 0 ∷ []) ++ number_octets o snapshot
+body_octets o (InterfaceBlock link snapshot options) =
+    ((half_octets o link ++ 0 ∷ 0 ∷ []) ++ number_octets o snapshot) ++ options_octets o options
 body_octets o (EnhancedBlock interface high low original octets behind) =
     number_octets o interface
     ++ ((number_octets o high ++ number_octets o low ++ number_octets o (length octets))
     ++ ((number_octets o original ++ octets) ++ behind))
+body_octets o (SimpleBlock original octets behind) =
+    number_octets o original ++ (octets ++ behind)
 body_octets o (OtherBlock kind body) = body
 
 abbrev pub length_of : ByteOrder → PcapngBlock → ℕ
@@ -87,60 +114,101 @@ pub record HasLength (length : ℕ) : Type 0 where
   pub whole : length % 4 ≡ 0
   pub few : length < 2 ^ 32
 
--- a block, in a section that has so many interfaces
-abbrev pub IsBlock : ByteOrder → ℕ → PcapngBlock → Type 0
-IsBlock o count (InterfaceBlock link snapshot) =
-    (count < most_interfaces) × (link < 2 ^ 16) × (snapshot < 2 ^ 32)
-IsBlock o count (EnhancedBlock interface high low original octets behind) =
-    (interface < count) × (count < 2 ^ 32) × (high < 2 ^ 32) × (low < 2 ^ 32)
+abbrev pub is_unit_in_range : ℕ → Bool
+is_unit_in_range unit = nat_lt unit 20 || (nat_le 128 unit && nat_lt unit 192)
+
+-- An option has a code that isn't the end's, and room for its value's length; the unit of times is
+-- in range.
+abbrev pub is_unit : BlockOption → Bool
+is_unit x = (x.code == 9) && (length x.value == 1)
+
+pub record IsOption (x : BlockOption) : Type 0 where
+  pub some : x.code ≢ 0
+  pub code : x.code < 2 ^ 16
+  pub few : length x.value < 2 ^ 16
+  pub unit : is_unit x ≡ true → is_unit_in_range (slice_index x.value 0) ≡ true
+
+-- the ticks of a second by the options: microseconds, unless one says otherwise
+unfoldable pub ticks_by : ℕ → List BlockOption → ℕ
+ticks_by ticks [] = ticks
+ticks_by ticks (x ∷ xs) =
+    ticks_by (if is_unit x then ticks_of (slice_index x.value 0) else ticks) xs
+
+abbrev pub interface_of : ℕ → ℕ → List BlockOption → Interface
+interface_of link snapshot options =
+    record { link = link; snapshot = snapshot; ticks = ticks_by 1000000 options }
+
+-- a block, in a section that has these interfaces
+abbrev pub IsBlock : ByteOrder → List Interface → PcapngBlock → Type 0
+IsBlock o interfaces (InterfaceBlock link snapshot options) =
+    (length interfaces < most_interfaces) × (link < 2 ^ 16) × (snapshot < 2 ^ 32)
+    × AllByRecursion IsOption options
+    × HasLength (length_of o (InterfaceBlock link snapshot options))
+IsBlock o interfaces (EnhancedBlock interface high low original octets behind) =
+    (interface < length interfaces) × (interface < 2 ^ 32) × (high < 2 ^ 32) × (low < 2 ^ 32)
     × (length octets ≤ 262144)
     × HasLength (length_of o (EnhancedBlock interface high low original octets behind))
-IsBlock o count (OtherBlock kind body) =
+IsBlock o interfaces (SimpleBlock original octets behind) =
+    (0 < length interfaces)
+    × IfSome (slice_get interfaces 0) (λ i. length octets ≡ cut original i.snapshot)
+    × (original < 2 ^ 32) × (length octets ≤ 262144)
+    × HasLength (length_of o (SimpleBlock original octets behind))
+IsBlock o interfaces (OtherBlock kind body) =
     (kind ≢ interface_type) × (kind ≢ enhanced_type) × (kind ≢ simple_type)
     × (kind ≢ section_type) × (kind < 2 ^ 32) × HasLength (length_of o (OtherBlock kind body))
 
--- how many interfaces there are behind a block
-abbrev pub count_behind : ℕ → PcapngBlock → ℕ
-count_behind count (InterfaceBlock link snapshot) = count + 1
-count_behind count (EnhancedBlock interface high low original octets behind) = count
-count_behind count (OtherBlock kind body) = count
+-- the interfaces behind a block
+abbrev pub with_block : List Interface → PcapngBlock → List Interface
+with_block interfaces (InterfaceBlock link snapshot options) =
+    interfaces ++ interface_of link snapshot options ∷ []
+with_block interfaces (EnhancedBlock interface high low original octets behind) = interfaces
+with_block interfaces (SimpleBlock original octets behind) = interfaces
+with_block interfaces (OtherBlock kind body) = interfaces
 
 -- each block, behind those before it
-unfoldable pub AreBlocks : ByteOrder → ℕ → List PcapngBlock → Type 0
-AreBlocks o count [] = Unit {0}
-AreBlocks o count (b ∷ bs) = IsBlock o count b × AreBlocks o (count_behind count b) bs
+unfoldable pub AreBlocks : ByteOrder → List Interface → List PcapngBlock → Type 0
+AreBlocks o interfaces [] = Unit {0}
+AreBlocks o interfaces (b ∷ bs) =
+    IsBlock o interfaces b × AreBlocks o (with_block interfaces b) bs
 
--- an interface that is described; its times are in microseconds
-abbrev pub interface_of : ℕ → ℕ → Interface
-interface_of link snapshot = record { link = link; snapshot = snapshot; ticks = 1000000 }
-
--- the packet of an enhanced block that ends at a place, of the interface with its number
-abbrev pub packet_by : ℕ → ℕ → List ℕ → Option Interface → List PacketRecord
-packet_by place units octets None = []
-packet_by place units octets (Some interface) = record {
+-- the packet of a block that ends at a place, by its interface: of an enhanced one with its time,
+abbrev pub enhanced_packet : ℕ → ℕ → List ℕ → Option Interface → List PacketRecord
+enhanced_packet place units octets None = []
+enhanced_packet place units octets (Some interface) = record {
   place = place;
   head = record { link = interface.link; time = time_of units interface.ticks };
   octets = octets;
 } ∷ []
 
+-- and of a simple one without a time
+abbrev pub simple_packet : ℕ → List ℕ → Option Interface → List PacketRecord
+simple_packet place octets None = []
+simple_packet place octets (Some interface) = record {
+  place = place;
+  head = record { link = interface.link; time = None };
+  octets = octets;
+} ∷ []
+
+abbrev pub packet_of_block : List Interface → ℕ → PcapngBlock → List PacketRecord
+packet_of_block interfaces place (InterfaceBlock link snapshot options) = []
+packet_of_block interfaces place (EnhancedBlock interface high low original octets behind) =
+    enhanced_packet place (high * 2 ^ 32 + low) octets (slice_get interfaces interface)
+packet_of_block interfaces place (SimpleBlock original octets behind) =
+    simple_packet place octets (slice_get interfaces 0)
+packet_of_block interfaces place (OtherBlock kind body) = []
+
 -- the packets of blocks that begin at a place, in a section that has these interfaces
 unfoldable pub packets_of_blocks : ByteOrder → List Interface → ℕ → List PcapngBlock →
     List PacketRecord
 packets_of_blocks o interfaces place [] = []
-packets_of_blocks o interfaces place (InterfaceBlock link snapshot ∷ bs) =
-    packets_of_blocks o (interfaces ++ interface_of link snapshot ∷ []) (place + 20) bs
-packets_of_blocks o interfaces place
-    (EnhancedBlock interface high low original octets behind ∷ bs) =
-    let end = place + (32 + length octets + length behind) in
-    packet_by end (high * 2 ^ 32 + low) octets (slice_get interfaces interface)
-    ++ packets_of_blocks o interfaces end bs
-packets_of_blocks o interfaces place (OtherBlock kind body ∷ bs) =
-    packets_of_blocks o interfaces (place + (12 + length body)) bs
+packets_of_blocks o interfaces place (b ∷ bs) =
+    packet_of_block interfaces (place + length_of o b) b
+    ++ packets_of_blocks o (with_block interfaces b) (place + length_of o b) bs
 
 -- What is read of a file are the packets of its blocks, with their times and places, and it has no
 -- fault.
 abbrev pub APcapngFileHasItsBlocks : Type 0
 APcapngFileHasItsBlocks = (f : PcapngFile) (bs : List PcapngBlock) → IsPcapngFile f
-    → AreBlocks f.order 0 bs
+    → AreBlocks f.order [] bs
     → (packets (pcapng_octets f bs) ≡ packets_of_blocks f.order [] (section_size f) bs)
     × (final_fault (pcapng_octets f bs) ≡ None)

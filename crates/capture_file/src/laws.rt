@@ -18,9 +18,8 @@ pub fn a_file_has_its_records()
     ensures { AFileHasItsRecords }
 {}
 
-/// A pcapng file of one section that is written block by block is read block by block, if its interfaces have no options and it
-/// has no simple packets: its packets are those of the enhanced blocks, with their times and places, and it has no fault. It has
-/// no body, and is called for its contract.
+/// A pcapng file of one section that is written block by block is read block by block: its packets are those of its enhanced and
+/// simple packet blocks, with their times and places, and it has no fault. It has no body, and is called for its contract.
 pub fn a_pcapng_file_has_its_blocks()
     ensures { APcapngFileHasItsBlocks }
 {}
