@@ -37,7 +37,7 @@ check_page() {
     # Pages that it refers to need not be installed here.
     faults=$(mandoc -Tlint -W style "$page" 2> /dev/null | grep -v 'referenced manual not found' || true)
     [ -z "$faults" ] || { echo "$faults" >&2; exit 1; }
-    options=$("$program" --help | grep -oE -- '--[a-z]+' | sort -u || true)
+    options=$("$program" --help | grep -oE -- '--[a-z]+(-[a-z]+)*' | sort -u || true)
     for option in $options; do
         grep -qE "Fl -${option#--}( |$)" "$page" || { echo "$page: no $option" >&2; exit 1; }
     done

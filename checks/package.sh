@@ -74,6 +74,7 @@ PYTHONPATH=$work/root/usr/lib/python3/dist-packages bash "$work/unpacked.sh" "$w
 cd "$work/root/usr/share/doc/giopdump/examples"
 completed() { root=$work/root bash "$work/completed.sh" "$@"; }
 [ "$(completed giopcap --p)" = "--port --pool" ]
+[ "$(completed giopcap --f)" = --first-stream ]
 [ "$(completed giopcap --signatures n)" = "naming.sig notification.sig" ]
 [ "$(completed giopdump --resume naming.r)" = naming.req ]
 [ -z "$(completed giopcap --port '')" ]

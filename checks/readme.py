@@ -147,8 +147,8 @@ class Walk:
 
     def _synopsis(self, page: Path, line: str) -> None:
         """A synopsis has the words of the program's help."""
-        helped = re.findall(r"(?m)^ +(?:-., )?(--[a-z]+)", self._done(f"{line.split()[0]} --help").stdout)
-        named = re.findall(r"--[a-z]+", line)
+        helped = re.findall(r"(?m)^ +(?:-., )?(--[a-z]+(?:-[a-z]+)*)", self._done(f"{line.split()[0]} --help").stdout)
+        named = re.findall(r"--[a-z]+(?:-[a-z]+)*", line)
         if sorted([*named, "--help", "--version"]) != sorted(helped):
             print(f"{page.name}: {line}: the help has {' '.join(helped)}")
             self.wrong += 1

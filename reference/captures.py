@@ -1,5 +1,6 @@
 """Dumps a capture as giopcap does: python3 -m reference.captures [--signatures FILE] [--port N] [--connections N] [--open N]
-[--calls N] [--pool KIB] CAPTURE (docs/FORMATS.md, Conversations of a capture). The files have to be valid."""
+[--calls N] [--pool KIB] [--first-stream N] CAPTURE (docs/FORMATS.md, Conversations of a capture). The files have to be
+valid."""
 
 from __future__ import annotations
 
@@ -218,10 +219,11 @@ def words_of(arguments: Optional[List[str]] = None) -> Tuple[Words, Path]:
     parser.add_argument("--open", type=int, default=MOST_OPEN)
     parser.add_argument("--calls", type=int, default=MOST_CALLS)
     parser.add_argument("--pool", type=int, default=Limits.blocks)
+    parser.add_argument("--first-stream", type=int, default=Limits.first)
     parser.add_argument("capture", type=Path)
     given = parser.parse_args(arguments)
     table = table_of(given.signatures.read_bytes()) if given.signatures else Table()
-    limits = Limits(frozenset(given.port), given.connections, given.pool)
+    limits = Limits(frozenset(given.port), given.connections, given.pool, given.first_stream)
     return Words(table, limits, given.open, given.calls), given.capture
 
 

@@ -15,11 +15,13 @@ BLOCK = 1024
 
 @dataclass
 class Limits:
-    """The chosen ports, every one where there is none; how many connections are known at once; the blocks of the pool."""
+    """The chosen ports, every one where there is none; how many connections are known at once; the blocks of the pool; the
+    number of the first stream."""
 
     ports: FrozenSet[int] = frozenset()
     connections: int = 256
     blocks: int = 16384
+    first: int = 1
 
 
 @dataclass
@@ -230,7 +232,7 @@ class Capture:
 
     def begun(self, flow: Flow, connection: Connection) -> Stream:
         self.happened()
-        self.streams.append(Stream(len(self.streams) + 1, flow, connection.number, self.packet))
+        self.streams.append(Stream(self.limits.first + len(self.streams), flow, connection.number, self.packet))
         self.streams[-1].deliveries.append((self._happened, self.packet, 0))
         return self.streams[-1]
 

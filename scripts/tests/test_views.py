@@ -632,7 +632,7 @@ class Program(unittest.TestCase):
 
     def test_wrong_words_are_told_in_octets_that_can_be_printed(self) -> None:
         for program, *words, said in (
-            ("giop-chart", "--most", "\n", r"argument --most: '\x0a' is no number from 1 to 999999999"),
+            ("giop-chart", "--most", "\n", r"argument --most: '\x0a' is no number from 1 to 9999999999999999999"),
             ("giop-chart", "--to", "\x1b", r"argument --to: '\x1b' is no time as 2026-11-23T08:13:25.58 or 08:13:25"),
         ):
             done = run(program, "", *words)

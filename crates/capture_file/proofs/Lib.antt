@@ -6,3 +6,7 @@ mod Sizes
 mod StateLemmas
 mod Taking
 mod WholeRecords
+mod PcapngParts
+mod PcapngInterfaces
+mod PcapngPackets
+mod PcapngFileReading

@@ -22,13 +22,13 @@ use Rattle.capture_file.proofs.WholeRecords.{at_header, reads_record}
 
 -- ---- Numbers.
 
-long : (order : ByteOrder) (n : ℕ) → length (number_octets order n) ≡ 4
+pub long : (order : ByteOrder) (n : ℕ) → length (number_octets order n) ≡ 4
 unfolding number_octets
 long Big n = refl
 long Little n = refl
 
 -- four octets that are a number's
-spells : (order : ByteOrder) (n at : ℕ) (octets : List ℕ) → n < 2 ^ 32 →
+pub spells : (order : ByteOrder) (n at : ℕ) (octets : List ℕ) → n < 2 ^ 32 →
     take 4 (drop at octets) ≡ number_octets order n → four_at order at octets ≡ n
 unfolding number_octets four_at
 spells Big n at octets small e =
@@ -36,12 +36,12 @@ spells Big n at octets small e =
 spells Little n at octets small e =
     ap {B = ℕ} (λ (xs : List ℕ). from_le_bytes w32 xs) e ∙ from_le_bytes-to_le_bytes_4 n small
 
-first_four : (a b c : List ℕ) → length a ≡ 4 → take 4 (drop 0 (a ++ b ++ c)) ≡ a
+pub first_four : (a b c : List ℕ) → length a ≡ 4 → take 4 (drop 0 (a ++ b ++ c)) ≡ a
 first_four a b c l =
     take-append-le 4 (a ++ b) c (omega (arith, length-append a b, l))
     ∙ take-append-le 4 a b (omega (arith, l)) ∙ take_all 4 a (omega (arith, l))
 
-second_four : (a b c : List ℕ) → length a ≡ 4 → length b ≡ 4 →
+pub second_four : (a b c : List ℕ) → length a ≡ 4 → length b ≡ 4 →
     take 4 (drop 4 (a ++ b ++ c)) ≡ b
 second_four a b c l m =
     ap (take 4) (drop-append-le 4 (a ++ b) c (omega (arith, length-append a b, l))
@@ -49,7 +49,7 @@ second_four a b c l m =
     ∙ ap (λ (xs : List ℕ). xs ++ b) (drop_all 4 a (omega (arith, l)))))
     ∙ take-append-le 4 b c (omega (arith, m)) ∙ take_all 4 b (omega (arith, m))
 
-last_four : (at : ℕ) (a c : List ℕ) → length a ≡ at → length c ≡ 4 →
+pub last_four : (at : ℕ) (a c : List ℕ) → length a ≡ at → length c ≡ 4 →
     take 4 (drop at (a ++ c)) ≡ c
 last_four at a c l n =
     ap (take 4) (drop-append-le at a c (omega (arith, l))

@@ -11,3 +11,4 @@ pub mod Parts
 pub mod PcapFiles
 pub mod Reading
 pub mod Records
+pub mod PcapngFiles

@@ -14,5 +14,5 @@ mod window;
 
 pub use capture::Capture;
 pub use fault::{CaptureFault, FaultKind};
-pub use laws::{a_file_has_its_records, packets_begin};
+pub use laws::{a_file_has_its_records, a_pcapng_file_has_its_blocks, packets_begin};
 pub use progress::{Packet, Progress};

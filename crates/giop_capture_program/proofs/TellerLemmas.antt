@@ -53,6 +53,7 @@ told_on c put below S written events kept told =
           sound = r.sound;
         };
         arrival_is = h.arrival_is;
+        first_is = h.first_is;
         streams_are = h.streams_are;
         messages_are = h.messages_are;
         faults_are = h.faults_are;

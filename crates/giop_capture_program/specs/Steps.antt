@@ -40,7 +40,8 @@ capture_of asked = option_map (λ name. name.now) asked.capture
 abbrev pub BeginsAs : (Setup → List ℕ → Type 0) → Arguments → Table → Option (List ℕ) → Type 0
 BeginsAs begins asked table before =
     (S : Setup) (written : List ℕ) → begins S written
-    → (S ≡ setup table asked.messages asked.calls asked.connections) × (before ≡ Some written)
+    → (S ≡ setup table asked.messages asked.calls asked.connections asked.first_stream)
+    × (before ≡ Some written)
 
 -- A source, of which this is known, was read to the end of a capture or to its fault, behind which
 -- nothing was read. What was put is the text of what its packets, its fault and its end do to no

@@ -1,8 +1,8 @@
 -- That the lines of each stream of a capture are giopdump's, but for those of five kinds
 -- (docs/FORMATS.md, Conversations of a capture; meaning).
-use Rattle.std.specs.Prelude.{◌≡◌, ℕ, List, ◌++◌}
+use Rattle.std.specs.Prelude.{◌≡◌, ℕ, true, List, ◌++◌}
 use Rattle.std.specs.List.{AllByRecursion as Each}
-use Rattle.giop_stream.specs.Stream.{text}
+use Rattle.giop_stream.specs.Stream.{text, closing}
 use Rattle.giop_conversation.specs.Captured.{Setup, rules_in}
 use Rattle.giop_conversation.specs.CaptureParts.{Part, text_of, IsWhole, read_of, own_of}
 use Rattle.giop_conversation.specs.StreamTexts.{StreamHistory, History, dumped, IsUnique}
@@ -14,7 +14,8 @@ pub record IsWholeDump (S : Setup) (s : StreamHistory) (reads own : List ℕ) : 
   pub own_are : own ≡ dumped (rules_in S s.answers) s
 
 -- Behind what was written before, the text is parts, each of whole lines. Those that a stream has
--- by itself are giopdump's.
+-- by itself are giopdump's. Each stream that began has closed, if its connection has a room: its
+-- closing lines stand there.
 pub record ShowsEachStream (S : Setup) (written : List ℕ) (h : History) (all : List ℕ) : Type 0
   where
     pub parts : List Part
@@ -22,3 +23,7 @@ pub record ShowsEachStream (S : Setup) (written : List ℕ) (h : History) (all :
     pub shows : all ≡ written ++ text_of parts
     pub streams : (number : ℕ) → IsUnique number →
         IsWholeDump S (h.stream number) (read_of number parts) (own_of number parts)
+    pub closed : (number : ℕ) → IsUnique number → h.has_room number ≡ true →
+        own_of number parts
+        ≡ text (rules_in S (h.stream number).answers) (h.stream number).octets
+        ++ closing (rules_in S (h.stream number).answers) (h.stream number).octets

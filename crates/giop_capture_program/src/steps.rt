@@ -14,6 +14,7 @@ ghost use Rattle.giop_run.specs.Files.{NoStream, stream_of};
 ghost use Rattle.giop_run.specs.Joint.{CataloguesOf};
 ghost use Rattle.giop_capture_run.specs.PacketState.{HasRead};
 ghost use Rattle.giop_capture_program.specs.Failures.{fault_of, log_of};
+ghost use Rattle.giop_capture_program.specs.Seen.{SeenWhereReadingFailed};
 ghost use Rattle.giop_capture_program.specs.Steps.{BeginsAs, CaptureDumped, NotDumped, RunFailed, capture_of, signatures_of};
 
 use crate::failure::Failure;
@@ -47,6 +48,7 @@ pub fn perform_capture<
     ensures refused { IfErr result (λ failure. NotDumped (R.held rt.now)
         (stream_of (R.held rt.now) (R.given rt.now) (capture_of asked.entry))
         B.begins asked.entry (fault_of failure) (log_of O.log failure)) }
+    ensures seen { IfErr result (SeenWhereReadingFailed O.log O.kept) }
 {
     let catalogue = joint_catalogue(rt, asked.signatures.as_slice())?;
     open_and_dump::<R, O, N, B>(rt, asked, &catalogue, out, notices)
@@ -70,6 +72,7 @@ fn open_and_dump<'a, R: Inputs + AllocGlobal, O: Flush + Drop, N: Notices + Drop
         ⊎ RunFailed B.begins asked.entry
         (stream_of (R.held rt.now) (R.given rt.now) (capture_of asked.entry))
         (fault_of failure) (log_of O.log failure)) }
+    ensures seen { IfErr result (SeenWhereReadingFailed O.log O.kept) }
 {
     let Some(name) = asked.capture else {
         return dump::<_, _, _, _, B>(rt, rt.standard_input(), asked, catalogue, out, notices);
@@ -115,6 +118,7 @@ fn dump<
     ensures refused { IfErr result (λ failure. NoStream (capture_of asked.entry) (fault_of failure)
         ⊎ RunFailed B.begins asked.entry (F.remaining file)
         (fault_of failure) (log_of O.log failure)) }
+    ensures seen { IfErr result (SeenWhereReadingFailed O.log O.kept) }
 {
     each_stream_of_a_capture_is_dumped();
     let requests = requests(rt, None, catalogue)?;
@@ -168,6 +172,7 @@ fn reader<'c, O: Flush + Drop, N: Notices + Drop, B: Beginning>(
         connections: asked.connections,
         messages: asked.messages,
         calls: asked.calls,
+        first_stream: asked.first_stream,
     };
     let Ok(conversations) = Conversations::new(alloc, catalogue, requests, limits, out) else {
         return Err(AllocError);

@@ -1,7 +1,8 @@
 //! The conversations of a capture, as they are told what happens in its flows.
 
-ghost use Rattle.std.specs.Prelude.{◌≡◌, ◌<◌, ◌⊎◌, ◌||◌, true, nat_lt, OnErr};
+ghost use Rattle.std.specs.Prelude.{◌≡◌, ◌<◌, ◌⊎◌, ◌||◌, true, nat_lt, OnOk, OnErr};
 ghost use Rattle.std.specs.Io.KnownBytes.{Keeps};
+ghost use Rattle.giop_capture_program.specs.Seen.{IsSeen};
 
 use capture_file::CaptureFault;
 use giop_capture_run::CaptureListener;
@@ -57,6 +58,7 @@ impl<'a, O: Flush + Drop, B: Beginning> Teller<'a, O, B> {
             below = self.new.conversations.out.below;
           };
         } }
+        ensures seen { OnOk result (IsSeen O.log O.kept self.new.conversations.out.whole) }
         ensures cause { OnErr result (self.new.flush_failed ≡ true) }
     {
         if self.conversations.out_mut().flush().is_err() {
@@ -121,8 +123,10 @@ impl<'a, O: Flush + Drop, B: Beginning> CaptureListener for Teller<'a, O, B> {
     ghost use Rattle.std.specs.Prelude.{◌||◌, List, ℕ, nat_lt};
     ghost use Rattle.giop_conversation.specs.Captured.{Setup};
     ghost use Rattle.giop_capture_program.specs.Text.{HasText};
+    ghost use Rattle.giop_capture_program.specs.Seen.{IsSeen};
 
-    ghost flushed = { λ _. Unit {0} };
+    // All that was put below is to be seen.
+    ghost flushed = { λ t. IsSeen O.log O.kept t.conversations.out.whole };
 
     ghost faulty = { λ t. t.conversations.cut || nat_lt 0 t.conversations.totals.faults };
 
@@ -150,7 +154,7 @@ impl<'a, O: Flush + Drop, B: Beginning> CaptureListener for Teller<'a, O, B> {
         let Ok(is_faulty) = self.conversations.finish(packets, octets) else {
             return Err(ListenerFault);
         };
-        self.flush_out()?;
+        Teller::flush_out(self)?;
         Ok(is_faulty)
     }
 }

@@ -1,6 +1,6 @@
 //! The program's arguments: the capture that it reads and how much it may remember (docs/FORMATS.md, The program giopcap).
 
-ghost use Rattle.std.specs.Prelude.{◌≡◌, ◌≢◌, ◌≤◌, ℕ, Some, None, codes, option_map};
+ghost use Rattle.std.specs.Prelude.{◌≡◌, ◌≢◌, ◌≤◌, ◌^◌, ℕ, Some, None, codes, option_map};
 ghost use Rattle.giop_stream.specs.Rules.{most_open};
 
 use arrayvec::ArrayVec;
@@ -24,6 +24,9 @@ const MOST_KNOWN: u32 = 65_536;
 const LEAST_POOL: u32 = 1_024;
 
 const MOST_POOL: u32 = 1_048_576;
+
+/// The greatest number of a first stream: 10^18. A capture has at most 2^63 streams, so their numbers stay below 2^64.
+const MOST_FIRST: u64 = 1_000_000_000_000_000_000;
 
 const DEFAULT_CONNECTIONS: u32 = 256;
 
@@ -50,6 +53,8 @@ const CALLS_HELP: &str =
     "How many calls of a direction of a connection wait for their replies, 1 to 65536";
 
 const POOL_HELP: &str = "How many KiB wait for octets before them, 1024 to 1048576";
+
+const FIRST_HELP: &str = "The number of the first stream, 1 to 1000000000000000000";
 
 const CAPTURE_HELP: &str =
     "A pcap or pcapng file; standard input where it is missing or -, as of tcpdump -w -";
@@ -82,12 +87,15 @@ pub struct Arguments<'a> {
     pub calls: u32,
     /// How many blocks of 1,024 octets hold payloads that wait.
     pub pool: u32,
+    /// The number of the first stream; the others follow it.
+    pub first_stream: u64,
     /// The file with the capture; None for standard input.
     pub capture: Option<&'a str>,
     ghost connections_range: { (1 ≤ connections) × (connections ≤ 65_536) },
     ghost messages_range: { (1 ≤ messages) × (messages ≤ most_open) },
     ghost calls_range: { (1 ≤ calls) × (calls ≤ 65_536) },
     ghost pool_range: { (1_024 ≤ pool) × (pool ≤ 1_048_576) },
+    ghost first_range: { (1 ≤ first_stream) × (first_stream ≤ 10 ^ 18) },
 }
 
 /// An option that takes a number of a range, with the number where it is missing.
@@ -109,6 +117,16 @@ fn number_option<'a>(
 /// The option for the memory of payloads that wait.
 fn pool_option<'a>(alloc: Global) -> Arg<'a> {
     number_option(alloc, "pool", POOL_HELP, (LEAST_POOL, MOST_POOL), "16384").value_name("KIB")
+}
+
+/// The option for the number of the first stream.
+fn first_option<'a>(alloc: Global) -> Arg<'a> {
+    Arg::new(alloc, "first-stream")
+        .long("first-stream")
+        .value_name("N")
+        .value_parser(ValueParser::unsigned(1, MOST_FIRST))
+        .help(FIRST_HELP)
+        .default_value("1")
 }
 
 /// The option that chooses a port, and may be given more than once.
@@ -145,6 +163,7 @@ fn command<'a>(alloc: Global) -> Result<Command<'a>, AllocError> {
         .arg(number_option(alloc, "open", OPEN_HELP, (1, MOST_OPEN), "16"))?
         .arg(number_option(alloc, "calls", CALLS_HELP, (1, MOST_KNOWN), "128"))?
         .arg(pool_option(alloc))?
+        .arg(first_option(alloc))?
         .arg(Arg::new(alloc, "CAPTURE").help(CAPTURE_HELP))
 }
 
@@ -181,6 +200,15 @@ fn number_of(word: Option<u32>, range: (u32, u32), default: u32) -> u32
         None => default,
         Some(number) => number.max(range.0).min(range.1),
     }
+}
+
+/// The number of the first stream by its argument, of which `clap` has checked the range; 1 where it is missing.
+fn first_of(word: Option<u64>) -> u64
+    ensures range { (1 ≤ result) × (result ≤ 10 ^ 18) }
+    ensures word { (n : ℕ) → word ≡ Some n → 1 ≤ n → n ≤ 10 ^ 18 → result ≡ n }
+    ensures missing { word ≡ None → result ≡ 1 }
+{
+    word.unwrap_or(1).clamp(1, MOST_FIRST)
 }
 
 /// The file of the capture by its argument: none, for standard input, where it is missing or `-`.
@@ -223,6 +251,7 @@ impl<'a> Arguments<'a> {
                 (LEAST_POOL, MOST_POOL),
                 DEFAULT_POOL,
             ),
+            first_stream: first_of(matches.get_one("first-stream")),
             capture: capture_of(matches.get_str("CAPTURE")),
         })
     }

@@ -13,7 +13,7 @@ use Rattle.giop_capture_program.specs.Text.{HasText}
 
 -- 16 open messages a stream, 128 outstanding calls a flow, 256 connections
 abbrev pub plain_setup : Setup
-plain_setup = setup builtin_table 16 128 256
+plain_setup = setup builtin_table 16 128 256 1
 
 -- A text is that of what a capture's packets, its fault and its end do to no known connections,
 -- with its last line, and no more;

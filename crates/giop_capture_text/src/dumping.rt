@@ -31,6 +31,7 @@ pub fn text_of(alloc: Global, capture: &[u8]) -> Option<(Ending, Vec<u8>)>
         messages: 16,
         calls: 128,
         pool: 16_384,
+        first_stream: 1,
         capture: None,
     };
     let memory = Memory {

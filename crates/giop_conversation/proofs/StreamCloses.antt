@@ -1,13 +1,12 @@
 -- Where each stream that lives closes in the end, each that has a room has closed.
 use Rattle.std.proofs.Common.{arith, ◌≡◌, ℕ, ◌==◌, ◌⊎◌, inl, inr, Bool, true, false, List, [], ◌∷◌, Option, Some, None, is_some, refl, sym, ap, ◌∙◌, if◌then◌else◌}
 use Rattle.std.proofs.lemmas.Bool.{eqb-true, eq-eqb, cases_eq, false≢true}
-use Rattle.giop_print.specs.Output.{counted}
 use Rattle.giop_message.specs.Signatures.{Answers}
 use Rattle.tcp_flow.specs.Flow.{Event, Opens, Begins, Delivers, Closes, OfCapture, flow_of}
 use Rattle.tcp_flow.specs.Laws.{OwnMayFollow, MayFollow, AllFollow}
 use Rattle.tcp_flow.specs.declared.flow.CloseCause.{CloseCause}
 use Rattle.tcp_segment.specs.declared.endpoint.Flow.{Flow}
-use Rattle.giop_conversation.specs.Captured.{Setup, Dump, Leads, start}
+use Rattle.giop_conversation.specs.Captured.{Setup, Dump, Leads, start, number_in}
 use Rattle.giop_conversation.specs.StreamTexts.{StreamHistory, read_on, closed, History, no_history, with_begun, with_stream, happened, history, AreWhole}
 
 -- ---- one event of a flow that lives
@@ -98,7 +97,8 @@ module _ (S : Setup) (h : History) (due behind : ℕ → Option ℕ) (t : AreLas
             l.lives;
       }
 
-  begun_last : (id n : ℕ) (b : Bool) → FollowsBy (Begins id n) → AreLast (with_begun h id b) behind
+  begun_last : (id n : ℕ) (b : Bool) → FollowsBy (Begins id n) →
+      AreLast (with_begun h id (number_in S h.begun) b) behind
   begun_last id n false follows m room closes =
       let l = t m room closes in
       record {
@@ -108,14 +108,15 @@ module _ (S : Setup) (h : History) (due behind : ℕ → Option ℕ) (t : AreLas
             (λ p f own lives. absurd (begins_dead p f id n (due f) (behind f) own lives)) l.flow
             l.lives;
       }
-  begun_last id n true follows m room closes = by (m == counted h.begun) refl
+  begun_last id n true follows m room closes = by (m == number_in S h.begun) refl
     where
       own : (payloads : _) × OwnMayFollow payloads id (due id) (Begins id n) (behind id)
       own =
           let x = follows id in
           (x.0, own_event x.0 id (Begins id n) (due id) (behind id) refl x.1)
 
-      by : (b : Bool) → (m == counted h.begun) ≡ b → IsLast (with_begun h id true) behind m
+      by : (b : Bool) → (m == number_in S h.begun) ≡ b →
+          IsLast (with_begun h id (number_in S h.begun) true) behind m
       by true is = record {
         flow = id;
         is = rw (eq-eqb id id refl) (sym (eqb-true _ _ is));
@@ -132,7 +133,7 @@ module _ (S : Setup) (h : History) (due behind : ℕ → Option ℕ) (t : AreLas
           }
         where
           else_is : (l : IsLast h due m) (b : Bool) → (l.flow == id) ≡ b →
-              (if l.flow == id then counted h.begun else h.stream_of l.flow) ≡ m
+              (if l.flow == id then number_in S h.begun else h.stream_of l.flow) ≡ m
           else_is l true same =
               absurd (begins_dead own.0 id id n (due id) (behind id) own.1
               (ap (λ f. is_some (due f)) (sym (eqb-true _ _ same)) ∙ l.lives))

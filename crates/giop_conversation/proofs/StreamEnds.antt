@@ -1,7 +1,6 @@
 -- Where octets come, and streams close, only while they live, no stream goes on behind its close.
 use Rattle.std.proofs.Common.{◌≡◌, ℕ, ◌/◌, ◌<◌, ◌==◌, ◌⊎◌, inl, inr, Bool, true, false, ◌||◌, List, [], ◌∷◌, Option, Some, None, is_some, refl, sym, ap, subst, ◌∙◌, arith, ◌≤◌, nat_lt, if◌then◌else◌}
 use Rattle.std.proofs.lemmas.Bool.{eqb-true, eqb-false, cases_eq, cases_lt, lt-ltb, false≢true}
-use Rattle.giop_print.specs.Output.{counted}
 use Rattle.giop_message.specs.Signatures.{Answers}
 use Rattle.giop_stream.specs.Stream.{text}
 use Rattle.giop_stream.specs.AnswersAgree.{AnswersAgree}
@@ -9,9 +8,9 @@ use Rattle.tcp_flow.specs.Flow.{Event, Opens, Begins, Delivers, Closes, OfCaptur
 use Rattle.tcp_flow.specs.Laws.{OwnMayFollow, MayFollow, AllFollow}
 use Rattle.tcp_flow.specs.declared.flow.CloseCause.{CloseCause}
 use Rattle.tcp_segment.specs.declared.endpoint.Flow.{Flow}
-use Rattle.giop_conversation.specs.Captured.{Setup, Dump, Leads, start, rules_in}
+use Rattle.giop_conversation.specs.Captured.{Setup, Dump, Leads, start, rules_in, number_in}
 use Rattle.giop_conversation.specs.StreamTexts.{StreamHistory, read_on, closed, History, no_history, with_begun, with_stream, happened, history, AreGapless, IsUnique}
-use Rattle.giop_conversation.proofs.StreamNumbers.{AreNumbered, counted_new, stream_else, unequal}
+use Rattle.giop_conversation.proofs.StreamNumbers.{AreNumbered, stream_else, unequal}
 use Rattle.giop_conversation.proofs.StreamTextLemmas.{AreShown, on_event, at_start}
 
 -- ---- one event of a flow, by the number that is due before and behind it
@@ -90,7 +89,7 @@ module _ (S : Setup) (h : History) (due behind : ℕ → Option ℕ) (k : AreNum
           lives) number
 
   begun_ends : (id n : ℕ) (b : Bool) → (b ≡ false → h.stream_of id ≡ 0) → FollowsBy (Begins id n) →
-      EndOnce (with_begun h id b) behind
+      EndOnce (with_begun h id (number_in S h.begun) b) behind
   begun_ends id n true room follows = record {
     ends = t.ends;
     live =
@@ -98,12 +97,12 @@ module _ (S : Setup) (h : History) (due behind : ℕ → Option ℕ) (k : AreNum
   }
     where
       by : (f : ℕ) → is_some (behind f) ≡ true → (b : Bool) → (f == id) ≡ b →
-          IsUnique (if f == id then counted h.begun else h.stream_of f) →
-          (h.stream (if f == id then counted h.begun else h.stream_of f)).is_closed ≡ false
+          IsUnique (if f == id then number_in S h.begun else h.stream_of f) →
+          (h.stream (if f == id then number_in S h.begun else h.stream_of f)).is_closed ≡ false
       by f lives true is number =
-          let one : IsUnique (counted h.begun) = rw is at number in
+          let one : IsUnique (number_in S h.begun) = rw is at number in
           rw is (ap (λ (s : StreamHistory). s.is_closed)
-          (k.fresh (counted h.begun) (counted_new h.begun one.1)))
+          (k.fresh (number_in S h.begun) one (omega arith)))
       by f lives false is number =
           let x = follows f in
           rw is (t.live f (lives_still x.0 f (Begins id n) (due f) (behind f)

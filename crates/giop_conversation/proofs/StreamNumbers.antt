@@ -1,7 +1,7 @@
 -- The numbers of a capture's streams, and the flows that have them.
 use Rattle.std.proofs.Common.{◌≡◌, ℕ, zero, suc, ◌+◌, ◌*◌, ◌-◌, ◌^◌, ◌/◌, ◌==◌, ◌<◌, ◌≤◌, arith, Bool, true, false, List, [], ◌∷◌, length, Option, Some, None, IfSome, refl, sym, subst, ◌∙◌, slice_get, set}
 use Rattle.std.proofs.Math.ListN.{length-set}
-use Rattle.std.proofs.Math.Nat.{min-le_right, min-eq_left, min-eq_right, le-min}
+use Rattle.std.proofs.Math.Nat.{min-le_right}
 use Rattle.std.proofs.lemmas.Bool.{eqb-true, eqb-false, eq-eqb, cases_lt, false_from_ne_true}
 use Rattle.std.proofs.lemmas.Option.{slice_get_cases}
 use Rattle.giop_print.specs.Output.{counted}
@@ -10,7 +10,7 @@ use Rattle.giop_stream.specs.Stream.{text, closing}
 use Rattle.giop_conversation.specs.declared.conversation.Side.{Side}
 use Rattle.giop_conversation.specs.declared.conversation.Side.TheVariants.{Even, Odd}
 use Rattle.giop_conversation.specs.Followed.{side_of, other}
-use Rattle.giop_conversation.specs.Captured.{Setup, Half, Connection, half, with_half, rules_in}
+use Rattle.giop_conversation.specs.Captured.{Setup, Half, Connection, half, with_half, rules_in, number_in}
 use Rattle.giop_conversation.specs.StreamTexts.{StreamHistory, new_stream, History, with_begun, with_stream, IsUnique}
 
 -- ---- the flows of connections
@@ -69,9 +69,9 @@ pub record AreHalves (S : Setup) (h : History) (cs : List Connection) : Type 0 w
 
 pub record AreNumbered (S : Setup) (h : History) : Type 0 where
   pub most : h.begun ≤ 2 ^ 64 - 1
-  pub within : (f : ℕ) → h.stream_of f ≤ h.begun
+  pub within : (f : ℕ) → IsUnique (h.stream_of f) → h.stream_of f < number_in S h.begun
   pub apart : (f g : ℕ) → IsUnique (h.stream_of f) → h.stream_of f ≡ h.stream_of g → f ≡ g
-  pub fresh : (n : ℕ) → h.begun < n → h.stream n ≡ new_stream
+  pub fresh : (n : ℕ) → IsUnique n → number_in S h.begun ≤ n → h.stream n ≡ new_stream
   pub beyond : (f : ℕ) → S.connections ≤ f / 2 → h.stream_of f ≡ 0
 
 -- ---- the count of streams
@@ -80,19 +80,21 @@ counted_most : (n : ℕ) → counted n ≤ 2 ^ 64 - 1
 unfolding counted
 counted_most n = search (arith, min-le_right)
 
-counted_up : (n : ℕ) → n ≤ 2 ^ 64 - 1 → n ≤ counted n
+-- the number of the next stream is no less, and greater where it is not at its greatest
+next_up : (S : Setup) (n : ℕ) → n ≤ 2 ^ 64 - 1 → number_in S n ≤ number_in S (counted n)
 unfolding counted
-counted_up n within = le-min (omega arith) within
+next_up S n most = omega (arith, most)
 
-pub counted_new : (n : ℕ) → counted n < 2 ^ 64 - 1 → n < counted n
+next_new : (S : Setup) (n : ℕ) → n ≤ 2 ^ 64 - 1 → number_in S n < 2 ^ 64 - 1 →
+    number_in S n < number_in S (counted n)
 unfolding counted
-counted_new n few = search (arith, cases_lt, min-eq_right, min-eq_left)
+next_new S n most few = omega (arith, most, few)
 
 pub numbers_begun : (S : Setup) (h : History) (id : ℕ) (b : Bool) →
     (b ≡ true → id / 2 < S.connections) → AreNumbered S h →
-    AreNumbered S (with_begun h id b)
-numbers_begun S h id false room k = search (arith, counted_up, counted_most)
-numbers_begun S h id true room k = search (arith, counted_most, counted_up, eqb-true, counted_new)
+    AreNumbered S (with_begun h id (number_in S h.begun) b)
+numbers_begun S h id false room k = search (arith, counted_most, next_up)
+numbers_begun S h id true room k = search (arith, counted_most, next_up, next_new, eqb-true)
 
 pub stream_at : (h : History) (n : ℕ) (s : StreamHistory) → (with_stream h n s).stream n ≡ s
 stream_at h n s = rw (eq-eqb n n refl) refl
@@ -104,7 +106,8 @@ stream_else h n s m apart = rw apart refl
 pub unequal : (n m : ℕ) → (n ≡ m → ⊥) → (n == m) ≡ false
 unequal n m apart = search (arith, false_from_ne_true, eqb-true)
 
-pub numbers_with : (S : Setup) (h : History) (n : ℕ) (s : StreamHistory) → n ≤ h.begun →
+pub numbers_with : (S : Setup) (h : History) (n : ℕ) (s : StreamHistory) →
+    (IsUnique n → n < number_in S h.begun) →
     AreNumbered S h → AreNumbered S (with_stream h n s)
 numbers_with S h n s within k = search (arith, stream_else, unequal)
 

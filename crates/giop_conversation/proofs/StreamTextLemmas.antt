@@ -19,14 +19,14 @@ use Rattle.giop_conversation.specs.declared.conversation.Side.TheVariants.{Even,
 use Rattle.giop_conversation.specs.Tags.{stream_tag, with_tags}
 use Rattle.giop_conversation.specs.Lines.{capture_fault_line}
 use Rattle.giop_conversation.specs.Followed.{side_of, other}
-use Rattle.giop_conversation.specs.Captured.{Setup, Half, Connection, Dump, Leads, Answered, IsAnswered, start, new_connection, half, rules_in, delivered_lines, calls_behind, opened_in, begun_in, delivered_in, closed_in, closed_lines, stepped, calls_in}
+use Rattle.giop_conversation.specs.Captured.{Setup, Half, Connection, Dump, Leads, Answered, IsAnswered, start, new_connection, half, rules_in, number_in, delivered_lines, calls_behind, opened_in, begun_in, delivered_in, closed_in, closed_lines, stepped, calls_in}
 use Rattle.giop_conversation.specs.CaptureParts.{StreamPart, read_lines, own_lines, Part, OfStream, FaultLine, part_text, text_of, of_stream, read_of, own_of}
 use Rattle.giop_conversation.specs.StreamTexts.{StreamHistory, new_stream, read_on, closed, History, no_history, with_begun, with_stream, happened, history, IsDumped, IsUnique, ShowsStreams}
 use Rattle.giop_conversation.specs.Exchanges.{Exchanged}
 use Rattle.giop_conversation.specs.Stamped.{begin_lines}
 use Rattle.giop_conversation.proofs.EmptyStream.{no_text, one_closing}
 use Rattle.giop_conversation.proofs.PartLemmas.{AreParts, whole_both, are_whole, text_is, of_it, of_another, begin_parts, closed_parts, stamped_parts}
-use Rattle.giop_conversation.proofs.StreamNumbers.{flow_id, IsHalf, HasHalf, HasHalves, AreHalves, AreNumbered, counted_new, numbers_begun, numbers_with, stream_at, stream_else, unequal, own_half, halves_on, half_on, no_room}
+use Rattle.giop_conversation.proofs.StreamNumbers.{flow_id, IsHalf, HasHalf, HasHalves, AreHalves, AreNumbered, numbers_begun, numbers_with, stream_at, stream_else, unequal, own_half, halves_on, half_on, no_room}
 
 -- ---- the whole
 
@@ -137,8 +137,8 @@ module _ (S : Setup) (written : List ℕ)
 
   on_begun : (h : History) (d : Dump) (id : ℕ) (o : Option Connection) →
       slice_get d.connections (id / 2) ≡ o →
-      AreShown S written h d → AreShown S written (with_begun h id (nat_lt (id / 2) S.connections))
-      (begun_in d id o)
+      AreShown S written h d → AreShown S written
+      (with_begun h id (number_in S h.begun) (nat_lt (id / 2) S.connections)) (begun_in S d id o)
   on_begun h d id None is b =
       let past = no_room d.connections (id / 2) is in
       let none : nat_lt (id / 2) S.connections ≡ false =
@@ -161,7 +161,7 @@ module _ (S : Setup) (written : List ℕ)
       })
     where
       by : (i : ℕ) (o : Option Connection) → IfSome o (HasHalves S h i) →
-          IfSome o (HasHalves S (with_begun h id false) i)
+          IfSome o (HasHalves S (with_begun h id (number_in S h.begun) false) i)
       by i None has = tt
       by i (Some c) has = search (arith, text_is)
   on_begun h d id (Some c) is b =
@@ -169,14 +169,14 @@ module _ (S : Setup) (written : List ℕ)
       let rooms = b.halves.rooms in
       let room : id / 2 < S.connections = omega (arith, low, rooms) in
       let some : nat_lt (id / 2) S.connections ≡ true = lt-ltb _ _ room in
-      let n = counted d.streams in
+      let n = number_in S d.streams in
       let s = half (side_of id) c in
       let lines = begin_parts s.flow d.arrival.time in
       let new : IsUnique n → h.stream n ≡ new_stream =
-      λ number. b.numbers.fresh n (rw b.count (counted_new h.begun (rw b.count at number.1))) in
+      λ number. b.numbers.fresh n number (rw b.count (omega arith)) in
       rw some (record {
         count = ap counted b.count;
-        halves = half_on S h (with_begun h id true) d.connections id c
+        halves = half_on S h (with_begun h id (number_in S h.begun) true) d.connections id c
             (record s { stream = n; octets = [] }) is b.halves
             (λ g m p a apart k. record {
               stream_is = k.stream_is ∙ sym (rw (unequal g id apart) refl);
@@ -185,7 +185,7 @@ module _ (S : Setup) (written : List ℕ)
               closing_is = k.closing_is;
             })
             (record {
-              stream_is = ap counted b.count ∙ sym (rw (eq-eqb id id refl) refl);
+              stream_is = ap (number_in S) b.count ∙ sym (rw (eq-eqb id id refl) refl);
               octets_are = λ number. ap (λ (t : StreamHistory). t.octets) (sym (new number));
               text_is = λ number. no_text (rules_in S s.answers)
                   ∙ sym (no_text (rules_in S (h.stream n).answers));
@@ -193,8 +193,8 @@ module _ (S : Setup) (written : List ℕ)
                   (rules_in S (h.stream n).answers);
             });
         numbers = numbers_begun S h id true (λ is. room) b.numbers;
-        shows = more_lines S written h (with_begun h id true) d.text n (begin_lines s.flow
-            d.arrival.time) [] [] b.shows lines
+        shows = more_lines S written h (with_begun h id (number_in S h.begun) true) d.text n
+            (begin_lines s.flow d.arrival.time) [] [] b.shows lines
             (λ m number apart. refl) (λ number r o t. rw (append-nil r, append-nil o) t);
       })
 
@@ -408,9 +408,9 @@ module _ (S : Setup) (written : List ℕ)
     };
     numbers = record {
       most = omega arith;
-      within = λ f. omega arith;
+      within = λ f number. absurd (omega (arith, number.0));
       apart = λ f g number same. absurd (omega (arith, number.0));
-      fresh = λ n new. refl;
+      fresh = λ n number new. refl;
       beyond = λ f past. refl;
     };
     shows = record {

@@ -15,7 +15,7 @@ use Rattle.giop_conversation.specs.Lines.{capture_fault_line, capture_total_line
 use Rattle.giop_conversation.specs.Stamped.{begin_lines}
 use Rattle.giop_conversation.specs.StreamReads.{WritesTagged}
 use Rattle.giop_conversation.specs.Followed.{side_of}
-use Rattle.giop_conversation.specs.Captured.{Setup, Connection, Dump, Step, Leads, start, half, opened, begun, delivered, delivered_lines, closed_lines, rules_in, sum_within, cuts, opened_in, begun_in, delivered_in, closed_in, finished_text, IsAnswered}
+use Rattle.giop_conversation.specs.Captured.{Setup, Connection, Dump, Step, Leads, start, half, opened, begun, delivered, delivered_lines, closed_lines, rules_in, sum_within, number_in, cuts, opened_in, begun_in, delivered_in, closed_in, finished_text, IsAnswered}
 use Rattle.giop_conversation.specs.DumpHeld.{HoldsConnection, ReadsBy, HoldsDump, HasTold, HasToldFront, HasFinished, HasFinishedFront}
 use Rattle.giop_conversation.proofs.Tagging.{ready_new}
 use Rattle.giop_conversation.proofs.DumpLemmas.{leads_more, held_at, none_at, held_set, no_tag_is}
@@ -49,23 +49,24 @@ module _ (S : Setup) (written : List ℕ) (events : List Event) where
   -- an event that leads on, whose lines were written or a front of them
   told_or_front : {A E : Type 0} (r : Result A E) (d behind : Dump) (e : Event)
       (rooms : List Conversation) (out : Tagging)
-      (arrival : Arrival) (streams messages faults : ℕ) (cut : Bool) (tag lines : List ℕ) →
+      (arrival : Arrival) (first streams messages faults : ℕ) (cut : Bool) (tag lines : List ℕ) →
       Leads S (start S written) events d → Step S d e behind → behind.text ≡ d.text
       ++ with_tags tag lines →
-      (IsReady out behind.text → HoldsDump S rooms out arrival streams messages faults cut behind) →
+      (IsReady out behind.text → HoldsDump S rooms out arrival first streams messages faults cut
+      behind) →
       WritesTagged r out d.text tag lines →
-      MatchResult r (λ _. HasTold S written (events ++ e ∷ []) rooms out arrival streams messages
-      faults cut)
+      MatchResult r (λ _. HasTold S written (events ++ e ∷ []) rooms out arrival first streams
+      messages faults cut)
       (λ _. HasToldFront S written (events ++ e ∷ []) out)
-  told_or_front (Ok v) d behind e rooms out arrival streams messages faults cut tag lines leads
-      step text holds writes = search (arith, leads_more)
-  told_or_front (Err v) d behind e rooms out arrival streams messages faults cut tag lines leads
-      step text holds writes = search (arith, leads_more)
+  told_or_front (Ok v) d behind e rooms out arrival first streams messages faults cut tag lines
+      leads step text holds writes = search (arith, leads_more)
+  told_or_front (Err v) d behind e rooms out arrival first streams messages faults cut tag lines
+      leads step text holds writes = search (arith, leads_more)
 
   module _ (rooms : List Conversation) (out : Tagging) (arrival : Arrival)
-      (streams messages faults : ℕ) (cut : Bool) where
+      (first streams messages faults : ℕ) (cut : Bool) where
     abbrev Before : Type 0
-    Before = HasTold S written events rooms out arrival streams messages faults cut
+    Before = HasTold S written events rooms out arrival first streams messages faults cut
 
     -- ---- an id stands for a flow
 
@@ -74,7 +75,7 @@ module _ (S : Setup) (written : List ℕ) (events : List Event) where
         ((c : Connection) → HoldsConnection S old c →
         HoldsConnection S new (opened (side_of flow) endpoints c)) →
         HasTold S written (events ++ Opens flow endpoints ∷ []) (set rooms (flow / 2) new) out
-        arrival streams messages faults cut
+        arrival first streams messages faults cut
     opened_told flow endpoints old new b here opens =
         let d = b.dump in
         let h = b.holds in
@@ -95,6 +96,7 @@ module _ (S : Setup) (written : List ℕ) (events : List Event) where
                 (opens at.connection at.holds);
             ready = h.ready;
             arrival_is = h.arrival_is;
+            first_is = h.first_is;
             streams_are = h.streams_are;
             messages_are = h.messages_are;
             faults_are = h.faults_are;
@@ -103,8 +105,8 @@ module _ (S : Setup) (written : List ℕ) (events : List Event) where
         }
 
     pub opened_beyond : (flow : ℕ) (endpoints : Flow) → Before → slice_get rooms (flow / 2) ≡ None →
-        HasTold S written (events ++ Opens flow endpoints ∷ []) rooms out arrival streams messages
-        faults cut
+        HasTold S written (events ++ Opens flow endpoints ∷ []) rooms out arrival first streams
+        messages faults cut
     opened_beyond flow endpoints b beyond =
         let d = b.dump in
         let none = none_at S rooms d.connections (flow / 2) b.holds.connections beyond in
@@ -122,43 +124,47 @@ module _ (S : Setup) (written : List ℕ) (events : List Event) where
 
     -- ---- a stream begins
 
-    pub begun_told : {A E : Type 0} (r : Result A E) (flow number next : ℕ) (old new : Conversation)
-        (out' : Tagging) → next ≡ sum_within streams 1 → Before →
+    pub begun_told : {A E : Type 0} (r : Result A E) (flow number own next : ℕ)
+        (old new : Conversation) (out' : Tagging) →
+        own ≡ sum_within first streams → next ≡ sum_within streams 1 → Before →
         slice_get rooms (flow / 2) ≡ Some old →
         ((c : Connection) → HoldsConnection S old c →
-        HoldsConnection S new (begun (side_of flow) next c)) →
+        HoldsConnection S new (begun (side_of flow) own c)) →
         ((c : Connection) (w : List ℕ) → HoldsConnection S old c → IsReady out w →
-        WritesTagged r out' w (stream_tag next) (begin_lines (half (side_of flow) c).flow
+        WritesTagged r out' w (stream_tag own) (begin_lines (half (side_of flow) c).flow
         arrival.time)) →
         MatchResult r
         (λ _. HasTold S written (events ++ Begins flow number ∷ []) (set rooms (flow / 2) new) out'
-        arrival next messages faults cut)
+        arrival first next messages faults cut)
         (λ _. HasToldFront S written (events ++ Begins flow number ∷ []) out')
-    begun_told r flow number next old new out' is b here begins writes =
+    begun_told r flow number own next old new out' own_is is b here begins writes =
         let d = b.dump in
         let h = b.holds in
-        let first : next ≡ counted d.streams =
-        is ∙ (ap (λ n. sum_within n 1) h.streams_are ∙ counted_is d.streams) in
+        let has : own ≡ number_in S d.streams =
+        own_is ∙ (ap (λ n. sum_within n streams) h.first_is
+        ∙ ap (λ n. sum_within S.first n) h.streams_are) in
         let at = held_at S rooms d.connections (flow / 2) old h.connections here in
         let endpoints = (half (side_of flow) at.connection).flow in
-        let step : Step S d (Begins flow number) (begun_in d flow (Some at.connection)) =
-        record { answers = no_answers; answered = tt; is = ap (begun_in d flow) (sym at.is) } in
+        let step : Step S d (Begins flow number) (begun_in S d flow (Some at.connection)) =
+        record { answers = no_answers; answered = tt; is = ap (begun_in S d flow) (sym at.is) } in
         let holds = subst (λ n. HoldsConnection S new (begun (side_of flow) n at.connection))
-        first (begins at.connection at.holds) in
+        has (begins at.connection at.holds) in
         let lines = subst (λ n. WritesTagged r out' d.text (stream_tag n)
-        (begin_lines endpoints d.arrival.time)) first
-        (subst (λ (t : Option ℕ). WritesTagged r out' d.text (stream_tag next)
+        (begin_lines endpoints d.arrival.time)) has
+        (subst (λ (t : Option ℕ). WritesTagged r out' d.text (stream_tag own)
         (begin_lines endpoints t)) (ap (λ (x : Arrival). x.time) h.arrival_is)
         (writes at.connection d.text at.holds h.ready)) in
-        told_or_front r d (begun_in d flow (Some at.connection)) (Begins flow number)
-        (set rooms (flow / 2) new) out' arrival next messages faults cut
-        (stream_tag (counted d.streams)) (begin_lines endpoints d.arrival.time) b.leads step refl
+        told_or_front r d (begun_in S d flow (Some at.connection)) (Begins flow number)
+        (set rooms (flow / 2) new) out' arrival first next messages faults cut
+        (stream_tag (number_in S d.streams)) (begin_lines endpoints d.arrival.time) b.leads step
+        refl
         (λ ready. record {
           connections = held_set S rooms d.connections (flow / 2) new
-              (begun (side_of flow) (counted d.streams) at.connection) h.connections holds;
+              (begun (side_of flow) (number_in S d.streams) at.connection) h.connections holds;
           ready = ready;
           arrival_is = h.arrival_is;
-          streams_are = first;
+          first_is = h.first_is;
+          streams_are = is ∙ (ap (λ n. sum_within n 1) h.streams_are ∙ counted_is d.streams);
           messages_are = h.messages_are;
           faults_are = h.faults_are;
           cut_is = h.cut_is;
@@ -166,29 +172,28 @@ module _ (S : Setup) (written : List ℕ) (events : List Event) where
 
     pub begun_beyond : (flow number next : ℕ) → next ≡ sum_within streams 1 → Before →
         slice_get rooms (flow / 2) ≡ None →
-        HasTold S written (events ++ Begins flow number ∷ []) rooms out arrival next messages faults
-        cut
+        HasTold S written (events ++ Begins flow number ∷ []) rooms out arrival first next messages
+        faults cut
     begun_beyond flow number next is b beyond =
         let d = b.dump in
         let h = b.holds in
-        let first : next ≡ counted d.streams =
-        is ∙ (ap (λ n. sum_within n 1) h.streams_are ∙ counted_is d.streams) in
         let none = none_at S rooms d.connections (flow / 2) h.connections beyond in
         record {
-          dump = begun_in d flow None;
+          dump = begun_in S d flow None;
           leads = leads_more S events (start S written) (Begins flow number) d
-              (begun_in d flow None) b.leads
+              (begun_in S d flow None) b.leads
               (record {
                 answers = no_answers;
                 answered = tt;
                 is =
-                    ap (begun_in d flow) (sym none);
+                    ap (begun_in S d flow) (sym none);
               });
           holds = record {
             connections = h.connections;
             ready = h.ready;
             arrival_is = h.arrival_is;
-            streams_are = first;
+            first_is = h.first_is;
+            streams_are = is ∙ (ap (λ n. sum_within n 1) h.streams_are ∙ counted_is d.streams);
             messages_are = h.messages_are;
             faults_are = h.faults_are;
             cut_is = h.cut_is;
@@ -204,7 +209,7 @@ module _ (S : Setup) (written : List ℕ) (events : List Event) where
         ReadsBy S c (side_of flow) octets arrival w r new out') →
         MatchResult r
         (λ _. HasTold S written (events ++ Delivers flow octets ∷ []) (set rooms (flow / 2) new)
-        out' arrival streams messages faults cut)
+        out' arrival first streams messages faults cut)
         (λ _. HasToldFront S written (events ++ Delivers flow octets ∷ []) out')
     delivered_told r flow octets old new out' b here reads =
         let d = b.dump in
@@ -231,6 +236,7 @@ module _ (S : Setup) (written : List ℕ) (events : List Event) where
               (delivered S a side octets d.arrival at.connection) h.connections holds;
           ready = ready;
           arrival_is = h.arrival_is;
+          first_is = h.first_is;
           streams_are = h.streams_are;
           messages_are = h.messages_are;
           faults_are = h.faults_are;
@@ -244,10 +250,10 @@ module _ (S : Setup) (written : List ℕ) (events : List Event) where
             MatchResult r (λ _. Held × IsReady out' (d.text ++ with_tags (stream_tag stream) lines))
             (λ _. WroteTaggedFront out' d.text (stream_tag stream) lines) →
             (Held → IsReady out' behind.text → HoldsDump S (set rooms (flow / 2) new) out' arrival
-            streams messages faults cut behind) →
+            first streams messages faults cut behind) →
             MatchResult r
             (λ _. HasTold S written (events ++ Delivers flow octets ∷ []) (set rooms (flow / 2) new)
-            out' arrival streams messages faults cut)
+            out' arrival first streams messages faults cut)
             (λ _. HasToldFront S written (events ++ Delivers flow octets ∷ []) out')
         by (Ok v) d behind stream lines Held leads step text read holds = search (arith, leads_more)
         by (Err v) d behind stream lines Held leads step text read holds = search (
@@ -299,11 +305,11 @@ module _ (S : Setup) (written : List ℕ) (events : List Event) where
         messages' ≡ sum_within messages totals.messages →
         faults' ≡ sum_within faults totals.faults → cut' ≡ (cut || cuts cause) →
         MatchResult r
-        (λ _. HasTold S written (events ++ Closes flow cause ∷ []) rooms out' arrival streams
+        (λ _. HasTold S written (events ++ Closes flow cause ∷ []) rooms out' arrival first streams
         messages' faults' cut')
         (λ _. HasToldFront S written (events ++ Closes flow cause ∷ []) out')
-    closed_told r flow cause old out' messages' faults' cut' totals b here writes ends first second
-        third =
+    closed_told r flow cause old out' messages' faults' cut' totals b here writes ends more fault
+        is_cut =
         let d = b.dump in
         let h = b.holds in
         let at = held_at S rooms d.connections (flow / 2) old h.connections here in
@@ -317,20 +323,21 @@ module _ (S : Setup) (written : List ℕ) (events : List Event) where
           is =
               ap (closed_in S d flow cause) (sym at.is);
         } in
-        told_or_front r d behind (Closes flow cause) rooms out' arrival streams messages' faults'
-        cut'
+        told_or_front r d behind (Closes flow cause) rooms out' arrival first streams messages'
+        faults' cut'
         (stream_tag (half side at.connection).stream) (closed_lines S side cause at.connection)
         b.leads step refl
         (λ ready. record {
           connections = h.connections;
           ready = ready;
           arrival_is = h.arrival_is;
+          first_is = h.first_is;
           streams_are = h.streams_are;
-          messages_are = first ∙ (ap (λ n. sum_within n totals.messages) h.messages_are
+          messages_are = more ∙ (ap (λ n. sum_within n totals.messages) h.messages_are
               ∙ ap (λ (t : Totals). sum_within d.messages t.messages) total);
-          faults_are = second ∙ (ap (λ n. sum_within n totals.faults) h.faults_are
+          faults_are = fault ∙ (ap (λ n. sum_within n totals.faults) h.faults_are
               ∙ ap (λ (t : Totals). sum_within d.faults t.faults) total);
-          cut_is = third ∙ ap (λ b. b || cuts cause) h.cut_is;
+          cut_is = is_cut ∙ ap (λ b. b || cuts cause) h.cut_is;
         }) (writes at.connection d.text at.holds h.ready)
 
     pub closed_front : (flow : ℕ) (cause : CloseCause) (old : Conversation) (out' : Tagging) →
@@ -363,8 +370,8 @@ module _ (S : Setup) (written : List ℕ) (events : List Event) where
 
     pub closed_beyond : (flow : ℕ) (cause : CloseCause) → Before →
         slice_get rooms (flow / 2) ≡ None →
-        HasTold S written (events ++ Closes flow cause ∷ []) rooms out arrival streams messages
-        faults cut
+        HasTold S written (events ++ Closes flow cause ∷ []) rooms out arrival first streams
+        messages faults cut
     closed_beyond flow cause b beyond =
         let d = b.dump in
         let none = none_at S rooms d.connections (flow / 2) b.holds.connections beyond in
@@ -384,7 +391,8 @@ module _ (S : Setup) (written : List ℕ) (events : List Event) where
 
     pub packet_told : (now : Option ℕ) → Before →
         HasTold S written (events ++ OfCapture (PacketArrives now) ∷ []) rooms out
-        (record { time = now; packet = sum_within arrival.packet 1 }) streams messages faults cut
+        (record { time = now; packet = sum_within arrival.packet 1 }) first streams messages faults
+        cut
     packet_told now b =
         let d = b.dump in
         let h = b.holds in
@@ -401,6 +409,7 @@ module _ (S : Setup) (written : List ℕ) (events : List Event) where
             ready = h.ready;
             arrival_is = ap of (ap (λ (x : Arrival). sum_within x.packet 1) h.arrival_is
                 ∙ counted_is d.arrival.packet);
+            first_is = h.first_is;
             streams_are = h.streams_are;
             messages_are = h.messages_are;
             faults_are = h.faults_are;
@@ -414,14 +423,14 @@ module _ (S : Setup) (written : List ℕ) (events : List Event) where
         Writes r (tagging_log set_out) (tagging_log out') (capture_fault_line word place) →
         MatchResult r
         (λ _. HasTold S written (events ++ OfCapture (HasFault word place) ∷ []) rooms out' arrival
-        streams messages faults true)
+        first streams messages faults true)
         (λ _. HasToldFront S written (events ++ OfCapture (HasFault word place) ∷ []) out')
     fault_told r word place tag set_out out' b sets none writes =
         let d = b.dump in
         let h = b.holds in
         let line = capture_fault_line word place in
         let behind = record d { is_cut = true; text = d.text ++ line } in
-        told_or_front r d behind (OfCapture (HasFault word place)) rooms out' arrival streams
+        told_or_front r d behind (OfCapture (HasFault word place)) rooms out' arrival first streams
         messages faults true [] line b.leads
         (record { answers = no_answers; answered = tt; is = refl })
         (ap (λ (t : List ℕ). d.text ++ t) (sym (no_tag_is line)))
@@ -429,6 +438,7 @@ module _ (S : Setup) (written : List ℕ) (events : List Event) where
           connections = h.connections;
           ready = ready;
           arrival_is = h.arrival_is;
+          first_is = h.first_is;
           streams_are = h.streams_are;
           messages_are = h.messages_are;
           faults_are = h.faults_are;

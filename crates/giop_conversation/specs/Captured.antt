@@ -26,23 +26,30 @@ use Rattle.giop_conversation.specs.Stamped.{begin_lines, exchanged, stamped}
 use Rattle.giop_conversation.specs.Followed.{side_of, other}
 
 -- what is set before a capture is read: the types, how many messages of a stream may be open at
--- once, how many calls of a flow may be outstanding, and how many connections are known at once
+-- once, how many calls of a flow may be outstanding, how many connections are known at once, and the
+-- number of the first stream
 pub record Setup : Type 0 where
   pub table : Table
   pub messages : ℕ
   pub calls : ℕ
   pub connections : ℕ
+  pub first : ℕ
 
-abbrev pub setup : Table → ℕ → ℕ → ℕ → Setup
-setup table messages calls connections =
-    record { table = table; messages = messages; calls = calls; connections = connections }
+abbrev pub setup : Table → ℕ → ℕ → ℕ → ℕ → Setup
+setup table messages calls connections first = record {
+  table = table;
+  messages = messages;
+  calls = calls;
+  connections = connections;
+  first = first;
+}
 
 -- ---- a connection
 
 -- one flow of a connection
 pub record Half : Type 0 where
   pub flow : Option Flow  -- who sends to whom
-  pub stream : ℕ  -- the number of its last stream, from 1; 0 where none has begun
+  pub stream : ℕ  -- the number of its last stream; 0 where none has begun
   pub octets : List ℕ  -- what was delivered of that stream
   pub answers : Answers  -- which operations the ids of the stream's messages answer
   pub calls : Entries Call  -- its outstanding calls
@@ -163,6 +170,10 @@ start S written = record {
 abbrev pub sum_within : ℕ → ℕ → ℕ
 sum_within a b = min (a + b) (2 ^ 64 - 1)
 
+-- the number of a stream that begins where so many have begun before it
+abbrev pub number_in : Setup → ℕ → ℕ
+number_in S begun = sum_within S.first begun
+
 -- the connection of a flow, where there is one
 abbrev pub connection_of : Dump → ℕ → Option Connection
 connection_of d id = slice_get d.connections (id / 2)
@@ -175,18 +186,18 @@ opened_in d id flow None = d
 opened_in d id flow (Some c) = with_connection d id (opened (side_of id) flow c)
 
 -- the line of a stream that begins, with the stream's tag
-abbrev pub text_of_begin : Dump → ℕ → Option Connection → List ℕ
-text_of_begin d id None = []
-text_of_begin d id (Some c) =
-    with_tags (stream_tag (counted d.streams)) (begin_lines (half (side_of id) c).flow
+abbrev pub text_of_begin : Setup → Dump → ℕ → Option Connection → List ℕ
+text_of_begin S d id None = []
+text_of_begin S d id (Some c) =
+    with_tags (stream_tag (number_in S d.streams)) (begin_lines (half (side_of id) c).flow
     d.arrival.time)
 
-abbrev pub begun_in : Dump → ℕ → Option Connection → Dump
-begun_in d id None = record d { streams = counted d.streams }
-begun_in d id (Some c) =
-    record (with_connection d id (begun (side_of id) (counted d.streams) c)) {
+abbrev pub begun_in : Setup → Dump → ℕ → Option Connection → Dump
+begun_in S d id None = record d { streams = counted d.streams }
+begun_in S d id (Some c) =
+    record (with_connection d id (begun (side_of id) (number_in S d.streams) c)) {
       streams = counted d.streams;
-      text = d.text ++ text_of_begin d id (Some c);
+      text = d.text ++ text_of_begin S d id (Some c);
     }
 
 abbrev pub delivered_in : Setup → Answers → Dump → ℕ → List ℕ → Option Connection → Dump
@@ -222,7 +233,7 @@ closed_in S d id cause (Some c) =
 -- behind an event, where the ids of the messages of the stream that is read answer these operations
 abbrev pub stepped : Setup → Answers → Dump → Event → Dump
 stepped S a d (Opens id flow) = opened_in d id flow (connection_of d id)
-stepped S a d (Begins id number) = begun_in d id (connection_of d id)
+stepped S a d (Begins id number) = begun_in S d id (connection_of d id)
 stepped S a d (Delivers id octets) = delivered_in S a d id octets (connection_of d id)
 stepped S a d (Closes id cause) = closed_in S d id cause (connection_of d id)
 stepped S a d (OfCapture (PacketArrives time)) =

@@ -56,13 +56,14 @@ AreHeld S [] (c ∷ cs) = ⊥
 AreHeld S (r ∷ rs) [] = ⊥
 AreHeld S (r ∷ rs) (c ∷ cs) = HoldsConnection S r c × AreHeld S rs cs
 
--- Connections, what they wrote through an out with tags, the packet that is read, and the sums over
--- the streams are those of a dump.
+-- Connections, what they wrote through an out with tags, the packet that is read, the number of the
+-- first stream, and the sums over the streams are those of a dump.
 pub record HoldsDump (S : Setup) (rooms : List Conversation) (out : Tagging) (arrival : Arrival)
-    (streams messages faults : ℕ) (cut : Bool) (d : Dump) : Type 0 where
+    (first streams messages faults : ℕ) (cut : Bool) (d : Dump) : Type 0 where
   pub connections : AreHeld S rooms d.connections
   pub ready : IsReady out d.text
   pub arrival_is : arrival ≡ d.arrival
+  pub first_is : first ≡ S.first
   pub streams_are : streams ≡ d.streams
   pub messages_are : messages ≡ d.messages
   pub faults_are : faults ≡ d.faults
@@ -72,10 +73,10 @@ pub record HoldsDump (S : Setup) (rooms : List Conversation) (out : Tagging) (ar
 -- written, and no more.
 pub record HasTold (S : Setup) (written : List ℕ) (events : List Event) (rooms : List Conversation)
     (out : Tagging)
-    (arrival : Arrival) (streams messages faults : ℕ) (cut : Bool) : Type 0 where
+    (arrival : Arrival) (first streams messages faults : ℕ) (cut : Bool) : Type 0 where
   pub dump : Dump
   pub leads : Leads S (start S written) events dump
-  pub holds : HoldsDump S rooms out arrival streams messages faults cut dump
+  pub holds : HoldsDump S rooms out arrival first streams messages faults cut dump
 
 -- A put failed: of the text that the events lead to a front was written, and maybe the beginning of
 -- a tag.

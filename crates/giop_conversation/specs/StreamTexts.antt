@@ -9,7 +9,7 @@ use Rattle.giop_stream.specs.Rules.{Rules}
 use Rattle.giop_stream.specs.Stream.{text, closing}
 use Rattle.tcp_flow.specs.Flow.{Event, Opens, Begins, Delivers, Closes, OfCapture}
 use Rattle.tcp_flow.specs.Laws.{AllFollow}
-use Rattle.giop_conversation.specs.Captured.{Setup, Dump, Leads, rules_in}
+use Rattle.giop_conversation.specs.Captured.{Setup, Dump, Leads, rules_in, number_in}
 use Rattle.giop_conversation.specs.CaptureParts.{Part, text_of, IsWhole, read_of, own_of}
 
 -- what has happened in a stream
@@ -49,15 +49,15 @@ no_history = record {
   stream = λ number. new_stream;
 }
 
--- a stream begins in the flow of this id, where its connection has a room or hasn't
-abbrev pub with_begun : History → ℕ → Bool → History
-with_begun h id true =
+-- a stream of this number begins in the flow of this id, where its connection has a room or hasn't
+abbrev pub with_begun : History → ℕ → ℕ → Bool → History
+with_begun h id number true =
     record h {
       begun = counted h.begun;
-      stream_of = λ flow. if flow == id then counted h.begun else h.stream_of flow;
-      has_room = λ number. if number == counted h.begun then true else h.has_room number;
+      stream_of = λ flow. if flow == id then number else h.stream_of flow;
+      has_room = λ n. if n == number then true else h.has_room n;
     }
-with_begun h id false = record h { begun = counted h.begun }
+with_begun h id number false = record h { begun = counted h.begun }
 
 abbrev pub with_stream : History → ℕ → StreamHistory → History
 with_stream h number s = record h { stream = λ n. if number == n then s else h.stream n }
@@ -65,7 +65,8 @@ with_stream h number s = record h { stream = λ n. if number == n then s else h.
 -- behind one more event, where octets are read by these answers
 abbrev pub happened : Setup → Answers → History → Event → History
 happened S a h (Opens id flow) = h
-happened S a h (Begins id number) = with_begun h id (nat_lt (id / 2) S.connections)
+happened S a h (Begins id number) =
+    with_begun h id (number_in S h.begun) (nat_lt (id / 2) S.connections)
 happened S a h (Delivers id octets) =
     with_stream h (h.stream_of id) (read_on a octets (h.stream (h.stream_of id)))
 happened S a h (Closes id cause) =
@@ -97,7 +98,7 @@ AreGapless events =
 abbrev pub AreWhole : List Event → Type 0
 AreWhole events = (flow : ℕ) → (payloads : _) × AllFollow payloads flow None events None
 
--- A number that no two streams have: the count of streams stays at its greatest.
+-- A number that no two streams have: a number stays at its greatest.
 abbrev pub IsUnique : ℕ → Type 0
 IsUnique number = (0 < number) × (number < 2 ^ 64 - 1)
 

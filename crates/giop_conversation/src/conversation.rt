@@ -64,8 +64,8 @@ impl<'a> Conversation<'a> {
         ensures even { IfOk result (λ c. HasRead c.even.engine []) }
         ensures odd { IfOk result (λ c. HasRead c.odd.engine []) }
         ensures held { IfOk result (λ c.
-            (let S = setup catalogue.now limits.messages limits.calls limits.connections in
-            HoldsConnection S c (new_connection S))) }
+            (let S = setup catalogue.now limits.messages limits.calls limits.connections
+            limits.first_stream in HoldsConnection S c (new_connection S))) }
     {
         Ok(Conversation {
             side: Side::Even,

@@ -72,6 +72,8 @@ pub struct Conversations<'a, O: Out + Drop> {
     rooms: Vec<Conversation<'a>>,
     out: Tagged<O>,
     arrival: Arrival,
+    // The number of the first stream.
+    first: u64,
     totals: CaptureTotals,
     cut: bool,
 }
@@ -95,8 +97,8 @@ impl<'a, O: Out + Drop> Conversations<'a, O> {
         ensures rooms { IfOk result (λ c. vec_len c.rooms ≡ limits.connections) }
         ensures fails { IfOk result (λ c. c.out.failures ≡ 0) }
         ensures told { (written : List ℕ) → (O.log out).written ≡ Some written → IfOk result (λ c.
-            Told (setup catalogue.now limits.messages limits.calls limits.connections) written []
-            c) }
+            Told (setup catalogue.now limits.messages limits.calls limits.connections
+            limits.first_stream) written [] c) }
     {
         let mut rooms = Vec::with_capacity(alloc, limits.connections as usize)?;
         for _room in 0..limits.connections {
@@ -119,6 +121,7 @@ impl<'a, O: Out + Drop> Conversations<'a, O> {
                 time: None,
                 packet: 0,
             },
+            first: limits.first_stream,
             totals,
             cut: false,
         })
@@ -154,7 +157,14 @@ impl<'a, O: Out + Drop> Conversations<'a, O> {
         }
     }
 
-    /// A stream of a flow begins.
+    /// The number of the stream that begins next.
+    fn next_number(&self) -> u64
+        ensures { result ≡ spec_sum_within self.now.first self.now.totals.streams }
+    {
+        sum_within(self.first, self.totals.streams)
+    }
+
+    /// A stream of a flow begins, with the number behind that of the one before it.
     pub fn begins(&mut self, flow: u32) -> Result<(), OutFault>
         ensures follows { (events : List Event) (number : ℕ) → Follows self.old events →
             OnOk result (Follows self.new (events ++ Begins flow number ∷ [])) }
@@ -170,14 +180,10 @@ impl<'a, O: Out + Drop> Conversations<'a, O> {
         if self.out.has_failed() {
             return Err(OutFault);
         }
+        let number = self.next_number();
         self.totals.streams = sum_within(self.totals.streams, 1);
         match self.rooms.get_mut(flow as usize / 2) {
-            Some(room) => room.begin(
-                side_of(flow),
-                self.totals.streams,
-                self.arrival.time,
-                &mut self.out,
-            ),
+            Some(room) => room.begin(side_of(flow), number, self.arrival.time, &mut self.out),
             None => Ok(()),
         }
     }

@@ -1,9 +1,9 @@
-//! How much is kept of the connections of a capture.
+//! How much is kept of the connections of a capture, and the number of its first stream.
 
 use giop_stream::NewFault;
 use std::alloc::AllocError;
 
-/// How much is kept of each connection, and of how many.
+/// How much is kept of each connection, and of how many; and where the numbers of streams begin.
 #[derive(Clone, Copy, Debug)]
 pub struct Limits {
     /// How many connections are known at once.
@@ -12,6 +12,8 @@ pub struct Limits {
     pub messages: u32,
     /// How many calls of a direction may be outstanding.
     pub calls: u32,
+    /// The number of the capture's first stream.
+    pub first_stream: u64,
 }
 
 /// There isn't enough memory for the limits.

@@ -39,6 +39,7 @@ const LIMITS: Limits = Limits {
     connections: 1,
     messages: 2,
     calls: 2,
+    first_stream: 1,
 };
 
 const LINES: &[u8] = b"s1 stream 10.0.0.1:1000 > 10.0.0.2:2809 at 1970-01-01T00:00:01.000000000Z

@@ -1,6 +1,6 @@
 -- What each read and feed of a run did, and how a run ended (steps). Only private clauses cite
 -- these.
-use Rattle.std.specs.Prelude.{◌≡◌, ℕ, ◌+◌, ◌^◌, ◌≤◌, ◌<◌, List, ◌++◌, length, None, Result, Ok, Err, Bool, true, false}
+use Rattle.std.specs.Prelude.{◌≡◌, ℕ, ◌+◌, ◌^◌, ◌≤◌, ◌<◌, List, ◌++◌, length, None, Result, Ok, Err, Bool, true, false, ◌⊎◌}
 use Rattle.std.specs.Io.KnownBytes.{Consumes}
 use Rattle.giop_cdr.specs.Numbers.{AreOctets}
 use Rattle.giop_print.specs.Output.{OutLog, counted, Wrote, WroteFront}
@@ -19,6 +19,10 @@ use Rattle.giop_run.specs.declared.fault.RunFault.TheVariants as fault
 -- the stream p has no fault
 abbrev pub IsRunning : List ℕ → Type 0
 IsRunning p = (cut p).stop ≡ None
+
+-- a fault of the out, or of an engine that had failed; no read has one
+abbrev pub IsOfWriting : RunFault → Type 0
+IsOfWriting why = (why ≡ fault.Out) ⊎ (why ≡ fault.Failed)
 
 -- the octets s were fed to an engine that held p and read messages by R, and their lines were
 -- written

@@ -1,6 +1,6 @@
 //! Runs an engine from a source to an out that is flushed, and gives the program's status.
 
-ghost use Rattle.std.specs.Prelude.{◌≡◌, ◌+◌, ◌^◌, ◌≤◌, List, ℕ, [], true, Err, OnOk, IfOk};
+ghost use Rattle.std.specs.Prelude.{◌≡◌, ◌⊎◌, ◌+◌, ◌^◌, ◌≤◌, List, ℕ, [], true, Err, OnOk, IfOk};
 ghost use Rattle.giop_stream.specs.EngineHolds.{Holds};
 ghost use Rattle.giop_run.specs.Running.{HasKept, Ran, Refused, setup_of};
 ghost use Rattle.giop_run.specs.Console.{exit_status};
@@ -28,6 +28,9 @@ pub fn dump<'a, S: Source, O: Flush>(
     ensures reads { (S.log source.new).reads ≤ (S.log source.old).reads + 2 ^ 40 }
     ensures kept { IfOk result (λ report. HasKept ending report.kept) }
     ensures flushed { OnOk result (O.kept out.new ≡ []) }
+    // Where a read failed, or there were too many, all that was put is to be seen.
+    ensures seen { (result ≡ Err RunFault.Read) ⊎ (result ≡ Err RunFault.Turns) →
+        O.kept out.new ≡ [] }
 {
     run_by::<S, O, Flushed>(source, out, engine, ending)
 }

@@ -1,13 +1,13 @@
 //! A run: octets from a source go through an engine to an out, up to the stream's end.
 
-ghost use Rattle.std.specs.Prelude.{◌≡◌, ◌+◌, ◌^◌, ◌≤◌, Err, true, false, List, [], ℕ, MatchResult, IfOk, OnOk, IfErr};
+ghost use Rattle.std.specs.Prelude.{◌≡◌, ◌≢◌, ◌⊎◌, ◌+◌, ◌^◌, ◌≤◌, Err, true, false, List, [], ℕ, MatchResult, IfOk, OnOk, IfErr};
 ghost use Rattle.giop_print.specs.Output.{counted};
 ghost use Rattle.giop_cdr.specs.Numbers.{AreOctets};
 ghost use Rattle.giop_stream.specs.EngineHolds.{Holds, rules_of};
 ghost use Rattle.giop_run.specs.SourceLog.{Gave, ReadFailed};
 ghost use Rattle.giop_run.specs.Flushing.{Flushes};
 ghost use Rattle.giop_run.specs.Running.{HasKept, Ran, Refused, setup_of};
-ghost use Rattle.giop_run.specs.RunSteps.{Fed, FedAll, HasReadAndFed, Completed, Closed};
+ghost use Rattle.giop_run.specs.RunSteps.{Fed, FedAll, HasReadAndFed, IsOfWriting, Completed, Closed};
 
 use super::fault::{RunFault, SourceFault};
 use super::flush::{Between, Nothing};
@@ -81,6 +81,9 @@ pub(crate) fn run_by<'a, S: Source, O: Out, F: Between<O>>(
     ensures reads { (S.log source.new).reads ≤ (S.log source.old).reads + 2 ^ 40 }
     ensures kept { IfOk result (λ report. HasKept ending report.kept) }
     ensures flushed { OnOk result (F.left out.new ≡ []) }
+    // Where a read failed, or there were too many, nothing waits in the out.
+    ensures seen { (result ≡ Err RunFault.Read) ⊎ (result ≡ Err RunFault.Turns) →
+        F.left out.new ≡ [] }
 {
     let mut engine = engine;
     feed_all::<S, O, F>(source, out, &mut engine)?;
@@ -104,6 +107,8 @@ fn feed_all<S: Source, O: Out, F: Between<O>>(
         × (engine.new.most ≡ engine.old.most) }
     ensures sound { result ≡ Err RunFault.Failed → engine.old.failed ≡ true }
     ensures reads { (S.log source.new).reads ≤ (S.log source.old).reads + 2 ^ 40 }
+    ensures seen { (result ≡ Err RunFault.Read) ⊎ (result ≡ Err RunFault.Turns) →
+        F.left out.new ≡ [] }
 {
     if !feed(engine, &[], out)? {
         return Ok(());
@@ -146,6 +151,8 @@ fn read_and_feed<S: Source, O: Out>(
         × (engine.new.most ≡ engine.old.most) }
     ensures sound { result ≡ Err RunFault.Failed → engine.old.failed ≡ true }
     ensures reads { (S.log source.new).reads ≡ counted (S.log source.old).reads }
+    ensures unread { result ≡ Err RunFault.Read → out.new ≡ out.old }
+    ensures ends { result ≢ Err RunFault.Turns }
 {
     let Ok(given) = read(source, buffer) else {
         return Err(RunFault::Read);
@@ -178,6 +185,7 @@ fn feed<O: Out>(engine: &mut Engine, piece: &[u8], out: &mut O) -> Result<bool, 
         × (engine.new.request_table ≡ engine.old.request_table)
         × (engine.new.most ≡ engine.old.most) }
     ensures sound { result ≡ Err RunFault.Failed → engine.old.failed ≡ true }
+    ensures causes { IfErr result IsOfWriting }
 {
     match engine.feed(piece, out) {
         Ok(Status::Running) => Ok(true),
@@ -198,6 +206,7 @@ fn close<'a, O: Out, F: Between<O>>(
     ensures sound { result ≡ Err RunFault.Failed → engine.entry.failed ≡ true }
     ensures kept { IfOk result (λ report. HasKept ending report.kept) }
     ensures flushed { OnOk result (F.left out.new ≡ []) }
+    ensures causes { IfErr result IsOfWriting }
 {
     match ending {
         Ending::Finish => finished::<O, F>(engine, out),
@@ -215,6 +224,7 @@ fn finished<'a, O: Out, F: Between<O>>(
     ensures sound { result ≡ Err RunFault.Failed → engine.entry.failed ≡ true }
     ensures kept { IfOk result (λ report. HasKept Ending.Finish report.kept) }
     ensures flushed { OnOk result (F.left out.new ≡ []) }
+    ensures causes { IfErr result IsOfWriting }
 {
     let totals = finish(engine, out)?;
     flush::<O, F>(out)?;
@@ -228,6 +238,7 @@ fn kept<'a, O: Out, F: Between<O>>(engine: Engine<'a>, out: &mut O) -> Result<Re
     ensures sound { result ≡ Err RunFault.Failed → engine.entry.failed ≡ true }
     ensures kept { IfOk result (λ report. HasKept Ending.Keep report.kept) }
     ensures flushed { OnOk result (F.left out.new ≡ []) }
+    ensures causes { IfErr result IsOfWriting }
 {
     flush::<O, F>(out)?;
     let totals = engine.totals();
@@ -244,6 +255,7 @@ fn finish<O: Out>(engine: Engine, out: &mut O) -> Result<Totals, RunFault>
     ensures failed { engine.entry.failed ≡ true
         → (result ≡ Err RunFault.Failed) × (O.log out.new ≡ O.log out.old) }
     ensures sound { result ≡ Err RunFault.Failed → engine.entry.failed ≡ true }
+    ensures causes { IfErr result IsOfWriting }
 {
     match engine.finish(out) {
         Ok(totals) => Ok(totals),

@@ -1,7 +1,11 @@
--- The events of a capture are without a gap, so no stream of them goes on behind its close.
-use Rattle.std.proofs.Common.{[]}
+-- The events of a capture are without a gap, so no stream of them goes on behind its close; and each
+-- has closed.
+use Rattle.std.proofs.Common.{[], ◌++◌, ◌∙◌, ap, if◌then◌else◌}
 use Rattle.tcp_connections.specs.Connections.{none_known}
+use Rattle.giop_stream.specs.Stream.{text, closing}
+use Rattle.giop_conversation.specs.Captured.{start, rules_in}
 use Rattle.giop_conversation.specs.Followed.{reader_faulted}
+use Rattle.giop_conversation.specs.StreamTexts.{no_history, history}
 use Rattle.giop_capture_run.specs.Arrivals.{capture_ended}
 use Rattle.giop_capture_program.proofs.laws.each_stream_of_a_capture_is_dumped.Goals as goal
 
@@ -13,6 +17,10 @@ returns c = λ S written ports blocks most octets d some few leads.
     octets some few in
     let ends = c.each_stream_is_dumped.ensures.ends S written events d leads
     (λ flow. (gapless.payloads, (gapless.follow flow).0, (gapless.follow flow).1)) in
+    let every = c.no_stream_of_a_capture_has_a_gap.ensures.closed reader_faulted ports blocks most
+    octets some few in
+    let closes = c.each_stream_is_dumped.ensures.closes S written events d leads
+    (λ flow. (every.payloads, every.follow flow)) in
     record {
       parts = shown.parts;
       whole = shown.whole;
@@ -20,4 +28,11 @@ returns c = λ S written ports blocks most octets d some few leads.
       streams = λ number is.
           let one = shown.streams number is in
           record { reads_are = one.reads_are; own_are = one.own_are (ends number is) };
+      closed = λ number is room.
+          let s = (history S no_history (start S written) events d leads).stream number in
+          let R = rules_in S s.answers in
+          let one = shown.streams number is in
+          one.own_are (ends number is)
+          ∙ ap (λ b. text R s.octets ++ (if b then closing R s.octets else []))
+          (closes number room);
     }

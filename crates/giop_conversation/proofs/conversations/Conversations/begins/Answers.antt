@@ -41,10 +41,10 @@ returns-in-Some-clause-told g c = λ S written events number told.
     let old = c.in-Some.room.now in
     let here = element rooms.items (vec_len rooms) (c.args.flow / 2) old rooms.ok.0
     (c.in-Some.ensures.variant.0 refl) c.in-Some.ensures.value in
-    begun_told S written events rooms.items now.out now.arrival t.streams t.messages t.faults
-    now.cut c.begin.result c.args.flow number
-    c.sum_within-self.result old c.begin.new.self c.begin.new.out c.sum_within-self.ensures told
-    here
+    begun_told S written events rooms.items now.out now.arrival now.first t.streams
+    t.messages t.faults now.cut c.begin.result c.args.flow number c.next_number-number.result
+    c.sum_within-self.result old c.begin.new.self c.begin.new.out c.next_number-number.ensures
+    c.sum_within-self.ensures told here
     (λ k. rw c.side_of.ensures at (c.begin.ensures.held S k))
     (λ k w. rw c.side_of.ensures at (c.begin.ensures.text S k w))
 
@@ -53,8 +53,8 @@ returns-in-None-clause-told g c = λ S written events number told.
     let now = c.args.self.now in
     let rooms = now.rooms in
     let t = now.totals in
-    begun_beyond S written events rooms.items now.out now.arrival t.streams t.messages t.faults
-    now.cut c.args.flow number
+    begun_beyond S written events rooms.items now.out now.arrival now.first t.streams
+    t.messages t.faults now.cut c.args.flow number
     c.sum_within-self.result c.sum_within-self.ensures told
     (no_element rooms.items (vec_len rooms) (c.args.flow / 2) rooms.ok.0
     c.in-None.ensures.variant.1)

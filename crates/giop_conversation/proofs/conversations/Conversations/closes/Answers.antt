@@ -30,8 +30,8 @@ returns-in-Ok-clause-told g c = λ S written events told.
     let here = slice_get_read rooms.items (length rooms.items) (c.args.flow / 2) old refl at.3.0
     (at.3.1 old) in
     let done : Result ℕ ℕ = Ok 0 in
-    closed_told S written events rooms.items now.out now.arrival t.streams t.messages t.faults
-    now.cut done c.args.flow c.args.cause
+    closed_told S written events rooms.items now.out now.arrival now.first t.streams
+    t.messages t.faults now.cut done c.args.flow c.args.cause
     old c.close.new.out c.sum_within-self.result c.sum_within-self-in-Ok.result c.is_cut-self.result
     c.in-Ok.totals told here
     (λ k w. rw c.side_of.ensures at (c.in-Ok.ensures.text S k w))
@@ -44,8 +44,8 @@ returns-in-None-clause-told g c = λ S written events told.
     let rooms = now.rooms in
     let t = now.totals in
     let at = rw c.deref.ensures.value at c.in-None.ensures.lookup in
-    closed_beyond S written events rooms.items now.out now.arrival t.streams t.messages t.faults
-    now.cut c.args.flow c.args.cause told
+    closed_beyond S written events rooms.items now.out now.arrival now.first t.streams
+    t.messages t.faults now.cut c.args.flow c.args.cause told
     (slice_get_past rooms.items (c.args.flow / 2) at.3)
 
 pub returns-in-Err-clause-told : goal.returns-in-Err-clause-told
@@ -57,8 +57,8 @@ returns-in-Err-clause-told g c = λ S written events told.
     let at = rw c.deref.ensures.value at c.in-Some.ensures.lookup in
     let here = slice_get_read rooms.items (length rooms.items) (c.args.flow / 2) old refl at.3.0
     (at.3.1 old) in
-    closed_front S written events rooms.items now.out now.arrival t.streams t.messages t.faults
-    now.cut c.args.flow c.args.cause
+    closed_front S written events rooms.items now.out now.arrival now.first t.streams
+    t.messages t.faults now.cut c.args.flow c.args.cause
     old c.close.new.out told here (λ k w. rw c.side_of.ensures at (c.in-Err.ensures.text S k w))
 
 pub returns-then-has_failed-clause-told : goal.returns-then-has_failed-clause-told

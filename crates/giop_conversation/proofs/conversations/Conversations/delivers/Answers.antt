@@ -34,8 +34,8 @@ returns-in-Ok-clause-told g c = λ S written events told.
     let old = c.in-Some.room.now in
     let here = element rooms.items (vec_len rooms) (c.args.flow / 2) old rooms.ok.0
     (c.in-Some.ensures.variant.0 refl) c.in-Some.ensures.value in
-    delivered_told S written events rooms.items now.out now.arrival t.streams t.messages t.faults
-    now.cut _ c.args.flow c.args.octets.now
+    delivered_told S written events rooms.items now.out now.arrival now.first t.streams
+    t.messages t.faults now.cut _ c.args.flow c.args.octets.now
     old c.read.new.self c.read.new.out told here (λ k w holds ready.
     rw c.side_of.ensures at (c.in-Ok.ensures.text S k w holds ready))
 
@@ -47,8 +47,8 @@ returns-in-Err-clause-told g c = λ S written events told.
     let old = c.in-Some.room.now in
     let here = element rooms.items (vec_len rooms) (c.args.flow / 2) old rooms.ok.0
     (c.in-Some.ensures.variant.0 refl) c.in-Some.ensures.value in
-    delivered_told S written events rooms.items now.out now.arrival t.streams t.messages t.faults
-    now.cut _ c.args.flow c.args.octets.now
+    delivered_told S written events rooms.items now.out now.arrival now.first t.streams
+    t.messages t.faults now.cut _ c.args.flow c.args.octets.now
     old c.read.new.self c.read.new.out told here (λ k w holds ready.
     rw c.side_of.ensures at (c.in-Err.ensures.text S k w holds ready))
 
@@ -57,8 +57,8 @@ returns-in-None-clause-told g c = λ S written events told.
     let now = c.args.self.now in
     let rooms = now.rooms in
     let t = now.totals in
-    delivered_beyond S written events rooms.items now.out now.arrival t.streams t.messages t.faults
-    now.cut c.args.flow c.args.octets.now
+    delivered_beyond S written events rooms.items now.out now.arrival now.first t.streams
+    t.messages t.faults now.cut c.args.flow c.args.octets.now
     c.refuse.new.self told (no_element rooms.items (vec_len rooms) (c.args.flow / 2) rooms.ok.0
     c.in-None.ensures.variant.1)
     (rw c.refuse.ensures refl)

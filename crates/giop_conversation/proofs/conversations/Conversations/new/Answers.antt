@@ -19,7 +19,7 @@ loop-room-preserved g c =
           }));
       held =
           let S = setup c.args.catalogue.now c.args.limits.messages c.args.limits.calls
-          c.args.limits.connections in
+          c.args.limits.connections c.args.limits.first_stream in
           rw (c.in-Ok.ensures.items, add-one c.loop-room._room)
           (held_push S c.loop-room.rooms.items c.loop-room._room
           c.in_ok-conversation.conversation (new_connection S)
@@ -33,7 +33,7 @@ returns-clause-follows g c = followed_none c.loop-room.rooms.items c.loop-room.i
 pub returns-clause-told : goal.returns-clause-told
 returns-clause-told g c = λ written known.
     let S = setup c.args.catalogue.now c.args.limits.messages c.args.limits.calls
-    c.args.limits.connections in
+    c.args.limits.connections c.args.limits.first_stream in
     let all : c.loop-room._room ≡ c.args.limits.connections =
     omega (arith, c.loop-room.auto._room-end, c.loop-room-test.false) in
     record {
@@ -44,6 +44,7 @@ returns-clause-told g c = λ written known.
             (replicate n (new_connection S))) all c.loop-room.invariant.held;
         ready = new_ready c.new-2.result _ _ written c.new-2.ensures known;
         arrival_is = refl;
+        first_is = refl;
         streams_are = refl;
         messages_are = refl;
         faults_are = refl;

@@ -9,7 +9,8 @@ abbrev pub invariant-loop-room : goal.invariant-loop-room
 invariant-loop-room g l =
     record {
       rooms : All IsNew l.rooms.items;
-      held : (let S = setup l.catalogue l.limits.messages l.limits.calls l.limits.connections in
+      held : (let S = setup l.catalogue l.limits.messages l.limits.calls l.limits.connections
+          l.limits.first_stream in
           AreHeld S l.rooms.items (replicate l._room (new_connection S)));
       count : vec_len l.rooms ≡ l._room;
     }

@@ -27,8 +27,8 @@ returns-in-Some-clause-told g c = λ S written events told.
     let old = c.in-Some.room.now in
     let here = element rooms.items (vec_len rooms) (c.args.flow / 2) old rooms.ok.0
     (c.in-Some.ensures.variant.0 refl) c.in-Some.ensures.value in
-    opened_told S written events rooms.items now.out now.arrival t.streams t.messages t.faults
-    now.cut c.args.flow c.args.endpoints old c.open.new.self
+    opened_told S written events rooms.items now.out now.arrival now.first t.streams
+    t.messages t.faults now.cut c.args.flow c.args.endpoints old c.open.new.self
     told here (λ k. rw c.side_of.ensures at (c.open.ensures.held S k))
 
 pub returns-in-None-clause-told : goal.returns-in-None-clause-told
@@ -36,7 +36,7 @@ returns-in-None-clause-told g c = λ S written events told.
     let now = c.args.self.now in
     let rooms = now.rooms in
     let t = now.totals in
-    opened_beyond S written events rooms.items now.out now.arrival t.streams t.messages t.faults
-    now.cut c.args.flow c.args.endpoints told
+    opened_beyond S written events rooms.items now.out now.arrival now.first t.streams
+    t.messages t.faults now.cut c.args.flow c.args.endpoints told
     (no_element rooms.items (vec_len rooms) (c.args.flow / 2) rooms.ok.0
     c.in-None.ensures.variant.1)

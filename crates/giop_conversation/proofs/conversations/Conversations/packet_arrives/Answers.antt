@@ -15,5 +15,5 @@ returns-clause-told g c = λ S written events told.
     let rooms = now.rooms in
     let t = now.totals in
     rw c.sum_within.ensures
-    (packet_told S written events rooms.items now.out now.arrival t.streams t.messages t.faults
-    now.cut c.args.time told)
+    (packet_told S written events rooms.items now.out now.arrival now.first t.streams
+    t.messages t.faults now.cut c.args.time told)
