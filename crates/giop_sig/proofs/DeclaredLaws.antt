@@ -103,7 +103,8 @@ structure_made s last whole text o f n m x before a b same k e = record {
     free = (a.free, tt, k.took.free);
     front = λ more h.
         let behind : AreTokens f (spell_items k.items (mark marks.Semicolon ∷ more)) =
-        k.took.front (mark marks.Semicolon ∷ more) (mark_takes marks.Semicolon m.2 x.1 e.rest more h) in
+        k.took.front (mark marks.Semicolon ∷ more)
+        (mark_takes marks.Semicolon m.2 x.1 e.rest more h) in
         let members = spell_items k.items (mark marks.Semicolon ∷ more) in
         before (word n.0 ∷ mark marks.OpenBrace ∷ members)
         (a.front (mark marks.OpenBrace ∷ members)

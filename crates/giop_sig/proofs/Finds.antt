@@ -103,8 +103,8 @@ no_exception_long t name laws long =
     no_exception name
     (λ i lt. (laws.exceptions i no_exception lt).short) long))
 
-pub exception_place : (es : List (ArrayVec ℕ × TypeId)) (t : Table) (key name : List ℕ) (r : Option ℕ)
-    → map exception_view es ≡ t.exceptions → key ≡ name
+pub exception_place : (es : List (ArrayVec ℕ × TypeId)) (t : Table) (key name : List ℕ)
+    (r : Option ℕ) → map exception_view es ≡ t.exceptions → key ≡ name
     → r ≡ position (λ (k : ArrayVec ℕ). bytes_eq key k.items)
     (map (λ (e : ArrayVec ℕ × TypeId). e.0) es) → option_map (members_at t) r ≡ exception_in t name
 exception_place es t key name r view same is =

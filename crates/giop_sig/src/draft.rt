@@ -49,7 +49,8 @@ impl Model for Draft {
     ghost Value = { Scope };
 
     ghost view = { λ a.
-        scope_view a.version (table_view a.types a.operations.entries a.exceptions.entries a.declared)
+        scope_view a.version
+        (table_view a.types a.operations.entries a.exceptions.entries a.declared)
         a.names.entries };
 
     ghost invariant = { λ a.

@@ -9,7 +9,8 @@ use Rattle.giop_sig.proofs.UnionWhole.{union_read, union_taken}
 use Rattle.giop_sig.proofs.catalogue.Catalogue.parse.Goals as goal
 
 pub into_catalogue-catalogue-requires : goal.into_catalogue-catalogue-requires
-into_catalogue-catalogue-requires c = file_shallow union_taken c.args.text.now c.in-Ok.draft c.in-Ok.ensures
+into_catalogue-catalogue-requires c = file_shallow union_taken c.args.text.now c.in-Ok.draft
+    c.in-Ok.ensures
 
 pub returns-in-Ok-clause-ok : goal.returns-in-Ok-clause-ok
 returns-in-Ok-clause-ok c =
