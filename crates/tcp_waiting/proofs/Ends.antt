@@ -2,7 +2,7 @@
 use Rattle.std.proofs.Common.{◌≡◌, ◌⊎◌, ℕ, zero, suc, ◌+◌, ◌-◌, ◌%◌, ◌^◌, ◌<◌, ◌≤◌, Bool, true, false, cond, not, nat_eq, nat_lt, nat_le, ◌&&◌, ◌||◌, List, [], ◌∷◌, length, get_or, set, Option, Some, None, refl, ap, sym, ◌∙◌, subst, arith, inl, inr}
 use Rattle.std.specs.List.{insert, remove}
 use Rattle.std.specs.Option.{option_map}
-use Rattle.std.proofs.lemmas.Bool.{eqb-true, eqb-false, eq-eqb, ne_eqb, ltb-true, ltb-false, lt-ltb, le-ltb, lt-leb, leb-true, leb-false, le-leb, and_parts, and_cases, and_from, and_left, and_right, or_parts, or_from, both_ways, false_from_ne_true, true_from_ne_false, not-true, not-false, not_from_true, cases_lt}
+use Rattle.std.proofs.lemmas.Bool.{eqb-true, eqb-false, eq-eqb, ne_eqb, ltb-true, ltb-false, le-ltb, leb-true, le-leb, and_parts, and_from, and_left, and_right, or_parts, or_from, both_ways, false_from_ne_true, true_from_ne_false}
 use Rattle.std.proofs.lemmas.Option.{none-some}
 use Rattle.tcp_waiting.specs.Numbers.{ahead, rank}
 use Rattle.tcp_waiting.specs.Payload.{Payload, payload, earlier, first, is_far, ends_far, has_as_much, window}

@@ -1,6 +1,5 @@
 -- What waits is copied without holes: each payload in turn, and it keeps its octets.
 use Rattle.std.proofs.Common.{◌≡◌, ℕ, zero, suc, ◌+◌, ◌-◌, ◌*◌, ◌<◌, ◌≤◌, List, [], ◌∷◌, ◌++◌, length, take, drop, get_or, set, refl, ap, sym, ◌∙◌, subst, arith, length-append, append_assoc, append-nil, add-zero, add-one}
-use Rattle.std.specs.List.{AllByRecursion}
 use Rattle.std.proofs.lemmas.List.{take_more, length-take, length-drop, get_or-append_right, get_or-drop}
 use Rattle.std.proofs.Math.Seq.{take-append_seam, drop-append_seam, drop-cons, set-append_seam, take-length, drop-length}
 use Rattle.tcp_waiting.specs.declared.pool.Waiting.{Waiting}

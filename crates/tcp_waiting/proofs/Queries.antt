@@ -1,11 +1,11 @@
 -- What is asked of all that waits, from the first to the last.
-use Rattle.std.proofs.Common.{◌≡◌, ℕ, zero, suc, ◌+◌, ◌/◌, ◌<◌, ◌≤◌, false, nat_eq, nat_lt, ◌&&◌, ◌||◌, List, [], ◌∷◌, length, drop, get_or, refl, ap, sym, subst, ◌∙◌, arith, add-one}
+use Rattle.std.proofs.Common.{◌≡◌, ℕ, zero, suc, ◌+◌, ◌/◌, ◌<◌, ◌≤◌, false, nat_eq, ◌&&◌, ◌||◌, List, [], ◌∷◌, length, drop, get_or, refl, ap, sym, subst, ◌∙◌, arith, add-one}
 use Rattle.std.specs.List.{insert, remove}
 use Rattle.std.proofs.Math.Seq.{drop-cons}
 use Rattle.std.proofs.Math.ListN.{drop_of_length-le}
 use Rattle.tcp_waiting.specs.declared.pool.Waiting.{Waiting}
 use Rattle.tcp_waiting.specs.Payload.{Payload, blocks_of, is_far, ends_far, key, key_of}
-use Rattle.tcp_waiting.specs.Layout.{octets_at, payload_in, held_in, AreWithin, counts}
+use Rattle.tcp_waiting.specs.Layout.{octets_at, payload_in, held_in, AreWithin}
 use Rattle.tcp_waiting.proofs.Held.{length_held, get_held, remove_held, all_at, length_octets}
 
 -- the payload at an index, and those behind it

@@ -1,5 +1,5 @@
-use Rattle.std.proofs.Common.{◌≡◌, true, false, ◌&&◌, nat_eq, refl, sym, ◌∙◌, ap, arith}
-use Rattle.std.proofs.lemmas.Bool.{and_from, and_left, and_right, eq-eqb, ne_eqb}
+use Rattle.std.proofs.Common.{◌≡◌, true, false, ◌&&◌, nat_eq, refl, sym, ◌∙◌, arith}
+use Rattle.std.proofs.lemmas.Bool.{and_left, and_right, eq-eqb, ne_eqb}
 use Rattle.tcp_waiting.specs.Payload.{ends_far}
 use Rattle.tcp_waiting.proofs.Queries.{here, far_turn, far_end}
 use Rattle.tcp_waiting.proofs.pool.Pool.finds_far.Goals.{else-here-flow-via-then-here-flow+else-ends_far, else-here-flow-via-else-here-flow}

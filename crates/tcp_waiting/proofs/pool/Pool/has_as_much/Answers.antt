@@ -1,6 +1,5 @@
 use Rattle.std.proofs.Common.{◌≡◌, ◌<◌, length, true, false, ◌∙◌, sym, ap, arith, ℕ, [], nat_eq}
 use Rattle.tcp_waiting.specs.Payload.{Payload, payload, place_of}
-use Rattle.tcp_waiting.specs.Layout.{held_in}
 use Rattle.tcp_waiting.proofs.Counts.{has_none}
 use Rattle.tcp_waiting.proofs.Held.{get_held, length_held}
 use Rattle.tcp_waiting.proofs.Order.{has_by, has_nowhere, stands_own}

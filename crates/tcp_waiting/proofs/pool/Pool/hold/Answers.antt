@@ -1,8 +1,8 @@
-use Rattle.std.proofs.Common.{◌≡◌, ◌<◌, ◌≤◌, ◌+◌, ◌*◌, ◌/◌, ◌^◌, ◌++◌, [], length, length-append, get_or, List, ℕ, Option, Some, None, IfSome, true, false, arith, refl, sym, subst, ◌∙◌, ap, inl, inr}
+use Rattle.std.proofs.Common.{◌≡◌, ◌<◌, ◌≤◌, ◌+◌, ◌*◌, ◌/◌, ◌^◌, ◌++◌, [], length, length-append, get_or, List, ℕ, Option, None, IfSome, false, arith, refl, sym, subst, ◌∙◌, ap, inl, inr}
 use Rattle.std.specs.List.{insert}
 use Rattle.tcp_waiting.specs.declared.pool.Near.{Near}
 use Rattle.tcp_waiting.specs.declared.pool.Waiting.{Waiting}
-use Rattle.tcp_waiting.specs.Payload.{Payload, payload, blocks_of, count_of, key_of, place_of, put}
+use Rattle.tcp_waiting.specs.Payload.{payload, blocks_of, count_of, key_of, place_of, put}
 use Rattle.tcp_waiting.specs.Layout.{held_in, IsSmall, is_far_but}
 use Rattle.tcp_waiting.specs.Pool.{PoolView}
 use Rattle.tcp_waiting.proofs.Held.{length_held, held_inserted, all_insert, within_more, ok_items, ok_so}

@@ -1,8 +1,7 @@
-use Rattle.std.proofs.Common.{◌≡◌, ◌<◌, [], None, arith, refl, replicate, subst, sym, List, ℕ}
+use Rattle.std.proofs.Common.{◌≡◌, ◌<◌, [], arith, refl, replicate, ℕ}
 use Rattle.std.proofs.lemmas.List.{get_or-replicate}
 use Rattle.tcp_waiting.specs.Payload.{blocks_of, count_of}
-use Rattle.tcp_waiting.specs.Layout.{AreWithin, AreOrdered, is_far_but}
-use Rattle.tcp_waiting.specs.declared.pool.Waiting.{Waiting}
+use Rattle.tcp_waiting.specs.Layout.{AreOrdered, is_far_but}
 use Rattle.tcp_waiting.proofs.pool.Pool.new.Goals as goal
 
 pub invariant_of-result : goal.invariant_of-result

@@ -1,4 +1,4 @@
-use Rattle.std.proofs.Common.{◌≡◌, ◌<◌, ◌^◌, IfSome, Some, Option, length, true, sym, ◌∙◌, ap, subst, arith, ℕ, nat_lt}
+use Rattle.std.proofs.Common.{◌≡◌, ◌<◌, ◌^◌, IfSome, Option, length, true, sym, ◌∙◌, ap, subst, arith, ℕ, nat_lt}
 use Rattle.std.proofs.lemmas.Bool.{and_parts, ltb-true}
 use Rattle.tcp_waiting.specs.Numbers.{ahead}
 use Rattle.tcp_waiting.specs.Payload.{Payload, first}

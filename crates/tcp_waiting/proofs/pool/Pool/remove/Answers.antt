@@ -1,13 +1,13 @@
-use Rattle.std.proofs.Common.{◌≡◌, ◌<◌, ◌≤◌, ◌+◌, length, arith, refl, sym, subst, ap, List, Option}
+use Rattle.std.proofs.Common.{◌≡◌, ◌<◌, ◌≤◌, ◌+◌, length, arith, subst, ap, List, Option}
 use Rattle.std.specs.List.{remove}
 use Rattle.std.specs.Option.{OnSome}
-use Rattle.tcp_waiting.specs.Layout.{AreWithin, AreOrdered, AreSmall, IsSmall, held_in}
+use Rattle.tcp_waiting.specs.Layout.{IsSmall, held_in}
 use Rattle.tcp_waiting.specs.Payload.{blocks_of, count_of}
 use Rattle.tcp_waiting.proofs.Counts.{removed_counts, one_own}
 use Rattle.tcp_waiting.proofs.Ends.{far_remove}
 use Rattle.tcp_waiting.proofs.Held.{length_held, remove_held, all_remove}
 use Rattle.tcp_waiting.proofs.Order.{ordered_remove}
-use Rattle.tcp_waiting.proofs.Queries.{here, removed_blocks}
+use Rattle.tcp_waiting.proofs.Queries.{removed_blocks}
 use Rattle.tcp_waiting.specs.declared.pool.Waiting.{Waiting}
 use Rattle.tcp_waiting.proofs.pool.Pool.remove.Goals as goal
 
