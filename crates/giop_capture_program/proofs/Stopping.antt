@@ -1,5 +1,5 @@
 -- What was put where the run over a capture failed.
-use Rattle.std.proofs.Common.{◌≡◌, ◌∙◌, ◌≤◌, ℕ, List, [], Option, Some, Err, length, subst}
+use Rattle.std.proofs.Common.{◌≡◌, ◌∙◌, ℕ, List, [], Option, Some, Err, subst}
 use Rattle.std.specs.Io.KnownBytes.{Consumes}
 use Rattle.capture_file.specs.declared.capture.Capture.{Capture}
 use Rattle.tcp_flow.specs.Flow.{Event}
@@ -17,7 +17,7 @@ use Rattle.giop_run.specs.declared.fault.RunFault.TheVariants as runs
 use Rattle.giop_run.specs.declared.fault.ProgramFault.{ProgramFault}
 use Rattle.giop_run.specs.declared.fault.ProgramFault.TheVariants as faults
 use Rattle.giop_capture_run.specs.declared.arguments.Arguments.{Arguments}
-use Rattle.giop_capture_run.specs.Packets.{Taken, HandedOn, Ran}
+use Rattle.giop_capture_run.specs.Packets.{HandedOn, Ran}
 use Rattle.giop_capture_run.specs.PacketState.{HasRead}
 use Rattle.giop_capture_program.specs.Text.{HasTextSoFar}
 use Rattle.giop_capture_program.specs.Steps.{ReadInPart, RunFailed}
