@@ -75,19 +75,29 @@ def data_of(page: str) -> Any:
     return json.loads(found[1])
 
 
-def check_session(folder: Path) -> Page:
-    """The page of the session: its totals, its pictures, and that of its calls; gives it as it is shown."""
-    octets = SESSION.read_bytes()
-    page = reported(octets)
-    data = data_of(page)
-    assert [each["operation"] for each in data["spread"]][:3] == ["_is_a", "resolve", "bind"], data["spread"]
-    assert len(data["sample"]) == 10 and sum(data["series"]["answered"]) == 8 and sum(data["series"]["failed"]) == 2
+def check_calls(octets: bytes) -> Any:
+    """The pictures of lines are those of their calls, which are read whole; gives what they are drawn of."""
+    data = data_of(reported(octets))
     calls = subprocess.run([SCRIPTS / "giop-json", "--calls"], input=octets, stdout=subprocess.PIPE, check=True).stdout
     again = data_of(reported(calls))
     spread = {each["operation"]: each for each in again["spread"]}
     for each in data["spread"]:
         assert all(abs(spread[each["operation"]][name] - each[name]) < 1e-9 for name in ("min", "median", "p95", "max"))
     assert {**again, "spread": data["spread"], "top": data["top"], "sample": data["sample"]} == data
+    return data
+
+
+def check_session(folder: Path) -> Page:
+    """The page of the session: its totals, its pictures, and those of its calls; gives it as it is shown."""
+    octets = SESSION.read_bytes()
+    page = reported(octets)
+    data = check_calls(octets)
+    assert [each["operation"] for each in data["spread"]][:3] == ["_is_a", "resolve", "bind"], data["spread"]
+    assert len(data["sample"]) == 10 and sum(data["series"]["answered"]) == 8 and sum(data["series"]["failed"]) == 2
+    for member in (b"operation", b"outcome", b"reply_message"):  # arguments that are called as what a call has
+        named = check_calls(octets.replace(b"body.n", b"body." + member))
+        assert named == data, member
+    check_calls(HOSTILE.read_bytes())
     one = data_of(reported(octets, "--operation", "resolve"))
     assert [each["operation"] for each in one["spread"]] == ["resolve"] and len(one["sample"]) == 2
     document = shown(page, folder)

@@ -12,7 +12,7 @@ from pathlib import Path
 from typing import Dict, List, NamedTuple, Optional, Tuple
 
 from .encoding import REPLY
-from .flows import Capture, Limits, Stream
+from .flows import Capture, Delivery, Limits, Stream
 from .packets import Endpoint, Flow, Packet, is_read, packets_of, segment_of
 from .signatures import Table, table_of
 from .stream import MOST_OPEN, STREAM, Dump, HeaderEnd, Known
@@ -153,8 +153,8 @@ class Reading:
         ends: List[Tuple[int, int, int, Stream, HeaderEnd]] = []
         for stream in self._capture.streams:
             for header in Dump(bytes(stream.octets), self._known({})).header_ends:
-                happened, packet = when(stream, header.place)
-                ends.append((happened, header.place, packet, stream, header))
+                came = when(stream, header.place)
+                ends.append((came.happened, header.place, came.packet, stream, header))
         calls: Dict[Tuple[int, Flow], Dict[int, Call]] = {}
         for _, _, packet, stream, header in sorted(ends, key=lambda each: each[:2]):
             if header.kind == REPLY:
@@ -178,7 +178,7 @@ class Reading:
         )
         lines = list(dump.lines)
         for number, place in enumerate(dump.begun, 1):
-            packet = when(stream, place)[1]
+            packet = when(stream, place).packet
             lines.append((place, TIME, f"m{number} time {time_text(self._time(packet))} packet {packet + 1}"))
         for number, (header, call, packet) in answers.items():
             seconds = span_text(call.time, self._time(packet))
@@ -188,21 +188,21 @@ class Reading:
             lines.append((raised.place, RAISES, f"m{raised.number} raises {raised.name.decode()}"))
         begun = time_text(self._time(stream.packet))
         ends = " > ".join(endpoint_text(each) for each in stream.flow)
-        self._say(stream, stream.deliveries[0][:2], 0, 0, f"stream {ends} at {begun}")
+        self._say(stream, stream.deliveries[0], 0, 0, f"stream {ends} at {begun}")
         for place, sort, line in lines:
             self._say(stream, when(stream, place), place, sort, line)
         word, *closed = stream.closed
         for at, line in enumerate([f"closed {word}", *dump.closing]):
-            self._say(stream, (closed[0], closed[1]), 0, at, line)
+            self._due.append(Due(closed[0], 0, at, f"s{stream.number} {line}", closed[1]))
         return dump
 
-    def _say(self, stream: Stream, happened: Tuple[int, int], place: int, sort: int, line: str) -> None:
-        self._due.append(Due(happened[0], place, sort, f"s{stream.number} {line}", happened[1]))
+    def _say(self, stream: Stream, came: Delivery, place: int, sort: int, line: str) -> None:
+        self._due.append(Due(came.happened, place, sort, f"s{stream.number} {line}", came.read))
 
 
-def when(stream: Stream, place: int) -> Tuple[int, int]:
-    """When an octet of a stream was delivered: the number of what happened, and the packet."""
-    return next((happened, packet) for happened, packet, end in stream.deliveries if end >= place)
+def when(stream: Stream, place: int) -> Delivery:
+    """How an octet of a stream came."""
+    return next(came for came in stream.deliveries if came.end >= place)
 
 
 def dump_capture(capture: bytes, words: Words) -> Dumped:

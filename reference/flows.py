@@ -24,25 +24,36 @@ class Limits:
     first: int = 1
 
 
+class Delivery(NamedTuple):
+    """Octets that a stream is given: the number of when that happened, the packet that was read then, the one that had them,
+    and the octets of the stream up to their last."""
+
+    happened: int
+    read: int
+    packet: int
+    end: int
+
+
 @dataclass
 class Stream:
-    """A stream: the flow and the packet in which it began, its octets, each delivery by its packet and the octets up to
-    its last, and the word and the packet with which it closed."""
+    """A stream: the flow and the packet in which it began, its octets, how they came, and the word with which it closed, when,
+    and the packet that was read then."""
 
     number: int
     flow: Flow
     connection: int
     packet: int
     octets: bytearray = field(default_factory=bytearray)
-    deliveries: List[Tuple[int, int, int]] = field(default_factory=list)
+    deliveries: List[Delivery] = field(default_factory=list)
     closed: Tuple[str, int, int] = ("", 0, 0)
 
 
 class Held(NamedTuple):
-    """A payload that came too early."""
+    """A payload that came too early, and its packet."""
 
     number: int
     octets: bytes
+    packet: int
 
 
 class FlowState:
@@ -79,10 +90,10 @@ class FlowState:
         before = -self.ahead(held.number)
         if before <= 0 or self.live is None and before > WINDOW:
             return held
-        return Held(self._due, held.octets[before:])
+        return Held(self._due, held.octets[before:], held.packet)
 
     def payload_came(self, number: int, octets: bytes) -> None:
-        left = self._left(Held(number, octets))
+        left = self._left(Held(number, octets, self._capture.packet))
         if not left.octets or any(
             held.number == left.number and len(held.octets) >= len(left.octets) for held in self.held
         ):
@@ -137,8 +148,8 @@ class FlowState:
             begin = found
             self._began = (held.number + begin) % 2**32
             self._next_message = 0
-            self.live = self._capture.begun(self._flow, self._connection)
-        self._capture.delivered(self.live, held.octets[begin:])
+            self.live = self._capture.begun(self._flow, self._connection, held.packet)
+        self._capture.delivered(self.live, held.octets[begin:], held.packet)
         self._due = (held.number + len(held.octets)) % 2**32
         while header := bytes(self.live.octets[self._next_message : self._next_message + HEADER]):
             if header_fault(header):
@@ -230,15 +241,15 @@ class Capture:
         self._happened += 1
         return self._happened
 
-    def begun(self, flow: Flow, connection: Connection) -> Stream:
+    def begun(self, flow: Flow, connection: Connection, packet: int) -> Stream:
         self.happened()
-        self.streams.append(Stream(self.limits.first + len(self.streams), flow, connection.number, self.packet))
-        self.streams[-1].deliveries.append((self._happened, self.packet, 0))
+        self.streams.append(Stream(self.limits.first + len(self.streams), flow, connection.number, packet))
+        self.streams[-1].deliveries.append(Delivery(self._happened, self.packet, packet, 0))
         return self.streams[-1]
 
-    def delivered(self, stream: Stream, octets: bytes) -> None:
+    def delivered(self, stream: Stream, octets: bytes, packet: int) -> None:
         stream.octets += octets
-        stream.deliveries.append((self.happened(), self.packet, len(stream.octets)))
+        stream.deliveries.append(Delivery(self.happened(), self.packet, packet, len(stream.octets)))
 
     def closed(self, stream: Stream, word: str) -> None:
         stream.closed = (word, self.happened(), self.packet)

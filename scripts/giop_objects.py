@@ -13,7 +13,6 @@ import select
 import signal
 import subprocess
 import sys
-import threading
 from pathlib import Path
 from typing import Any, Dict, Iterator, List, NoReturn, Optional, Sequence
 
@@ -53,26 +52,31 @@ class Program:
     """A program that is fed with the octets of the input."""
 
     def __init__(self, words: Sequence[str]) -> None:
+        pipe = subprocess.PIPE
         self.process = subprocess.Popen(
-            words, stdin=subprocess.PIPE, stdout=subprocess.PIPE, stderr=subprocess.PIPE, start_new_session=True
+            words, bufsize=MOST_READ, stdin=pipe, stdout=pipe, stderr=pipe, start_new_session=True
         )
         assert self.process.stdin and self.process.stdout
         self._stdin, self.out = self.process.stdin, self.process.stdout
 
-    def feed(self, octets: bytes) -> None:
-        """Gives it octets, unless it has ended."""
+    def feed(self, octets: bytes) -> bool:
+        """Gives it octets; whether it hasn't ended."""
         try:
             self._stdin.write(octets)
             self._stdin.flush()
-        except (BrokenPipeError, ValueError):
-            pass
+        except BrokenPipeError:
+            return False
+        return True
 
-    def close(self) -> None:
-        """Ends its input."""
-        try:
-            self._stdin.close()
-        except (BrokenPipeError, ValueError):
-            pass
+    def close_input(self) -> None:
+        """Gives it nothing more from this process."""
+        self._stdin.close()
+
+    def close_output(self) -> None:
+        """Reads nothing of it in this process."""
+        assert self.process.stderr
+        self.out.close()
+        self.process.stderr.close()
 
 
 class Source:
@@ -85,6 +89,7 @@ class Source:
         except OSError:
             raise Failure(4, f"{self._name}: cannot read") from None
         self._programs: List[Program] = []
+        self._feeder = 0  # the process that gives them the octets
         self._is_stopped = self._is_unread = False
         self._first = self._read()
         signal.signal(signal.SIGINT, self._stop)
@@ -102,31 +107,41 @@ class Source:
 
     def objects(self, *words: str) -> Iterator[Object]:
         """The objects that it has itself, or that giop-json makes of its lines by these words."""
+        for number, line in enumerate(self.texts(*words), 1):
+            yield self.parsed(number, line)
+
+    def texts(self, *words: str) -> Iterator[bytes]:
+        """The texts of these objects, each with its line feed."""
         if self.has_objects:
             program = Program(["cat"])
             self._programs.append(program)
         else:
             program = self.start("giop-json", *words)
-        threading.Thread(target=self._feed, daemon=True).start()
-        for number, line in enumerate(program.out, 1):
-            try:
-                found = json.loads(line)
-            except ValueError:
-                found = None
-            if not isinstance(found, dict):
-                self.end()
-                raise Failure(3, f"{self._name}:{number}: giop-json writes no such line")
-            yield found
+        self._start_feeding()
+        yield from program.out
+
+    def parsed(self, number: int, text: bytes) -> Object:
+        """The object of the text with this number, from 1."""
+        try:
+            found = json.loads(text)
+        except ValueError:
+            found = None
+        if not isinstance(found, dict):
+            self.end()
+            raise Failure(3, f"{self._name}:{number}: giop-json writes no such line")
+        return found
 
     def end(self) -> None:
         """Ends what is read, before its end."""
-        self._is_stopped = True
+        os.kill(self._feeder, signal.SIGKILL)
         for program in self._programs:
             program.process.kill()
 
     def finish(self) -> None:
         """Says what giop-json said of the lines; raises what made it fail."""
-        if self._is_unread:
+        _, status = os.waitpid(self._feeder, 0)
+        self._feeder = 0
+        if status:
             raise Failure(4, "read failed")
         for program in self._programs:
             assert program.process.stderr
@@ -145,21 +160,30 @@ class Source:
             self._is_unread = True
             return b""
 
+    def _start_feeding(self) -> None:
+        """Lets a process of its own give the programs all octets, so that neither it nor this one waits for the other."""
+        self._feeder = os.fork()
+        for program in self._programs:
+            (program.close_input if self._feeder else program.close_output)()
+        if not self._feeder:
+            signal.signal(signal.SIGPIPE, signal.SIG_IGN)
+            self._feed()
+            os._exit(self._is_unread)
+
     def _feed(self) -> None:
-        """Gives the programs all octets."""
-        octets = self._first
-        while octets:
-            for program in self._programs:
-                program.feed(octets)
+        """Gives the programs all octets, each as long as it reads."""
+        programs, octets = self._programs, self._first
+        while octets and programs:
+            programs = [program for program in programs if program.feed(octets)]
             while not self._is_stopped and not select.select([self._descriptor], [], [], PATIENCE)[0]:
                 pass
             octets = b"" if self._is_stopped else self._read()
-        for program in self._programs:
-            program.close()
 
     def _stop(self, *_: object) -> None:
         """At an interrupt what came is the whole."""
         self._is_stopped = True
+        if self._feeder:
+            os.kill(self._feeder, signal.SIGINT)
 
 
 def write(text: str) -> None:

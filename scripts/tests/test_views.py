@@ -602,6 +602,13 @@ class Program(unittest.TestCase):
             self.assertEqual((done.returncode, done.stderr), (3, said))
             self.assertIn("no operation" if program == "giop-stat" else "Reply", done.stdout)
 
+    def test_a_line_is_refused_in_front_of_many(self) -> None:
+        session = SESSION.read_text()
+        for program in (*PROGRAMS, "giop-report"):
+            done = run(program, session + "zap\n" + session * 100)
+            said = f"{program}: standard input:{session.count(chr(10)) + 1}: no dump has this line\n"
+            self.assertEqual((done.returncode, done.stderr), (3, said))
+
     def test_what_cannot_be_read(self) -> None:
         for program in PROGRAMS:
             for path, said in (("no/such\x1b\nfile", "no/such\\x1b\\x0afile: cannot read"), ("/", "read failed")):

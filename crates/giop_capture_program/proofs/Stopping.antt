@@ -1,5 +1,5 @@
 -- What was put where the run over a capture failed.
-use Rattle.std.proofs.Common.{◌≡◌, ◌∙◌, ℕ, List, [], Option, Some, Err, subst}
+use Rattle.std.proofs.Common.{◌≡◌, ◌<◌, ◌∙◌, ℕ, List, [], Option, Some, Err, refl, subst}
 use Rattle.std.specs.Io.KnownBytes.{Consumes}
 use Rattle.capture_file.specs.declared.capture.Capture.{Capture}
 use Rattle.tcp_flow.specs.Flow.{Event}
@@ -57,23 +57,26 @@ in_part begins c Told asked connections live links capture s before after put sa
 pub stopped : {O : Type 0} (fault : RunFault) (begins : Setup → List ℕ → Type 0)
     (c : Conversations O) (Told : List ℕ → Type 0) (asked : Arguments) (connections : Connections)
     (live links : List ℕ) (capture : Capture) (s : List ℕ) (before after : SourceLog)
-    (log : OutLog) → log.written ≡ c.out.whole
+    (log : OutLog) → log.written ≡ c.out.whole → (fault ≡ runs.Out → 0 < log.failures)
     → Ran (Err fault) (HasRead (Observed begins c) Told reader_faulted connections live links
     (none_known asked.ports.items asked.pool asked.connections [])) capture s before after
     → RunFailed begins asked before.left (faults.Run fault) (Some log)
 unfolding in_part
-stopped runs.Read begins c Told asked connections live links capture s before after log same ran =
+stopped runs.Read begins c Told asked connections live links capture s before after log same out
+    ran =
     in_part begins c Told asked connections live links capture s before after log.written
     same ran.given ran.handed
-stopped runs.Turns begins c Told asked connections live links capture s before after log same
+stopped runs.Turns begins c Told asked connections live links capture s before after log same out
     ran = (
       in_part begins c Told asked connections live links capture s before after log.written same
           ran.0.given ran.0.handed,
       ran.1,
     )
-stopped runs.Out begins c Told asked connections live links capture s before after log same ran = tt
-stopped runs.Failed begins c Told asked connections live links capture s before after log same ran =
-    absurd ran
+stopped runs.Out begins c Told asked connections live links capture s before after log same out
+    ran =
+    out refl
+stopped runs.Failed begins c Told asked connections live links capture s before after log same out
+    ran = absurd ran
 
 -- the same of a source of which this is known
 pub stopped_at : (begins : Setup → List ℕ → Type 0) (asked : Arguments) (fault : ProgramFault)

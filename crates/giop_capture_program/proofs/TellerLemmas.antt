@@ -1,6 +1,5 @@
 -- What the conversations of a capture have followed and told stays where nothing happens in a flow.
 use Rattle.std.proofs.Common.{◌≡◌, ℕ, Bool, List, [], ◌∷◌, ◌++◌, Option, Some, None, refl, ◌∙◌, ap, subst, sym}
-use Rattle.std.specs.Prelude.{Result, Ok, Err, OnOk}
 use Rattle.std.specs.Io.KnownBytes.{Keeps}
 use Rattle.tcp_flow.specs.Flow.{Event, CaptureEvent, OfCapture}
 use Rattle.giop_conversation.specs.declared.conversation.Conversation.{Conversation}
@@ -32,10 +31,13 @@ pub still_known : (before after : Option (List ℕ)) (w : List ℕ) → Keeps be
     → after ≡ Some w
 still_known before after w kept known = some_known after w (subst (λ x. Keeps x after) known kept)
 
-told_on : {O : Type 0} (c : Conversations O) (put : Option (List ℕ)) (below : ℕ) (S : Setup)
-    (written : List ℕ) (events : List Event) → Keeps c.out.whole put → Told S written events c
-    → Told S written events (record c { out = record c.out { whole = put; below = below } })
-told_on c put below S written events kept told =
+told_on : {O : Type 0} (c : Conversations O) (put : Option (List ℕ)) (below failures : ℕ)
+    (S : Setup)
+    (written : List ℕ) (events : List Event) → failures ≡ c.out.failures → Keeps c.out.whole put →
+    Told S written events c → Told S written events (record c {
+      out = record c.out { whole = put; below = below; failures = failures };
+    })
+told_on c put below failures S written events none kept told =
     let h = told.holds in
     let r = h.ready in
     record {
@@ -50,7 +52,7 @@ told_on c put below S written events kept told =
           stands = r.stands;
           ended = r.ended;
           due = r.due;
-          sound = r.sound;
+          sound = none ∙ r.sound;
         };
         arrival_is = h.arrival_is;
         first_is = h.first_is;
@@ -61,19 +63,25 @@ told_on c put below S written events kept told =
       };
     }
 
-pub kept_on : {O : Type 0} {A E : Type 0} (begins : Setup → List ℕ → Type 0) (c d : Conversations O)
-    (events : List Event) (r : Result A E)
-    → d ≡ record c { out = record c.out { whole = d.out.whole; below = d.out.below } }
-    → Keeps c.out.whole d.out.whole
+pub kept_on : {O : Type 0} (begins : Setup → List ℕ → Type 0) (c d : Conversations O)
+    (events : List Event)
+    → d ≡ record c {
+      out = record c.out {
+        whole = d.out.whole;
+        below = d.out.below;
+        failures = d.out.failures;
+      };
+    }
+    → d.out.failures ≡ c.out.failures → Keeps c.out.whole d.out.whole
     → Follows c events × ((S : Setup) (written : List ℕ) → begins S written →
     Told S written events c)
-    → OnOk r (Follows d events × ((S : Setup) (written : List ℕ) → begins S written →
-    Told S written events d))
-kept_on begins c d events (Err e) same kept h = tt
-kept_on begins c d events (Ok v) same kept h = (
+    → Follows d events × ((S : Setup) (written : List ℕ) → begins S written →
+    Told S written events d)
+kept_on begins c d events same none kept h = (
   subst (λ x. Follows x events) (sym same) h.0,
   λ S written b. subst (λ x. Told S written events x) (sym same)
-      (told_on c d.out.whole d.out.below S written events kept (h.1 S written b)),
+      (told_on c d.out.whole d.out.below d.out.failures S written events none kept
+      (h.1 S written b)),
 )
 
 -- a text that was put stays

@@ -1,5 +1,5 @@
 -- What the steps of the program came to, by their result (meaning).
-use Rattle.std.specs.Prelude.{◌≡◌, ◌≤◌, ◌^◌, ◌⊎◌, ℕ, Bool, List, [], ◌++◌, length, map, Option, Some, None, IsSome, option_map, Result, Ok, Err}
+use Rattle.std.specs.Prelude.{◌≡◌, ◌<◌, ◌≤◌, ◌^◌, ◌⊎◌, ℕ, Bool, List, [], ◌++◌, length, map, Option, Some, None, IsSome, option_map, Result, Ok, Err}
 use Rattle.std.specs.Io.KnownBytes.{Consumes, IsAtEnd}
 use Rattle.capture_file.specs.Reading.{packets, fault, final_fault}
 use Rattle.giop_print.specs.Output.{OutLog}
@@ -82,14 +82,14 @@ pub record ReadInPart (begins : Setup → List ℕ → Type 0) (asked : Argument
       put
 
 -- The reading of a capture failed or had too many reads, each of which gave an octet, or the
--- writing of its lines failed.
+-- writing of its lines failed: a put or a flush of the out.
 abbrev pub RunFailed : (Setup → List ℕ → Type 0) → Arguments → Option (List ℕ) → ProgramFault
     → Option OutLog → Type 0
 RunFailed begins asked source (faults.Run runs.Read) (Some log) =
     ReadInPart begins asked source log.written
 RunFailed begins asked source (faults.Run runs.Turns) (Some log) =
     (part : ReadInPart begins asked source log.written) × (2 ^ 40 ≤ length part.octets)
-RunFailed begins asked source (faults.Run runs.Out) (Some log) = Unit {0}
+RunFailed begins asked source (faults.Run runs.Out) (Some log) = 0 < log.failures
 RunFailed begins asked source _ _ = ⊥
 
 -- why a capture was not dumped: the first step that failed, or the run, with the log of its out

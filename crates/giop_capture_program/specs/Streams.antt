@@ -1,9 +1,9 @@
 -- That the lines of each stream of a capture are giopdump's, but for those of five kinds
 -- (docs/FORMATS.md, Conversations of a capture; meaning).
-use Rattle.std.specs.Prelude.{◌≡◌, ℕ, true, List, ◌++◌}
+use Rattle.std.specs.Prelude.{◌≡◌, ◌<◌, ◌≤◌, ℕ, true, List, ◌++◌}
 use Rattle.std.specs.List.{AllByRecursion as Each}
 use Rattle.giop_stream.specs.Stream.{text, closing}
-use Rattle.giop_conversation.specs.Captured.{Setup, rules_in}
+use Rattle.giop_conversation.specs.Captured.{Setup, rules_in, number_in}
 use Rattle.giop_conversation.specs.CaptureParts.{Part, text_of, IsWhole, read_of, own_of}
 use Rattle.giop_conversation.specs.StreamTexts.{StreamHistory, History, dumped, IsUnique}
 
@@ -27,3 +27,8 @@ pub record ShowsEachStream (S : Setup) (written : List ℕ) (h : History) (all :
         own_of number parts
         ≡ text (rules_in S (h.stream number).answers) (h.stream number).octets
         ++ closing (rules_in S (h.stream number).answers) (h.stream number).octets
+
+-- The connection of each stream that began has a room.
+abbrev pub EachHasRoom : Setup → History → Type 0
+EachHasRoom S h = (number : ℕ) → IsUnique number → S.first ≤ number →
+    number < number_in S h.begun → h.has_room number ≡ true

@@ -3,7 +3,7 @@ use Rattle.std.specs.Prelude.{◌≡◌, ◌||◌, ℕ, Bool, nat_lt, List, Opti
 use Rattle.tcp_flow.specs.Flow.{Event}
 use Rattle.giop_conversation.specs.Captured.{Setup, Dump, Leads, start, finished_text}
 use Rattle.giop_conversation.specs.StreamTexts.{no_history, history}
-use Rattle.giop_capture_program.specs.Streams.{ShowsEachStream}
+use Rattle.giop_capture_program.specs.Streams.{ShowsEachStream, EachHasRoom}
 
 -- These events lead to a dump, of a capture of so many packets and octets: what was put is what was
 -- written before it began, then its text and its last line, and no more; and whether it has a
@@ -15,13 +15,14 @@ pub record HasText (S : Setup) (written : List ℕ) (events : List Event) (packe
   pub text : put ≡ Some (finished_text dump packets octets)
   pub is_faulty : faulty ≡ (dump.is_cut || nat_lt 0 dump.faults)
 
--- In this text the lines of each stream are giopdump's.
+-- In this text the lines of each stream are giopdump's, and each that began has closed.
 abbrev pub HasStreams : {faulty : Bool} {put : Option (List ℕ)} →
     (S : Setup) (written : List ℕ) (events : List Event) (packets octets : ℕ) →
     HasText S written events packets octets faulty put → Type 0
 HasStreams S written events packets octets h =
     ShowsEachStream S written (history S no_history (start S written) events h.dump h.leads)
     h.dump.text
+    × EachHasRoom S (history S no_history (start S written) events h.dump h.leads)
 
 -- These events lead to a dump: what was put is what was written before it began, then its text, and
 -- no more.

@@ -8,7 +8,7 @@ use giop_run::{ProgramFault, RunFault};
 /// Why a capture was not dumped, and what has become of the out that its lines were to be put to.
 #[derive(Drop)]
 pub enum Failure<'a, O: Drop> {
-    /// A step before the reading failed: nothing was put.
+    /// A step before the reading failed, where nothing was put; or there was no room for what is to be put.
     Step(ProgramFault<'a>),
     /// The reading or the writing failed: the out has what was put until then.
     Run(RunFault, O),

@@ -130,9 +130,12 @@ fn dump<
         return Err(Failure::Step(ProgramFault::OutOfMemory));
     };
     let ended = dump_capture(&mut Reading::new(file), &mut capture, &mut reader);
-    let out = reader.into_listener().into_out();
+    let teller = reader.into_listener();
+    let is_full = teller.is_full();
+    let out = teller.into_out();
     match ended {
         Ok(ending) => Ok((ending, flushed(out)?)),
+        Err(_) if is_full => Err(Failure::Step(ProgramFault::OutOfMemory)),
         Err(fault) => Err(Failure::Run(fault, out)),
     }
 }

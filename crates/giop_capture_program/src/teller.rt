@@ -1,8 +1,6 @@
 //! The conversations of a capture, as they are told what happens in its flows.
 
-ghost use Rattle.std.specs.Prelude.{◌≡◌, ◌<◌, ◌⊎◌, ◌||◌, true, nat_lt, OnOk, OnErr};
-ghost use Rattle.std.specs.Io.KnownBytes.{Keeps};
-ghost use Rattle.giop_capture_program.specs.Seen.{IsSeen};
+ghost use Rattle.std.specs.Prelude.{◌≡◌, ◌<◌, ◌⊎◌, ◌||◌, true, nat_lt};
 
 use capture_file::CaptureFault;
 use giop_capture_run::CaptureListener;
@@ -11,6 +9,7 @@ use giop_run::Flush;
 use std::marker::PhantomData;
 use tcp_flow::{CloseCause, Listener, ListenerFault};
 use tcp_segment::Flow;
+use tcp_waiting::Arrival;
 
 /// What is known of a dump before it begins. It has no value: contracts alone speak of it, and what they say of a dump they say
 /// of each.
@@ -33,7 +32,6 @@ impl Beginning for Unknown {
 #[derive(Drop)]
 pub struct Teller<'a, O: Flush + Drop, B: Beginning> {
     conversations: Conversations<'a, O>,
-    flush_failed: bool,
     beginning: PhantomData<B>,
 }
 
@@ -44,40 +42,30 @@ impl<'a, O: Flush + Drop, B: Beginning> Teller<'a, O, B> {
     {
         Teller {
             conversations,
-            flush_failed: false,
             beginning: PhantomData,
         }
     }
 
-    /// What was put stays, and is to be seen.
-    fn flush_out(&mut self) -> Result<(), ListenerFault>
-        ensures put { Keeps self.old.conversations.out.whole self.new.conversations.out.whole }
-        ensures same { self.new.conversations ≡ record self.old.conversations {
-          out = record self.old.conversations.out {
-            whole = self.new.conversations.out.whole;
-            below = self.new.conversations.out.below;
-          };
-        } }
-        ensures seen { OnOk result (IsSeen O.log O.kept self.new.conversations.out.whole) }
-        ensures cause { OnErr result (self.new.flush_failed ≡ true) }
+    /// Whether it has failed for want of room.
+    pub fn is_full(&self) -> bool
+        ensures { result ≡ self.now.conversations.out.full }
     {
-        if self.conversations.out_mut().flush().is_err() {
-            self.flush_failed = true;
-            return Err(ListenerFault);
-        }
-        Ok(())
+        self.conversations.is_full()
     }
 
     /// The out below.
     pub fn into_out(self) -> O
-        ensures { (O.log result).written ≡ self.entry.conversations.out.whole }
+        ensures written { (O.log result).written ≡ self.entry.conversations.out.whole }
+        // Where it has failed that out has, unless it is full.
+        ensures cause { 0 < self.entry.conversations.out.failures →
+            (0 < (O.log result).failures) ⊎ (self.entry.conversations.out.full ≡ true) }
     {
         self.conversations.into_out()
     }
 }
 
 impl<'a, O: Flush + Drop, B: Beginning> Listener for Teller<'a, O, B> {
-    ghost use Rattle.std.specs.Prelude.{◌≡◌, ◌<◌, ◌⊎◌, List, ℕ, true};
+    ghost use Rattle.std.specs.Prelude.{◌<◌, List, ℕ};
     ghost use Rattle.giop_conversation.specs.Captured.{Setup};
     ghost use Rattle.giop_conversation.specs.Follows.{Follows};
     ghost use Rattle.giop_conversation.specs.Followed.{reader_faulted};
@@ -88,13 +76,17 @@ impl<'a, O: Flush + Drop, B: Beginning> Listener for Teller<'a, O, B> {
         × ((S : Setup) (written : List ℕ) → B.begins S written
         → Told S written events t.conversations) };
 
-    ghost failed = { λ t. (0 < t.conversations.out.failures) ⊎ (t.flush_failed ≡ true) };
+    ghost failed = { λ t. 0 < t.conversations.out.failures };
 
     ghost faulted = { reader_faulted };
 
     fn opens(&mut self, flow: u32, endpoints: Flow) -> Result<(), ListenerFault> {
         self.conversations.opens(flow, endpoints);
         Ok(())
+    }
+
+    fn comes_from(&mut self, arrival: Arrival) {
+        self.conversations.comes_from(arrival);
     }
 
     fn begins(&mut self, flow: u32, _number: u32) -> Result<(), ListenerFault> {
@@ -122,8 +114,8 @@ impl<'a, O: Flush + Drop, B: Beginning> Listener for Teller<'a, O, B> {
 impl<'a, O: Flush + Drop, B: Beginning> CaptureListener for Teller<'a, O, B> {
     ghost use Rattle.std.specs.Prelude.{◌||◌, List, ℕ, nat_lt};
     ghost use Rattle.giop_conversation.specs.Captured.{Setup};
+    ghost use Rattle.giop_conversation.specs.Seen.{IsSeen};
     ghost use Rattle.giop_capture_program.specs.Text.{HasText};
-    ghost use Rattle.giop_capture_program.specs.Seen.{IsSeen};
 
     // All that was put below is to be seen.
     ghost flushed = { λ t. IsSeen O.log O.kept t.conversations.out.whole };
@@ -135,10 +127,6 @@ impl<'a, O: Flush + Drop, B: Beginning> CaptureListener for Teller<'a, O, B> {
         B.begins S written
         → HasText S written events packets octets faulty t.conversations.out.whole };
 
-    fn arrives(&mut self, time: Option<u128>) {
-        self.conversations.packet_arrives(time);
-    }
-
     fn has_fault(&mut self, fault: CaptureFault) -> Result<(), ListenerFault> {
         match self.conversations.fault(fault.kind.word(), fault.place) {
             Ok(()) => Ok(()),
@@ -147,14 +135,19 @@ impl<'a, O: Flush + Drop, B: Beginning> CaptureListener for Teller<'a, O, B> {
     }
 
     fn flush(&mut self) -> Result<(), ListenerFault> {
-        self.flush_out()
+        match self.conversations.flush() {
+            Ok(()) => Ok(()),
+            Err(_) => Err(ListenerFault),
+        }
     }
 
     fn finish(&mut self, packets: u64, octets: u64) -> Result<bool, ListenerFault> {
         let Ok(is_faulty) = self.conversations.finish(packets, octets) else {
             return Err(ListenerFault);
         };
-        Teller::flush_out(self)?;
+        let Ok(()) = self.conversations.flush() else {
+            return Err(ListenerFault);
+        };
         Ok(is_faulty)
     }
 }

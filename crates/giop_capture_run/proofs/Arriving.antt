@@ -6,11 +6,10 @@ use Rattle.std.specs.Option.{option_map}
 use Rattle.tcp_segment.specs.declared.tcp.Segment as code
 use Rattle.tcp_segment.specs.Segments.{Segment, segment, segment_view}
 use Rattle.tcp_flow.specs.declared.flow.ListenerFault.{ListenerFault}
-use Rattle.tcp_flow.specs.Flow.{Event, Reader, OfCapture, PacketArrives}
+use Rattle.tcp_flow.specs.Flow.{Event, Reader}
 use Rattle.tcp_connections.specs.declared.connections.Connections.{Connections}
-use Rattle.tcp_connections.specs.Connections.{State, with_capture_event}
+use Rattle.tcp_connections.specs.Connections.{State, with_packet}
 use Rattle.tcp_connections.specs.State.{IsState}
-use Rattle.tcp_connections.proofs.States.{told_capture}
 use Rattle.giop_print.specs.declared.sink.OutFault.{OutFault}
 use Rattle.giop_capture_run.specs.Packets.{Taken}
 use Rattle.giop_capture_run.specs.Arrivals.{with_segment, packet_arrived, after_packets, links_noted, links_from}
@@ -36,23 +35,16 @@ unfolding links_from
 links_more told [] p = refl
 links_more told (q ∷ ps) p = links_more (links_noted told q.head.link) ps p
 
--- the listener is told of the packet
-pub told_of : (O O' : List Event → Type 0) (live : List ℕ) (c : Connections) (w : State) (p : Taken)
-    → IsState O live c w → O' (w.events ++ OfCapture (PacketArrives p.head.time) ∷ [])
-    → IsState O' live c (with_capture_event w (PacketArrives p.head.time))
-told_of O O' live c w p h o = told_capture O O' live c w (PacketArrives p.head.time) h o
-
 -- its segment came, or it has none
 pub segment_came : (O : List Event → Type 0) (live : List ℕ) (c : Connections) (F : Reader)
     (start : State)
     (ps : List Taken) (p : Taken) (found : Option Segment) → segment p.head.link p.octets ≡ found
     → IsState O live c
-    (with_segment F (with_capture_event (after_packets F start ps) (PacketArrives p.head.time))
-    found)
+    (with_segment F (with_packet (after_packets F start ps) p.head.time) found)
     → IsState O live c (after_packets F start (ps ++ p ∷ []))
 unfolding packet_arrived
 segment_came O live c F start ps p found same h =
-    let v : State = with_capture_event (after_packets F start ps) (PacketArrives p.head.time) in
+    let v : State = with_packet (after_packets F start ps) p.head.time in
     subst (IsState O live c) (sym (after_more F start ps p ∙ ap (with_segment F v) same)) h
 
 -- the code's segment is the packet's

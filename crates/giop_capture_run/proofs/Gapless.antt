@@ -1,13 +1,15 @@
 -- Streams are without a gap, whatever the packets of a capture are.
-use Rattle.std.proofs.Common.{◌≡◌, ℕ, ◌≤◌, List, [], ◌∷◌, ◌++◌, Option, Some, None, sym, subst, append_assoc, append-nil}
+use Rattle.std.proofs.Common.{◌≡◌, ℕ, ◌≤◌, List, [], ◌∷◌, ◌++◌, Option, Some, None, refl, sym, ◌∙◌, subst, append_assoc, append-nil}
+use Rattle.std.proofs.lemmas.List.{length-replicate}
 use Rattle.capture_file.specs.declared.fault.CaptureFault.{CaptureFault}
 use Rattle.capture_file.specs.FaultWords.{fault_word}
 use Rattle.capture_file.specs.Reading.{final_fault}
 use Rattle.tcp_segment.specs.Segments.{Segment, segment}
-use Rattle.tcp_flow.specs.Flow.{Reader, PacketArrives, HasFault}
-use Rattle.tcp_connections.specs.Connections.{State, none_known, with_capture_event, step, ended}
-use Rattle.tcp_connections.specs.Gapless.{AreGapless, AreWhole}
-use Rattle.tcp_connections.proofs.Gapless.{At, start_at, step_at, told_at, gapless_of, ended_gapless, ended_whole}
+use Rattle.tcp_flow.specs.Flow.{Reader, HasFault}
+use Rattle.tcp_connections.specs.Connections.{State, none_known, with_packet}
+use Rattle.tcp_connections.specs.Gapless.{AreGapless, AreWhole, HaveRooms}
+use Rattle.tcp_connections.proofs.Gapless.{At, start_at, step_at, packet_at as read_at, told_at, gapless_of, ended_gapless, ended_whole, ended_have_rooms}
+use Rattle.tcp_connections.proofs.Roomy.{rooms_in, step_rooms}
 use Rattle.giop_capture_run.specs.Packets.{Taken, taken_of}
 use Rattle.giop_capture_run.specs.Arrivals.{with_segment, packet_arrived, after_packets, segment_in, segments_of, with_fault, capture_ended}
 
@@ -20,9 +22,8 @@ packet_at : (before : List Segment) (F : Reader) (w : State) (p : Taken) → At 
     → At (before ++ segment_in (segment p.head.link p.octets)) (packet_arrived F w p)
 unfolding packet_arrived
 packet_at before F w p h =
-    segment_at before F (with_capture_event w (PacketArrives p.head.time))
-    (segment p.head.link p.octets)
-    (told_at before w (PacketArrives p.head.time) h)
+    segment_at before F (with_packet w p.head.time) (segment p.head.link p.octets)
+    (read_at before w p.head.time h)
 
 packets_at : (before : List Segment) (F : Reader) (w : State) (ps : List Taken) → At before w
     → At (before ++ segments_of ps) (after_packets F w ps)
@@ -77,3 +78,34 @@ unfolding capture_ended
 capture_whole F ports blocks most octets some few =
     ended_whole (segments_of (taken_of octets)) F _
     (capture_at F ports blocks most octets some few)
+
+-- ---- As many rooms as before.
+
+segment_rooms : (F : Reader) (w : State) (s : Option Segment) →
+    rooms_in (with_segment F w s) ≡ rooms_in w
+segment_rooms F w None = refl
+segment_rooms F w (Some s) = step_rooms F w s
+
+packets_rooms : (F : Reader) (w : State) (ps : List Taken) →
+    rooms_in (after_packets F w ps) ≡ rooms_in w
+unfolding after_packets packet_arrived
+packets_rooms F w [] = refl
+packets_rooms F w (p ∷ ps) =
+    packets_rooms F (packet_arrived F w p) ps
+    ∙ segment_rooms F (with_packet w p.head.time) (segment p.head.link p.octets)
+
+fault_rooms : (w : State) (fault : Option CaptureFault) → rooms_in (with_fault w fault) ≡ rooms_in w
+fault_rooms w None = refl
+fault_rooms w (Some fault) = refl
+
+pub capture_rooms : (F : Reader) (ports : List ℕ) (blocks most : ℕ) (octets : List ℕ) → 1 ≤ most →
+    most ≤ 65536
+    → HaveRooms most (capture_ended F (none_known ports blocks most []) octets).events
+unfolding capture_ended
+capture_rooms F ports blocks most octets some few =
+    let w : State = none_known ports blocks most [] in
+    let all : State = after_packets F w (taken_of octets) in
+    ended_have_rooms (segments_of (taken_of octets)) F most (with_fault all (final_fault octets))
+    (capture_at F ports blocks most octets some few)
+    (fault_rooms all (final_fault octets) ∙ packets_rooms F w (taken_of octets)
+    ∙ length-replicate most 0)

@@ -8,7 +8,7 @@ use Rattle.giop_run.specs.SourceLog.{SourceLog}
 use Rattle.giop_run.specs.Running.{IsEnded}
 use Rattle.giop_run.specs.declared.fault.RunFault.{RunFault}
 use Rattle.giop_run.specs.declared.fault.RunFault.TheVariants as faults
-use Rattle.giop_capture_run.specs.Packets.{Taken, HandedOn, HandedWhole, ReadAll, ReadStopped, ReadToEnd, NotTaken, HasReadOnce, Ran}
+use Rattle.giop_capture_run.specs.Packets.{Taken, HandedOn, HandedWhole, ReadAll, ReadToEnd, HasReadOnce, Ran}
 
 consumes_append : (x y z : Option (List ℕ)) (s t : List ℕ) → Consumes x y s → Consumes y z t
     → Consumes x z (s ++ t)

@@ -6,8 +6,8 @@ use Rattle.capture_file.specs.FaultWords.{fault_word}
 use Rattle.capture_file.specs.Reading.{final_fault}
 use Rattle.tcp_segment.specs.Links.{is_link_read}
 use Rattle.tcp_segment.specs.Segments.{Segment, segment}
-use Rattle.tcp_flow.specs.Flow.{Reader, PacketArrives, HasFault}
-use Rattle.tcp_connections.specs.Connections.{State, with_capture_event, step, ended}
+use Rattle.tcp_flow.specs.Flow.{Reader, HasFault}
+use Rattle.tcp_connections.specs.Connections.{State, with_packet, with_capture_event, step, ended}
 use Rattle.giop_capture_run.specs.Links.{told_after}
 use Rattle.giop_capture_run.specs.Packets.{Taken, taken_of}
 
@@ -16,10 +16,10 @@ abbrev pub with_segment : Reader → State → Option Segment → State
 with_segment F w None = w
 with_segment F w (Some s) = step F w s
 
--- one packet more: it arrives, and then its segment comes
+-- one packet more: it is read, and its segment comes
 unfoldable pub packet_arrived : Reader → State → Taken → State
 packet_arrived F w p =
-    with_segment F (with_capture_event w (PacketArrives p.head.time)) (segment p.head.link p.octets)
+    with_segment F (with_packet w p.head.time) (segment p.head.link p.octets)
 
 -- all packets, the first first
 unfoldable pub after_packets : Reader → State → List Taken → State

@@ -63,18 +63,17 @@ ending_of None faulty = if faulty then endings.Faulty else endings.Whole
 -- A capture was read whole, and all that is due of it was written: its listener was told of all
 -- before the last lines, which say whether it was told of a fault. It has finished behind all of
 -- that.
-pub record Dumped {L N : Type 0} (ending : Ending) (observed : L → List Event → Type 0)
+pub record Dumped {L : Type 0} (ending : Ending) (observed : L → List Event → Type 0)
     (finished : L → List Event → ℕ → ℕ → Bool → Type 0) (faulty : L → Bool) (F : Reader)
-    (told : N → List ℕ → Type 0) (c : Capture) (start : State) (before after : SourceLog)
-    (behind : L) : Type 0 where
+    (Told : List ℕ → Type 0) (c : Capture) (start : State) (before after : SourceLog) (behind : L) :
+    Type 0 where
   pub listener : L
-  pub notices : N
   pub connections : Connections
   pub live : List ℕ
   pub octets : List ℕ
   pub found : Option CaptureFault
-  pub whole : ReadWhole (observed listener) (told notices) F connections live c start octets before
-      after found
+  pub whole : ReadWhole (observed listener) Told F connections live c start octets before after
+      found
   pub ends : ending ≡ ending_of found (faulty listener)
   pub last : finished behind (capture_ended F start whole.read).events (length (packets whole.read))
       (length whole.read) (faulty listener)

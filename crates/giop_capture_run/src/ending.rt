@@ -75,8 +75,9 @@ pub fn dump_capture<S: Source, L: CaptureListener + Drop, N: Notices + Drop>(
     ensures dumped { (w : State) → HasRead (L.observed reader.old.streams.listener)
         (N.told reader.old.notices) L.faulted reader.old.connections
         reader.old.streams.live.items reader.old.unread.told.items w []
-        → IfOk result (λ ending. Dumped ending L.observed L.finished L.faulty L.faulted (N.told)
-        capture.new w (S.log source.old) (S.log source.new) reader.new.streams.listener) }
+        → IfOk result (λ ending. Dumped ending L.observed L.finished L.faulty L.faulted
+        (N.told reader.new.notices) capture.new w (S.log source.old) (S.log source.new)
+        reader.new.streams.listener) }
     // Where a read failed or the reads were used up, packets came as always, and the capture has not ended.
     ensures stopped { (w : State) → HasRead (L.observed reader.old.streams.listener)
         (N.told reader.old.notices) L.faulted reader.old.connections
@@ -110,6 +111,7 @@ fn finished<L: CaptureListener + Drop, N: Notices + Drop>(
         → L.observed reader.old.streams.listener events
         → OnOk result (L.finished reader.new.streams.listener events (length (packets p)) (length p)
         (L.faulty reader.old.streams.listener)) }
+    ensures notices { reader.new.notices ≡ reader.old.notices }
     ensures flushed { OnOk result (L.flushed reader.new.streams.listener) }
     ensures cause { IfErr result (λ why.
         (why ≡ RunFault.Out) × L.failed reader.new.streams.listener) }

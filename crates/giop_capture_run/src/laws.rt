@@ -3,7 +3,7 @@
 ghost use Rattle.std.specs.Prelude.{ℕ, ◌≤◌, [], List};
 ghost use Rattle.tcp_flow.specs.Flow.{Reader};
 ghost use Rattle.tcp_connections.specs.Connections.{none_known};
-ghost use Rattle.tcp_connections.specs.Gapless.{AreGapless, AreWhole};
+ghost use Rattle.tcp_connections.specs.Gapless.{AreGapless, AreWhole, HaveRooms};
 ghost use Rattle.giop_capture_run.specs.Packets.{Taken, taken_of};
 ghost use Rattle.giop_capture_run.specs.Arrivals.{after_packets, segments_of, capture_ended};
 
@@ -19,5 +19,9 @@ pub fn no_stream_of_a_capture_has_a_gap()
         (capture_ended faulted (none_known ports blocks most []) octets).events }
     ensures closed { (faulted : Reader) (ports : List ℕ) (blocks most : ℕ) (octets : List ℕ)
         → 1 ≤ most → most ≤ 65536 → AreWhole (segments_of (taken_of octets))
+        (capture_ended faulted (none_known ports blocks most []) octets).events }
+    // Each event in a flow is in one of a connection that has a room.
+    ensures rooms { (faulted : Reader) (ports : List ℕ) (blocks most : ℕ) (octets : List ℕ)
+        → 1 ≤ most → most ≤ 65536 → HaveRooms most
         (capture_ended faulted (none_known ports blocks most []) octets).events }
 {}

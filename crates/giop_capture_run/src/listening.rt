@@ -41,7 +41,7 @@ pub trait PacketListener {
 
 /// Is told of the packets of a capture and of its fault, beside what happens in its flows.
 pub trait CaptureListener: Listener {
-    ghost use Rattle.tcp_flow.specs.Flow.{Event, OfCapture, PacketArrives, HasFault};
+    ghost use Rattle.tcp_flow.specs.Flow.{Event, OfCapture, HasFault};
     ghost use Rattle.capture_file.specs.FaultWords.{fault_word};
 
     /// All that it has written is to be seen.
@@ -53,11 +53,6 @@ pub trait CaptureListener: Listener {
     /// It has observed these events, and the capture has ended behind them, with so many packets and octets; and whether there
     /// was a fault, or a stream that was cut.
     ghost finished: { Self → List Event → ℕ → ℕ → Bool → Type 0 };
-
-    /// The next packet is read, which came at this time: nanoseconds since 1970-01-01 UTC, where it has one.
-    fn arrives(&mut self, time: Option<u128>)
-        ensures { (events : List Event) → Self.observed self.old events
-            → Self.observed self.new (events ++ OfCapture (PacketArrives time) ∷ []) };
 
     /// The capture has a fault, and ends there.
     fn has_fault(&mut self, fault: CaptureFault) -> Result<(), ListenerFault>

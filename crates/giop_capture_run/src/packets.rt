@@ -104,6 +104,7 @@ impl<L: CaptureListener + Drop, N: Notices + Drop> PacketReader<L, N> {
         ensures finished { (events : List Event) → L.observed self.old.streams.listener events
             → IfOk result (L.finished self.new.streams.listener events packets octets) }
         ensures flushed { OnOk result (L.flushed self.new.streams.listener) }
+        ensures notices { self.new.notices ≡ self.old.notices }
         ensures cause { OnErr result (L.failed self.new.streams.listener) }
     {
         match self.streams.listener.finish(packets, octets) {
@@ -135,7 +136,7 @@ impl<L: CaptureListener + Drop, N: Notices + Drop> PacketListener for PacketRead
     ghost flushed = { λ r. L.flushed r.streams.listener };
 
     fn packet(&mut self, packet: Packet<'_>) -> Result<(), OutFault> {
-        self.streams.listener.arrives(packet.time);
+        self.connections.read(packet.time);
         note_link(&mut self.unread, &mut self.notices, packet.link);
         let Some(segment) = segment(packet.link, packet.octets) else {
             return Ok(());

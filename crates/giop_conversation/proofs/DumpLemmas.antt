@@ -8,7 +8,7 @@ use Rattle.giop_stream.specs.AnswersAgree.{AnswersAgree}
 use Rattle.giop_stream.specs.HeaderEndsOfStream.{header_ends_from}
 use Rattle.giop_message.specs.HeaderEnds.{AgreesAtEnds}
 use Rattle.tcp_flow.specs.declared.flow.CloseCause.{CloseCause}
-use Rattle.giop_conversation.specs.declared.arrival.Arrival.{Arrival}
+use Rattle.tcp_waiting.specs.declared.arrival.Arrival.{Arrival}
 use Rattle.giop_conversation.specs.declared.conversation.Side.{Side}
 use Rattle.giop_conversation.specs.declared.conversation.Side.TheVariants.{Even, Odd}
 use Rattle.giop_conversation.specs.declared.conversation.Conversation.{Conversation}

@@ -1,17 +1,26 @@
 -- What a put does to an out that has failed so often before.
-use Rattle.std.proofs.Common.{◌≡◌, ◌⊎◌, ℕ, ◌+◌, ◌<◌, ◌≤◌, Result, Ok, Err, inl, inr, ap, ◌∙◌, arith}
+use Rattle.std.proofs.Common.{◌≡◌, ◌⊎◌, ◌<◌, ◌≤◌, ◌+◌, ℕ, Result, Ok, Err, inl, inr, ap, ◌∙◌, arith}
 use Rattle.giop_print.specs.Output.{counted}
-use Rattle.giop_conversation.specs.Failing.{Loses}
+use Rattle.giop_conversation.specs.Failing.{Counts}
 
--- what has not failed before fails once, or there is no room for even more octets
-pub lost : (most before between after since few more : ℕ) → between ≡ before → few ≤ more →
-    (after ≡ counted between) ⊎ (most < since + few) →
-    (after ≡ counted before) ⊎ (most < since + more)
-lost most before between after since few more same within (inl one) = inl (one ∙ ap counted same)
-lost most before between after since few more same within (inr full) = search (arith)
+-- a failure is counted
+pub counted_more : (n : ℕ) → 0 < counted n
+unfolding counted
+counted_more n = omega arith
 
-pub loses_on : {A E : Type 0} (r : Result A E) (before between after : ℕ) (Other : Type 0) →
-    between ≡ before → Loses r between after Other → Loses r before after Other
-loses_on (Ok x) before between after Other same loses = loses ∙ same
-loses_on (Err e) before between after Other same (inl one) = inl (one ∙ ap counted same)
-loses_on (Err e) before between after Other same (inr other) = inr other
+pub some_failed : (before after : ℕ) → after ≡ counted before → 0 < after
+some_failed before after one = rw one (counted_more before)
+
+-- what has not failed before fails once, or is full for even more octets
+pub lost : (most before between after since few more : ℕ) (Full : Type 0) → between ≡ before →
+    few ≤ more → (after ≡ counted between) ⊎ (Full × (most < since + few)) →
+    (after ≡ counted before) ⊎ (Full × (most < since + more))
+lost most before between after since few more Full same within (inl one) =
+    inl (one ∙ ap counted same)
+lost most before between after since few more Full same within (inr full) =
+    inr (full.0, omega (arith, full.1, within))
+
+pub counts_on : {A E : Type 0} (r : Result A E) (before between after : ℕ) →
+    between ≡ before → Counts r between after → Counts r before after
+counts_on (Ok x) before between after same counts = counts ∙ same
+counts_on (Err e) before between after same counts = counts ∙ ap counted same

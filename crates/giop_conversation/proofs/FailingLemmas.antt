@@ -1,12 +1,14 @@
 -- What an engine and an out with tags do where a put fails.
 use Rattle.std.proofs.Common.{◌≡◌, ℕ, zero, suc, ◌<◌, true, false, List, Result, Ok, Err, refl, ◌∙◌, arith}
 use Rattle.std.proofs.lemmas.Bool.{false≢true}
+use Rattle.std.specs.Prelude.{OnOk, OnErr}
 use Rattle.giop_print.specs.Output.{OutLog, counted}
 use Rattle.giop_stream.specs.declared.fault.Stop.{Stop}
 use Rattle.giop_stream.specs.declared.fault.Stop.TheVariants as stop
 use Rattle.giop_print.specs.Output.{Writes}
 use Rattle.giop_conversation.specs.TaggedState.{Tagging, tagging_log}
-use Rattle.giop_conversation.specs.Failing.{FailsByPut, FailsOnce}
+use Rattle.giop_conversation.specs.Failing.{Counts, FailsByPut, FailsOnce}
+use Rattle.giop_conversation.proofs.FailingBelow.{counted_more, some_failed}
 use Rattle.giop_stream.specs.EngineView.{EngineView}
 use Rattle.giop_stream.specs.EngineHolds.{StopWrites, Leaves}
 
@@ -16,11 +18,6 @@ pub stop_counts : (A : Type 0) (why : Stop) (before after : OutLog) (due : List 
     StopWrites {A = A} (Err why) before after due → after.failures ≡ counted before.failures
 stop_counts A (stop.Out f) before after due e e' sound leaves writes = writes.failures
 stop_counts A stop.Failed before after due e e' sound leaves writes = search (arith, false≢true)
-
--- a put that fails is counted
-pub counted_more : (n : ℕ) → 0 < counted n
-unfolding counted
-counted_more n = omega arith
 
 -- and so does one that has not failed where its closing is written
 pub closing_counts : (A : Type 0) (why : Stop) (before after : OutLog) (due : List ℕ)
@@ -45,3 +42,14 @@ once (Err e) before after none fails = search (arith, counted_more)
 pub none_failed : (n : ℕ) → (0 < n → false ≡ true) → n ≡ 0
 none_failed zero h = refl
 none_failed (suc n) h = search (arith, false≢true)
+
+-- by how often it has failed before and behind
+pub same_on_ok : {A E : Type 0} (r : Result A E) (before after : ℕ) → Counts r before after →
+    OnOk r (after ≡ before)
+same_on_ok (Ok x) before after counts = counts
+same_on_ok (Err e) before after counts = tt
+
+pub some_on_err : {A E : Type 0} (r : Result A E) (before after : ℕ) → Counts r before after →
+    OnErr r (0 < after)
+some_on_err (Ok x) before after counts = tt
+some_on_err (Err e) before after counts = some_failed before after counts

@@ -19,3 +19,4 @@ mod StreamNumbers
 mod StreamTextLemmas
 mod StreamEnds
 mod StreamCloses
+mod StreamRooms

@@ -19,7 +19,7 @@ use Rattle.giop_calls.specs.declared.calls.Call.{Call as OutstandingCall}
 use Rattle.tcp_flow.specs.declared.flow.CloseCause.{CloseCause}
 use Rattle.tcp_segment.specs.declared.endpoint.Flow.{Flow}
 use Rattle.tcp_segment.specs.EndpointText.{endpoint_text}
-use Rattle.giop_conversation.specs.declared.arrival.Arrival.{Arrival}
+use Rattle.tcp_waiting.specs.declared.arrival.Arrival.{Arrival}
 use Rattle.giop_conversation.specs.Times.{time_text, span_text}
 use Rattle.giop_conversation.specs.Lines.{stream_line, time_line, answers_line, raises_line, cause_word, closed_line, capture_fault_line, capture_total_line}
 use Rattle.giop_conversation.specs.TaggedText.{ends_line, is_due}

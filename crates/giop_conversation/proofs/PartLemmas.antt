@@ -12,7 +12,7 @@ use Rattle.giop_stream.specs.EngineHolds.{added}
 use Rattle.giop_stream.proofs.StreamLaws.{added_both_by}
 use Rattle.tcp_flow.specs.declared.flow.CloseCause.{CloseCause}
 use Rattle.tcp_segment.specs.declared.endpoint.Flow.{Flow}
-use Rattle.giop_conversation.specs.declared.arrival.Arrival.{Arrival}
+use Rattle.tcp_waiting.specs.declared.arrival.Arrival.{Arrival}
 use Rattle.giop_conversation.specs.Tags.{tagged, with_tags, stream_tag}
 use Rattle.giop_conversation.specs.TaggedText.{is_due}
 use Rattle.giop_conversation.specs.Lines.{closed_line}

@@ -19,7 +19,7 @@ use Rattle.giop_stream.specs.declared.fault.Stop.TheVariants as stop
 use Rattle.giop_stream.specs.EngineView.{EngineView}
 use Rattle.giop_stream.specs.EngineHolds.{HoldsBy, StopWrites, Leaves, added, rules_with}
 use Rattle.tcp_segment.specs.declared.endpoint.Flow.{Flow}
-use Rattle.giop_conversation.specs.declared.arrival.Arrival.{Arrival}
+use Rattle.tcp_waiting.specs.declared.arrival.Arrival.{Arrival}
 use Rattle.giop_conversation.specs.Tags.{with_tags, tagged}
 use Rattle.giop_conversation.specs.TaggedText.{ends_line, is_due, stopped_at}
 use Rattle.giop_conversation.specs.TaggedState.{Tagging, tagging_log, IsReady}

@@ -12,7 +12,7 @@ use Rattle.giop_stream.specs.Stream.{text, closing}
 use Rattle.giop_stream.specs.AnswersAgree.{AnswersAgree}
 use Rattle.giop_stream.specs.EngineHolds.{added}
 use Rattle.giop_stream.proofs.StreamLaws.{added_both_by}
-use Rattle.tcp_flow.specs.Flow.{Event, Opens, Begins, Delivers, Closes, OfCapture, PacketArrives, HasFault}
+use Rattle.tcp_flow.specs.Flow.{Event, Opens, Begins, Delivers, Closes, OfCapture, ComesFrom, HasFault}
 use Rattle.tcp_flow.specs.declared.flow.CloseCause.{CloseCause}
 use Rattle.tcp_segment.specs.declared.endpoint.Flow.{Flow}
 use Rattle.giop_conversation.specs.declared.conversation.Side.TheVariants.{Even, Odd}
@@ -379,7 +379,7 @@ module _ (S : Setup) (written : List ℕ)
   on_event a h d (Begins id number) answered b = search (arith, on_begun)
   on_event a h d (Delivers id octets) answered b = search (arith, on_delivered)
   on_event a h d (Closes id cause) answered b = search (arith, on_closed)
-  on_event a h d (OfCapture (PacketArrives time)) answered b = search (arith)
+  on_event a h d (OfCapture (ComesFrom arrival)) answered b = search (arith)
   on_event a h d (OfCapture (HasFault word at)) answered b = search (arith, more_fault)
 
   on_events : (events : List Event) (h : History) (d behind : Dump)

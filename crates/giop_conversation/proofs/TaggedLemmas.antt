@@ -133,10 +133,6 @@ kept_in None b before tag since text due stands keeps = absurd stands
 kept_in (Some w) None before tag since text due stands keeps = absurd keeps
 kept_in (Some w) (Some w') before tag since text due stands keeps = rw keeps stands
 
-pub keeps_same : (a : Option (List ℕ)) → Keeps a a
-keeps_same None = tt
-keeps_same (Some w) = refl
-
 take_take : (n m : ℕ) (xs : List ℕ) → n ≤ m → take n (take m xs) ≡ take n xs
 take_take zero m xs few = refl
 take_take (suc n) zero xs few = absurd (omega (arith, few))

@@ -63,6 +63,7 @@ pub took : (a b : Option (List ℕ)) (tag octets : List ℕ)
       tag = tag;
       due = due;
       since = since;
+      full = false;
       puts =
           puts;
       failures = failures;
@@ -73,6 +74,7 @@ pub took : (a b : Option (List ℕ)) (tag octets : List ℕ)
       tag = tag;
       due = due';
       since = since';
+      full = false;
       puts =
           puts';
       failures = failures;
@@ -94,6 +96,7 @@ pub failed : (a b : Option (List ℕ)) (tag : List ℕ)
       tag = tag;
       due = due;
       since = since;
+      full = false;
       puts =
           puts;
       failures = failures;
@@ -104,6 +107,7 @@ pub failed : (a b : Option (List ℕ)) (tag : List ℕ)
       tag = tag;
       due = due';
       since = since';
+      full = false;
       puts =
           puts';
       failures = failures';

@@ -1,5 +1,5 @@
 -- What writing lines to an out with tags does to the out below.
-use Rattle.std.proofs.Common.{◌≡◌, ℕ, true, List, [], ◌++◌, length, take, Option, Some, None, option_and_then, refl, ap, ◌∙◌, arith, append-nil, append_assoc}
+use Rattle.std.proofs.Common.{◌≡◌, ℕ, true, false, List, [], ◌++◌, length, take, Option, Some, None, option_and_then, refl, ap, ◌∙◌, arith, append-nil, append_assoc}
 use Rattle.std.proofs.lemmas.Bool.{or_right, eqb-true, eq-eqb}
 use Rattle.std.specs.Io.KnownBytes.{Appends}
 use Rattle.giop_print.specs.Output.{Wrote, WroteFront}
@@ -119,6 +119,7 @@ pub ready_new : (w : List ℕ) (below : ℕ) → IsReady (record {
   tag = [];
   due = 0;
   since = 0;
+  full = false;
   puts = 0;
   failures = 0;
 }) w

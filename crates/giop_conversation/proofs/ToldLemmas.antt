@@ -1,13 +1,13 @@
 -- What the connections of a capture have told, behind one more event.
-use Rattle.std.proofs.Common.{◌≡◌, ℕ, ◌<◌, ◌/◌, arith, Bool, true, ◌||◌, List, [], ◌∷◌, ◌++◌, length, Option, Some, None, IfSome, Result, Ok, Err, MatchResult, refl, sym, ap, subst, ◌∙◌, slice_get, set, nat_lt}
+use Rattle.std.proofs.Common.{◌≡◌, ℕ, ◌<◌, ◌/◌, arith, Bool, true, false, ◌||◌, List, [], ◌∷◌, ◌++◌, length, Option, Some, None, IfSome, Result, Ok, Err, MatchResult, refl, sym, ap, subst, ◌∙◌, slice_get, set, nat_lt}
 use Rattle.giop_print.specs.Output.{counted, Writes}
-use Rattle.tcp_flow.specs.Flow.{Event, Opens, Begins, Delivers, Closes, OfCapture, PacketArrives, HasFault}
+use Rattle.tcp_flow.specs.Flow.{Event, Opens, Begins, Delivers, Closes, OfCapture, ComesFrom, HasFault}
 use Rattle.tcp_flow.specs.declared.flow.CloseCause.{CloseCause}
 use Rattle.tcp_segment.specs.declared.endpoint.Flow.{Flow}
 use Rattle.giop_message.specs.Signatures.{Answers}
 use Rattle.giop_stream.specs.declared.status.Totals.{Totals}
 use Rattle.giop_stream.specs.Stream.{final}
-use Rattle.giop_conversation.specs.declared.arrival.Arrival.{Arrival}
+use Rattle.tcp_waiting.specs.declared.arrival.Arrival.{Arrival}
 use Rattle.giop_conversation.specs.declared.conversation.Conversation.{Conversation}
 use Rattle.giop_conversation.specs.Tags.{stream_tag, with_tags}
 use Rattle.giop_conversation.specs.TaggedState.{Tagging, tagging_log, IsReady, WroteTaggedFront}
@@ -39,6 +39,7 @@ pub new_ready : (t : Tagging) (whole : Option (List ℕ)) (below : ℕ) (written
       tag = [];
       due = 0;
       since = 0;
+      full = false;
       puts = 0;
       failures = 0;
     } →
@@ -389,26 +390,22 @@ module _ (S : Setup) (written : List ℕ) (events : List Event) where
 
     -- ---- what happens in the capture
 
-    pub packet_told : (now : Option ℕ) → Before →
-        HasTold S written (events ++ OfCapture (PacketArrives now) ∷ []) rooms out
-        (record { time = now; packet = sum_within arrival.packet 1 }) first streams messages faults
-        cut
+    pub packet_told : (now : Arrival) → Before →
+        HasTold S written (events ++ OfCapture (ComesFrom now) ∷ []) rooms out now first streams
+        messages faults cut
     packet_told now b =
         let d = b.dump in
         let h = b.holds in
-        let of : ℕ → Arrival =
-        λ (n : ℕ). record { time = now; packet = n } in
-        let behind = record d { arrival = of (counted d.arrival.packet) } in
+        let behind = record d { arrival = now } in
         record {
           dump = behind;
-          leads = leads_more S events (start S written) (OfCapture (PacketArrives now)) d
+          leads = leads_more S events (start S written) (OfCapture (ComesFrom now)) d
               behind b.leads
               (record { answers = no_answers; answered = tt; is = refl });
           holds = record {
             connections = h.connections;
             ready = h.ready;
-            arrival_is = ap of (ap (λ (x : Arrival). sum_within x.packet 1) h.arrival_is
-                ∙ counted_is d.arrival.packet);
+            arrival_is = refl;
             first_is = h.first_is;
             streams_are = h.streams_are;
             messages_are = h.messages_are;

@@ -229,6 +229,7 @@ pub wrote_line : (a b : Option (List ℕ)) (tag line : List ℕ)
       tag = tag;
       due = due;
       since = since;
+      full = false;
       puts = puts;
       failures = failures;
     }))
@@ -238,6 +239,7 @@ pub wrote_line : (a b : Option (List ℕ)) (tag line : List ℕ)
       tag = tag;
       due = due;
       since = since';
+      full = false;
       puts = puts;
       failures = failures;
     })) line
@@ -254,6 +256,7 @@ pub wrote_front : (a b : Option (List ℕ)) (tag line : List ℕ)
       tag = tag;
       due = due;
       since = since;
+      full = false;
       puts = puts;
       failures = failures;
     }))
@@ -263,6 +266,7 @@ pub wrote_front : (a b : Option (List ℕ)) (tag line : List ℕ)
       tag = tag;
       due = due';
       since = since';
+      full = false;
       puts = puts;
       failures = failures';
     })) line

@@ -13,12 +13,12 @@ use Rattle.giop_stream.specs.AnswersAgree.{AnswersAgree}
 use Rattle.giop_stream.specs.HeaderEndsOfStream.{header_ends_from}
 use Rattle.giop_stream.specs.Stream.{closing, final}
 use Rattle.tcp_segment.specs.declared.endpoint.Flow.{Flow}
-use Rattle.tcp_flow.specs.Flow.{Event, Opens, Begins, Delivers, Closes, OfCapture, PacketArrives, HasFault}
+use Rattle.tcp_flow.specs.Flow.{Event, Opens, Begins, Delivers, Closes, OfCapture, ComesFrom, HasFault}
 use Rattle.tcp_flow.specs.declared.flow.CloseCause.{CloseCause}
 use Rattle.tcp_flow.specs.declared.flow.CloseCause.TheVariants.{Fin, Reset, Syn, Fault, Gap, Room, End}
 use Rattle.giop_conversation.specs.declared.conversation.Side.{Side}
 use Rattle.giop_conversation.specs.declared.conversation.Side.TheVariants.{Even, Odd}
-use Rattle.giop_conversation.specs.declared.arrival.Arrival.{Arrival}
+use Rattle.tcp_waiting.specs.declared.arrival.Arrival.{Arrival}
 use Rattle.giop_conversation.specs.Tags.{stream_tag, with_tags}
 use Rattle.giop_conversation.specs.Lines.{closed_line, capture_fault_line, capture_total_line}
 use Rattle.giop_conversation.specs.Exchanges.{Exchanged, answer_of, notified}
@@ -139,7 +139,7 @@ pub record Dump : Type 0 where
   pub messages : ℕ  -- how many messages and faults the streams had that have closed
   pub faults : ℕ
   pub is_cut : Bool  -- whether a stream was cut by a gap or for room, or the capture has a fault
-  pub arrival : Arrival  -- the packet that is read
+  pub arrival : Arrival  -- the packet of what is delivered
   pub text : List ℕ  -- all that was written
 
 abbrev pub new_half : Setup → Half
@@ -236,8 +236,7 @@ stepped S a d (Opens id flow) = opened_in d id flow (connection_of d id)
 stepped S a d (Begins id number) = begun_in S d id (connection_of d id)
 stepped S a d (Delivers id octets) = delivered_in S a d id octets (connection_of d id)
 stepped S a d (Closes id cause) = closed_in S d id cause (connection_of d id)
-stepped S a d (OfCapture (PacketArrives time)) =
-    record d { arrival = record { time = time; packet = counted d.arrival.packet } }
+stepped S a d (OfCapture (ComesFrom arrival)) = record d { arrival = arrival }
 stepped S a d (OfCapture (HasFault word at)) =
     record d { is_cut = true; text = d.text ++ capture_fault_line word at }
 

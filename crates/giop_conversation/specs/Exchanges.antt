@@ -11,7 +11,7 @@ use Rattle.giop_calls.specs.Outstanding.{without, newest}
 use Rattle.giop_sig.specs.Table.{Table, operation_in}
 use Rattle.giop_message.specs.Signatures.{Answer}
 use Rattle.giop_message.specs.HeaderEnds.{CallEvent, Requested, Replied, Raised}
-use Rattle.giop_conversation.specs.declared.arrival.Arrival.{Arrival}
+use Rattle.tcp_waiting.specs.declared.arrival.Arrival.{Arrival}
 
 -- a Reply that answers a call: its number in its stream, and the call
 pub record Answering : Type 0 where

@@ -7,6 +7,7 @@ pub mod Exchanges
 pub mod ExchangeLaws
 pub mod Stamped
 pub mod Failing
+pub mod Seen
 pub mod StreamReads
 pub mod Directions
 pub mod Followed

@@ -7,7 +7,7 @@ use Rattle.tcp_flow.specs.declared.flow.CloseCause.{CloseCause}
 use Rattle.tcp_flow.specs.declared.flow.CloseCause.TheVariants.{Fin, Reset, Syn, Fault, Gap, Room, End}
 use Rattle.tcp_segment.specs.declared.endpoint.Flow.{Flow}
 use Rattle.tcp_segment.specs.EndpointText.{endpoint_text}
-use Rattle.giop_conversation.specs.declared.arrival.Arrival.{Arrival}
+use Rattle.tcp_waiting.specs.declared.arrival.Arrival.{Arrival}
 use Rattle.giop_conversation.specs.Times.{time_text, span_text}
 
 -- the beginning of a stream

@@ -10,7 +10,7 @@ use Rattle.giop_stream.specs.DueOctets.{begun_in}
 use Rattle.giop_stream.specs.HeaderEndsOfStream.{header_ends_from}
 use Rattle.giop_stream.specs.EngineHolds.{added}
 use Rattle.tcp_segment.specs.declared.endpoint.Flow.{Flow}
-use Rattle.giop_conversation.specs.declared.arrival.Arrival.{Arrival}
+use Rattle.tcp_waiting.specs.declared.arrival.Arrival.{Arrival}
 use Rattle.giop_conversation.specs.Lines.{stream_line, time_line, answers_line, raises_line}
 use Rattle.giop_conversation.specs.Exchanges.{Exchanged, Answering, Raising, notified}
 

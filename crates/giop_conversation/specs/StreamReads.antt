@@ -6,7 +6,7 @@ use Rattle.giop_stream.specs.EngineView.{EngineView}
 use Rattle.giop_stream.specs.EngineHolds.{HoldsBy, rules_with}
 use Rattle.giop_stream.specs.AnswersAgree.{AgreesOver}
 use Rattle.giop_stream.specs.DueOctets.{is_due_after}
-use Rattle.giop_conversation.specs.declared.arrival.Arrival.{Arrival}
+use Rattle.tcp_waiting.specs.declared.arrival.Arrival.{Arrival}
 use Rattle.giop_conversation.specs.Tags.{with_tags}
 use Rattle.giop_conversation.specs.TaggedState.{Tagging, tagging_log, IsReady, WroteTaggedFront}
 use Rattle.giop_conversation.specs.Exchanges.{Exchanged, answer_of, notified, is_waiting}

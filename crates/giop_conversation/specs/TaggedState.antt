@@ -17,6 +17,7 @@ pub record Tagging : Type 0 where
   pub tag : List ℕ
   pub due : ℕ  -- how many octets of the tag are to be written before the next octet
   pub since : ℕ  -- how many octets were written since the tag was set
+  pub full : Bool  -- whether it has failed without a put
   pub puts : ℕ
   pub failures : ℕ
 

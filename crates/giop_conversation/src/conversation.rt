@@ -15,7 +15,6 @@ ghost use Rattle.giop_conversation.specs.StreamReads.{WritesTagged};
 ghost use Rattle.giop_conversation.specs.Captured.{Setup, Connection, setup, half, new_connection, opened, begun, closed_lines, rules_in};
 ghost use Rattle.giop_conversation.specs.DumpHeld.{HasCalls, HoldsConnection, ReadsBy};
 
-use crate::arrival::Arrival;
 use crate::direction::Direction;
 use crate::exchange::Exchange;
 use crate::limits::{Limits, NoMemory};
@@ -26,6 +25,7 @@ use giop_stream::{Status, Totals, answers_agree, answers_go_on};
 use std::alloc::Global;
 use tcp_flow::CloseCause;
 use tcp_segment::Flow;
+use tcp_waiting::Arrival;
 
 /// Which of the two flows of a connection: the one with an even id, or the one with an odd id.
 #[derive(Clone, Copy, Debug, PartialEq, Eq)]

@@ -1,30 +1,32 @@
 //! All connections of a capture: their streams as these begin, go on and close, and the lines of these.
 
-ghost use Rattle.std.specs.Prelude.{◌≡◌, ◌≤◌, ◌<◌, ◌+◌, ◌*◌, ◌/◌, ◌++◌, ◌∷◌, ◌||◌, ℕ, List, [], length, nat_lt, IfOk, OnOk, Err, Some, MatchResult};
+ghost use Rattle.std.specs.Prelude.{◌≡◌, ◌⊎◌, ◌≤◌, ◌<◌, ◌+◌, ◌*◌, ◌/◌, ◌++◌, ◌∷◌, ◌||◌, ℕ, List, [], true, length, nat_lt, IfOk, OnOk, OnErr, Err, Some, MatchResult};
+ghost use Rattle.std.specs.Io.KnownBytes.{Keeps};
 ghost use Rattle.std.specs.Vec.{vec_len};
-ghost use Rattle.tcp_flow.specs.Flow.{Event, Opens, Begins, Delivers, Closes, OfCapture, PacketArrives, HasFault};
-ghost use Rattle.giop_print.specs.Output.{counted};
+ghost use Rattle.tcp_flow.specs.Flow.{Event, Opens, Begins, Delivers, Closes, OfCapture, ComesFrom, HasFault};
 ghost use Rattle.giop_stream.specs.Rules.{most_open};
 ghost use Rattle.giop_stream.specs.EngineHolds.{AreOf};
 ghost use Rattle.giop_conversation.specs.Failing.{FailsOnce};
+ghost use Rattle.giop_conversation.specs.Seen.{IsSeen};
 ghost use Rattle.giop_conversation.specs.Follows.{Follows};
 ghost use Rattle.giop_conversation.specs.Captured.{Setup, setup, cuts, sum_within as spec_sum_within};
 ghost use Rattle.giop_conversation.specs.DumpHeld.{HasToldFront, HasFinished, HasFinishedFront};
 ghost use Rattle.giop_conversation.specs.DumpTold.{Told};
 ghost use Rattle.giop_conversation.specs.Followed.{reader_faulted, is_stopped as spec_is_stopped};
 
-use crate::arrival::Arrival;
 use crate::conversation::{Conversation, side_of};
 use crate::limits::{Limits, NoMemory};
 use crate::lines::{CaptureTotals, capture_fault_line, capture_total_line};
 use crate::tag::no_tag;
 use crate::tagged::Tagged;
 use giop_print::{Out, OutFault};
+use giop_run::Flush;
 use giop_sig::{Catalogue, Requests};
 use giop_stream::Status;
 use std::alloc::Global;
 use tcp_flow::CloseCause;
 use tcp_segment::Flow;
+use tcp_waiting::Arrival;
 
 /// Whether a stream is at a fault, by its status.
 fn is_stopped(status: Status) -> bool
@@ -79,10 +81,6 @@ pub struct Conversations<'a, O: Out + Drop> {
 }
 
 impl<'a, O: Out + Drop> Conversations<'a, O> {
-    ghost use Rattle.std.specs.Borrow.{Lends, sem};
-    ghost use mir.Syntax.{named};
-    ghost use Rattle.giop_conversation.specs.contracts.conversations.Conversations.{the_row};
-
     /// No stream has begun. All memory is taken here.
     pub fn new(
         alloc: Global,
@@ -127,19 +125,14 @@ impl<'a, O: Out + Drop> Conversations<'a, O> {
         })
     }
 
-    /// A packet is read from now on, which came at a time in nanoseconds since 1970-01-01 UTC, if it has one.
-    pub fn packet_arrives(&mut self, time: Option<u128>)
-        ensures value { self.new ≡ record self.old {
-          arrival = record { time = time; packet = counted self.old.arrival.packet };
-        } }
+    /// What begins or is delivered next came in this packet.
+    pub fn comes_from(&mut self, arrival: Arrival)
+        ensures value { self.new ≡ record self.old { arrival = arrival } }
         ensures told { (S : Setup) (written : List ℕ) (events : List Event) →
             Told S written events self.old →
-            Told S written (events ++ OfCapture (PacketArrives time) ∷ []) self.new }
+            Told S written (events ++ OfCapture (ComesFrom arrival) ∷ []) self.new }
     {
-        self.arrival = Arrival {
-            time,
-            packet: sum_within(self.arrival.packet, 1),
-        };
+        self.arrival = arrival;
     }
 
     /// An id stands for a flow from now on, of which nothing came. Calls of it that were kept are forgotten.
@@ -294,25 +287,39 @@ impl<'a, O: Out + Drop> Conversations<'a, O> {
         Ok(is_faulted(self.cut, self.totals.faults))
     }
 
-    /// The out below. What is written to it past this one has no tags.
-    pub fn out_mut(&mut self) -> &mut O
-        ensures value { (O.log result.now).written ≡ self.old.out.whole }
-        ensures* writes_back { sem 𝓛 (Lends
-            (the_row (record { mir = named 1; lft = [] }) O.row O.Out) O.row self.entry result
-            (λ w. record self.old {
-              out = record self.old.out {
-                whole = (O.log w).written;
-                below = (O.log w).failures;
-              };
-            })) }
+    /// Whether a call has failed without a put: octets came in a flow without a room, or more were written than can be counted.
+    pub fn is_full(&self) -> bool
+        ensures { result ≡ self.now.out.full }
     {
-        self.out.out_mut()
+        self.out.is_full()
     }
 
     /// The out below.
     pub fn into_out(self) -> O
-        ensures { (O.log result).written ≡ self.entry.out.whole }
+        ensures written { (O.log result).written ≡ self.entry.out.whole }
+        // Where a put or a flush has failed, one of that out has, unless it is full.
+        ensures cause { 0 < self.entry.out.failures →
+            (0 < (O.log result).failures) ⊎ (self.entry.out.full ≡ true) }
     {
         self.out.into_out()
+    }
+}
+
+impl<'a, O: Flush + Drop> Conversations<'a, O> {
+    /// What was written is to be seen.
+    pub fn flush(&mut self) -> Result<(), OutFault>
+        ensures same { self.new ≡ record self.old {
+          out = record self.old.out {
+            whole = self.new.out.whole;
+            below = self.new.out.below;
+            failures = self.new.out.failures;
+          };
+        } }
+        ensures put { Keeps self.old.out.whole self.new.out.whole }
+        ensures seen { OnOk result (IsSeen O.log O.kept self.new.out.whole) }
+        ensures none { OnOk result (self.new.out.failures ≡ self.old.out.failures) }
+        ensures cause { OnErr result (0 < self.new.out.failures) }
+    {
+        self.out.flush()
     }
 }

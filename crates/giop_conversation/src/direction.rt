@@ -23,7 +23,6 @@ ghost use Rattle.giop_conversation.specs.StreamReads.{AgreeWith, IsUndueAfter, I
 ghost use Rattle.giop_conversation.specs.Failing.{FailsByPut};
 ghost use Rattle.giop_conversation.specs.Directions.{HasRead};
 
-use crate::arrival::Arrival;
 use crate::exchange::{Answering, Exchange, Raising, answers_are_known};
 use crate::lines::{answers_line, closed_line, raises_line, stream_line};
 use crate::tag::{Tag, stream_tag};
@@ -35,6 +34,7 @@ use std::alloc::Global;
 use std::marker::Model;
 use tcp_flow::CloseCause;
 use tcp_segment::Flow;
+use tcp_waiting::Arrival;
 
 /// One direction of a connection. Its engine has never failed: where a put fails, it forgets its stream.
 #[derive(Drop)]

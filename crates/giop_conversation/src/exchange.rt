@@ -8,7 +8,6 @@ ghost use Rattle.giop_message.specs.MessageState.{AreKnown};
 ghost use Rattle.giop_conversation.specs.Lines.{time_line};
 ghost use Rattle.giop_conversation.specs.Exchanges.{Exchanged, kept_name, answer_of, kept_exception};
 
-use crate::arrival::Arrival;
 use crate::kept_second::KeptSecond;
 use crate::lines::time_line_by;
 use arrayvec::ArrayVec;
@@ -19,6 +18,7 @@ use giop_sig::{Catalogue, OpId};
 use std::alloc::{AllocError, Global};
 use std::marker::Model;
 use std::mem;
+use tcp_waiting::Arrival;
 
 /// A Reply that answers a call.
 #[derive(Drop)]

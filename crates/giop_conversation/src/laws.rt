@@ -1,9 +1,10 @@
 //! The laws of lines with tags, and of a capture's text.
 
-ghost use Rattle.std.specs.Prelude.{◌≡◌, ◌++◌, List, ℕ, [], true, false, length, Some};
+ghost use Rattle.std.specs.Prelude.{◌≡◌, ◌<◌, ◌/◌, ◌++◌, List, ℕ, [], true, false, length, Some};
+ghost use Rattle.std.specs.List.{AllByRecursion as Each};
 ghost use Rattle.giop_print.specs.Output.{Wrote, WroteFront};
-ghost use Rattle.tcp_flow.specs.Flow.{Event};
-ghost use Rattle.giop_conversation.specs.Captured.{Setup, Dump, Leads, start};
+ghost use Rattle.tcp_flow.specs.Flow.{Event, flow_of};
+ghost use Rattle.giop_conversation.specs.Captured.{Setup, Dump, Leads, start, number_in};
 ghost use Rattle.giop_conversation.specs.StreamTexts.{no_history, history, AreGapless, AreWhole, IsUnique, ShowsStreams};
 ghost use Rattle.giop_conversation.specs.Tags.{with_tags, without_tags};
 ghost use Rattle.giop_conversation.specs.TaggedText.{is_due};
@@ -21,6 +22,7 @@ pub fn lines_stand_below()
           tag = [];
           due = 0;
           since = 0;
+          full = false;
           puts = 0;
           failures = 0;
         }) w }
@@ -61,6 +63,12 @@ pub fn each_stream_is_dumped()
         (leads : Leads S (start S written) events d) → AreWhole events → (number : ℕ) →
         (history S no_history (start S written) events d leads).has_room number ≡ true →
         ((history S no_history (start S written) events d leads).stream number).is_closed ≡ true }
+    // Where each event in a flow is in one of a connection with a room, each stream that began has one.
+    ensures rooms { (S : Setup) (written : List ℕ) (events : List Event) (d : Dump)
+        (leads : Leads S (start S written) events d) →
+        Each (λ e. (id : ℕ) → flow_of e ≡ Some id → id / 2 < S.connections) events → (k : ℕ) →
+        k < (history S no_history (start S written) events d leads).begun →
+        (history S no_history (start S written) events d leads).has_room (number_in S k) ≡ true }
 {
     answers_agree();
 }

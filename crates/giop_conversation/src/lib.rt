@@ -2,7 +2,6 @@
 //! lines beside those of the streams, the times in them, and the tag of its stream in front of each line.
 #![tactic(auto)]
 
-mod arrival;
 mod conversation;
 mod conversations;
 mod direction;
@@ -15,7 +14,6 @@ mod tag;
 mod tagged;
 mod times;
 
-pub use arrival::Arrival;
 pub use conversations::Conversations;
 pub use exchange::{Answering, Exchange, Raising, answers_are_known};
 pub use kept_second::put_time;

@@ -5,7 +5,6 @@ ghost use Rattle.std.specs.Prelude.{◌≡◌};
 ghost use Rattle.giop_print.specs.Output.{Writes};
 ghost use Rattle.giop_conversation.specs.Lines.{stream_line, time_line, answers_line, raises_line, cause_word, closed_line, capture_fault_line, capture_total_line};
 
-use crate::arrival::Arrival;
 use crate::kept_second::{KeptSecond, put_time};
 use crate::times::put_span;
 use giop_calls::Call;
@@ -13,6 +12,7 @@ use giop_print::{Line, Out, OutFault, numbered_line, put_parts};
 use itoa::Buffer;
 use tcp_flow::CloseCause;
 use tcp_segment::{Flow, endpoint_text};
+use tcp_waiting::Arrival;
 
 /// What a whole capture has: its streams, their messages and faults, its packets, and its octets up to its fault.
 #[derive(Clone, Copy, Debug, PartialEq, Eq)]

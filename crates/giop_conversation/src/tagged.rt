@@ -1,21 +1,23 @@
 //! An `Out` that puts a tag in front of each line.
 
-ghost use Rattle.std.specs.Prelude.{◌≡◌, ◌<◌, ◌≤◌, ◌+◌, ◌-◌, ◌^◌, ◌↔◌, true, List, ℕ, [], length, take, IsTrue, OnOk, MatchResult};
-ghost use Rattle.std.specs.Io.KnownBytes.{Appends};
+ghost use Rattle.std.specs.Prelude.{◌≡◌, ◌⊎◌, ◌<◌, ◌≤◌, ◌+◌, ◌-◌, ◌^◌, ◌↔◌, true, false, List, ℕ, [], length, take, IsTrue, OnOk, MatchResult};
+ghost use Rattle.std.specs.Io.KnownBytes.{Appends, Keeps};
 ghost use Rattle.giop_print.specs.Line.{line_text, line_room};
 ghost use Rattle.giop_print.specs.Output.{counted};
 ghost use Rattle.giop_conversation.specs.TaggedState.{IsShortDue};
-ghost use Rattle.giop_conversation.specs.Failing.{Loses};
+ghost use Rattle.giop_conversation.specs.Failing.{FailsByPut, Counts};
+ghost use Rattle.giop_conversation.specs.Seen.{IsSeen};
 ghost use Rattle.giop_conversation.specs.TaggedText.{line_size, due_behind, IsLine, StandsIn, PutSome, PutNothing, PutLine, PutFront};
 
 use crate::tag::{BLOCK, Tag, no_tag};
 use giop_print::{Line, Out, OutFault};
+use giop_run::Flush;
 use memchr::memchr;
 use std::marker::Model;
 use std::simd::prelude::*;
 
-/// An `Out` with a tag in front of each line, in whatever pieces the lines come. It fails where the out below it does, and
-/// where more than 2^64 - 1 octets would be written since the tag was set.
+/// An `Out` with a tag in front of each line, in whatever pieces the lines come. It fails only if the out below does, or if it
+/// is full: more than 2^64 - 1 octets would be written since the tag was set, or its owner has no room for what is to be read.
 #[derive(Drop)]
 pub struct Tagged<O: Out> {
     out: O,
@@ -26,6 +28,8 @@ pub struct Tagged<O: Out> {
     is_short_due: bool,
     // How many octets were written since the tag was set.
     since: u64,
+    // Whether it has failed without a put.
+    is_full: bool,
     puts: u64,
     failures: u64,
 }
@@ -41,21 +45,20 @@ impl<O: Out> Model for Tagged<O> {
       tag = t.tag;
       due = t.due;
       since = t.since;
+      full = t.is_full;
       puts = t.puts;
       failures = t.failures;
     } };
 
-    ghost use Rattle.std.specs.Prelude.{◌≡◌, ◌≤◌, true, length};
+    ghost use Rattle.std.specs.Prelude.{◌≡◌, ◌⊎◌, ◌<◌, ◌≤◌, true, length};
     ghost use Rattle.giop_conversation.specs.TaggedState.{IsShortDue};
 
     ghost invariant = { λ t. (t.due ≤ length t.tag)
-        × (t.is_short_due ≡ true → IsShortDue t.due t.tag) };
+        × (t.is_short_due ≡ true → IsShortDue t.due t.tag)
+        × (0 < t.failures → (0 < (O.log t.out).failures) ⊎ (t.is_full ≡ true)) };
 }
 
 impl<O: Out> Tagged<O> {
-    ghost use Rattle.giop_conversation.specs.contracts.tagged.Tagged.{the_row};
-    ghost use Rattle.std.specs.Borrow.{Lends, sem};
-
     /// An `Out` over another, with no tag.
     pub fn new(out: O) -> Tagged<O>
         ensures { result ≡ record {
@@ -64,6 +67,7 @@ impl<O: Out> Tagged<O> {
           tag = [];
           due = 0;
           since = 0;
+          full = false;
           puts = 0;
           failures = 0;
         } }
@@ -74,6 +78,7 @@ impl<O: Out> Tagged<O> {
             due: 0,
             is_short_due: false,
             since: 0,
+            is_full: false,
             puts: 0,
             failures: 0,
         }
@@ -96,31 +101,52 @@ impl<O: Out> Tagged<O> {
         self.failures > 0
     }
 
-    /// Fails without a put: there is no room for what would be written.
-    pub fn refuse(&mut self) -> OutFault
-        ensures { self.new ≡ record self.old { failures = counted self.old.failures } }
+    /// Whether it has failed without a put.
+    pub fn is_full(&self) -> bool
+        ensures { result ≡ self.now.full }
     {
+        self.is_full
+    }
+
+    /// Fails without a put: there is no room.
+    pub fn refuse(&mut self) -> OutFault
+        ensures { self.new ≡ record self.old { full = true; failures = counted self.old.failures } }
+    {
+        self.is_full = true;
         self.failures = one_more(self.failures);
         OutFault
     }
 
-    /// The out below. What is written to it past this one is not tagged.
-    pub fn out_mut(&mut self) -> &mut O
-        ensures value { (O.log result.now).written ≡ self.old.whole }
-        ensures* writes_back { sem 𝓛 (Lends (the_row O.row O.Out) O.row self.entry result
-            (λ w. record self.old {
-              whole = (O.log w).written;
-              below = (O.log w).failures;
-            })) }
-    {
-        &mut self.out
-    }
-
     /// The out below.
     pub fn into_out(self) -> O
-        ensures { (O.log result).written ≡ self.whole }
+        ensures written { (O.log result).written ≡ self.whole }
+        // Where it has failed that out has, unless it is full.
+        ensures cause { 0 < self.failures →
+            (0 < (O.log result).failures) ⊎ (self.full ≡ true) }
     {
         self.out
+    }
+}
+
+impl<O: Flush> Tagged<O> {
+    /// What was written is to be seen.
+    pub fn flush(&mut self) -> Result<(), OutFault>
+        ensures same { self.new ≡ record self.old {
+          whole = self.new.whole;
+          below = self.new.below;
+          failures = self.new.failures;
+        } }
+        ensures put { Keeps self.old.whole self.new.whole }
+        ensures seen { OnOk result (IsSeen O.log O.kept self.new.whole) }
+        ensures fails { FailsByPut result self.old self.new }
+    {
+        match self.out.flush() {
+            Ok(()) => Ok(()),
+            Err(fault) => {
+                self.failures = one_more(self.failures);
+                Err(fault)
+            }
+        }
     }
 }
 
@@ -142,6 +168,9 @@ impl<O: Out> Out for Tagged<O> {
         self.puts = one_more(self.puts);
         if octets.is_empty() {
             return Ok(0);
+        }
+        if !can_count(self.since, self.due, octets.len()) {
+            return Err(self.refuse());
         }
         let put = put_tagged(
             &mut self.out,
@@ -307,19 +336,25 @@ fn one_more(count: u64) -> u64
     count.saturating_add(1)
 }
 
-/// Puts octets to an out, and counts those that it takes; it fails where the count would pass its greatest.
-#[tactic(auto, using(crate::proofs::TaggedLemmas::keeps_same))]
+/// Whether so many octets more can be counted, and those of a tag that are due.
+fn can_count(since: u64, due: usize, octets: usize) -> bool
+    ensures { IsTrue result ↔ since + (due + octets) < 2 ^ 64 }
+{
+    match since.checked_add(due as u64) {
+        Some(behind) => behind.checked_add(octets as u64).is_some(),
+        None => false,
+    }
+}
+
+/// Puts octets to an out, and counts those that it takes.
 fn put_counted<O: Out>(out: &mut O, since: &mut u64, octets: &[u8]) -> Result<usize, OutFault>
+    requires room { since.old + length octets.now < 2 ^ 64 }
     ensures does { MatchResult result
         (λ n. PutSome (O.log out.old).written (O.log out.new).written octets.now since.old since.new
         n)
         (λ _. PutNothing (O.log out.old).written (O.log out.new).written since.old since.new) }
-    ensures cause { Loses result (O.log out.old).failures (O.log out.new).failures
-        (2 ^ 64 - 1 < since.new + length octets.now) }
+    ensures cause { Counts result (O.log out.old).failures (O.log out.new).failures }
 {
-    if octets.len() as u64 > u64::MAX - *since {
-        return Err(OutFault);
-    }
     match out.put(octets) {
         Ok(taken) => {
             *since += taken as u64;
@@ -336,14 +371,15 @@ fn put_tag<O: Out>(
     due: &mut usize,
     since: &mut u64,
 ) -> Result<(), OutFault>
-    requires { due.old ≤ length tag.now }
+    requires within { due.old ≤ length tag.now }
+    requires room { since.old + due.old < 2 ^ 64 }
     ensures stands { (before text : List ℕ) →
         StandsIn (O.log out.old).written before tag.now since.old text due.old →
         StandsIn (O.log out.new).written before tag.now since.new text due.new }
     ensures within { due.new ≤ length tag.now }
     ensures done { OnOk result (due.new ≡ 0) }
-    ensures cause { Loses result (O.log out.old).failures (O.log out.new).failures
-        (2 ^ 64 - 1 < since.new + length tag.now) }
+    ensures count { since.new + due.new ≡ since.old + due.old }
+    ensures cause { Counts result (O.log out.old).failures (O.log out.new).failures }
 {
     while *due > 0 {
         match put_counted(out, since, &tag[tag.len() - *due..]) {
@@ -383,13 +419,13 @@ fn put_line<O: Out>(
 ) -> Result<usize, OutFault>
     requires some { 0 < length octets.now }
     requires none { due.old ≡ 0 }
+    requires room { since.old + length octets.now < 2 ^ 64 }
     ensures does { MatchResult result
         (λ n. PutLine (O.log out.old).written (O.log out.new).written tag.now octets.now
         since.old since.new due.old due.new n)
         (λ _. PutFront (O.log out.old).written (O.log out.new).written tag.now
         since.old since.new due.old due.new) }
-    ensures cause { Loses result (O.log out.old).failures (O.log out.new).failures
-        (2 ^ 64 - 1 < since.new + (length tag.now + length octets.now)) }
+    ensures cause { Counts result (O.log out.old).failures (O.log out.new).failures }
 {
     let size = line_size(octets);
     match put_counted(out, since, &octets[..size]) {
@@ -411,13 +447,13 @@ fn put_tagged<O: Out>(
 ) -> Result<usize, OutFault>
     requires some { 0 < length octets.now }
     requires within { due.old ≤ length tag.now }
+    requires room { since.old + (due.old + length octets.now) < 2 ^ 64 }
     ensures does { MatchResult result
         (λ n. PutLine (O.log out.old).written (O.log out.new).written tag.now octets.now
         since.old since.new due.old due.new n)
         (λ _. PutFront (O.log out.old).written (O.log out.new).written tag.now
         since.old since.new due.old due.new) }
-    ensures cause { Loses result (O.log out.old).failures (O.log out.new).failures
-        (2 ^ 64 - 1 < since.new + (length tag.now + length octets.now)) }
+    ensures cause { Counts result (O.log out.old).failures (O.log out.new).failures }
 {
     match put_tag(out, tag, due, since) {
         Ok(()) => put_line(out, tag, due, since, octets),

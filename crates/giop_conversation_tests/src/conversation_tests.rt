@@ -6,6 +6,7 @@ use giop_sig::{Catalogue, Requests};
 use std::test::Fail;
 use tcp_flow::CloseCause;
 use tcp_segment::{Address, Endpoint, Flow};
+use tcp_waiting::Arrival;
 
 /// A second in nanoseconds.
 const SECOND: u128 = 1_000_000_000;
@@ -72,10 +73,16 @@ total streams 2 messages 2 faults 0 packets 2 octets 204
 fn tell(conversations: &mut Conversations<Sheet>, size: usize) -> Result<bool, OutFault> {
     conversations.opens(0, ASKING);
     conversations.opens(1, ASKING.opposite());
-    conversations.packet_arrives(Some(SECOND));
+    conversations.comes_from(Arrival {
+        time: Some(SECOND),
+        packet: 1,
+    });
     conversations.begins(0)?;
     conversations.delivers(0, &REQUEST)?;
-    conversations.packet_arrives(Some(2 * SECOND));
+    conversations.comes_from(Arrival {
+        time: Some(2 * SECOND),
+        packet: 2,
+    });
     conversations.begins(1)?;
     for piece in REPLY.chunks(size.max(1)) {
         conversations.delivers(1, piece)?;

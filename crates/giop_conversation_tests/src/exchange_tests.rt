@@ -1,9 +1,10 @@
 //! A call in one direction of a connection, and its reply in the other.
 
-use giop_conversation::{Arrival, Exchange, answers_are_known};
+use giop_conversation::{Exchange, answers_are_known};
 use giop_message::Correspondent;
 use giop_sig::Catalogue;
 use std::test::Fail;
+use tcp_waiting::Arrival;
 
 const PING: &[u8] = b"ping";
 

@@ -3,13 +3,14 @@
 use arrayvec::ArrayVec;
 use giop_calls::Call;
 use giop_conversation::{
-    Arrival, CaptureTotals, answers_line, capture_fault_line, capture_total_line, closed_line,
-    raises_line, stream_line, time_line,
+    CaptureTotals, answers_line, capture_fault_line, capture_total_line, closed_line, raises_line,
+    stream_line, time_line,
 };
 use giop_print::{OutFault, Sheet};
 use std::test::Fail;
 use tcp_flow::CloseCause;
 use tcp_segment::{Address, Endpoint, Flow};
+use tcp_waiting::Arrival;
 
 /// 2026-11-23 08:13:25.580228123 UTC.
 const TIME: u128 = 1_795_421_605_580_228_123;

@@ -132,8 +132,22 @@ fn a_full_out_has_a_front_of_a_spelled_line(rt: HostRuntime) {
         let mut tagged = Tagged::new(Sheet::new(&mut room[..size]));
         tagged.set_tag(stream_tag(12));
         let is_written = put_spelled(&mut tagged, b"m1 end\n").is_ok();
-        assert!(rt; !is_written && tagged.has_failed(), "{size}");
+        assert!(rt;
+            !is_written && tagged.has_failed() && !tagged.is_full(),
+            "{size}"
+        );
         let sheet = tagged.into_out();
         assert!(rt; sheet.held() == &TAGGED[..size], "{size}");
     }
+}
+
+#[test]
+fn want_of_room_is_no_failure_of_the_out(rt: HostRuntime) -> Result<(), Fail> {
+    let mut room = [0; 64];
+    let mut tagged = Tagged::new(Sheet::new(&mut room));
+    put_all(&mut tagged, b"total\n")?;
+    assert!(rt; !tagged.has_failed() && !tagged.is_full());
+    let OutFault = tagged.refuse();
+    assert!(rt; tagged.has_failed() && tagged.is_full());
+    Ok(())
 }

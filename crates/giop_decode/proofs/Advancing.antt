@@ -4,12 +4,13 @@ use Rattle.giop_decode.specs.declared.leaf.Transition.{Transition}
 use Rattle.giop_decode.specs.declared.leaf.Transition.TheVariants as transitions
 use Rattle.giop_decode.specs.declared.progress.Progress.{Progress}
 use Rattle.giop_decode.specs.declared.progress.Progress.TheVariants as progress
-use Rattle.giop_decode.specs.ReadResult.{Coding, PathSegment, Line, OpenPart, Read, Done, Short, Fault, lines_of, Leaf}
+use Rattle.giop_decode.specs.ReadResult.{Coding, PathSegment, Line, OpenPart, Read, Done, Short, Fault, lines_of, Leaf, with_front}
 use Rattle.giop_decode.specs.Reading.{cut_off}
-use Rattle.giop_decode.specs.ReadingSteps.{around}
+use Rattle.giop_decode.specs.ReadingSteps.{around, IsRule}
 use Rattle.giop_decode.proofs.OctetResults.{around_mute, mute_lines}
-use Rattle.giop_decode.proofs.Surrounding.{around_unless_ended, known_ticked, lines_shut, places_ticked, surrounds}
+use Rattle.giop_decode.proofs.Surrounding.{around_unless_ended, known_ticked, lines_shut, places_ticked, surrounds, heard_open}
 use Rattle.std.specs.Prelude.{cond}
+use Rattle.giop_decode.specs.declared.progress.Kind.{Kind}
 use Rattle.giop_decode.specs.declared.progress.Kind.TheVariants as kinds
 use Rattle.giop_decode.proofs.Resuming.{lines_front}
 use Rattle.giop_decode.proofs.TransitionsInFrames.{around_done}
@@ -19,14 +20,18 @@ use Rattle.giop_decode.specs.declared.leaf.Leaf.{Leaf as Innermost}
 use Rattle.giop_decode.specs.declared.leaf.Leaf.TheVariants as innermost
 use Rattle.giop_decode.specs.declared.frame.Frame.{Frame}
 use Rattle.giop_decode.specs.Fits.{FitsIn, OpenFrom, Sound, leaf_ty}
-use Rattle.giop_decode.specs.Transitions.{open_parts, has_ended, is_inside, leaf_of, leaf_type, after_transition, AreKnown, HaveOctetsLeft, Link, IsClean}
+use Rattle.giop_decode.specs.Transitions.{open_parts, has_ended, is_inside, leaf_of, leaf_type, after_transition, AreKnown, HaveOctetsLeft, Link, IsClean, TransitionFits}
 use Rattle.giop_decode.specs.NameBuffer.{FitsName, string_offset}
 use Rattle.giop_decode.specs.Noted.{is_header_root, names_operation}
 use Rattle.giop_decode.specs.DecoderState.{Fits, GoesOn, CanStandAt, read_by_fields}
 use Rattle.giop_decode.specs.DecoderSteps.{transition_result, decoder_step, stopped, Comes, IsGoing, IsProgress, IsNotRefused}
 use Rattle.giop_decode.proofs.Around.{fit_room, around-fault}
 use Rattle.giop_decode.proofs.Going.{length_places}
-use Rattle.giop_decode.proofs.Leaving.{leaf_at, step_keeps}
+use Rattle.giop_decode.proofs.Leaving.{leaf_at}
+use Rattle.giop_decode.proofs.Rooted.{rooted_lines, whole_step_keeps}
+use Rattle.giop_decode.specs.Reading.{none_left, rooted}
+use Rattle.giop_decode.specs.Transitions.{gone_to}
+use Rattle.giop_decode.specs.DecoderSteps.{stopped_with}
 use Rattle.giop_sig.specs.Fits.{IsFit}
 use Rattle.giop_sig.specs.Table.{Table}
 use Rattle.giop_sig.specs.Trees.{tree}
@@ -120,7 +125,17 @@ pub step_fits : (C : Table) (d new : Decoder) (f : Fits C d) (octet : ℕ)
     FitsName new.head.root (string_offset (tree C (leaf_type g.leaf)) g.leaf) new.notes.buffer
     new.notes.name.items → Fits C new
 step_fits C d new f octet g here ahead inside link known_outer known clean id_in_header_only name =
-    search (arith, step_keeps, surrounds, stands, fits_in)
+    search (arith, whole_step_keeps, surrounds, stands, fits_in)
+
+-- where a rule is broken, it is one
+abbrev pub IsAllowed : Transition → Type 0
+IsAllowed (transitions.Refused kind) = IsRule kind
+IsAllowed transition = Unit {0}
+
+pub fits_allowed : (T : Ty) (of : ℕ) (transition : Transition) (carry piece : List ℕ) →
+    TransitionFits T of transition carry piece → IsAllowed transition
+fits_allowed T of (transitions.Refused kind) carry piece fits = fits
+fits_allowed T of transition carry piece fits = tt
 
 lines_entered : (C : Table) (coding : Coding) (path : List PathSegment) (frames : List Frame)
     (test : Bool) (inner : List OpenPart) (leaf : Leaf) (lines : List Line) (at : ℕ) →
@@ -137,32 +152,68 @@ lines_entered C coding path frames false inner leaf lines at k = search (arith, 
 
 lines_turned_at : (C : Table) (coding : Coding) (path : List PathSegment) (frames : List Frame)
     (T : Ty) (transition : Transition) (carry piece : List ℕ) (lines : List Line) (at : ℕ) →
-    AreKnown C frames →
+    AreKnown C frames → IsAllowed transition →
     lines_of (around coding path (open_parts C at frames)
     (after_transition C T transition carry piece lines at)) ≡ lines
-lines_turned_at C coding path frames T (transitions.Refused kind) carry piece lines at k = search
-    (arith, around-fault)
-lines_turned_at C coding path frames T (transitions.More leaf) carry piece lines at k = search
-    (arith, around_unless_ended, lines_shut)
-lines_turned_at C coding path frames T (transitions.Opened count) carry piece lines at k = search
-    (arith, around_unless_ended, lines_shut)
-lines_turned_at C coding path frames T (transitions.Selected i) carry piece lines at k = search
-    (arith, around_unless_ended, lines_shut)
-lines_turned_at C coding path frames T (transitions.Entered order count) carry piece lines at k =
+lines_turned_at C coding path frames T (transitions.Refused kind) carry piece lines at k rule =
+    search (arith, around-fault)
+lines_turned_at C coding path frames T (transitions.More leaf) carry piece lines at k rule =
+    search (arith, around_unless_ended, lines_shut)
+lines_turned_at C coding path frames T (transitions.Opened count) carry piece lines at k rule =
+    search (arith, around_unless_ended, lines_shut)
+lines_turned_at C coding path frames T (transitions.Selected i) carry piece lines at k rule =
+    search (arith, around_unless_ended, lines_shut)
+lines_turned_at C coding path frames T (transitions.Entered order count) carry piece lines at k rule
+    =
     search (arith, lines_entered)
-lines_turned_at C coding path frames T transitions.Ended carry piece lines at k =
+lines_turned_at C coding path frames T transitions.Ended carry piece lines at k rule =
     let ps = open_parts C at frames in
     let inner = around coding path ps (Done [] at []) in
     let none : lines_of inner ≡ [] = mute_lines at inner
     (around_mute at coding path ps (Done [] at []) (refl, refl, refl)) in
-    ap lines_of (around_done coding path ps lines at)
+    ap lines_of (around_done coding path ps lines at
+    ∙ ap (λ qs. with_front lines (around coding path qs (Done [] at [])))
+    (heard_open C at lines frames))
     ∙ (lines_front lines inner ∙ (ap (λ ls. lines ++ ls) none ∙ append-nil lines))
+
+-- where octets of no type are none of its ends, a whole is what it was
+rooted_to : (ended : Bool) (lines : List Line) (at : ℕ) (outer : List OpenPart) (leaf : Leaf) →
+    rooted none_left (cond ended (Fault lines at kinds.EncapShort (cut_off leaf))
+    (Short lines at outer leaf)) ≡ cond ended (Fault lines at kinds.EncapShort (cut_off leaf))
+    (Short lines at outer leaf)
+rooted_to true lines at outer leaf = refl
+rooted_to false lines at outer leaf = refl
+
+rooted_stopped : (C : Table) (frames : List Frame) (carry piece : List ℕ) (leaf : Option Innermost)
+    (lines : List Line) (at : ℕ) →
+    rooted none_left (stopped_with C frames carry piece leaf lines at)
+    ≡ stopped_with C frames carry piece leaf lines at
+rooted_stopped C frames carry piece None lines at = refl
+rooted_stopped C frames carry piece (Some leaf) lines at =
+    rooted_to (has_ended frames) lines at (open_parts C at frames) (leaf_of C leaf carry piece)
+
+rooted_fault : (lines : List Line) (at : ℕ) (kind : Kind) (T : Ty) → IsRule kind →
+    rooted none_left (Fault lines at kind T) ≡ Fault lines at kind T
+rooted_fault lines at kinds.Untyped T rule = absurd rule
+rooted_fault lines at kind T rule = refl
+
+pub rooted_gone : (C : Table) (lines : List Line) (at : ℕ) (frames : List Frame) (leaf : Leaf)
+    (r : Read) → r ≡ gone_to C lines at frames leaf →
+    rooted none_left r ≡ gone_to C lines at frames leaf
+rooted_gone C lines at frames leaf r e = search (arith, rooted_to)
+
+pub rooted_result : (C : Table) (T : Ty) (d : Decoder) (transition : Transition) (lines : List Line)
+    (at : ℕ) → IsAllowed transition → rooted none_left (transition_result C T d transition lines at)
+    ≡ transition_result C T d transition lines at
+rooted_result C T d (transitions.Refused kind) lines at rule = search (arith, rooted_fault)
+rooted_result C T d (transitions.More leaf) lines at rule = search (arith, rooted_stopped)
+rooted_result C T d transition lines at rule = search (arith, rooted_stopped)
 
 -- no lines but those of the innermost part
 pub lines_after_transition : (C : Table) (here : ℕ) (coding : Coding) (path : List PathSegment)
     (frames : List Frame) (T : Ty) (transition : Transition) (carry piece : List ℕ)
-    (lines : List Line) → HaveOctetsLeft frames → AreKnown C frames →
-    lines_of (around coding path (open_parts C here frames)
-    (after_transition C T transition carry piece lines (here + 1))) ≡ lines
-lines_after_transition C here coding path frames T transition carry piece lines ahead known =
-    search (arith, places_ticked, lines_turned_at, known_ticked)
+    (lines : List Line) → HaveOctetsLeft frames → AreKnown C frames → IsAllowed transition →
+    lines_of (rooted none_left (around coding path (open_parts C here frames)
+    (after_transition C T transition carry piece lines (here + 1)))) ≡ lines
+lines_after_transition C here coding path frames T transition carry piece lines ahead known rule =
+    search (arith, rooted_lines, places_ticked, lines_turned_at, known_ticked)

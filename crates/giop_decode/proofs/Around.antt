@@ -4,14 +4,15 @@ use Rattle.std.proofs.Common.{◌≡◌, ℕ, zero, suc, ◌-◌, ◌<◌, ◌�
 use Rattle.giop_decode.specs.Begins.{start_leaf, start_outer}
 use Rattle.giop_decode.specs.Fits.{HasParts, Surrounds}
 use Rattle.giop_decode.specs.Pieces.{Partial, block}
-use Rattle.giop_decode.specs.Reading.{parts_from, read}
-use Rattle.giop_decode.specs.ReadResult.{Coding, Done, Fault, Index, Leaf, Line, Member, Name, Part, OpenPart, Read, PathSegment, Short, with_front, within, Held, Inside}
-use Rattle.giop_decode.specs.ReadingSteps.{inner_path, around, part_at, path_in, resumed, segment_in, segment_of, coding_at, coding_in}
+use Rattle.giop_decode.specs.Reading.{enclosed, led_segment, none_left, parts_from, read}
+use Rattle.giop_decode.specs.ReadResult.{Coding, Done, Fault, Index, Leaf, Line, Member, Name, Part, OpenPart, Read, PathSegment, Short, with_front, within, Held, Inside, Telling}
+use Rattle.giop_decode.specs.ReadingSteps.{inner_path, around, part_at, path_in, resumed, segment_in, segment_of, coding_at, coding_in, after_told, hearing_in, heard_parts, IsRule}
 use Rattle.giop_decode.specs.declared.progress.Kind.{Kind}
+use Rattle.giop_decode.specs.declared.progress.Kind.TheVariants as kinds
 use Rattle.giop_sig.specs.Fits.{IsFit}
-use Rattle.giop_sig.specs.Types.{Array, Sequence, Single, Struct, Ty, Union, part_of}
+use Rattle.giop_sig.specs.Types.{Array, Sequence, Single, Struct, Ty, Union, part_of, Led}
 use Rattle.giop_decode.proofs.OctetResults.{number_none}
-use Rattle.giop_decode.proofs.Law.{with_front-followed, with_front-within, block_waits, width_pos}
+use Rattle.giop_decode.proofs.Law.{with_front-followed, with_front-led, with_front-within, block_waits, width_pos}
 use Rattle.giop_decode.proofs.Enclosing.{with_front-enclosed}
 
 pub around-append : (coding : Coding) (path : List PathSegment) (outer : List OpenPart)
@@ -31,7 +32,8 @@ path_in-append path (p ∷ outer) place = path_in-append (path ++ segment_in p �
 pub around-short : (coding : Coding) (path : List PathSegment) (outer : List OpenPart)
     (lines : List Line)
     (at : ℕ) (inner : List OpenPart) (leaf : Leaf) → Surrounds at outer →
-    around coding path outer (Short lines at inner leaf) ≡ Short lines at (outer ++ inner) leaf
+    around coding path outer (Short lines at inner leaf)
+    ≡ Short lines at (heard_parts lines outer ++ inner) leaf
 around-short coding path [] lines at inner leaf h = refl
 around-short coding path (Part T i count ∷ outer) lines at inner leaf h =
     rw (around-short coding (path ++ segment_of T i ∷ []) outer lines at inner leaf h.1) refl
@@ -42,26 +44,43 @@ around-short coding path (Inside T c end ∷ outer) lines at inner leaf h = sear
   lt-ltb,
   around-short c (path ++ Held ∷ []) outer lines at inner leaf h.1,
 )
+around-short coding path (Telling T told ∷ outer) lines at inner leaf h =
+    rw (around-short coding (path ++ segment_of T 0 ∷ []) outer lines at inner leaf h.1) refl
+
+-- no lines change no open part
+pub heard_none : (outer : List OpenPart) → heard_parts [] outer ≡ outer
+heard_none [] = refl
+heard_none (Telling T told ∷ outer) = ap (λ ps. Telling T told ∷ ps) (heard_none outer)
+heard_none (place ∷ outer) = ap (λ ps. place ∷ ps) (heard_none outer)
+
+enclosed_fault : (path : List PathSegment) (T : Ty) (inner : Coding) (end : ℕ) (lines : List Line)
+    (at : ℕ) (kind : Kind) (S : Ty) → IsRule kind →
+    enclosed path T inner end none_left (Fault lines at kind S) [] ≡ Fault lines at kind S
+enclosed_fault path T inner end lines at kinds.Untyped S rule = absurd rule
+enclosed_fault path T inner end lines at kind S rule = refl
 
 pub around-fault : (coding : Coding) (path : List PathSegment) (outer : List OpenPart)
     (lines : List Line)
-    (at : ℕ) (kind : Kind) (S : Ty) → around coding path outer (Fault lines at kind S)
-    ≡ Fault lines at kind S
-around-fault coding path [] lines at kind S = refl
-around-fault coding path (Part T i count ∷ outer) lines at kind S =
-    rw (around-fault coding (path ++ segment_of T i ∷ []) outer lines at kind S) refl
-around-fault coding path (Member T i ∷ outer) lines at kind S =
-    rw (around-fault coding (path ++ segment_of T i ∷ []) outer lines at kind S) refl
-around-fault coding path (Inside T c end ∷ outer) lines at kind S =
-    rw (around-fault c (path ++ Held ∷ []) outer lines at kind S) refl
+    (at : ℕ) (kind : Kind) (S : Ty) → IsRule kind →
+    around coding path outer (Fault lines at kind S) ≡ Fault lines at kind S
+around-fault coding path [] lines at kind S rule = refl
+around-fault coding path (Part T i count ∷ outer) lines at kind S rule =
+    rw (around-fault coding (path ++ segment_of T i ∷ []) outer lines at kind S rule) refl
+around-fault coding path (Member T i ∷ outer) lines at kind S rule =
+    rw (around-fault coding (path ++ segment_of T i ∷ []) outer lines at kind S rule) refl
+around-fault coding path (Inside T c end ∷ outer) lines at kind S rule =
+    rw (around-fault c (path ++ Held ∷ []) outer lines at kind S rule)
+    (enclosed_fault path T c end lines at kind S rule)
+around-fault coding path (Telling T told ∷ outer) lines at kind S rule =
+    rw (around-fault coding (path ++ segment_of T 0 ∷ []) outer lines at kind S rule) refl
 
 pub around-front : (coding : Coding) (path : List PathSegment) (outer : List OpenPart)
     (front : List Line)
     (r : Read) → around coding path outer (with_front front r)
-    ≡ with_front front (around coding path outer r)
+    ≡ with_front front (around coding path (heard_parts front outer) r)
 around-front coding path [] front r = refl
 around-front coding path (Part T i count ∷ outer) front r =
-    let inner = around coding (path ++ segment_of T i ∷ []) outer r in
+    let inner = around coding (path ++ segment_of T i ∷ []) (heard_parts front outer) r in
     let next = parts_from (part_at coding path T count) (count - suc i) (suc i) in
     rw (
       around-front coding (path ++ segment_of T i ∷ []) outer front r,
@@ -70,10 +89,16 @@ around-front coding path (Part T i count ∷ outer) front r =
     (with_front-followed front (within (Part T i count) inner) next)
 around-front coding path (Member T i ∷ outer) front r =
     rw (around-front coding (path ++ segment_of T i ∷ []) outer front r)
-    (with_front-within front (Member T i) (around coding (path ++ segment_of T i ∷ []) outer r))
+    (with_front-within front (Member T i) (around coding (path ++ segment_of T i ∷ [])
+    (heard_parts front outer) r))
 around-front coding path (Inside T c end ∷ outer) front r =
     rw (around-front c (path ++ Held ∷ []) outer front r)
-    (with_front-enclosed front path T c end (around c (path ++ Held ∷ []) outer r) [])
+    (with_front-enclosed front path T c end none_left
+    (around c (path ++ Held ∷ []) (heard_parts front outer) r) [])
+around-front coding path (Telling T told ∷ outer) front r =
+    rw (around-front coding (path ++ segment_of T 0 ∷ []) outer front r)
+    (with_front-led front T (hearing_in T) told (after_told coding path T)
+    (around coding (path ++ segment_of T 0 ∷ []) (heard_parts front outer) r))
 
 -- Before the first octet.
 pub block_none : (n at : ℕ) → 0 < n → block n at [] ≡ Partial [] at
@@ -109,6 +134,10 @@ read_none coding path (suc d) (Array (suc more) T) at h = search (
   first_part,
   read_none
       coding (path ++ Index 0 ∷ []) d T at h.1,
+)
+read_none coding path (suc d) (Led k F parts) at h = search (
+  arith,
+  read_none coding (path ++ led_segment k 0 ∷ []) d F at h.0,
 )
 read_none coding path (suc d) T at h = search (arith, number_none, lit<)
 

@@ -4,8 +4,8 @@ use Rattle.std.specs.List.{AllByRecursion}
 use Rattle.giop_decode.specs.ReadResult.{OpenPart}
 use Rattle.giop_decode.specs.Fits.{HasParts, IsEncapsulation}
 use Rattle.giop_decode.specs.Begins.{start_outer, start_leaf}
-use Rattle.giop_decode.specs.Transitions.{IsWhole, part_in}
-use Rattle.giop_sig.specs.Types.{Ty, Struct, Array, part_of, shape_in, HasPlace, IsUnion}
+use Rattle.giop_decode.specs.Transitions.{IsUncounted, IsWhole, part_in}
+use Rattle.giop_sig.specs.Types.{Ty, Struct, Array, part_of, shape_in, HasPlace}
 use Rattle.giop_sig.specs.Fits.{IsFit}
 
 pub record Begins (d : ℕ) (T : Ty) (count : ℕ) : Type 0 where
@@ -16,7 +16,7 @@ pub record Begins (d : ℕ) (T : Ty) (count : ℕ) : Type 0 where
   pub leaf : start_leaf T ≡ start_leaf (part_of T 0)
   pub fit : IsFit (pred d) (part_of T 0)
   pub placed : HasPlace (shape_in T) 0
-  pub uncounted : IsUnion (shape_in T) → count ≡ 0
+  pub uncounted : IsUncounted (shape_in T) → count ≡ 0
   pub bare : IsEncapsulation T → ⊥
 
 pub begins : (d : ℕ) (T : Ty) (count : ℕ) → IsFit d T → IsWhole T count → Begins d T count

@@ -1,15 +1,17 @@
 -- How many parts that are begun and not ended fit in a type, one in the other.
-use Rattle.std.proofs.Common.{ℕ, zero, suc, ◌<◌, ◌≤◌, max, List, [], ◌∷◌, length, arith, ◌⊎◌, inl, inr}
+use Rattle.std.proofs.Common.{ℕ, zero, suc, ◌<◌, ◌≤◌, max, List, [], ◌∷◌, length, arith, ◌⊎◌, inl, inr, ◌++◌, Option, Some, None}
 use Rattle.std.proofs.lemmas.Bool.{cases_lt}
 use Rattle.giop_decode.specs.declared.decoder.Decoder.{Decoder}
-use Rattle.giop_decode.specs.Fits.{FitsIn, HasParts, HasCase, IsEncapsulation}
+use Rattle.giop_decode.specs.Fits.{FitsIn, HasParts, HasCase, IsEncapsulation, IsLed}
 use Rattle.giop_decode.specs.DecoderState.{Fits}
-use Rattle.giop_decode.specs.ReadResult.{OpenPart, Part, Member, Inside, Leaf}
+use Rattle.giop_decode.specs.ReadResult.{OpenPart, Part, Member, Inside, Leaf, Telling}
 use Rattle.giop_decode.proofs.Going.{length_places}
 use Rattle.giop_sig.proofs.PartLaws.{depth_is}
-use Rattle.giop_sig.specs.Table.{Table}
-use Rattle.giop_sig.specs.Trees.{depth_of}
-use Rattle.giop_sig.specs.Types.{Encapsulation, places_of, Ty, Struct, Union, Sequence, Array, part_of, depth, most}
+use Rattle.giop_sig.specs.Table.{Table, Node, Part as Member', part_at}
+use Rattle.giop_sig.specs.Trees.{depth_of, grow, grown_part, octet_type, tree_in, trees_after, type_in, tree}
+use Rattle.giop_sig.specs.Types.{Encapsulation, places_of, Ty, Struct, Union, Sequence, Array, part_of, depth, most, Led}
+use Rattle.giop_sig.specs.Table as nodes
+use Rattle.std.specs.Prelude.{slice_get, slice_index_or}
 
 most_at : (n i : ℕ) (f : ℕ → ℕ) → i < n → f i ≤ most n f
 most_at zero i f lt = absurd (omega arith)
@@ -33,30 +35,96 @@ part_shallower (Array n T) i count kind lt = omega arith
 part_shallower (Sequence bound T) i count kind lt = omega arith
 part_shallower T i count kind lt = absurd kind
 
-case_shallower : (T : Ty) (i : ℕ) → HasCase T i → depth (part_of T i) < depth T
+-- a type without a part that tells what follows it
+abbrev pub HasNoLed : Ty → Type 0
+HasNoLed (Struct count names parts) = (i : ℕ) → HasNoLed (parts i)
+HasNoLed (Union choice scalar select names cases) = (i : ℕ) → HasNoLed (cases i)
+HasNoLed (Sequence bound T) = HasNoLed T
+HasNoLed (Array count T) = HasNoLed T
+HasNoLed (Encapsulation T) = HasNoLed T
+HasNoLed (Led h F parts) = ⊥
+HasNoLed T = Unit {0}
+
+-- a table's trees have none yet
+
+part_none : (trees : ℕ → Ty) → ((i : ℕ) → HasNoLed (trees i)) → (p : Option Member') →
+    HasNoLed (grown_part trees p)
+part_none trees h None = tt
+part_none trees h (Some p) = h p.type
+
+grown_none : (trees : ℕ → Ty) → ((i : ℕ) → HasNoLed (trees i)) → (node : Node) →
+    HasNoLed (grow trees node)
+grown_none trees h (nodes.members parts) = λ i. part_none trees h (slice_get parts i)
+grown_none trees h (nodes.union switch cases otherwise) =
+    λ i. part_none trees h (part_at (nodes.union switch cases otherwise) i)
+grown_none trees h (nodes.sequence bound element) = h element
+grown_none trees h (nodes.array count element) = h element
+grown_none trees h (nodes.encapsulation held) = h held
+grown_none trees h (nodes.tagged special tag inner other) =
+    λ i. part_none trees h (part_at (nodes.tagged special tag inner other) i)
+grown_none trees h node = tt
+
+one_more : (xs : List Ty) (x : Ty) → HasNoLed x →
+    ((i : ℕ) → HasNoLed (slice_index_or xs i octet_type)) → (i : ℕ) →
+    HasNoLed (slice_index_or (xs ++ x ∷ []) i octet_type)
+one_more [] x k h zero = k
+one_more [] x k h (suc i) = tt
+one_more (y ∷ ys) x k h zero = h zero
+one_more (y ∷ ys) x k h (suc i) = one_more ys x k (λ j. h (suc j)) i
+
+after_none : (done : List Ty) (ns : List Node) → ((i : ℕ) → HasNoLed (tree_in done i)) → (i : ℕ) →
+    HasNoLed (tree_in (trees_after done ns) i)
+unfolding trees_after
+after_none done [] h i = h i
+after_none done (n ∷ ns) h i = after_none (done ++ grow (tree_in done) n ∷ []) ns
+    (one_more done (grow (tree_in done) n) (grown_none (tree_in done) h n) h) i
+
+pub tree_none : (C : Table) (i : ℕ) → HasNoLed (tree C i)
+unfolding type_in
+tree_none C i = after_none [] C.types (λ j. tt) i
+
+case_none : (T : Ty) (i : ℕ) → HasNoLed T → HasNoLed (part_of T i)
+case_none (Struct count names parts) i h = h i
+case_none (Union choice scalar select names cases) i h = h i
+case_none (Sequence bound T) i h = h
+case_none (Array count T) i h = h
+case_none (Encapsulation T) i h = h
+case_none (Led k F parts) i h = absurd h
+case_none T i h = h
+
+case_shallower : (T : Ty) (i : ℕ) → HasNoLed T → HasCase T i → depth (part_of T i) < depth T
 unfolding depth
-case_shallower (Union choice scalar select names cases) i kind =
+case_shallower (Union choice scalar select names cases) i none kind =
     omega (arith, most_at (places_of choice) i (λ j. depth (cases j)) kind)
-case_shallower T i kind = absurd kind
+case_shallower (Led h F parts) i none kind = absurd none
+case_shallower T i none kind = absurd kind
 
 inside_shallower : (T : Ty) → IsEncapsulation T → depth (part_of T 0) < depth T
 unfolding depth
 inside_shallower (Encapsulation T) kind = omega arith
 inside_shallower T kind = absurd kind
 
-fits_shallow : (ps : List OpenPart) (T : Ty) (leaf : Leaf) → FitsIn T ps leaf → length ps < depth T
-fits_shallow [] T leaf fits = depth_some T
-fits_shallow (Part U i count ∷ ps) T leaf fits =
+first_shallower : (T : Ty) → IsLed T → depth (part_of T 0) < depth T
+unfolding depth
+first_shallower (Led h F parts) kind = omega arith
+first_shallower T kind = absurd kind
+
+fits_shallow : (ps : List OpenPart) (T : Ty) (leaf : Leaf) → HasNoLed T → FitsIn T ps leaf →
+    length ps < depth T
+fits_shallow [] T leaf none fits = depth_some T
+fits_shallow (Part U i count ∷ ps) T leaf none fits =
     omega (
       arith,
-      fits_shallow ps (part_of T i) leaf fits.1,
+      fits_shallow ps (part_of T i) leaf (case_none T i none) fits.1,
       part_shallower T i count fits.0.kind fits.0.below,
     )
-fits_shallow (Member U i ∷ ps) T leaf fits =
-    omega (arith, fits_shallow ps (part_of T i) leaf fits.1, case_shallower T i fits.0.kind)
-fits_shallow (Inside U coding end ∷ ps) T leaf fits =
-    omega (arith, fits_shallow ps (part_of T 0) leaf fits.1, inside_shallower T fits.0.kind)
+fits_shallow (Member U i ∷ ps) T leaf none fits = search
+    (arith, fits_shallow ps (part_of T i) leaf (case_none T i none) fits.1, case_shallower)
+fits_shallow (Telling U told ∷ ps) T leaf none fits = search
+    (arith, fits_shallow ps (part_of T 0) leaf (case_none T 0 none) fits.1, first_shallower)
+fits_shallow (Inside U coding end ∷ ps) T leaf none fits = search
+    (arith, fits_shallow ps (part_of T 0) leaf (case_none T 0 none) fits.1, inside_shallower)
 
 -- They are fewer than the types of a table are deep.
 pub fits_depth : (C : Table) (d : Decoder) → Fits C d → length d.outer.items < depth_of C.types
-fits_depth C d h = search (arith, length_places, fits_shallow, depth_is)
+fits_depth C d h = search (arith, length_places, fits_shallow, depth_is, tree_none)

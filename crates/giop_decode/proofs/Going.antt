@@ -6,13 +6,13 @@ use Rattle.giop_decode.specs.ReadResult.{Coding, PathSegment, OpenPart, Part, Me
 use Rattle.giop_decode.specs.ReadingSteps.{around}
 use Rattle.giop_decode.specs.Fits.{HasParts, HasCase, IsOpen, OpenFrom, IsEncapsulation}
 use Rattle.giop_decode.specs.Begins.{start_outer, start_leaf}
-use Rattle.giop_decode.specs.Transitions.{IsWithin, part_in, open_part_in, open_part, open_parts, IsKnown, AreKnown}
+use Rattle.giop_decode.specs.Transitions.{IsUncounted, IsWithin, part_in, open_part_in, open_part, open_parts, IsKnown, AreKnown}
 use Rattle.giop_decode.specs.declared.frame.Frame.{Frame}
 use Rattle.giop_decode.specs.NextParts.{frames_above}
 use Rattle.giop_decode.proofs.TransitionLaws.{content_none}
 use Rattle.giop_decode.proofs.Beginning.{map_push}
 use Rattle.giop_decode.proofs.Around.{around-append, next_part, last_part}
-use Rattle.giop_sig.specs.Types.{Cases, Ty, Struct, Union, Sequence, Array, part_of, shape_in, HasPlace, IsUnion, Tag, Encapsulation}
+use Rattle.giop_sig.specs.Types.{Cases, Led, Ty, Struct, Union, Sequence, Array, part_of, shape_in, HasPlace, Tag, Encapsulation}
 use Rattle.giop_sig.specs.Fits.{IsFit}
 use Rattle.giop_cdr.specs.declared.order.Order.{Order}
 use Rattle.giop_sig.specs.Trees.{tree}
@@ -45,12 +45,13 @@ pub record Next (d : ℕ) (T : Ty) (i count : ℕ) : Type 0 where
   pub placed : HasPlace (shape_in T) (suc i)
 
 pub next_in : (d : ℕ) (T : Ty) (i count : ℕ) → IsOpen d (part_in T i count) →
-    (IsUnion (shape_in T) → count ≡ 0) → suc i < count → Next d T i count
+    (IsUncounted (shape_in T) → count ≡ 0) → suc i < count → Next d T i count
 next_in d (Struct n names parts) i count h none below = search (arith)
 next_in d (Array n E) i count h none below = search (arith)
 next_in d (Sequence bound E) i count h none below = search (arith)
 next_in d (Union (Cases n) scalar select names cases) i count h none below = search (arith)
 next_in d (Union Tag scalar select names cases) i count h none below = search (arith)
+next_in d (Led h F parts) i count k none below = search (arith)
 next_in d T i count h none below = absurd h.0
 
 pub goes_next : (coding : Coding) (path : List PathSegment) (ps : List OpenPart) (T : Ty)
@@ -98,6 +99,7 @@ module _ (coding : Coding) (path : List PathSegment) (ps : List OpenPart) where
       around coding path (ps ++ part_in T i count ∷ []) (Done [] at [])
       ≡ around coding path ps (Done [] at [])
   goes_out (Union n scalar select names cases) i count at h = search (arith, around-append)
+  goes_out (Led k F parts) i count at h = search (arith, around-append)
   goes_out T i count at h = part_out T i count at h
 
 pub all_pop : {X : Type 0} (P : X → Type 0) (xs : List X) (x : X) →
@@ -119,7 +121,7 @@ pub record PartPopped (C : Table) (at : ℕ) (rest : List Frame) (f : Frame) : T
   pub known_rest : AreKnown C rest
   pub known : f.of.0 < length C.types
   pub bare : IsEncapsulation (tree C f.of.0) → ⊥
-  pub uncounted : IsUnion (shape_in (tree C f.of.0)) → f.count ≡ 0
+  pub uncounted : IsUncounted (shape_in (tree C f.of.0)) → f.count ≡ 0
   pub front : OpenFrom 24 (open_parts C at rest)
   pub left : ℕ
   pub depth : 24 ≡ length (open_parts C at rest) + suc left
@@ -187,8 +189,10 @@ length_places C at (f ∷ frames) = ap suc (length_places C at frames)
 pub place_part : (T : Ty) (i count : ℕ) → HasParts T count → part_in T i count ≡ Part T i count
 place_part (Encapsulation E) i count h = absurd h
 place_part (Union choice scalar select names cases) i count h = absurd h
+place_part (Led k F parts) i count h = absurd h
 place_part T i count h = refl
 
 pub place_case : (T : Ty) (i count : ℕ) → HasCase T i → part_in T i count ≡ Member T i
 place_case (Union choice scalar select names cases) i count h = refl
+place_case (Led k F parts) i count h = refl
 place_case T i count h = absurd h

@@ -10,11 +10,11 @@ use Rattle.giop_cdr.specs.Numbers.{num}
 use Rattle.giop_cdr.specs.Primitives.{size_of}
 use Rattle.giop_cdr.specs.declared.prim.Primitive.{Primitive}
 use Rattle.giop_decode.specs.Pieces.{Complete, Block, Partial, block, content, full_piece, full_pieces, last_piece, number, octets, tail, text, unless}
-use Rattle.giop_decode.specs.Reading.{after_leading_number, member, parts_from, read, single}
+use Rattle.giop_decode.specs.Reading.{after_leading_number, member, parts_from, read, single, following, heard, led, sign_of, told_after}
 use Rattle.giop_decode.specs.ReadResult.{Coding, Done, Fault, Line, Member, Name, Part, OpenPart, Read, PathSegment, Short, followed, with_front, within}
-use Rattle.giop_decode.specs.ReadingSteps.{advance, after, block_step, leading_width, inner_path, number_step, part_at}
+use Rattle.giop_decode.specs.ReadingSteps.{advance, after, block_step, leading_width, inner_path, number_step, part_at, after_told, hearing_in, step}
 use Rattle.giop_decode.specs.declared.progress.Kind.{Kind}
-use Rattle.giop_sig.specs.Types.{Choice, Enum, Plain, Scalar, Sequence, Ty, Union, part_of, width}
+use Rattle.giop_sig.specs.Types.{Choice, Enum, Plain, Scalar, Sequence, Ty, Union, part_of, width, Hearing, Told, Sequel, Then, Marked}
 use Rattle.giop_sig.specs.declared.types.Selected.{Selected}
 use Rattle.giop_sig.specs.declared.types.Selected.TheVariants.{Case}
 use Rattle.giop_cdr.specs.declared.prim.Primitive.TheVariants as prims
@@ -312,6 +312,7 @@ size_pos p = lit< tt
 pub width_pos : (scalar : Scalar) → 0 < width scalar
 width_pos (Plain p) = size_pos p
 width_pos (Enum count names) = lit< tt
+width_pos (Marked mark) = lit< tt
 
 pub counted_goes : (coding : Coding) (path : List PathSegment) (bound : Option ℕ) (T : Ty) (n : ℕ) →
     Goes coding path (parts_from (part_at coding path (Sequence bound T) n) n 0) →
@@ -334,3 +335,44 @@ union_goes coding path choice scalar select names cases n each at s b = search (
   selected_goes,
   with_front-advance,
 )
+
+-- ---- a part that tells what follows it
+
+pub told_append : (h : Hearing) (told : Told) (xs ys : List Line) →
+    told_after h told (xs ++ ys) ≡ told_after h (told_after h told xs) ys
+told_append h told [] ys = refl
+told_append h told (x ∷ xs) ys = told_append h (heard h told (sign_of x.value)) xs ys
+
+pub with_front-led : (front : List Line) (T : Ty) (h : Hearing) (told : Told)
+    (part : ℕ → ℕ → List ℕ → Read) (r : Read) → led T h told part (with_front front r)
+    ≡ with_front front (led T h (told_after h told front) part r)
+with_front-led front T h told part (Done lines at rest) = search (
+  arith,
+  told_append,
+  with_front_twice,
+)
+with_front-led front T h told part (Short lines at outer leaf) = search (arith, told_append)
+with_front-led front T h told part (Fault lines at kind S) = refl
+
+pub following_goes : (coding : Coding) (path : List PathSegment) (T : Ty) (what : Sequel)
+    (part : ℕ → ℕ → List ℕ → Read) → ((i : ℕ) → Goes coding path (part i)) →
+    Goes coding path (following T what part)
+following_goes coding path T (Then i) part each at s b = each i at s b
+following_goes coding path T what part each at s b = refl
+
+pub led_goes : (coding : Coding) (path : List PathSegment) (T : Ty) (told : Told) →
+    ((i : ℕ) → Goes coding path (after_told coding path T i)) → (r : Read) (b : ℕ) →
+    led T (hearing_in T) told (after_told coding path T) (advance coding (inner_path path T 0) r b)
+    ≡ advance coding path (led T (hearing_in T) told (after_told coding path T) r) b
+led_goes coding path T told each (Done lines at rest) b = search (
+  arith,
+  following_goes,
+  with_front-advance,
+)
+led_goes coding path T told each (Short lines at outer leaf) b = search (arith, with_front-led)
+led_goes coding path T told each (Fault lines at kind S) b = refl
+
+pub after_told_goes : (coding : Coding) (path : List PathSegment) (T : Ty) (i : ℕ) →
+    Goes coding (inner_path path T (suc i)) (read coding (inner_path path T (suc i))
+    (part_of T (suc i))) → Goes coding path (after_told coding path T i)
+after_told_goes coding path T i goes at s b = search (arith, member_goes)

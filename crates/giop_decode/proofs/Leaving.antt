@@ -1,16 +1,17 @@
 -- What fits inside a type, and what one octet more leaves of it.
 use Rattle.std.proofs.Common.{◌≡◌, ℕ, zero, suc, ◌+◌, ◌-◌, ◌<◌, ◌≤◌, List, [], ◌∷◌, ◌++◌, length, refl, subst, arith, add-zero, lt-ltb, le-ltb}
 use Rattle.std.proofs.lemmas.Bool.{cases_lt}
-use Rattle.giop_decode.specs.Fits.{leaf_ty, Sound, FitsIn, HasCase, HasContent, HasLeadingNumber, IsOpen, OpenFrom, IsEncapsulation, Surrounds}
+use Rattle.giop_decode.specs.Fits.{leaf_ty, Sound, FitsIn, HasCase, HasContent, HasLeadingNumber, IsOpen, OpenFrom, IsEncapsulation, Surrounds, IsLed}
 use Rattle.giop_decode.specs.Pieces.{Complete, Block, Partial, tail}
-use Rattle.giop_decode.specs.Reading.{parts_from, enclosed, order_of, ordered}
-use Rattle.giop_decode.specs.ReadResult.{Coding, Content, LeadingNumber, Leaf, Member, Part, OpenPart, PathSegment, Held, Inside, Opening}
+use Rattle.giop_decode.specs.Reading.{parts_from, enclosed, order_of, ordered, none_left}
+use Rattle.giop_decode.specs.ReadResult.{Coding, Content, LeadingNumber, Leaf, Member, Part, OpenPart, PathSegment, Held, Inside, Opening, Telling}
 use Rattle.giop_decode.specs.ReadingSteps.{block_step, content_step, leading_width, leaf_step, number_step, part_at, segment_of, step, held}
 use Rattle.giop_sig.specs.Fits.{IsFit}
-use Rattle.giop_sig.specs.Types.{Encapsulation, Ty, Union, part_of}
+use Rattle.giop_sig.specs.Types.{Encapsulation, Led, Ty, Union, part_of}
 use Rattle.giop_decode.proofs.Law.{headed_by, block_step_waits, block_step_got, number_step_pads, number_step_blocks, length_one_more}
 use Rattle.giop_decode.proofs.Around.{fit_none, fit_part}
-use Rattle.giop_decode.proofs.Sound.{Takes, ordered_sound, sound_enclosed, sound_followed, sound_part, sound_member, parts_keep, after_keeps, read_keeps, full_piece_sound, last_piece_sound, content_keeps}
+use Rattle.giop_decode.proofs.OctetResults.{step_now}
+use Rattle.giop_decode.proofs.Sound.{Takes, now_leaves, sound_led, ordered_sound, sound_enclosed, sound_followed, sound_part, sound_member, parts_keep, after_keeps, read_keeps, full_piece_sound, last_piece_sound, content_keeps}
 
 -- the leaf, with how much depth is left for it
 pub record LeafAt (d : ℕ) (outer : List OpenPart) (leaf : Leaf) : Type 0 where
@@ -23,7 +24,14 @@ pub record LeafAt (d : ℕ) (outer : List OpenPart) (leaf : Leaf) : Type 0 where
 pub fit_case : (d : ℕ) (T : Ty) (i : ℕ) → IsFit (suc d) T → HasCase T i → IsFit d (part_of T i)
 unfolding IsFit
 fit_case d (Union choice scalar select names cases) i fit kind = fit.1 i kind
+fit_case d (Led h F parts) zero fit kind = absurd kind
+fit_case d (Led h F parts) (suc i) fit kind = fit.1 kind.0 i kind.1
 fit_case d T i fit kind = absurd kind
+
+pub fit_first : (d : ℕ) (T : Ty) → IsFit (suc d) T → IsLed T → IsFit d (part_of T 0)
+unfolding IsFit
+fit_first d (Led h F parts) fit kind = fit.0
+fit_first d T fit kind = absurd kind
 
 pub fit_held : (d : ℕ) (T : Ty) → IsFit (suc d) T → IsEncapsulation T → IsFit d (part_of T 0)
 unfolding IsFit
@@ -54,6 +62,10 @@ leaf_at zero T (Inside U c end ∷ outer) leaf fits fit = absurd fit
 leaf_at (suc d) T (Inside U c end ∷ outer) leaf fits fit =
     deeper d (Inside U c end) outer leaf (rw fits.0.same (fits.0.kind, fit))
     (leaf_at d (part_of T 0) outer leaf fits.1 (fit_held d T fit fits.0.kind))
+leaf_at zero T (Telling U told ∷ outer) leaf fits fit = absurd fit
+leaf_at (suc d) T (Telling U told ∷ outer) leaf fits fit =
+    deeper d (Telling U told) outer leaf (rw fits.0.same (fits.0.kind, fit))
+    (leaf_at d (part_of T 0) outer leaf fits.1 (fit_first d T fit fits.0.kind))
 
 -- one octet more
 
@@ -155,7 +167,18 @@ step_keeps zero coding path T (Inside U c end ∷ outer) leaf at b fit fits arou
 step_keeps (suc d) coding path T (Inside U c end ∷ outer) leaf at b fit fits around =
     let inner = step c (path ++ Held ∷ []) outer leaf at b in
     let began : c.origin < at + 1 = omega (arith, around.0.1) in
-    rw fits.0.same (subst (λ m. Sound T m (enclosed path T c end inner [])) (add-zero (at + 1))
-    (sound_enclosed T path c end (at + 1) fits.0.kind began inner []
+    rw fits.0.same (subst (λ m. Sound T m (enclosed path T c end none_left inner []))
+    (add-zero (at + 1))
+    (sound_enclosed T path c end (at + 1) none_left fits.0.kind began inner []
     (step_keeps d c (path ++ Held ∷ []) (part_of T 0) outer leaf at b (fit_held d T fit fits.0.kind)
-    fits.1 around.1) (λ _. refl)))
+    fits.1 around.1) (λ _. refl)
+    (now_leaves (at + 1) inner (step_now c (path ++ Held ∷ []) outer leaf at b))))
+step_keeps zero coding path T (Telling U told ∷ outer) leaf at b fit fits around =
+    absurd (fit_none T fit)
+step_keeps (suc d) coding path T (Telling U told ∷ outer) leaf at b fit fits around =
+    let inner = step coding (path ++ segment_of T 0 ∷ []) outer leaf at b in
+    rw fits.0.same (sound_led coding path T told (at + 1) inner fits.0.kind
+    (λ i case. read_keeps d coding (path ++ segment_of T (suc i) ∷ []) (part_of T (suc i))
+    (fit_case d T (suc i) fit case))
+    (step_keeps d coding (path ++ segment_of T 0 ∷ []) (part_of T 0) outer leaf at b
+    (fit_first d T fit fits.0.kind) fits.1 around.1))

@@ -6,6 +6,7 @@ mod Sound
 mod Leaving
 mod Resuming
 mod Rows
+mod Rooted
 mod Shapes
 mod Padding
 mod Linking

@@ -18,7 +18,7 @@ use Rattle.giop_decode.specs.ReadResult.{PathSegment, Line, Number, Piece}
 use Rattle.giop_decode.specs.Transitions.{IsOutput}
 use Rattle.giop_print.specs.declared.path.Root.{Root}
 use Rattle.giop_print.specs.declared.path.Root.TheVariants as roots
-use Rattle.giop_sig.specs.Types.{Scalar, Plain, Enum, Ty, Text}
+use Rattle.giop_sig.specs.Types.{Scalar, Plain, Enum, Ty, Text, Marked}
 
 -- ---- the buffer and what it stands for
 
@@ -74,6 +74,7 @@ number_noted : (is_id : Bool) (h : Noted) (scalar : Scalar) (n : ℕ) →
     (note_value is_id h (Number scalar n)).so_far ≡ h.so_far
 number_noted is_id h (Plain p) n = search (arith)
 number_noted is_id h (Enum count names) n = refl
+number_noted is_id h (Marked mark) n = refl
 
 piece_more : (is_id : Bool) (root : Root) (T : Ty) (was next : Option ℕ) (offset at : ℕ)
     (piece : List ℕ) (h : Noted) →

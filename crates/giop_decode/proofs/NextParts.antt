@@ -34,11 +34,12 @@ use Rattle.giop_decode.specs.ReadingSteps.{around, path_in}
 use Rattle.giop_decode.specs.Passes.{IsBehind, Gives, Passes}
 use Rattle.giop_decode.specs.Runs.{TakenTogether, TakesSome}
 use Rattle.giop_decode.specs.Transitions.{AreKnown, HaveOctetsLeft, IsClean, IsKnown, Link, StandAt, gone_on, is_inside, leaf_type, open_part, open_parts, part_in}
-use Rattle.giop_decode.proofs.Advancing.{comes_by, same_some, stands_at}
+use Rattle.giop_decode.specs.Reading.{none_left, rooted}
+use Rattle.giop_decode.proofs.Advancing.{rooted_result, comes_by, same_some, stands_at}
 use Rattle.giop_decode.proofs.Beginning.{all_push, map_push}
 use Rattle.giop_decode.proofs.Counting.{ahead_free, free_ticked_by}
 use Rattle.giop_decode.proofs.Going.{PartPopped, Next, part_popped, next_in, goes_next, part_is}
-use Rattle.giop_decode.proofs.Surrounding.{ahead_by, around_unless_ended, behind_stopped, free_coding_by, free_ended, free_first, free_ticked, front_gone, inside_push, outside_pop, places_ticked}
+use Rattle.giop_decode.proofs.Surrounding.{heard_open, ahead_by, around_unless_ended, behind_stopped, free_coding_by, free_ended, free_first, free_ticked, front_gone, inside_push, outside_pop, places_ticked}
 use Rattle.giop_decode.proofs.TransitionsInFrames.{around_done}
 use Rattle.giop_decode.proofs.FieldsRead.{headed_is, path_spelled}
 use Rattle.giop_decode.proofs.Linking.{link_pop, link_push}
@@ -296,15 +297,18 @@ module _ (C : Table) (d : Decoder) (part : PartAhead) (f : Fits C d)
     come here lines =
         let ps = open_parts C (here + 1) d.outer.items in
         let leaf = innermost.Number next in
-        ap (λ qs. around (plain d.order) [] qs (Done lines (here + 1) []))
+        ap (rooted none_left) (ap (λ qs. around (plain d.order) [] qs (Done lines (here + 1) []))
         (places_free C here d.outer.items free f.ahead)
-        ∙ (around_done (plain d.order) [] ps lines (here + 1)
+        ∙ ((around_done (plain d.order) [] ps lines (here + 1)
+        ∙ ap (λ qs. with_front lines (around (plain d.order) [] qs (Done [] (here + 1) [])))
+        (heard_open C (here + 1) lines d.outer.items))
         ∙ (ap (with_front lines) (gone (plain d.order) [] (here + 1))
         ∙ (front_gone C lines (here + 1) new.outer.items (Some leaf)
         ∙ (behind_stopped C new.outer.items new.carry new.piece.items (Some leaf) lines (here + 1)
         (n.carry ∙ h.empty)
         (ap (λ p. p.items) n.piece ∙ no_piece C d part.of octets part.count f h.leaf)
-        ∙ rw n.leaf refl))))
+        ∙ rw n.leaf refl)))))
+        ∙ rooted_result C (tree C part.of.0) new transitions.Ended lines (here + 1) tt
 
     plain_says : (here at : ℕ) (lines : List Line) → Gives C d part.of.0 ended [] here at lines →
         (scalar : Scalar) × (n : ℕ) × (scalar ≡ Plain part.prim)

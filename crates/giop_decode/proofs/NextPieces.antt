@@ -23,7 +23,7 @@ use Rattle.giop_decode.specs.Runs.{TakenTogether, TakesSome}
 use Rattle.giop_decode.specs.Segments.{frames_text}
 use Rattle.giop_decode.specs.Spelling.{value_text}
 use Rattle.giop_decode.specs.Transitions.{IsClean, Link, is_inside, leaf_type, open_parts}
-use Rattle.giop_decode.proofs.Advancing.{comes_by, same_some}
+use Rattle.giop_decode.proofs.Advancing.{comes_by, same_some, rooted_gone}
 use Rattle.giop_decode.proofs.Counting.{ahead_free, free_ticked_by}
 use Rattle.giop_decode.proofs.FieldsRead.{path_spelled}
 use Rattle.giop_decode.proofs.FieldsRead.{headed_is}
@@ -119,7 +119,7 @@ module _ (C : Table) (d : Decoder) (ahead : PieceAhead) (f : Fits C d)
   come : (here : ℕ) (lines : List Line) →
       emitted C there ahead.of.0 step.transition step.output lines here
       ≡ transition_result C (tree C ahead.of.0) new step.transition lines (here + 1)
-  come here lines = search (arith, places_free, free, around_gone)
+  come here lines = search (arith, rooted_gone, places_free, free, around_gone)
 
   -- a piece that isn't the last names no operation
   unnamed : (here at : ℕ) (lines : List Line) → Gives C there ahead.of.0 step rest here at lines →

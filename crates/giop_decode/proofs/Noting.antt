@@ -23,7 +23,7 @@ use Rattle.giop_decode.specs.Reading.{cut_off}
 use Rattle.giop_decode.proofs.Surrounding.{unless_ended}
 use Rattle.giop_sig.specs.Table.{Table}
 use Rattle.giop_sig.specs.Trees.{tree}
-use Rattle.giop_sig.specs.Types.{Scalar, Cases, Ty, Single, Text, Octets, Struct, Union, Sequence, Array, Plain, Enum, HasMember, name_in, shape_in, Encapsulation, Tag}
+use Rattle.giop_sig.specs.Types.{Marked, Scalar, Cases, Ty, Single, Text, Octets, Struct, Union, Sequence, Array, Plain, Enum, HasMember, name_in, shape_in, Encapsulation, Led, Tag}
 
 content_in : (T : Ty) (total offset : ℕ) (piece : List ℕ) →
     in_content (Content T total offset piece) ≡ is_text T
@@ -101,6 +101,8 @@ piece_noted header (Encapsulation T) false more h path at offset octets k = refl
 piece_noted header (Encapsulation T) true more h path at offset octets k = let e = k refl in cc
 piece_noted header (Array n T) false more h path at offset octets k = refl
 piece_noted header (Array n T) true more h path at offset octets k = let e = k refl in cc
+piece_noted header (Led g F parts) false more h path at offset octets k = refl
+piece_noted header (Led g F parts) true more h path at offset octets k = let e = k refl in cc
 
 output_noted : (header : Bool) (T : Ty) (was : Bool) (transition : Transition) (output : Output)
     (path : List PathSegment) (at : ℕ) (piece : List ℕ) (lines : List Line) (h : Noted) →
@@ -183,6 +185,8 @@ named_by name (Single (Plain p)) i count h = absurd h
 named_by name (Single (Enum n names)) i count h = absurd h
 named_by name (Text bound) i count h = absurd h
 named_by name (Octets bound) i count h = absurd h
+named_by name (Single (Marked mark)) i count h = absurd h
+named_by name (Led g F parts) i count h = absurd h
 named_by name (Sequence bound T) i count h = absurd h
 named_by name (Array n T) i count h = absurd h
 named_by name (Encapsulation T) i count h = absurd h

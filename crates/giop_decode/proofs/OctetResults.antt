@@ -1,17 +1,17 @@
 -- A step has at most one line, which is at its octet, and the reading of no octets has none.
-use Rattle.std.proofs.Common.{◌≡◌, ℕ, zero, suc, ◌+◌, ◌-◌, ◌<◌, Bool, true, false, List, [], ◌∷◌, ◌++◌, take, drop, get_or, Option, Some, None, refl, append-nil, arith, add-zero, lit<}
+use Rattle.std.proofs.Common.{◌≡◌, ℕ, zero, suc, ◌+◌, ◌-◌, ◌<◌, Bool, true, false, List, [], ◌∷◌, ◌++◌, take, drop, get_or, Option, Some, None, refl, append-nil, arith, add-zero, lit<, ltb}
 use Rattle.std.specs.Prelude.{cond}
 use Rattle.std.specs.List.{AllByRecursion as Each}
 use Rattle.std.proofs.Math.Seq.{take-nil, drop-nil}
 use Rattle.std.proofs.lemmas.Bool.{cases_lt, lt-ltb, le-ltb}
 use Rattle.giop_decode.specs.Pieces.{Complete, Block, Partial, block, content, full_piece, last_piece, number, unless}
-use Rattle.giop_decode.specs.Reading.{member, parts_from, read, refused, single, wrong, enclosed, opening, ordered, rest_of, sized}
-use Rattle.giop_decode.specs.ReadResult.{Coding, Content, Done, Fault, LeadingNumber, Index, Leaf, Line, Member, Name, Part, OpenPart, Read, PathSegment, Short, Switch, followed, line, with_front, within, lines_of, Held, Inside, Opening, Size}
-use Rattle.giop_decode.specs.ReadingSteps.{OneAt, IsOctetResult, IsEmptyResult, inner_path, after, around, block_step, leaf_step, number_step, part_at, segment_of, step, Faulted, held}
+use Rattle.giop_decode.specs.Reading.{member, parts_from, read, refused, single, wrong, enclosed, opening, ordered, rest_of, sized, following, led, none_left, told_after, cut_off}
+use Rattle.giop_decode.specs.ReadResult.{Coding, Content, Done, Fault, LeadingNumber, Index, Leaf, Line, Member, Name, Part, OpenPart, Read, PathSegment, Short, Switch, followed, line, with_front, within, lines_of, Held, Inside, Opening, Size, Telling}
+use Rattle.giop_decode.specs.ReadingSteps.{OneAt, IsOctetResult, IsEmptyResult, inner_path, after, around, block_step, leaf_step, number_step, part_at, segment_of, step, Faulted, held, after_told, hearing_in}
 use Rattle.giop_decode.specs.declared.progress.Kind.{Kind}
 use Rattle.giop_decode.specs.declared.progress.Kind.TheVariants as kinds
 use Rattle.giop_cdr.specs.declared.order.Order.{Order}
-use Rattle.giop_sig.specs.Types.{tag_of, Array, Encapsulation, Octets, Scalar, Sequence, Single, Struct, Text, Ty, Union, part_of}
+use Rattle.giop_sig.specs.Types.{tag_of, Array, Encapsulation, Octets, Scalar, Sequence, Single, Struct, Text, Ty, Union, part_of, Led, Hearing, Told, Untold, Sequel, Then, Ends, Stops, sequel}
 use Rattle.giop_sig.specs.declared.types.Selected.{Selected}
 use Rattle.giop_sig.specs.declared.types.Selected.TheVariants.{Case}
 use Rattle.giop_decode.specs.ReadResult
@@ -25,19 +25,32 @@ each_append P (x ∷ xs) ys h k = (h.0, each_append P xs ys h.1 k)
 -- a fault of any kind may have no line
 faulted_none : (n : ℕ) (why : Kind) → Faulted n why []
 faulted_none n kinds.EncapShort = tt
+faulted_none n kinds.Untyped = tt
 faulted_none n kind = refl
 
--- no line, though an encapsulation may have ended
+-- a fault after a value that was complete, and may have a line
+abbrev pub IsLate : Kind → Type 0
+IsLate kinds.EncapShort = Unit {0}
+IsLate kinds.Untyped = Unit {0}
+IsLate kind = ⊥
+
+late_faulted : (n : ℕ) (why : Kind) (lines : List Line) → IsLate why → OneAt n lines →
+    Faulted n why lines
+late_faulted n kinds.EncapShort lines late h = h
+late_faulted n kinds.Untyped lines late h = h
+late_faulted n why lines late h = absurd late
+
+-- no line, though an encapsulation may have ended, or octets of no type may follow
 abbrev pub Mute : ℕ → Read → Type 0
 Mute n (Done lines at rest) = (lines ≡ []) × (at ≡ n) × (rest ≡ [])
 Mute n (Short lines at outer leaf) = (lines ≡ []) × (at ≡ n)
-Mute n (Fault lines at why S) = (lines ≡ []) × (at ≡ n) × (why ≡ kinds.EncapShort)
+Mute n (Fault lines at why S) = (lines ≡ []) × (at ≡ n) × IsLate why
 
 mute_front : (n : ℕ) (front : List Line) (r : Read) → OneAt n front → Mute n r →
     IsOctetResult n (with_front front r)
 mute_front n front (Done lines at rest) h k = search (arith, append-nil)
 mute_front n front (Short lines at outer leaf) h k = search (arith, append-nil)
-mute_front n front (Fault lines at why S) h k = search (arith, append-nil)
+mute_front n front (Fault lines at why S) h k = search (arith, append-nil, late_faulted)
 
 pub quiet_mute : (n : ℕ) (r : Read) → IsEmptyResult n r → Mute n r
 quiet_mute n (Fault lines at why S) h = absurd h
@@ -93,6 +106,12 @@ quiet_parts n part h (suc more) i = search (
       i),
 )
 
+quiet_led : (n : ℕ) (T : Ty) (h : Hearing) (part : ℕ → ℕ → List ℕ → Read) (r : Read) →
+    IsEmptyResult n r → IsEmptyResult n (led T h Untold part r)
+quiet_led n T h part (Done lines at rest) k = rw (k.0, k.1, k.2) (refl, refl, refl)
+quiet_led n T h part (Short lines at outer leaf) k = k
+quiet_led n T h part (Fault lines at kind S) k = k
+
 pub read_quiet : (coding : Coding) (path : List PathSegment) (T : Ty) (n : ℕ) →
     IsEmptyResult n (read coding path T n [])
 read_quiet coding path (Single scalar) n = search (arith, number_none, width_pos)
@@ -108,6 +127,11 @@ read_quiet coding path (Union choice scalar select names cases) n = search (
   arith,
   number_none,
   width_pos,
+)
+read_quiet coding path (Led h F parts) n = search (
+  arith,
+  quiet_led,
+  read_quiet coding (inner_path path (Led h F parts) 0) F n,
 )
 read_quiet coding path T n = search (arith, number_none, lit<)
 
@@ -198,16 +222,18 @@ enclosed_by n false lines at outer leaf S one is = (one, is)
 
 pub enclosed_now : (n : ℕ) (path : List PathSegment) (T : Ty) (inner : Coding) (end : ℕ)
     (r : Read) →
-    IsOctetResult n r → IsOctetResult n (enclosed path T inner end r [])
+    IsOctetResult n r → IsOctetResult n (enclosed path T inner end none_left r [])
 enclosed_now n path T inner end (Done lines at rest) h = search (arith, now_front, rest_quiet)
 enclosed_now n path T inner end (Short lines at outer leaf) h = search (arith, enclosed_by)
+enclosed_now n path T inner end (Fault lines at kinds.Untyped S) h = search
+    (arith, now_front, rest_quiet)
 enclosed_now n path T inner end (Fault lines at why S) h = h
 
 mute_by : (n : ℕ) (test : Bool) (lines : List Line) (at : ℕ) (outer : List OpenPart) (leaf : Leaf)
     (S : Ty) → lines ≡ [] → at ≡ n → Mute n (cond test (Short lines at outer leaf)
     (Fault lines at kinds.EncapShort S))
 mute_by n true lines at outer leaf S none is = (none, is)
-mute_by n false lines at outer leaf S none is = (none, is, refl)
+mute_by n false lines at outer leaf S none is = (none, is, tt)
 
 mute_followed : (n : ℕ) (r : Read) (next : ℕ → List ℕ → Read) → Mute n r →
     IsEmptyResult n (next n []) →
@@ -220,7 +246,7 @@ mute_within n place (Done lines at rest) h = h
 mute_within n place r h = h
 
 mute_enclosed : (n : ℕ) (path : List PathSegment) (T : Ty) (inner : Coding) (end : ℕ) (r : Read) →
-    Mute n r → Mute n (enclosed path T inner end r [])
+    Mute n r → Mute n (enclosed path T inner end none_left r [])
 mute_enclosed n path T inner end (Done lines at rest) h = search (
   arith,
   quiet_mute,
@@ -228,7 +254,58 @@ mute_enclosed n path T inner end (Done lines at rest) h = search (
   rest_quiet,
 )
 mute_enclosed n path T inner end (Short lines at outer leaf) h = search (arith, mute_by)
+mute_enclosed n path T inner end (Fault lines at kinds.Untyped S) h = search (
+  arith,
+  quiet_mute,
+  quiet_front,
+  rest_quiet,
+)
 mute_enclosed n path T inner end (Fault lines at why S) h = h
+
+-- the value has taken no octet
+quiet_enclosed : (n : ℕ) (path : List PathSegment) (T : Ty) (inner : Coding) (end : ℕ)
+    (left : ℕ → List ℕ) (r : Read) →
+    IsEmptyResult n r → Mute n (enclosed path T inner end left r [])
+quiet_enclosed n path T inner end left (Done lines at rest) h =
+    rw (h.0, h.1, h.2) (quiet_mute n (with_front [] (rest_of path T (end - n) n []))
+    (quiet_front n _ (rest_quiet n path T (end - n))))
+quiet_enclosed n path T inner end left (Short lines at outer leaf) h =
+    mute_by n (ltb at end) lines at (Inside T inner end ∷ outer) leaf (cut_off leaf) h.0 h.1
+quiet_enclosed n path T inner end left (Fault lines at why S) h = absurd h
+
+-- what follows a part that tells it
+following_mute : (n : ℕ) (T : Ty) (what : Sequel) (part : ℕ → ℕ → List ℕ → Read) →
+    ((i : ℕ) → IsEmptyResult n (part i n [])) → Mute n (following T what part n [])
+following_mute n T (Then i) part each = quiet_mute n (part i n []) (each i)
+following_mute n T Ends part each = (refl, refl, refl)
+following_mute n T Stops part each = (refl, refl, tt)
+
+led_mute : (n : ℕ) (T : Ty) (h : Hearing) (told : Told) (part : ℕ → ℕ → List ℕ → Read) (r : Read) →
+    ((i : ℕ) → IsEmptyResult n (part i n [])) → Mute n r → Mute n (led T h told part r)
+led_mute n T h told part (Done lines at rest) each k =
+    let what = sequel h told in
+    rw (k.0, k.1, k.2) (front_mute (following T what part n []) (following_mute n T what part each))
+  where
+    front_mute : (x : Read) → Mute n x → Mute n (with_front [] x)
+    front_mute (Done ls m s) k = k
+    front_mute x k = k
+led_mute n T h told part (Short lines at outer leaf) each k = k
+led_mute n T h told part (Fault lines at kind S) each k = k
+
+led_now : (n : ℕ) (T : Ty) (h : Hearing) (told : Told) (part : ℕ → ℕ → List ℕ → Read) (r : Read) →
+    ((i : ℕ) → IsEmptyResult n (part i n [])) → IsOctetResult n r →
+    IsOctetResult n (led T h told part r)
+led_now n T h told part (Done lines at rest) each k =
+    let what = sequel h (told_after h told lines) in
+    rw (k.1, k.2) (mute_front n lines (following T what part n []) k.0
+    (following_mute n T what part each))
+led_now n T h told part (Short lines at outer leaf) each k = k
+led_now n T h told part (Fault lines at kind S) each k = k
+
+pub after_told_quiet : (n : ℕ) (coding : Coding) (path : List PathSegment) (T : Ty) (i : ℕ) →
+    IsEmptyResult n (after_told coding path T i n [])
+after_told_quiet n coding path T i = quiet_within n (Member T (suc i)) _
+    (read_quiet coding (inner_path path T (suc i)) (part_of T (suc i)) n)
 
 pub around_mute : (n : ℕ) (coding : Coding) (path : List PathSegment) (outer : List OpenPart)
     (r : Read) →
@@ -244,6 +321,11 @@ around_mute n coding path (Part T i count ∷ outer) r h =
 around_mute n coding path (Member T i ∷ outer) r h =
     mute_within n (Member T i) (around coding (path ++ segment_of T i ∷ []) outer r)
     (around_mute n coding (path ++ segment_of T i ∷ []) outer r h)
+around_mute n coding path (Telling T told ∷ outer) r h =
+    let inner = around coding (path ++ segment_of T 0 ∷ []) outer r in
+    led_mute n T (hearing_in T) told (after_told coding path T) inner
+    (after_told_quiet n coding path T)
+    (around_mute n coding (path ++ segment_of T 0 ∷ []) outer r h)
 around_mute n coding path (Inside T inner end ∷ outer) r h =
     mute_enclosed n path T inner end (around inner (path ++ Held ∷ []) outer r)
     (around_mute n inner (path ++ Held ∷ []) outer r h)
@@ -260,8 +342,7 @@ ordered_now n path T origin k (Some order) = search (
   take-nil,
   drop-nil,
   mute_front,
-  mute_enclosed,
-  quiet_mute,
+  quiet_enclosed,
   read_quiet,
 )
 
@@ -328,6 +409,11 @@ around_now n coding path (Part T i count ∷ outer) r h =
 around_now n coding path (Member T i ∷ outer) r h =
     let inner = around coding (path ++ segment_of T i ∷ []) outer r in
     now_within n (Member T i) _ (around_now n coding (path ++ segment_of T i ∷ []) outer r h)
+around_now n coding path (Telling T told ∷ outer) r h =
+    let inner = around coding (path ++ segment_of T 0 ∷ []) outer r in
+    led_now n T (hearing_in T) told (after_told coding path T) inner
+    (after_told_quiet n coding path T)
+    (around_now n coding (path ++ segment_of T 0 ∷ []) outer r h)
 around_now n coding path (Inside T inner end ∷ outer) r h =
     enclosed_now n path T inner end (around inner (path ++ Held ∷ []) outer r)
     (around_now n inner (path ++ Held ∷ []) outer r h)

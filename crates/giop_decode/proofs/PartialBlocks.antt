@@ -1,17 +1,18 @@
 -- An octet that only adds to what is held.
-use Rattle.std.proofs.Common.{◌≡◌, ℕ, ◌+◌, ◌%◌, List, [], Some, sym, ◌∙◌, append-nil, arith}
+use Rattle.giop_decode.specs.Reading.{none_left, rooted}
+use Rattle.std.proofs.Common.{◌≡◌, ℕ, ◌+◌, ◌%◌, List, [], Some, sym, ◌∙◌, append-nil, arith, ap}
 use Rattle.arrayvec.specs.ArrayVec.{ArrayVec}
 use Rattle.giop_decode.specs.declared.decoder.Decoder.{Decoder}
 use Rattle.giop_decode.specs.declared.leaf.Leaf.{Leaf as Innermost}
 use Rattle.giop_decode.specs.declared.progress.Progress.TheVariants as progress
 use Rattle.giop_decode.specs.DecoderState.{Fits, CanStandAt, KeepsNoted, read_by_fields}
-use Rattle.giop_decode.specs.DecoderSteps.{decoder_step, Comes}
+use Rattle.giop_decode.specs.DecoderSteps.{decoder_step, Comes, leaf_in}
 use Rattle.giop_decode.specs.ReadResult.{plain, Line, PathSegment, Short, with_front}
-use Rattle.giop_decode.specs.ReadingSteps.{coding_in, leaf_step}
+use Rattle.giop_decode.specs.ReadingSteps.{coding_in, leaf_step, root_step, around, heard_parts, path_in}
 use Rattle.giop_decode.specs.Transitions.{open_parts, leaf_of, leaf_type, ticked, HaveOctetsLeft, AreKnown, IsClean}
 use Rattle.giop_decode.proofs.Advancing.{same_some, step_fits}
 use Rattle.giop_decode.proofs.Noting.{leaf_inside}
-use Rattle.giop_decode.proofs.Around.{around-short}
+use Rattle.giop_decode.proofs.Around.{around-short, heard_none}
 use Rattle.giop_decode.proofs.Surrounding.{inside_ticked, known_ticked, places_ticked, stand_ticked, surrounds}
 use Rattle.giop_decode.proofs.Linking.{link_ticked}
 use Rattle.giop_sig.specs.Table.{Table}
@@ -47,15 +48,19 @@ module _ (C : Table) (d new : Decoder) (leaf : Innermost) (octet : ℕ)
   pub step_held : (here : ℕ) → CanStandAt d here → Holds C d new leaf here octet →
       decoder_step C d here octet ≡ Short [] (here + 1) (open_parts C (here + 1) new.outer.items)
       (leaf_of C leaf new.carry new.piece.items)
-  step_held here h holds = search (
-    arith,
-    surrounds,
-    known_on,
-    stand_ticked,
-    places_ticked,
-    around-short,
-    append-nil,
-  )
+  step_held here h holds =
+      let ps = open_parts C here d.outer.items in
+      let qs = open_parts C (here + 1) (ticked d.outer.items) in
+      let held = leaf_of C leaf new.carry new.piece.items in
+      let stands = surrounds C (here + 1) (ticked d.outer.items) known_on on
+      (stand_ticked here d.outer.items h.1) in
+      ap (λ l. root_step (plain d.order) [] ps (leaf_in C d l) here octet) e
+      ∙ ap (rooted none_left) (ap (around (plain d.order) [] ps) (holds (path_in [] ps))
+      ∙ (ap (λ zs. around (plain d.order) [] zs (Short [] (here + 1) [] held))
+      (sym (places_ticked C here d.outer.items f.ahead))
+      ∙ (around-short (plain d.order) [] qs [] (here + 1) [] held stands
+      ∙ (ap (λ zs. Short [] (here + 1) zs held) (append-nil (heard_parts [] qs) ∙ heard_none qs)
+      ∙ ap (λ fs. Short [] (here + 1) (open_parts C (here + 1) fs) held) (sym counts)))))
 
   held_stands : (here : ℕ) → CanStandAt d here → Holds C d new leaf here octet →
       decoder_step C d here octet ≡ read_by_fields C new [] (here + 1)

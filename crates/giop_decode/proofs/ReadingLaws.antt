@@ -13,9 +13,10 @@ use Rattle.giop_decode.specs.declared.decoder.Decoder.{Decoder}
 use Rattle.giop_decode.specs.DecoderState.{Fits}
 use Rattle.giop_decode.specs.ReadResult.{Coding, PathSegment, Switch, Line, OpenPart, Part, Leaf, Read, Done, Short, with_front, within, lines_of}
 use Rattle.giop_decode.specs.Pieces.{Partial, block, number}
-use Rattle.giop_decode.specs.Reading.{cut_off, parts_from, read, rest_of}
+use Rattle.giop_decode.proofs.Rooted as rooted
+use Rattle.giop_decode.specs.Reading.{cut_off, parts_from, read, reading, rest_of}
 use Rattle.giop_decode.specs.Begins.{start_outer, start_leaf}
-use Rattle.giop_decode.specs.ReadingSteps.{IsOctetResult, IsEmptyResult, advance, part_at, resumed, step}
+use Rattle.giop_decode.specs.ReadingSteps.{IsOctetResult, IsEmptyResult, advance, part_at, resumed, step, root_advance, root_step}
 use Rattle.giop_decode.specs.Fits.{HasParts, Sound}
 use Rattle.giop_decode.specs.Noted.{Noted, noted, in_content, ends_in_string, is_member, is_text}
 use Rattle.giop_decode.specs.Runs.{added_lines_of_run}
@@ -147,3 +148,22 @@ text_both message root order T at s xs ys = runs.text_both message root order T 
 -- deep.
 pub fits_depth : (C : Table) (d : Decoder) → Fits C d → length d.outer.items < depth_of C.types
 fits_depth C d fits = depths.fits_depth C d fits
+
+-- ---- a whole
+
+pub reading_goes : (coding : Coding) (path : List PathSegment) (T : Ty) (at : ℕ) (s : List ℕ)
+    (b : ℕ) → reading coding path T at (s ++ b ∷ [])
+    ≡ root_advance coding path (reading coding path T at s) b
+reading_goes coding path T at s b = enclosing.reading_goes coding path T at s b
+
+pub root_now : (coding : Coding) (path : List PathSegment) (outer : List OpenPart) (leaf : Leaf)
+    (at b : ℕ) → IsOctetResult (at + 1) (root_step coding path outer leaf at b)
+root_now coding path outer leaf at b = rooted.whole_now coding path outer leaf at b
+
+pub reading_keeps : (d : ℕ) (coding : Coding) (path : List PathSegment) (T : Ty) → IsFit d T →
+    (at : ℕ) (s : List ℕ) → Sound T (at + length s) (reading coding path T at s)
+reading_keeps d coding path T fit at s = rooted.whole_keeps d coding path T at s fit
+
+pub reading_quiet : (coding : Coding) (path : List PathSegment) (T : Ty) (n : ℕ) →
+    IsEmptyResult n (reading coding path T n [])
+reading_quiet coding path T n = rooted.whole_quiet coding path T n

@@ -7,12 +7,12 @@ use Rattle.giop_cdr.specs.declared.order.Order.{Order}
 use Rattle.giop_decode.specs.declared.progress.Progress.{Progress}
 use Rattle.giop_decode.specs.declared.progress.Progress.TheVariants as progress
 use Rattle.giop_decode.specs.ReadResult.{plain, Line, lines_of}
-use Rattle.giop_decode.specs.Reading.{read}
+use Rattle.giop_decode.specs.Reading.{reading}
 use Rattle.giop_decode.specs.declared.decoder.Decoder.{Decoder}
 use Rattle.giop_decode.specs.DecoderState.{Reads, Takes, added_lines}
 use Rattle.giop_decode.specs.Runs.{added_lines_of_run, AreAnswered, TakesRun, BreaksOff, WritesRun}
 use Rattle.giop_decode.specs.Spelling.{lines_text}
-use Rattle.giop_decode.proofs.Resuming.{lines_begin}
+use Rattle.giop_decode.proofs.Rooted.{whole_lines}
 use Rattle.giop_print.proofs.Writing.{wrote-front}
 use Rattle.giop_print.specs.Output.{OutLog, Wrote, WroteFront}
 use Rattle.giop_print.specs.declared.path.Root.{Root}
@@ -33,11 +33,11 @@ lines_text_both message root (x ∷ xs) ys = search (
 )
 
 dues_begin : (order : Order) (T : Ty) (at : ℕ) (s xs : List ℕ) →
-    lines_of (read (plain order) [] T at (s ++ xs))
-    ≡ lines_of (read (plain order) [] T at s) ++ added_lines_of_run order T at s xs
+    lines_of (reading (plain order) [] T at (s ++ xs))
+    ≡ lines_of (reading (plain order) [] T at s) ++ added_lines_of_run order T at s xs
 dues_begin order T at s xs =
-    let front = lines_of (read (plain order) [] T at s) in
-    let more = lines_begin (plain order) [] T at s xs in
+    let front = lines_of (reading (plain order) [] T at s) in
+    let more = whole_lines (plain order) [] T at s xs in
     more.1 ∙ ap (λ z. front ++ z) (sym (ap (drop (length front)) more.1
     ∙ drop-append_seam front more.0))
 
@@ -49,8 +49,8 @@ dues_both order T at s xs ys = search (arith, append_assoc, dues_begin, drop, dr
 pub dues_none : (order : Order) (T : Ty) (at : ℕ) (s : List ℕ) →
     added_lines_of_run order T at s [] ≡ []
 dues_none order T at s =
-    let front = lines_of (read (plain order) [] T at s) in
-    ap (λ z. drop (length front) (lines_of (read (plain order) [] T at z))) (append-nil s)
+    let front = lines_of (reading (plain order) [] T at s) in
+    ap (λ z. drop (length front) (lines_of (reading (plain order) [] T at z))) (append-nil s)
     ∙ (ap (drop (length front)) (sym (append-nil front)) ∙ drop-append_seam front [])
 
 pub text_none : (message : ℕ) (root : Root) (order : Order) (T : Ty) (at : ℕ) (s : List ℕ) →

@@ -3,16 +3,19 @@ use Rattle.std.proofs.Common.{◌≡◌, ℕ, zero, suc, ◌+◌, ◌-◌, ◌<�
 use Rattle.std.proofs.lemmas.Bool.{cases_lt}
 use Rattle.std.proofs.lemmas.List.{take_all, drop_all}
 use Rattle.giop_cdr.specs.declared.order.Order.{Order}
-use Rattle.giop_decode.specs.Fits.{Sound, HasCase, HasContent, HasLeadingNumber, HasParts, IsEncapsulation}
+use Rattle.giop_decode.specs.Fits.{Sound, HasCase, HasContent, HasLeadingNumber, HasParts, IsEncapsulation, IsLed}
 use Rattle.giop_decode.specs.Pieces.{Complete, Block, Partial, block, content, full_piece, full_pieces, last_piece, number, octets, tail, text, unless}
-use Rattle.giop_decode.specs.Reading.{enclosed, inside, member, order_of, ordered, parts_from, read, rest_of, single, sized}
+use Rattle.giop_decode.specs.Reading.{enclosed, inside, member, order_of, ordered, parts_from, read, rest_of, single, sized, following, left_after, led, led_segment, none_left, told_after}
 use Rattle.giop_decode.specs.ReadResult.{Coding, Done, Fault, Index, Line, Member, Name, Part, Read, PathSegment, Short, followed, with_front, within, Held}
-use Rattle.giop_decode.specs.ReadingSteps.{inner_path, after, leading_width, part_at, held}
+use Rattle.giop_decode.specs.ReadingSteps.{inner_path, after, leading_width, part_at, held, IsOctetResult, after_told, hearing_in}
 use Rattle.giop_decode.specs.declared.progress.Kind.{Kind}
+use Rattle.giop_decode.specs.declared.progress.Kind.TheVariants as kinds
 use Rattle.giop_sig.specs.Fits.{IsFit, SelectsBelow}
-use Rattle.giop_sig.specs.Types.{places_of, Choice, Array, Octets, Scalar, Sequence, Single, Struct, Text, Ty, Union, part_of, Encapsulation}
+use Rattle.giop_sig.specs.Types.{places_of, Choice, Array, Octets, Scalar, Sequence, Single, Struct, Text, Ty, Union, part_of, Encapsulation, Led, Told, Untold, Sequel, Then, Ends, Stops, sequel}
 use Rattle.giop_sig.specs.declared.types.Selected.{Selected}
 use Rattle.giop_sig.specs.declared.types.Selected.TheVariants.{Case}
+use Rattle.giop_decode.proofs.Enclosing as enclosing
+use Rattle.giop_decode.proofs.Enclosing.{read_ends}
 use Rattle.giop_decode.proofs.Law.{headed_by, block_waits, block_got, number_waits, number_blocks, width_pos}
 
 abbrev pub Keeps : Ty → (ℕ → List ℕ → Read) → Type 0
@@ -168,58 +171,91 @@ encapsulation_content : (T : Ty) → IsEncapsulation T → HasContent T
 encapsulation_content (Encapsulation T) h = tt
 encapsulation_content T h = absurd h
 
+-- where octets of no type follow, these are left up to here
+abbrev pub Leaves : ℕ → (ℕ → List ℕ) → Read → Type 0
+Leaves here left (Fault lines at kinds.Untyped S) = at + length (left at) ≡ here
+Leaves here left r = Unit {0}
+
+pub ends_leave : (m : ℕ) (s : List ℕ) (r : Read) → enclosing.Ends m (m + length s) r →
+    Leaves (m + length s) (left_after m s) r
+ends_leave m s (Fault lines at kinds.Untyped S) h =
+    omega (arith, h.0, h.1, length-drop (at - m) s)
+ends_leave m s (Fault lines at kind S) h = tt
+ends_leave m s (Done lines at rest) h = tt
+ends_leave m s (Short lines at outer leaf) h = tt
+
+pub now_leaves : (n : ℕ) (r : Read) → IsOctetResult n r → Leaves n none_left r
+now_leaves n (Fault lines at kinds.Untyped S) h = omega (arith, h.1)
+now_leaves n (Fault lines at kind S) h = tt
+now_leaves n (Done lines at rest) h = tt
+now_leaves n (Short lines at outer leaf) h = tt
+
 -- a value in an encapsulation, read up to here, and what follows it: no octets while the
 -- encapsulation goes on
-pub sound_enclosed : (T : Ty) (path : List PathSegment) (inner : Coding) (end here : ℕ) →
+pub sound_enclosed : (T : Ty) (path : List PathSegment) (inner : Coding) (end here : ℕ)
+    (left : ℕ → List ℕ) →
     IsEncapsulation T → inner.origin < here → (r : Read) (more : List ℕ) →
-    Sound (part_of T 0) here r → (here < end → more ≡ []) →
-    Sound T (here + length more) (enclosed path T inner end r more)
-sound_enclosed T path inner end here kind began (Done lines at rest) more h none =
+    Sound (part_of T 0) here r → (here < end → more ≡ []) → Leaves here left r →
+    Sound T (here + length more) (enclosed path T inner end left r more)
+sound_enclosed T path inner end here left kind began (Done lines at rest) more h none leaves =
     let e : at + length (rest ++ more) ≡ here + length more =
     omega (arith, h, length-append rest more) in
     sound_front T _ lines _
     (subst (λ n. Sound T n (rest_of path T (end - at) at (rest ++ more))) e
     (rest_keeps T path (end - at) (encapsulation_content T kind) at (rest ++ more)))
-sound_enclosed T path inner end here kind began (Short lines at outer leaf) more h none =
+sound_enclosed T path inner end here left kind began (Short lines at outer leaf) more h none leaves
+    =
     go (cases_lt at end)
   where
     go : (at < end) ⊎ (end ≤ at) → Sound T (here + length more)
-        (enclosed path T inner end (Short lines at outer leaf) more)
+        (enclosed path T inner end left (Short lines at outer leaf) more)
     go (inl k) =
         let below : here < end = omega (arith, h.0, k) in
         let e : here ≡ here + length more = rw (none below) (sym (add-zero here)) in
-        subst (λ n. Sound T n (enclosed path T inner end (Short lines at outer leaf) more)) e
+        subst (λ n. Sound T n (enclosed path T inner end left (Short lines at outer leaf) more)) e
         (rw (lt-ltb at end k) (
           h.0,
           (record { same = refl; kind = kind }, h.1),
           ((below, began), h.2),
         ))
     go (inr k) = rw le-ltb tt
-sound_enclosed T path inner end here kind began (Fault lines at why S) more h none = tt
+sound_enclosed T path inner end here left kind began (Fault lines at kinds.Untyped S) more h none
+    leaves =
+    let e : at + length (left at ++ more) ≡ here + length more =
+    omega (arith, leaves, length-append (left at) more) in
+    sound_front T _ lines _
+    (subst (λ n. Sound T n (rest_of path T (end - at) at (left at ++ more))) e
+    (rest_keeps T path (end - at) (encapsulation_content T kind) at (left at ++ more)))
+sound_enclosed T path inner end here left kind began (Fault lines at why S) more h none leaves = tt
 
 inside_sound : (T : Ty) (path : List PathSegment) (value : Coding → ℕ → List ℕ → Read)
     (inner : Coding)
     (n at : ℕ) (s : List ℕ) → IsEncapsulation T → inner.origin < at →
-    Keeps (part_of T 0) (value inner) → Sound T (at + length s) (inside path T value inner n at s)
-inside_sound T path value inner n at s kind began keeps = go (cases_lt (length s) n)
+    Keeps (part_of T 0) (value inner) →
+    ((t : List ℕ) → enclosing.Ends at (at + length t) (value inner at t)) →
+    Sound T (at + length s) (inside path T value inner n at s)
+inside_sound T path value inner n at s kind began keeps ends = go (cases_lt (length s) n)
   where
     go : (length s < n) ⊎ (n ≤ length s) →
         Sound T (at + length s) (inside path T value inner n at s)
     go (inl h) =
         let k : length s ≤ n = omega arith in
         rw (take_all n s k, drop_all n s k) (subst
-        (λ m. Sound T m (enclosed path T inner (at + n) (value inner at s) []))
+        (λ m. Sound T m (enclosed path T inner (at + n) (left_after at s) (value inner at s) []))
         (add-zero (at + length s))
-        (sound_enclosed T path inner (at + n) (at + length s) kind (omega (arith, began))
-        (value inner at s) [] (keeps at s) (λ _. refl)))
+        (sound_enclosed T path inner (at + n) (at + length s) (left_after at s) kind
+        (omega (arith, began)) (value inner at s) [] (keeps at s) (λ _. refl)
+        (ends_leave at s (value inner at s) (ends s))))
     go (inr h) =
         let l : length (take n s) ≡ n = length-take-le n s h in
         let e : (at + length (take n s)) + length (drop n s) ≡ at + length s =
         omega (arith, l, length-drop n s) in
         subst (λ m. Sound T m (inside path T value inner n at s)) e
-        (sound_enclosed T path inner (at + n) (at + length (take n s)) kind (omega (arith, began))
+        (sound_enclosed T path inner (at + n) (at + length (take n s)) (left_after at (take n s))
+        kind (omega (arith, began))
         (value inner at (take n s)) (drop n s) (keeps at (take n s))
-        (λ below. absurd (omega (arith, l, below))))
+        (λ below. absurd (omega (arith, l, below)))
+        (ends_leave at (take n s) (value inner at (take n s)) (ends (take n s))))
 
 -- the same of what an encapsulation holds, in each order and from each origin
 abbrev pub HeldKeeps : Ty → List PathSegment → Type 0
@@ -234,6 +270,7 @@ ordered_sound T path origin n (Some order) at s kind began keeps = search (
   arith,
   sound_front,
   inside_sound,
+  read_ends,
 )
 
 sized_keeps : (T : Ty) (path : List PathSegment) (n : ℕ) → IsEncapsulation T → HeldKeeps T path →
@@ -250,6 +287,30 @@ size_keeps : (coding : Coding) (path : List PathSegment) (T : Ty) (n : ℕ) →
     HeldKeeps (Encapsulation T) path →
     Keeps (Encapsulation T) (after coding path (Encapsulation T) n)
 size_keeps coding path T n keeps at s = search (arith, sound_front, sized_keeps)
+
+-- ---- a part that tells what follows it
+
+pub sound_led : (coding : Coding) (path : List PathSegment) (T : Ty) (told : Told) (end : ℕ)
+    (r : Read) → IsLed T → ((i : ℕ) → HasCase T (suc i) → Keeps (part_of T (suc i))
+    (read coding (inner_path path T (suc i)) (part_of T (suc i)))) → Sound (part_of T 0) end r →
+    Sound T end (led T (hearing_in T) told (after_told coding path T) r)
+sound_led coding path (Led h F parts) told end (Done lines at rest) kind each s =
+    sound_front (Led h F parts) end lines _ (subst
+    (λ e. Sound (Led h F parts) e (following (Led h F parts) (sequel h (told_after h told lines))
+    (after_told coding path (Led h F parts)) at rest)) s
+    (go (sequel h (told_after h told lines)) refl))
+  where
+    go : (what : Sequel) → sequel h (told_after h told lines) ≡ what →
+        Sound (Led h F parts) (at + length rest) (following (Led h F parts) what
+        (after_told coding path (Led h F parts)) at rest)
+    go (Then i) e = sound_member (Led h F parts) (at + length rest) (suc i) _
+        (told_after h told lines, e) (each i (told_after h told lines, e) at rest)
+    go Ends e = refl
+    go Stops e = tt
+sound_led coding path (Led h F parts) told end (Short lines at outer leaf) kind each s =
+    (s.0, (record { same = refl; kind = tt }, s.1), (tt, s.2))
+sound_led coding path (Led h F parts) told end (Fault lines at why S) kind each s = tt
+sound_led coding path T told end r kind each s = absurd kind
 
 pub read_keeps : (d : ℕ) (coding : Coding) (path : List PathSegment) (T : Ty) → IsFit d T →
     Keeps T (read coding path T)
@@ -281,6 +342,12 @@ read_keeps (suc d) coding path (Union choice scalar select names cases) fit =
 read_keeps (suc d) coding path (Encapsulation T) fit =
     headed_keeps coding path (Encapsulation T) tt (lit< tt)
     (λ n. size_keeps coding path T n (λ inner. read_keeps d inner (path ++ Held ∷ []) T fit))
+read_keeps (suc d) coding path (Led h F parts) fit = λ at s.
+    sound_led coding path (Led h F parts) Untold (at + length s)
+    (read coding (path ++ led_segment h 0 ∷ []) F at s) tt
+    (λ i case. read_keeps d coding (path ++ led_segment h (suc i) ∷ []) (parts i)
+    (fit.1 case.0 i case.1))
+    (read_keeps d coding (path ++ led_segment h 0 ∷ []) F fit.0 at s)
 
 pub after_keeps : (d : ℕ) (coding : Coding) (path : List PathSegment) (T : Ty) (n : ℕ) → IsFit d T →
     Keeps T (after coding path T n)

@@ -1,5 +1,6 @@
 -- A decoder before the first octet.
 use Rattle.std.proofs.Common.{◌≡◌, ℕ, ◌+◌, ◌%◌, ◌<◌, [], length, Some, subst, add-zero, inl, inr, arith}
+use Rattle.giop_decode.proofs.Rooted.{whole_none}
 use Rattle.giop_cdr.specs.declared.order.Order.{Order}
 use Rattle.giop_decode.specs.declared.decoder.Decoder.{Decoder}
 use Rattle.giop_decode.specs.declared.leaf.Leaf.TheVariants as innermost
@@ -28,7 +29,7 @@ module _ (C : Table) (T : Ty) (order : Order) (at message : ℕ) (root : Root) (
       d.head.root ≡ root →
       d.at ≡ at % 8 → Reads C T order at message root d []
   first_reads first fit goes_on empty are stand leaf recalls same_order same_message same_root
-      offset = search (arith, read_none, add-zero)
+      offset = search (arith, whole_none, add-zero)
 
 pub first_fits : (C : Table) (of : ℕ) (d : Decoder) (first : TypeId) → of < length C.types →
     IsFit 24 (tree C of) → d.leaf ≡ Some (innermost.Number first) → d.carry ≡ [] →

@@ -10,7 +10,7 @@ use Rattle.giop_decode.specs.FrameChain.{HasFrame, HasPart, LeafFits, Chained, C
 use Rattle.giop_decode.specs.Fits.{FitsIn, IsEncapsulation}
 use Rattle.giop_decode.specs.DecoderState.{Fits}
 use Rattle.giop_decode.specs.ReadResult.{OpenPart, Leaf}
-use Rattle.giop_decode.specs.Transitions.{open_parts, part_in, part_index, open_part_in, HaveOctetsLeft, AreKnown, IsWithin, Link, StandAt, leaf_of, leaf_type}
+use Rattle.giop_decode.specs.Transitions.{IsUncounted, open_parts, part_in, part_index, open_part_in, HaveOctetsLeft, AreKnown, IsWithin, Link, StandAt, leaf_of, leaf_type}
 use Rattle.giop_decode.proofs.Around.{fit_room}
 use Rattle.giop_decode.proofs.Going.{length_places}
 use Rattle.giop_decode.proofs.Starting.{fit_some}
@@ -19,7 +19,7 @@ use Rattle.giop_sig.specs.Fits.{IsFit, IsEmptyStruct}
 use Rattle.giop_sig.specs.HeaderTypes.{IsTable}
 use Rattle.giop_sig.specs.Table.{Table, part_number}
 use Rattle.giop_sig.specs.Trees.{tree}
-use Rattle.giop_sig.specs.Types.{Cases, Tag, Encapsulation, Ty, Single, Text, Octets, Struct, Union, Sequence, Array, HasPlace, IsUnion, part_of, shape_in}
+use Rattle.giop_sig.specs.Types.{Cases, Tag, Encapsulation, Ty, Single, Text, Octets, Struct, Union, Sequence, Array, HasPlace, part_of, shape_in, Led}
 use Rattle.giop_sig.proofs.PartLaws.{part_is, root_is}
 
 -- ---- one open part
@@ -33,11 +33,13 @@ part_place (Text bound) i count has = absurd has.0
 part_place (Octets bound) i count has = absurd has.0
 part_place T i count has = tt
 
-part_uncounted : (T : Ty) (i count : ℕ) → HasPart T i count → IsUnion (shape_in T) → count ≡ 0
+part_uncounted : (T : Ty) (i count : ℕ) → HasPart T i count →
+    IsUncounted (shape_in T) → count ≡ 0
 part_uncounted (Union choice scalar select names cases) i count has is = has.1
 part_uncounted (Single scalar) i count has is = absurd has.0
 part_uncounted (Text bound) i count has is = absurd has.0
 part_uncounted (Octets bound) i count has is = absurd has.0
+part_uncounted (Led h F parts) i count has is = has.1
 part_uncounted T i count has is = absurd is
 
 fits_one_more : (T : Ty) (i count : ℕ) (outer : List OpenPart) (leaf : Leaf) → HasPart T i count →
@@ -46,11 +48,13 @@ fits_one_more (Union choice scalar select names cases) i count outer leaf has fi
 fits_one_more (Struct n names parts) i count outer leaf has fits = search (arith)
 fits_one_more (Array n T) i count outer leaf has fits = search (arith)
 fits_one_more (Sequence bound T) i count outer leaf has fits = search (arith)
+fits_one_more (Led h F parts) i count outer leaf has fits = search (arith)
 fits_one_more T i count outer leaf has fits = absurd has.0
 
 fits_part : (T : Ty) (i count : ℕ) (outer : List OpenPart) (leaf : Leaf) →
-    FitsIn T (part_in T i count ∷ outer) leaf → (IsUnion (shape_in T) → count ≡ 0) →
+    FitsIn T (part_in T i count ∷ outer) leaf → (IsUncounted (shape_in T) → count ≡ 0) →
     HasPart T i count × FitsIn (part_of T i) outer leaf
+fits_part (Led h F parts) i count outer leaf fits uncounted = search (arith)
 fits_part (Union (Cases n) scalar select names cases) i count outer leaf fits uncounted = search
     (arith)
 fits_part (Union Tag scalar select names cases) i count outer leaf fits uncounted = search (arith)

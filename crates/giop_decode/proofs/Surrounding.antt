@@ -12,11 +12,11 @@ use Rattle.giop_decode.specs.declared.leaf.Leaf.{Leaf as Innermost}
 use Rattle.giop_decode.specs.Fits.{Surround, Surrounds}
 use Rattle.giop_decode.specs.Reading.{cut_off}
 use Rattle.giop_decode.specs.ReadResult.{Done, with_front, Coding, Fault, Leaf, Line, OpenPart, Read, PathSegment, Short, lines_of}
-use Rattle.giop_decode.specs.ReadingSteps.{around, coding_at, coding_in, resumed, segment_in}
+use Rattle.giop_decode.specs.ReadingSteps.{around, coding_at, coding_in, heard_in, heard_parts, resumed, segment_in}
 use Rattle.giop_decode.specs.Transitions.{HasOctetsLeft, tick_of, tick_by_of, HaveOctetsLeft, AreKnown, IsWithin, StandAt, StandsAt, coding_by, coding_of, ended_at, gone_on, gone_to, leaf_of, has_ended, is_inside, is_some_order, part_in, open_part, open_part_in, open_parts, ticked, ticked_at, ticked_by}
 use Rattle.giop_sig.specs.Table.{Table}
 use Rattle.giop_sig.specs.Trees.{tree}
-use Rattle.giop_sig.specs.Types.{Ty, Union}
+use Rattle.giop_sig.specs.Types.{Led, Ty, Union}
 
 -- ---- an octet more
 
@@ -76,6 +76,7 @@ ahead_by C (f ∷ frames) k h =
 
 part_surrounds : (here : ℕ) (T : Ty) (i count : ℕ) → Surround here (part_in T i count)
 part_surrounds here (Union n scalar select names cases) i count = tt
+part_surrounds here (Led h F parts) i count = tt
 part_surrounds here T i count = tt
 
 surround_at : (here : ℕ) (inside : Option Order) (T : Ty) (i count : ℕ) →
@@ -103,6 +104,7 @@ resumed_short : (coding : Coding) (path : List PathSegment) (T : Ty) (i count : 
     resumed coding path (part_in T i count) (Short lines at outer leaf)
     ≡ Short lines at (part_in T i count ∷ outer) leaf
 resumed_short coding path (Union n scalar select names cases) i count lines at outer leaf = refl
+resumed_short coding path (Led h F parts) i count lines at outer leaf = refl
 resumed_short coding path T i count lines at outer leaf = refl
 
 resumed_fault : (coding : Coding) (path : List PathSegment) (T : Ty) (i count : ℕ)
@@ -110,6 +112,7 @@ resumed_fault : (coding : Coding) (path : List PathSegment) (T : Ty) (i count : 
     (at : ℕ) (S : Ty) → resumed coding path (part_in T i count) (Fault lines at kinds.EncapShort S)
     ≡ Fault lines at kinds.EncapShort S
 resumed_fault coding path (Union n scalar select names cases) i count lines at S = refl
+resumed_fault coding path (Led h F parts) i count lines at S = refl
 resumed_fault coding path T i count lines at S = refl
 
 -- a reading inside these open parts, or cut off by the end of an encapsulation
@@ -117,7 +120,7 @@ abbrev pub unless_ended : Bool → List Line → ℕ → List OpenPart → Leaf 
 unless_ended ended lines at outer leaf =
     cond ended (Fault lines at kinds.EncapShort (cut_off leaf)) (Short lines at outer leaf)
 
-resumed_shut : (coding : Coding) (path : List PathSegment) (inside : Option Order) (T : Ty)
+pub resumed_shut : (coding : Coding) (path : List PathSegment) (inside : Option Order) (T : Ty)
     (i count : ℕ)
     (ended : Bool) (lines : List Line) (at : ℕ) (outer : List OpenPart) (leaf : Leaf) →
     IsWithin inside i count T → resumed coding path (open_part_in at inside T i count)
@@ -160,6 +163,24 @@ pub lines_shut : (ended : Bool) (lines : List Line) (at : ℕ) (outer : List Ope
 lines_shut true lines at outer leaf = refl
 lines_shut false lines at outer leaf = refl
 
+-- in these frames nothing is heard
+heard_in_part : (lines : List Line) (T : Ty) (i count : ℕ) →
+    heard_in lines (part_in T i count) ≡ part_in T i count
+heard_in_part lines (Union choice scalar select names cases) i count = refl
+heard_in_part lines (Led h F parts) i count = refl
+heard_in_part lines T i count = refl
+
+pub heard_in_open : (lines : List Line) (here : ℕ) (inside : Option Order) (T : Ty) (i count : ℕ) →
+    heard_in lines (open_part_in here inside T i count) ≡ open_part_in here inside T i count
+heard_in_open lines here None T i count = heard_in_part lines T i count
+heard_in_open lines here (Some order) T i count = refl
+
+pub heard_open : (C : Table) (here : ℕ) (lines : List Line) (frames : List Frame) →
+    heard_parts lines (open_parts C here frames) ≡ open_parts C here frames
+heard_open C here lines [] = refl
+heard_open C here lines (f ∷ frames) = search
+    (arith, heard_in_open, heard_open C here lines frames)
+
 -- one frame more
 pub or_false : (b : Bool) → b || false ≡ b
 or_false true = refl
@@ -187,6 +208,7 @@ ended_push (g ∷ frames) f h = search (arith, ended_push frames f h)
 
 part_coding : (c : Coding) (T : Ty) (i count : ℕ) → coding_at c (part_in T i count) ≡ c
 part_coding c (Union n scalar select names cases) i count = refl
+part_coding c (Led h F parts) i count = refl
 part_coding c T i count = refl
 
 -- a coding as a decoder has it, at an offset

@@ -25,7 +25,7 @@ use Rattle.giop_decode.proofs.Leaving.{fit_held}
 use Rattle.giop_decode.proofs.Enclosing.{with_front-enclosed}
 use Rattle.std.proofs.Math.Seq.{take-nil, drop-nil}
 use Rattle.giop_decode.proofs.Around.{block_none, first_part, read_none}
-use Rattle.giop_sig.specs.Types.{Cases, Scalar, Plain, Enum, Ty, Single, Text, Octets, Struct, Union, Sequence, Array, part_of, switch_of, shape_in, select_in, interpreted_in, IsUnion, HasMember, Tag, tag_of, Encapsulation}
+use Rattle.giop_sig.specs.Types.{Cases, Scalar, Plain, Enum, Marked, Led, Ty, Single, Text, Octets, Struct, Union, Sequence, Array, part_of, switch_of, shape_in, select_in, interpreted_in, IsUnion, HasMember, Tag, tag_of, Encapsulation}
 use Rattle.giop_sig.specs.declared.types.Selected.TheVariants.{Case, Nothing, Refused}
 use Rattle.giop_sig.specs.Fits.{IsFit}
 use Rattle.giop_sig.specs.Table.{Table}
@@ -74,6 +74,8 @@ switch_bound (Single (Enum n names)) p order octets u is whole are = absurd u
 switch_bound (Text bound) p order octets u is whole are = absurd u
 switch_bound (Encapsulation T) p order octets u is whole are = absurd u
 switch_bound (Octets bound) p order octets u is whole are = absurd u
+switch_bound (Single (Marked mark)) p order octets u is whole are = absurd u
+switch_bound (Led k F rest) p order octets u is whole are = absurd u
 
 abbrev pub number_prim : (T : Ty) (p : Primitive) (n : ℕ) (number : Taken) → T ≡ Single (Plain p) →
     interpreted_as p n ≡ Some number → n < 256 ^ size_of p → IsNumberOf T number
@@ -154,6 +156,8 @@ member_case (Single (Plain p)) i u h = absurd u
 member_case (Single (Enum n names)) i u h = absurd u
 member_case (Text bound) i u h = absurd u
 member_case (Octets bound) i u h = absurd u
+member_case (Single (Marked mark)) i u h = absurd u
+member_case (Led k F rest) i u h = absurd u
 
 -- a union after a discriminator that is a value
 module _ (C : Table) (coding : Coding) (path : List PathSegment) (at : ℕ) (number : Taken) where
@@ -188,6 +192,8 @@ module _ (C : Table) (coding : Coding) (path : List PathSegment) (at : ℕ) (num
   case_transition (suc d) (Single (Enum n names)) i is fit u e h = absurd u
   case_transition (suc d) (Text bound) i is fit u e h = absurd u
   case_transition (suc d) (Octets bound) i is fit u e h = absurd u
+  case_transition (suc d) (Single (Marked mark)) i is fit u e h = absurd u
+  case_transition (suc d) (Led k F rest) i is fit u e h = absurd u
   case_transition (suc d) (Encapsulation T) i is fit u e h = absurd u
 
   pub turns_nothing : (T : Ty) (is : IsNumberOf (switch_of T) number) → IsUnion (shape_in T) →
@@ -211,6 +217,8 @@ module _ (C : Table) (coding : Coding) (path : List PathSegment) (at : ℕ) (num
   turns_nothing (Single (Enum n names)) is u e = absurd u
   turns_nothing (Text bound) is u e = absurd u
   turns_nothing (Octets bound) is u e = absurd u
+  turns_nothing (Single (Marked mark)) is u e = absurd u
+  turns_nothing (Led k F rest) is u e = absurd u
   turns_nothing (Encapsulation T) is u e = absurd u
 
   pub turns_refused : (T : Ty) (is : IsNumberOf (switch_of T) number) → IsUnion (shape_in T) →
@@ -225,6 +233,8 @@ module _ (C : Table) (coding : Coding) (path : List PathSegment) (at : ℕ) (num
   turns_refused (Single (Enum n names)) is u e = absurd u
   turns_refused (Text bound) is u e = absurd u
   turns_refused (Octets bound) is u e = absurd u
+  turns_refused (Single (Marked mark)) is u e = absurd u
+  turns_refused (Led k F rest) is u e = absurd u
   turns_refused (Encapsulation T) is u e = absurd u
 
 -- the number of a union's discriminator is a value of its type

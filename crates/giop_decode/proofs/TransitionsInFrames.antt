@@ -1,7 +1,7 @@
 -- The reading after a transition of an innermost part, inside the frames around it.
 use Rattle.std.proofs.Common.{arith, ◌≡◌, ℕ, zero, suc, pred, ◌<◌, List, [], sym, ◌∙◌, ap, append-nil}
 use Rattle.giop_decode.specs.ReadResult.{Coding, PathSegment, Line, OpenPart, Done, with_front}
-use Rattle.giop_decode.specs.ReadingSteps.{around}
+use Rattle.giop_decode.specs.ReadingSteps.{around, heard_parts}
 use Rattle.giop_decode.specs.Fits.{HasParts, HasCase, IsEncapsulation}
 use Rattle.giop_decode.proofs.Around.{fit_part, around-front}
 use Rattle.giop_decode.proofs.Leaving.{fit_case, fit_held}
@@ -27,6 +27,6 @@ fit_inside (suc d) T fit kind = fit_held d T fit kind
 module _ (coding : Coding) (path : List PathSegment) (ps : List OpenPart) (lines : List Line)
     (at : ℕ) where
   pub around_done : around coding path ps (Done lines at [])
-      ≡ with_front lines (around coding path ps (Done [] at []))
+      ≡ with_front lines (around coding path (heard_parts lines ps) (Done [] at []))
   around_done = ap (λ ls. around coding path ps (Done ls at [])) (sym (append-nil lines))
       ∙ around-front coding path ps lines (Done [] at [])

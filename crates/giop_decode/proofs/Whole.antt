@@ -1,6 +1,6 @@
 -- Octets that are taken together do what they do one after another: those of a number, or the rest
 -- of a piece.
-use Rattle.std.proofs.Common.{◌≡◌, ◌≢◌, ℕ, suc, ◌+◌, ◌-◌, ◌%◌, ◌^◌, Bool, true, false, ◌<◌, ◌≤◌, inl, inr, take_all, List, [], ◌∷◌, ◌++◌, length, take, get_or, Option, Some, None, refl, ne_eqb, sym, ◌∙◌, ap, subst, arith, length-append, append_assoc}
+use Rattle.std.proofs.Common.{◌≡◌, ◌≢◌, ℕ, suc, ◌+◌, ◌-◌, ◌%◌, ◌^◌, Bool, true, false, ◌<◌, ◌≤◌, inl, inr, take_all, List, [], ◌∷◌, ◌++◌, length, take, get_or, Option, Some, None, refl, ne_eqb, sym, ◌∙◌, ap, subst, arith, length-append, append_assoc, IfSome}
 use Rattle.std.proofs.lemmas.Bool.{cases_lt}
 use Rattle.giop_decode.specs.declared.progress.Kind.{Kind}
 use Rattle.giop_decode.specs.declared.progress.Kind.TheVariants as kinds
@@ -32,9 +32,9 @@ use Rattle.giop_decode.specs.declared.notes.Notes.{Notes}
 use Rattle.giop_decode.specs.NotingSteps.{transition_offset, StringGoesOn, OutputFitsString, clears_name, transition_in_string}
 use Rattle.giop_decode.specs.Runs.{Adds, AllGathered, IsHeldOf, IsParted, IsStep, IsStepOf, TakenTogether}
 use Rattle.giop_decode.specs.ReadResult.{plain, line, Coding, Done, Line, Opening, PathSegment, Piece, lines_of, with_front}
-use Rattle.giop_decode.specs.ReadingSteps.{after, coding_in, content_step, leading_width, leaf_step, path_in}
+use Rattle.giop_decode.specs.ReadingSteps.{after, coding_in, content_step, leading_width, leaf_step, path_in, IsRule}
 use Rattle.giop_decode.specs.Transitions.{HasOutput, HaveOctetsLeft, IsOutput, IsWholeLong, IsWholeNumber, NumberStands, TransitionGives, TransitionFits, after_transition, block_of, coding_by, leaf_type, open_parts, still_held, ticked, ticked_by, IsClean}
-use Rattle.giop_decode.proofs.Advancing.{lines_after_transition, same_some, stands_at}
+use Rattle.giop_decode.proofs.Advancing.{lines_after_transition, same_some, stands_at, fits_allowed}
 use Rattle.arrayvec.specs.ArrayVec.{ArrayVec}
 use Rattle.giop_decode.specs.declared.frame.Frame.{Frame}
 use Rattle.giop_decode.proofs.Counting.{ahead_fewer, coding_ticked_by, ticked_last, ticked_none}
@@ -342,12 +342,12 @@ module _ (C : Table) (d : Decoder) (of : TypeId) (total offset : ℕ) (octets : 
   step_of (Some kind) = record { transition = transitions.Refused kind; output = outputs.Nothing }
 
   -- the last piece, with what ends it
-  comes_end : (size : ℕ) (why : Option Kind) → total - offset ≤ 32 →
+  comes_end : (size : ℕ) (why : Option Kind) → IfSome why IsRule → total - offset ≤ 32 →
       size ≡ total - offset - length d.piece.items → count ≡ size + tail T →
       count ≤ length octets →
       ends T (total - offset) (d.piece.items ++ take count octets) ≡ why →
       TakenTogether C d octets of count (step_of why) (take size octets) d.carry d.piece.items
-  comes_end size why small sized counted within is =
+  comes_end size why rule small sized counted within is =
       let one = tail_small T in
       let room : length d.piece.items < total - offset + tail T = content.room_last small in
       let some : 0 < count = omega (arith, counted, sized, room, one) in
@@ -378,22 +378,23 @@ module _ (C : Table) (d : Decoder) (of : TypeId) (total offset : ℕ) (octets : 
       λ path here. rw (← is, ← all, ← with_last some within) (last_whole T path total offset here
       held_before last_octet small
       (omega (arith, before_size within, counted, sized, room, one))) in
-      go why some parted short come
+      go why rule some parted short come
     where
-      go : (why : Option Kind) → 0 < count → IsParted C content_leaf d.piece.items (count - 1) →
+      go : (why : Option Kind) → IfSome why IsRule → 0 < count →
+          IsParted C content_leaf d.piece.items (count - 1) →
           length d.piece.items + length (take size octets) ≤ 32 →
           ((path : List PathSegment) (here : ℕ) →
           content_step T path total offset here held_before last_octet ≡ unless T why (here + 1)
           (Done (line (here + 1) path (Piece T offset (d.piece.items ++ take size octets) false)
           ∷ []) (here + 1) [])) →
           TakenTogether C d octets of count (step_of why) (take size octets) d.carry d.piece.items
-      go None some parted short come =
+      go None rule some parted short come =
           of_content _ (take size octets) d.piece.items some within parted short tt content.kind
           (sym (and-false (is_text T))) (none_either (is_text T) (Some offset), refl)
           (λ path here. line (here + 1) path
           (Piece T offset (d.piece.items ++ take size octets) false) ∷ []) come (λ path here. refl)
-      go (Some kind) some parted short come =
-          of_content _ (take size octets) d.piece.items some within parted short tt tt refl tt
+      go (Some kind) rule some parted short come =
+          of_content _ (take size octets) d.piece.items some within parted short rule tt refl tt
           (λ path here. []) come (λ path here. refl)
 
   -- the octet that ends a string
@@ -413,7 +414,7 @@ module _ (C : Table) (d : Decoder) (of : TypeId) (total offset : ℕ) (octets : 
       count ≤ length octets → (0 < behind → get_or octets size 0 ≡ 0) →
       TakenTogether C d octets of count (step_of None) (take size octets) d.carry d.piece.items
   comes_last size n is small sized counted within zero_end =
-      comes_end size None small sized (omega (arith, counted, is)) within
+      comes_end size None tt small sized (omega (arith, counted, is)) within
       (ends_well T (total - offset) _ (λ some.
       last_is size small sized (omega (arith, counted, is, some))
       ∙ zero_end (omega (arith, is, some))))
@@ -427,7 +428,8 @@ module _ (C : Table) (d : Decoder) (of : TypeId) (total offset : ℕ) (octets : 
       TakenTogether C d octets of count s (take size octets) d.carry d.piece.items
   comes_unended size n s transition output is small sized counted within some bad =
       let step : s ≡ step_of (Some kinds.StringEnd) = rw (transition, output) refl in
-      rw step (comes_end size (Some kinds.StringEnd) small sized (omega (arith, counted, is)) within
+      rw step (comes_end size (Some kinds.StringEnd) tt small sized
+      (omega (arith, counted, is)) within
       (ends_badly T (total - offset) _ (omega (arith, is, some)) (λ zero_end.
       bad (sym (last_is size small sized (omega (arith, counted, some))) ∙ zero_end))))
 
@@ -639,7 +641,8 @@ module _ (C : Table) (d : Decoder) (octets : List ℕ) (of : TypeId) (count : �
 
   pub lines_whole : (here : ℕ) → CanStandAt before_last here →
       lines_of (decoder_step C before_last here (get_or octets (count - 1) 0)) ≡ lines_at here
-  lines_whole here stands = search (arith, told_whole, lines_after_transition, fits_then)
+  lines_whole here stands = search
+      (arith, told_whole, lines_after_transition, fits_then, fits_allowed)
 
   pub keeps_noted_whole : (new : Decoder) (here : ℕ) (front : List Line) →
       CanStandAt before_last here →

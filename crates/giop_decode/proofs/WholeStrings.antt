@@ -1,7 +1,7 @@
 -- The lines of a reading that are pieces of strings: those of whole contents, one after the other,
 -- and those of one that has begun.
-use Rattle.std.proofs.Common.{◌≡◌, ℕ, zero, suc, ◌+◌, ◌-◌, ◌*◌, ◌<◌, ◌≤◌, Bool, true, List, [], ◌∷◌, ◌++◌, length, take, drop, get_or, Option, Some, None, refl, sym, ◌∙◌, ap, append_assoc, append-nil, length-append, true≢false, arith, ◌⊎◌, inl, inr}
-use Rattle.std.specs.Prelude.{flat_map}
+use Rattle.std.proofs.Common.{◌≡◌, ℕ, zero, suc, ◌+◌, ◌-◌, ◌*◌, ◌<◌, ◌≤◌, Bool, true, List, [], ◌∷◌, ◌++◌, length, take, drop, get_or, Option, Some, None, refl, sym, ◌∙◌, ap, append_assoc, append-nil, length-append, true≢false, arith, ◌⊎◌, inl, inr, cond, false}
+use Rattle.std.specs.Prelude.{flat_map, eqb, IfSome}
 use Rattle.std.specs.List.{AllByRecursion as Each}
 use Rattle.std.proofs.lemmas.Bool.{cases_lt}
 use Rattle.std.proofs.lemmas.Grind.{flat_map-append}
@@ -10,13 +10,15 @@ use Rattle.std.proofs.lemmas.List.Elements.{filter_map-append}
 use Rattle.std.proofs.Math.Seq.{drop-append_seam}
 use Rattle.giop_cdr.specs.Numbers.{num}
 use Rattle.giop_cdr.specs.declared.order.Order.{Order}
+use Rattle.giop_decode.specs.ReadingSteps.{IsRule}
 use Rattle.giop_decode.specs.Noted.{ends_in_string}
 use Rattle.giop_decode.specs.NotedFromLines.{piece, text_of, text_pieces, cut_from, pieces_of, Strings}
 use Rattle.giop_decode.specs.Pieces.{Complete, Block, Partial, block, content, ends, full_piece, full_pieces, last_piece, octets, over, text, unless}
-use Rattle.giop_decode.specs.Reading.{enclosed, after_leading_number, inside, member, opening, ordered, parts_from, read, refused, rest_of, single, sized, wrong}
+use Rattle.giop_decode.specs.Reading.{enclosed, after_leading_number, inside, member, opening, ordered, parts_from, read, refused, rest_of, single, sized, wrong, following, led, led_segment}
 use Rattle.giop_decode.specs.ReadResult.{Coding, Count, Done, Fault, Held, Index, Line, Member, Name, Number, Part, Piece, OpenPart, Read, PathSegment, Short, Size, Switch, followed, line, with_front, within, lines_of}
+use Rattle.giop_decode.specs.declared.progress.Kind.TheVariants as kinds
 use Rattle.giop_decode.specs.declared.progress.Kind.{Kind}
-use Rattle.giop_sig.specs.Types.{tag_of, Array, Encapsulation, Octets, Scalar, Sequence, Single, Struct, Text, Ty, Union}
+use Rattle.giop_sig.specs.Types.{tag_of, Array, Encapsulation, Octets, Scalar, Sequence, Single, Struct, Text, Ty, Union, Led, Hearing, Told, Untold, Sequel, Then, Ends, Stops}
 use Rattle.giop_sig.specs.declared.types.Selected.{Selected}
 use Rattle.giop_sig.specs.declared.types.Selected.TheVariants.{Case}
 use Rattle.giop_decode.proofs.Noting.{cut_inside, front_inside}
@@ -64,6 +66,7 @@ within_strings place r h = h
 unless_strings : (T : Ty) (why : Option Kind) (at : ℕ) (r : Read) → Strings r →
     Strings (unless T why at r)
 unless_strings T None at r h = h
+unless_strings T (Some kinds.Untyped) at r h = no_strings (Fault [] at kinds.Untyped T) refl
 unless_strings T (Some kind) at r h = search (arith, no_strings)
 
 headed_strings : (T : Ty) (after : List ℕ → ℕ → List ℕ → Read) →
@@ -88,6 +91,15 @@ Comes total full offset r =
     × (text_pieces (lines_of r) ≡ cut_from full offset octets))
     ⊎ ((ends_in_string r ≡ true) × Each (λ p. p.more ≡ true) (text_pieces (lines_of r)))
 
+-- a string's end breaks a rule or none
+ends_rule : (bound : Option ℕ) (n : ℕ) (octets : List ℕ) →
+    IfSome (ends (Text bound) n octets) IsRule
+ends_rule bound n octets = go (eqb (get_or octets n 0) 0)
+  where
+    go : (test : Bool) → IfSome (cond test None (Some kinds.StringEnd)) IsRule
+    go true = tt
+    go false = tt
+
 last_comes : (bound : Option ℕ) (path : List PathSegment) (total offset at : ℕ) (s : List ℕ) →
     offset ≤ total → Comes total 0 offset (last_piece (Text bound) path total offset
     (block (total - offset + 1) at s))
@@ -99,6 +111,7 @@ last_comes bound path total offset at s ahead = search (
   block_waits,
   block_got,
   drop,
+  ends_rule,
 )
 
 cut_more : (full offset : ℕ) (xs ys : List ℕ) → length xs ≡ 32 →
@@ -221,16 +234,23 @@ module _ (path : List PathSegment) (T : Ty) where
   rest_strings zero at s = search (arith, no_strings)
   rest_strings (suc n) at s = search (arith, no_strings, bare_none)
 
-  enclosed_strings : (coding : Coding) (end : ℕ) (r : Read) (more : List ℕ) → Strings r →
-      Strings (enclosed path (Encapsulation T) coding end r more)
-  enclosed_strings coding end (Done lines at rest) more h = search (
+  enclosed_strings : (coding : Coding) (end : ℕ) (left : ℕ → List ℕ) (r : Read) (more : List ℕ) →
+      Strings r →
+      Strings (enclosed path (Encapsulation T) coding end left r more)
+  enclosed_strings coding end left (Done lines at rest) more h = search (
     arith,
     whole_then,
     append-nil,
     rest_strings,
   )
-  enclosed_strings coding end (Short lines at outer leaf) more h = search (arith, cut_inside)
-  enclosed_strings coding end (Fault lines at kind S) more h = h
+  enclosed_strings coding end left (Short lines at outer leaf) more h = search (arith, cut_inside)
+  enclosed_strings coding end left (Fault lines at kinds.Untyped S) more h = search (
+    arith,
+    whole_then,
+    append-nil,
+    rest_strings,
+  )
+  enclosed_strings coding end left (Fault lines at kind S) more h = h
 
 module _ (path : List PathSegment) (T : Ty) (value : Coding → ℕ → List ℕ → Read)
     (strings : (coding : Coding) (at : ℕ) (s : List ℕ) → Strings (value coding at s)) where
@@ -253,6 +273,26 @@ module _ (path : List PathSegment) (T : Ty) (value : Coding → ℕ → List ℕ
   sized_strings : (n at : ℕ) (s : List ℕ) → Strings (sized path (Encapsulation T) value n at s)
   sized_strings zero at s = search (arith, no_strings)
   sized_strings (suc n) at s = search (arith, opening_strings)
+
+-- ---- a part that tells what follows it
+
+following_strings : (T : Ty) (what : Sequel) (part : ℕ → ℕ → List ℕ → Read) →
+    ((i at : ℕ) (s : List ℕ) → Strings (part i at s)) → (at : ℕ) (s : List ℕ) →
+    Strings (following T what part at s)
+following_strings T (Then i) part h at s = h i at s
+following_strings T Ends part h at s = no_strings (Done [] at s) refl
+following_strings T Stops part h at s = no_strings (Fault [] at kinds.Untyped T) refl
+
+led_strings : (T : Ty) (h : Hearing) (told : Told) (part : ℕ → ℕ → List ℕ → Read) (r : Read) →
+    ((i at : ℕ) (s : List ℕ) → Strings (part i at s)) → Strings r → Strings (led T h told part r)
+led_strings T h told part (Done lines at rest) each k = search (
+  arith,
+  whole_then,
+  append-nil,
+  following_strings,
+)
+led_strings T h told part (Short lines at outer leaf) each k = search (arith)
+led_strings T h told part (Fault lines at kind S) each k = k
 
 -- The strings of any reading.
 pub read_strings : (coding : Coding) (path : List PathSegment) (T : Ty) (at : ℕ) (s : List ℕ) →
@@ -294,3 +334,8 @@ read_strings coding path (Encapsulation T) at s =
     then_strings (line at path (Size n) ∷ []) _ refl
     (sized_strings path T _ (λ inner at s. read_strings inner (path ++ Held ∷ []) T at s) n at
     rest)) _
+read_strings coding path (Led h F parts) at s =
+    led_strings (Led h F parts) h Untold _ _
+    (λ i at s. within_strings (Member (Led h F parts) (suc i)) _
+    (read_strings coding (path ++ led_segment h (suc i) ∷ []) (parts i) at s))
+    (read_strings coding (path ++ led_segment h 0 ∷ []) F at s)

@@ -9,7 +9,7 @@ use Rattle.giop_decode.specs.declared.notes.Buffer.TheVariants as buffers
 use Rattle.giop_decode.specs.declared.progress.Progress.{Progress}
 use Rattle.giop_decode.specs.declared.progress.Progress.TheVariants as progress
 use Rattle.giop_decode.specs.ReadResult.{plain, Line, Read, Done, Short, Fault, lines_of}
-use Rattle.giop_decode.specs.Reading.{read}
+use Rattle.giop_decode.specs.Reading.{reading}
 use Rattle.giop_decode.specs.Fits.{FitsIn}
 use Rattle.giop_decode.specs.NameBuffer.{FitsName, string_offset}
 use Rattle.giop_decode.specs.Noted.{Noted, noted_of, is_header_root, names_operation}
@@ -91,8 +91,8 @@ KeepsNoted root d r = HoldsNoted d.notes (noted_of (is_header_root root) r)
 pub record Reads (C : Table) (T : Ty) (order : Order) (at message : ℕ) (root : Root) (d : Decoder)
     (s : List ℕ) : Type 0 where
   pub lines : List Line
-  pub is : read (plain order) [] T at s ≡ read_by_fields C d lines (at + length s)
-  pub keeps_noted : KeepsNoted root d (read (plain order) [] T at s)
+  pub is : reading (plain order) [] T at s ≡ read_by_fields C d lines (at + length s)
+  pub keeps_noted : KeepsNoted root d (reading (plain order) [] T at s)
   pub same_order : d.order ≡ order
   pub same_message : d.head.message ≡ message
   pub same_root : d.head.root ≡ root
@@ -103,8 +103,8 @@ pub record Reads (C : Table) (T : Ty) (order : Order) (at message : ℕ) (root :
 -- the lines that it gives
 abbrev pub added_lines : Order → Ty → ℕ → List ℕ → ℕ → List Line
 added_lines order T at s octet =
-    drop (length (lines_of (read (plain order) [] T at s)))
-    (lines_of (read (plain order) [] T at (s ++ octet ∷ [])))
+    drop (length (lines_of (reading (plain order) [] T at s)))
+    (lines_of (reading (plain order) [] T at (s ++ octet ∷ [])))
 
 -- The answer to the last octet of a list that ends at this offset, and whose last octet does or
 -- doesn't end an operation: the value goes on, has ended at that octet, or is faulted there.
@@ -132,6 +132,6 @@ pub record Takes (C : Table) (T : Ty) (order : Order) (at message : ℕ) (root :
     (s : List ℕ) (octet : ℕ) (p : Progress) : Type 0 where
   pub answer : IsAnswer (at + length (s ++ octet ∷ []))
       (names_operation (is_header_root root) (added_lines order T at s octet)) p
-      (read (plain order) [] T at (s ++ octet ∷ []))
+      (reading (plain order) [] T at (s ++ octet ∷ []))
   pub reads : (IsFault p → ⊥) → Reads C T order at message root d (s ++ octet ∷ [])
-  pub keeps_noted : KeepsNoted root d (read (plain order) [] T at (s ++ octet ∷ []))
+  pub keeps_noted : KeepsNoted root d (reading (plain order) [] T at (s ++ octet ∷ []))

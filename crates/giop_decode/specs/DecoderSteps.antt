@@ -11,7 +11,8 @@ use Rattle.giop_decode.specs.declared.progress.Progress.TheVariants as progress
 use Rattle.giop_decode.specs.ReadResult.{plain, Line, Leaf, LeadingNumber, Read, Fault, Done}
 use Rattle.giop_decode.specs.declared.progress.Kind.TheVariants as kinds
 use Rattle.giop_decode.specs.Fits.{OpenFrom}
-use Rattle.giop_decode.specs.ReadingSteps.{around, step}
+use Rattle.giop_decode.specs.Reading.{none_left, rooted}
+use Rattle.giop_decode.specs.ReadingSteps.{around, root_step}
 use Rattle.giop_decode.specs.NameBuffer.{string_offset}
 use Rattle.giop_decode.specs.NotingSteps.{transition_offset}
 use Rattle.giop_decode.specs.Noted.{is_header_root, names_operation}
@@ -46,7 +47,7 @@ leaf_in C d (Some leaf) = leaf_of C leaf d.carry d.piece.items
 -- one octet more, on a decoder's fields
 abbrev pub decoder_step : Table → Decoder → ℕ → ℕ → Read
 decoder_step C d here octet =
-    step (plain d.order) [] (open_parts C here d.outer.items) (leaf_in C d d.leaf) here octet
+    root_step (plain d.order) [] (open_parts C here d.outer.items) (leaf_in C d d.leaf) here octet
 
 -- the answer fits the decoder after a step with these lines, and the reading; a value that goes on
 -- is named or isn't
@@ -97,9 +98,9 @@ pub record IsAround (C : Table) (d : Decoder) (of : ℕ) : Type 0 where
 -- the reading after a transition of that part, in the parts around it, with these lines
 abbrev pub emitted : Table → Decoder → ℕ → Transition → Output → List Line → ℕ → Read
 emitted C d of transition output lines here =
-    around (plain d.order) [] (open_parts C here d.outer.items)
+    rooted none_left (around (plain d.order) [] (open_parts C here d.outer.items)
     (after_transition C (tree C of) transition d.carry (still_held output d.piece.items) lines
-    (here + 1))
+    (here + 1)))
 
 -- the decoder after that transition: the innermost part that comes next, and the parts around it
 pub record IsNext (C : Table) (d new : Decoder) (of : ℕ) (transition : Transition) : Type 0 where

@@ -1,9 +1,9 @@
 -- Which open parts and leaf a type can have (state).
 use Rattle.std.specs.Prelude.{◌≡◌, ℕ, zero, suc, ◌+◌, ◌-◌, ◌<◌, ◌≤◌, List, [], ◌∷◌, length}
-use Rattle.giop_decode.specs.ReadResult.{OpenPart, Part, Member, Inside, Leaf, LeadingNumber, Opening, Content, Read, Done, Short, Fault}
+use Rattle.giop_decode.specs.ReadResult.{OpenPart, Part, Member, Inside, Telling, Leaf, LeadingNumber, Opening, Content, Read, Done, Short, Fault}
 use Rattle.giop_decode.specs.Pieces.{tail}
 use Rattle.giop_decode.specs.ReadingSteps.{leading_width}
-use Rattle.giop_sig.specs.Types.{places_of, Ty, Text, Octets, Struct, Union, Sequence, Array, part_of, Encapsulation}
+use Rattle.giop_sig.specs.Types.{places_of, Ty, Text, Octets, Struct, Union, Sequence, Array, part_of, Encapsulation, Led, Told, Then, Hearing, sequel}
 use Rattle.giop_sig.specs.Fits.{IsFit}
 use Rattle.std.specs.List.{AllByRecursion}
 
@@ -11,6 +11,7 @@ use Rattle.std.specs.List.{AllByRecursion}
 abbrev pub HasLeadingNumber : Ty → Type 0
 HasLeadingNumber (Struct count names parts) = ⊥
 HasLeadingNumber (Array count T) = ⊥
+HasLeadingNumber (Led h F parts) = ⊥
 HasLeadingNumber T = Unit {0}
 
 -- a type that has a content after its length: a string, an octet sequence, or an encapsulation, by
@@ -31,6 +32,16 @@ abbrev pub IsEncapsulation : Ty → Type 0
 IsEncapsulation (Encapsulation T) = Unit {0}
 IsEncapsulation T = ⊥
 
+-- a type that begins with a part that tells what follows
+abbrev pub IsLed : Ty → Type 0
+IsLed (Led h F parts) = Unit {0}
+IsLed T = ⊥
+
+-- what can follow: none in the place of the part that tells it
+abbrev pub CanFollow : Hearing → ℕ → Type 0
+CanFollow h zero = ⊥
+CanFollow h (suc i) = (told : Told) × (sequel h told ≡ Then i)
+
 -- a type of so many parts
 abbrev pub HasParts : Ty → ℕ → Type 0
 HasParts (Struct n names parts) count = count ≡ n
@@ -38,9 +49,10 @@ HasParts (Array n T) count = count ≡ n
 HasParts (Sequence bound T) count = Unit {0}
 HasParts T count = ⊥
 
--- a union that has a case of that number
+-- a union that has a case of that number, or what can follow in a place
 abbrev pub HasCase : Ty → ℕ → Type 0
 HasCase (Union choice scalar select names cases) i = i < places_of choice
+HasCase (Led h F parts) i = CanFollow h i
 HasCase T i = ⊥
 
 -- a number that begins a type: some of its octets are missing
@@ -74,6 +86,11 @@ pub record OpeningFits (T U : Ty) : Type 0 where
   pub same : U ≡ T
   pub kind : IsEncapsulation T
 
+-- a part that tells what follows it
+pub record TellingFits (T U : Ty) : Type 0 where
+  pub same : U ≡ T
+  pub kind : IsLed T
+
 -- the octets behind that one
 pub record InsideFits (T U : Ty) : Type 0 where
   pub same : U ≡ T
@@ -87,6 +104,7 @@ FitsIn T [] (Content U total offset piece) = ContentFits T U total offset piece
 FitsIn T (Part U i count ∷ outer) leaf = PartFits T U i count × FitsIn (part_of T i) outer leaf
 FitsIn T (Member U i ∷ outer) leaf = MemberFits T U i × FitsIn (part_of T i) outer leaf
 FitsIn T (Inside U coding end ∷ outer) leaf = InsideFits T U × FitsIn (part_of T 0) outer leaf
+FitsIn T (Telling U told ∷ outer) leaf = TellingFits T U × FitsIn (part_of T 0) outer leaf
 
 -- where so many octets of a message were read, an encapsulation began among them and has not ended
 abbrev pub Surround : ℕ → OpenPart → Type 0
@@ -101,6 +119,7 @@ abbrev pub IsOpen : ℕ → OpenPart → Type 0
 IsOpen d (Part T i count) = HasParts T count × (i < count) × IsFit d T
 IsOpen d (Member T i) = HasCase T i × IsFit d T
 IsOpen d (Inside T coding end) = IsEncapsulation T × IsFit d T
+IsOpen d (Telling T told) = IsLed T × IsFit d T
 
 -- open parts, each in the one before; so much depth is left for the outermost
 abbrev pub OpenFrom : ℕ → List OpenPart → Type 0

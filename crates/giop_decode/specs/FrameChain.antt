@@ -5,18 +5,19 @@ use Rattle.giop_cdr.specs.declared.order.Order.{Order}
 use Rattle.giop_decode.specs.declared.decoder.Decoder.{Decoder}
 use Rattle.giop_decode.specs.declared.frame.Frame.{Frame}
 use Rattle.giop_decode.specs.declared.leaf.Leaf.{Leaf as Innermost}
-use Rattle.giop_decode.specs.Fits.{HasParts, FitsIn, IsEncapsulation}
+use Rattle.giop_decode.specs.Fits.{CanFollow, HasParts, FitsIn, IsEncapsulation}
 use Rattle.giop_decode.specs.NameBuffer.{FitsName, string_offset}
 use Rattle.giop_decode.specs.Noted.{is_header_root}
 use Rattle.giop_decode.specs.Transitions.{leaf_of, leaf_type, is_inside, part_index, IsClean}
 use Rattle.giop_sig.specs.Fits.{IsEmptyStruct}
 use Rattle.giop_sig.specs.Table.{Table, part_number}
 use Rattle.giop_sig.specs.Trees.{tree}
-use Rattle.giop_sig.specs.Types.{Ty, Union, places_of}
+use Rattle.giop_sig.specs.Types.{Ty, Led, Union, places_of}
 
 -- a type has that part among so many; a union's cases are not counted
 abbrev pub HasPart : Ty → ℕ → ℕ → Type 0
 HasPart (Union choice scalar select names cases) i count = (i < places_of choice) × (count ≡ 0)
+HasPart (Led h F parts) i count = CanFollow h i × (count ≡ 0)
 HasPart T i count = HasParts T count × (i < count)
 
 -- a frame of a type: of a part of its own, or of an encapsulation, of whose octets so many were

@@ -6,6 +6,7 @@ use Rattle.giop_cdr.specs.declared.prim.Primitive.TheVariants as prims
 use Rattle.giop_decode.specs.ReadResult.{PathSegment, Name, Value, Number, Piece, Line, Leaf, Content, Read, Done, Short, Fault, lines_of}
 use Rattle.giop_print.specs.declared.path.Root.{Root}
 use Rattle.giop_print.specs.declared.path.Root.TheVariants as roots
+use Rattle.giop_decode.specs.declared.progress.Kind.TheVariants as kinds
 use Rattle.giop_sig.specs.Types.{Plain, Enum, Ty, Text}
 
 pub record Noted : Type 0 where
@@ -136,6 +137,7 @@ is_text T = false
 abbrev pub ends_in_string : Read → Bool
 ends_in_string (Done lines at rest) = false
 ends_in_string (Short lines at outer leaf) = in_content leaf
+ends_in_string (Fault lines at kinds.Untyped T) = false
 ends_in_string (Fault lines at kind T) = is_text T
 
 -- inside a string there is no name

@@ -3,7 +3,7 @@
 use Rattle.std.specs.Prelude.{ℕ, Bool, List, ◌∷◌, ◌++◌, Option}
 use Rattle.giop_cdr.specs.declared.order.Order.{Order}
 use Rattle.giop_decode.specs.declared.progress.Kind.{Kind}
-use Rattle.giop_sig.specs.Types.{Scalar, Ty}
+use Rattle.giop_sig.specs.Types.{Scalar, Ty, Told}
 
 -- ---- lines
 
@@ -63,6 +63,8 @@ pub data OpenPart : Type 0 where
   Member : Ty → ℕ → OpenPart
   -- in an encapsulation: how its octets are taken, and the offset at which they end
   Inside : Ty → Coding → ℕ → OpenPart
+  -- in a part that tells what follows it: what was told so far
+  Telling : Ty → Told → OpenPart
 
 -- the innermost part
 pub data Leaf : Type 0 where

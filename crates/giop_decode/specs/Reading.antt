@@ -7,9 +7,9 @@ use Rattle.giop_cdr.specs.declared.order.Order.TheVariants.{Big, Little}
 use Rattle.giop_cdr.specs.declared.prim.Primitive.TheVariants as prims
 use Rattle.giop_decode.specs.declared.progress.Kind.{Kind}
 use Rattle.giop_decode.specs.declared.progress.Kind.TheVariants as kinds
-use Rattle.giop_decode.specs.ReadResult.{Coding, PathSegment, Name, Index, Switch, Number, Count, line, Part, Member, LeadingNumber, Read, Done, Short, with_front, followed, within, Held, Size, Ordered, coded, Inside, Leaf, Opening, Content, Fault}
+use Rattle.giop_decode.specs.ReadResult.{Coding, PathSegment, Name, Index, Switch, Value, Number, Count, Piece, Line, Telling, line, Part, Member, LeadingNumber, Read, Done, Short, with_front, followed, within, Held, Size, Ordered, coded, Inside, Leaf, Opening, Content, Fault}
 use Rattle.giop_decode.specs.Pieces.{Block, Partial, Complete, number, unless, over, text, octets, block, content, full_pieces}
-use Rattle.giop_sig.specs.Types.{Scalar, Plain, Enum, width, Ty, Single, Text, Octets, Struct, Union, Sequence, Array, tag_of, Encapsulation}
+use Rattle.giop_sig.specs.Types.{Scalar, Plain, Enum, Marked, width, Ty, Single, Text, Octets, Struct, Union, Sequence, Array, tag_of, Encapsulation, Led, Sign, MarkedNumber, Counted, Spelt, Told, Untold, Sequel, Then, Ends, Stops, Hearing, sequel}
 use Rattle.giop_sig.specs.declared.types.Selected.{Selected}
 use Rattle.giop_sig.specs.declared.types.Selected.TheVariants.{Case, Nothing, Refused}
 
@@ -23,6 +23,7 @@ abbrev pub wrong : Scalar → ℕ → Option Kind
 wrong (Plain prims.Boolean) n = cond (ltb n 2) None (Some kinds.Boolean)
 wrong (Plain p) n = None
 wrong (Enum count names) n = cond (ltb n count) None (Some kinds.Enum)
+wrong (Marked mark) n = None
 
 -- a value of one number, after its octets
 abbrev pub single : List PathSegment → Scalar → ℕ → ℕ → List ℕ → Read
@@ -73,22 +74,34 @@ cut_off (Content T total offset piece) = T
 cut_off (LeadingNumber T carry) = Encapsulation T
 cut_off (Opening T n) = Encapsulation T
 
--- An encapsulation that ends at this offset, of which a value was read so far, and what follows the
--- octets read: the value has ended, and what is left is the rest; or it needs an octet more, of
--- which there is none where its octets have ended.
-abbrev pub enclosed : List PathSegment → Ty → Coding → ℕ → Read → List ℕ → Read
-enclosed path T coding end (Done lines at rest) more =
+-- An encapsulation that ends at this offset, of which a value was read so far, the octets that the
+-- value has left from an offset on, and what follows the octets read: the value has ended, or what
+-- follows in it has no type, and what is left is the rest; or it needs an octet more, of which
+-- there is none if its octets have ended.
+abbrev pub enclosed : List PathSegment → Ty → Coding → ℕ → (ℕ → List ℕ) → Read → List ℕ → Read
+enclosed path T coding end left (Done lines at rest) more =
     with_front lines (rest_of path T (end - at) at (rest ++ more))
-enclosed path T coding end (Short lines at outer leaf) more =
+enclosed path T coding end left (Short lines at outer leaf) more =
     cond (ltb at end) (Short lines at (Inside T coding end ∷ outer) leaf)
     (Fault lines at kinds.EncapShort (cut_off leaf))
-enclosed path T coding end (Fault lines at kind S) more = Fault lines at kind S
+enclosed path T coding end left (Fault lines at kinds.Untyped S) more =
+    with_front lines (rest_of path T (end - at) at (left at ++ more))
+enclosed path T coding end left (Fault lines at kind S) more = Fault lines at kind S
+
+-- the octets of a list that begins at an offset, from another one on
+abbrev pub left_after : ℕ → List ℕ → ℕ → List ℕ
+left_after at s here = drop (here - at) s
+
+-- of one octet nothing is left after it
+abbrev pub none_left : ℕ → List ℕ
+none_left here = []
 
 -- The reading of a value sees none but the n octets.
 abbrev pub inside : List PathSegment → Ty → (Coding → ℕ → List ℕ → Read) → Coding → ℕ → ℕ → List ℕ →
     Read
 inside path T value coding n at s =
-    enclosed path T coding (at + n) (value coding at (take n s)) (drop n s)
+    enclosed path T coding (at + n) (left_after at (take n s)) (value coding at (take n s))
+    (drop n s)
 
 -- after the octet that gives the byte order, from which alignment is counted
 abbrev pub ordered : List PathSegment → Ty → (Coding → ℕ → List ℕ → Read) → ℕ → ℕ → Option Order →
@@ -109,6 +122,48 @@ opening path T value origin n (Complete octets at rest) =
 abbrev pub sized : List PathSegment → Ty → (Coding → ℕ → List ℕ → Read) → ℕ → ℕ → List ℕ → Read
 sized path T value zero at s = Fault [] at kinds.EncapShort T
 sized path T value (suc n) at s = opening path T value at n (block 1 at s)
+
+-- ---- parts that tell what follows them
+
+-- what is heard of a value
+abbrev pub sign_of : Value → Option Sign
+sign_of (Number (Marked mark) n) = Some (MarkedNumber mark n)
+sign_of (Count n) = Some (Counted n)
+sign_of (Piece (Text bound) offset octets more) = Some (Spelt octets more)
+sign_of value = None
+
+abbrev pub heard : Hearing → Told → Option Sign → Told
+heard h told None = told
+heard h told (Some sign) = h.hears told sign
+
+-- what was told after these lines
+abbrev pub told_after : Hearing → Told → List Line → Told
+told_after h told [] = told
+told_after h told (l ∷ ls) = told_after h (heard h told (sign_of l.value)) ls
+
+-- the segment of a part that may have a name
+abbrev pub named : Option (List ℕ) → PathSegment
+named None = Held
+named (Some name) = Name name
+
+-- the segment of the part that tells, and of what follows it
+abbrev pub led_segment : Hearing → ℕ → PathSegment
+led_segment h zero = named h.first
+led_segment h (suc i) = named h.second
+
+-- what follows
+abbrev pub following : Ty → Sequel → (ℕ → ℕ → List ℕ → Read) → ℕ → List ℕ → Read
+following T (Then i) part at s = part i at s
+following T Ends part at s = Done [] at s
+following T Stops part at s = Fault [] at kinds.Untyped T
+
+-- a type that begins with a part that tells what follows, by the reading so far of that part
+abbrev pub led : Ty → Hearing → Told → (ℕ → ℕ → List ℕ → Read) → Read → Read
+led T h told part (Done lines at rest) =
+    with_front lines (following T (sequel h (told_after h told lines)) part at rest)
+led T h told part (Short lines at outer leaf) =
+    Short lines at (Telling T (told_after h told lines) ∷ outer) leaf
+led T h told part (Fault lines at kind S) = Fault lines at kind S
 
 -- ---- any type
 
@@ -152,3 +207,19 @@ read coding path (Encapsulation T) at s =
     (sized path (Encapsulation T) (λ inner. read inner (path ++ Held ∷ []) T)
     (num coding.order xs) at rest))
     (number coding.origin 4 at s)
+read coding path (Led h F parts) at s =
+    led (Led h F parts) h Untold
+    (λ i at s. within (Member (Led h F parts) (suc i))
+    (read coding (path ++ led_segment h (suc i) ∷ []) (parts i) at s))
+    (read coding (path ++ led_segment h 0 ∷ []) F at s)
+
+-- ---- a whole
+
+-- Where octets of no type follow, a whole ends: it has what is left from that offset on.
+abbrev pub rooted : (ℕ → List ℕ) → Read → Read
+rooted left (Fault lines at kinds.Untyped S) = Done lines at (left at)
+rooted left r = r
+
+-- a whole value
+abbrev pub reading : Coding → List PathSegment → Ty → ℕ → List ℕ → Read
+reading coding path T at s = rooted (left_after at s) (read coding path T at s)

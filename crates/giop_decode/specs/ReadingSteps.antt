@@ -1,13 +1,13 @@
 -- One octet more, on the parts that a reading has begun and not ended (steps).
-use Rattle.std.specs.Prelude.{◌≡◌, ℕ, suc, ◌+◌, ◌-◌, ◌%◌, cond, ltb, List, [], ◌∷◌, ◌++◌, length}
+use Rattle.std.specs.Prelude.{◌≡◌, ℕ, zero, suc, ◌+◌, ◌-◌, ◌%◌, cond, ltb, List, [], ◌∷◌, ◌++◌, length, map, Option, Some, None}
 use Rattle.giop_cdr.specs.Alignment.{padding}
 use Rattle.giop_cdr.specs.Numbers.{num}
 use Rattle.giop_decode.specs.declared.progress.Kind.{Kind}
 use Rattle.giop_decode.specs.declared.progress.Kind.TheVariants as kinds
 use Rattle.giop_decode.specs.Pieces.{Complete, Block, Partial, content, full_piece, full_pieces, last_piece, octets, over, tail, text, unless}
-use Rattle.giop_decode.specs.Reading.{chosen, after_leading_number, parts_from, read, single, enclosed, opening, sized}
-use Rattle.giop_decode.specs.ReadResult.{Coding, Line, Content, Count, Done, Fault, LeadingNumber, Index, Leaf, Member, Name, Part, OpenPart, Read, PathSegment, Short, followed, line, with_front, within, Held, Inside, Opening, Size}
-use Rattle.giop_sig.specs.Types.{part_of, Octets, Sequence, Single, Struct, Text, Ty, Union, width, tag_of, Encapsulation}
+use Rattle.giop_decode.specs.Reading.{chosen, after_leading_number, parts_from, read, single, enclosed, opening, sized, none_left, led, led_segment, rooted, told_after}
+use Rattle.giop_decode.specs.ReadResult.{Coding, Line, Content, Count, Done, Fault, LeadingNumber, Index, Leaf, Member, Name, Part, OpenPart, Read, PathSegment, Short, followed, line, with_front, within, Held, Inside, Opening, Size, Telling}
+use Rattle.giop_sig.specs.Types.{part_of, Octets, Sequence, Single, Struct, Text, Ty, Union, width, tag_of, Encapsulation, Led, Hearing, Ends}
 
 -- one octet more of n that are taken together, of which some are held
 unfoldable pub block_step : ℕ → ℕ → List ℕ → ℕ → Block
@@ -41,6 +41,7 @@ abbrev pub segment_of : Ty → ℕ → PathSegment
 segment_of (Struct count names parts) i = Name (names i)
 segment_of (Union choice scalar select names cases) i = Name (names i)
 segment_of (Encapsulation T) i = Held
+segment_of (Led h F parts) i = led_segment h i
 segment_of T i = Index i
 
 -- the path inside part i
@@ -55,6 +56,25 @@ part_at coding path T count i at s =
 -- what an encapsulation holds
 abbrev pub held : List PathSegment → Ty → Coding → ℕ → List ℕ → Read
 held path T coding = read coding (path ++ Held ∷ []) (part_of T 0)
+
+-- what follows a part that tells it, in a place
+abbrev pub after_told : Coding → List PathSegment → Ty → ℕ → ℕ → List ℕ → Read
+after_told coding path T i at s = within (Member T (suc i))
+    (read coding (path ++ segment_of T (suc i) ∷ []) (part_of T (suc i)) at s)
+
+-- of a type that doesn't begin with such a part nothing is heard
+abbrev pub deaf : Hearing
+deaf = record {
+  hears = λ told sign. told;
+  selects = λ told. Ends;
+  first = None;
+  second = None;
+}
+
+-- how a type's part that tells what follows is heard
+abbrev pub hearing_in : Ty → Hearing
+hearing_in (Led h F parts) = h
+hearing_in T = deaf
 
 -- what follows the number that begins a type
 abbrev pub after : Coding → List PathSegment → Ty → ℕ → ℕ → List ℕ → Read
@@ -95,6 +115,7 @@ abbrev pub segment_in : OpenPart → PathSegment
 segment_in (Part T i count) = segment_of T i
 segment_in (Member T i) = segment_of T i
 segment_in (Inside T inner end) = Held
+segment_in (Telling T told) = segment_of T 0
 
 -- how octets are taken in an open part
 abbrev pub coding_at : Coding → OpenPart → Coding
@@ -107,7 +128,9 @@ resumed coding path (Part T i count) r =
     followed (within (Part T i count) r)
     (parts_from (part_at coding path T count) (count - suc i) (suc i))
 resumed coding path (Member T i) r = within (Member T i) r
-resumed coding path (Inside T inner end) r = enclosed path T inner end r []
+resumed coding path (Inside T inner end) r = enclosed path T inner end none_left r []
+resumed coding path (Telling T told) r =
+    led T (hearing_in T) told (after_told coding path T) r
 
 -- the reading of open parts, the outermost first, by the reading so far of what is in the innermost
 abbrev pub around : Coding → List PathSegment → List OpenPart → Read → Read
@@ -115,6 +138,15 @@ around coding path [] r = r
 around coding path (place ∷ outer) r =
     resumed coding path place (around (coding_at coding place) (path ++ segment_in place ∷ []) outer
     r)
+
+-- an open part, where these lines come in it
+abbrev pub heard_in : List Line → OpenPart → OpenPart
+heard_in lines (Telling T told) = Telling T (told_after (hearing_in T) told lines)
+heard_in lines place = place
+
+-- open parts, where these lines come in them
+abbrev pub heard_parts : List Line → List OpenPart → List OpenPart
+heard_parts lines outer = map (heard_in lines) outer
 
 -- the path inside open parts
 abbrev pub path_in : List PathSegment → List OpenPart → List PathSegment
@@ -143,16 +175,42 @@ abbrev pub resumes : Coding → List PathSegment → Read → List ℕ → Read
 resumes coding path r [] = r
 resumes coding path r (b ∷ t) = resumes coding path (advance coding path r b) t
 
+-- ---- a whole
+
+-- The parts begun of a whole, the outermost first, after one octet more.
+abbrev pub root_step : Coding → List PathSegment → List OpenPart → Leaf → ℕ → ℕ → Read
+root_step coding path outer leaf at b = rooted none_left (step coding path outer leaf at b)
+
+-- The reading of a whole after one octet more.
+abbrev pub root_advance : Coding → List PathSegment → Read → ℕ → Read
+root_advance coding path (Done lines at rest) b = Done lines at (rest ++ b ∷ [])
+root_advance coding path (Short lines at outer leaf) b =
+    with_front lines (root_step coding path outer leaf at b)
+root_advance coding path (Fault lines at kind S) b = Fault lines at kind S
+
+-- a whole after these octets more
+abbrev pub root_resumes : Coding → List PathSegment → Read → List ℕ → Read
+root_resumes coding path r [] = r
+root_resumes coding path r (b ∷ t) = root_resumes coding path (root_advance coding path r b) t
+
+-- ---- how many lines there are
+
 -- at most one line, and that at this offset
 abbrev pub OneAt : ℕ → List Line → Type 0
 OneAt n [] = Unit {0}
 OneAt n (l ∷ []) = l.at ≡ n
 OneAt n (l ∷ l' ∷ ls) = ⊥
 
+-- a rule that an octet breaks: octets of no type break none
+abbrev pub IsRule : Kind → Type 0
+IsRule kinds.Untyped = ⊥
+IsRule kind = Unit {0}
+
 -- the lines at the octet of a fault: none of a value that breaks a rule, while the last octet of an
 -- encapsulation may have the line of what it completes
 abbrev pub Faulted : ℕ → Kind → List Line → Type 0
 Faulted n kinds.EncapShort lines = OneAt n lines
+Faulted n kinds.Untyped lines = OneAt n lines
 Faulted n why lines = lines ≡ []
 
 -- the reading of one octet: a line at most

@@ -5,7 +5,7 @@ use Rattle.giop_decode.specs.declared.decoder.Decoder.{Decoder}
 use Rattle.giop_decode.specs.declared.progress.Progress.{Progress}
 use Rattle.giop_decode.specs.declared.progress.Progress.TheVariants as progress
 use Rattle.giop_decode.specs.ReadResult.{plain, Coding, Line, PathSegment, lines_of}
-use Rattle.giop_decode.specs.Reading.{read}
+use Rattle.giop_decode.specs.Reading.{reading}
 use Rattle.giop_decode.specs.Noted.{is_header_root, names_operation}
 use Rattle.giop_decode.specs.DecoderState.{Fits, GoesOn, IsDone, Reads, KeepsNoted, IsAnswer, IsFault, added_lines}
 use Rattle.giop_decode.specs.Spelling.{lines_text}
@@ -27,15 +27,15 @@ use Rattle.giop_decode.specs.Transitions.{HasOutput, HaveOctetsLeft, IsOutput, T
 -- the lines that octets more give
 abbrev pub added_lines_of_run : Order → Ty → ℕ → List ℕ → List ℕ → List Line
 added_lines_of_run order T at s octets =
-    drop (length (lines_of (read (plain order) [] T at s)))
-    (lines_of (read (plain order) [] T at (s ++ octets)))
+    drop (length (lines_of (reading (plain order) [] T at s)))
+    (lines_of (reading (plain order) [] T at (s ++ octets)))
 
 -- the answer to one octet more than a list
 abbrev pub Answers : Order → Ty → ℕ → Root → List ℕ → ℕ → Progress → Type 0
 Answers order T at root s octet p =
     IsAnswer (at + length (s ++ octet ∷ []))
     (names_operation (is_header_root root) (added_lines order T at s octet)) p
-    (read (plain order) [] T at (s ++ octet ∷ []))
+    (reading (plain order) [] T at (s ++ octet ∷ []))
 
 -- Octets more, one after another: after each but the last the value goes on, and no operation has
 -- ended there.
@@ -52,7 +52,7 @@ pub record TakesRun (C : Table) (T : Ty) (order : Order) (at message : ℕ) (roo
     (d : Decoder) (s octets : List ℕ) (p : Progress) : Type 0 where
   pub answers : AreAnswered order T at root s octets p
   pub reads : (IsFault p → ⊥) → Reads C T order at message root d (s ++ octets)
-  pub keeps_noted : KeepsNoted root d (read (plain order) [] T at (s ++ octets))
+  pub keeps_noted : KeepsNoted root d (reading (plain order) [] T at (s ++ octets))
 
 -- A put failed at one of these octets, before which the value went on: a front of the lines up to
 -- it was written.

@@ -9,7 +9,7 @@ use Rattle.giop_print.specs.Lines.{kind_word, spaced, number_text, spaced_hex, m
 use Rattle.giop_print.specs.Paths.{root_word, name_segment, index_segment}
 use Rattle.giop_print.specs.Text.{joined, quoted}
 use Rattle.giop_print.specs.declared.path.Root.{Root}
-use Rattle.giop_sig.specs.Types.{Plain, Enum, Text, Octets, Encapsulation}
+use Rattle.giop_sig.specs.Types.{Plain, Enum, Marked, Text, Octets, Encapsulation}
 
 -- the text of a segment: a name after a point, or an index in brackets
 abbrev pub segment_text : PathSegment → List ℕ
@@ -37,6 +37,7 @@ number_words p (Some number) = spaced (kind_word p) ∷ number_text (size_of p) 
 abbrev pub value_words : Value → List (List ℕ)
 value_words (Number (Plain p) n) = number_words p (interpreted_as p n)
 value_words (Number (Enum count names) n) = codes " enum " ∷ names n ∷ []
+value_words (Number (Marked mark) n) = codes " ulong " ∷ decimal n ∷ []
 value_words (Count n) = codes " count " ∷ decimal n ∷ []
 value_words (Piece (Text bound) offset octets more) =
     codes " string @" ∷ decimal offset ∷ (codes " " ++ quoted octets) ∷ more_word more ∷ []

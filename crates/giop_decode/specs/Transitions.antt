@@ -2,7 +2,7 @@
 -- (steps).
 use Rattle.std.specs.Prelude.{◌≡◌, ℕ, ◌+◌, ◌-◌, ◌<◌, ◌≤◌, ◌^◌, ◌%◌, Bool, true, false, cond, eqb, List, [], ◌∷◌, ◌++◌, length, map, take, get_or, Option, Some, None, IfSome}
 use Rattle.giop_cdr.specs.Numbers.{num}
-use Rattle.giop_decode.specs.ReadingSteps.{AreHeld, leading_width, number_step}
+use Rattle.giop_decode.specs.ReadingSteps.{AreHeld, IsRule, leading_width, number_step}
 use Rattle.giop_cdr.specs.declared.order.Order.{Order}
 use Rattle.std.specs.List.{AllByRecursion, list_any}
 use Rattle.giop_cdr.specs.declared.number.Number.{Number as Taken}
@@ -17,10 +17,12 @@ use Rattle.giop_decode.specs.declared.progress.Kind.{Kind}
 use Rattle.giop_decode.specs.declared.progress.Kind.TheVariants as kinds
 use Rattle.giop_decode.specs.ReadResult.{PathSegment, Switch, Number, Count, Size, Ordered, Piece, Line, line, coded, OpenPart, Part, Member, Inside, Leaf, LeadingNumber, Opening, Content, Read, Done, Short, Fault}
 use Rattle.giop_decode.specs.Pieces.{Block, Partial, Complete}
-use Rattle.giop_decode.specs.Reading.{cut_off, enclosed, wrong}
+use Rattle.giop_decode.specs.Reading.{cut_off, enclosed, none_left, wrong}
 use Rattle.giop_decode.specs.Begins.{start_outer, start_leaf}
 use Rattle.giop_decode.specs.Fits.{HasParts, HasCase, HasContent, IsEncapsulation}
-use Rattle.giop_sig.specs.Types.{tag_of, Scalar, width, interpreted_by, Ty, Single, Struct, Union, Array, part_of, switch_of, shape_in, HasPlace, IsUnion}
+use Rattle.giop_sig.specs.declared.types.Shape.{Shape}
+use Rattle.giop_sig.specs.declared.types.Shape.TheVariants as shapes
+use Rattle.giop_sig.specs.Types.{tag_of, Scalar, width, interpreted_by, Ty, Single, Struct, Union, Array, Led, part_of, switch_of, shape_in, HasPlace, IsUnion}
 use Rattle.giop_sig.specs.Table.{Table, part_number}
 use Rattle.giop_sig.specs.Trees.{tree}
 
@@ -30,6 +32,7 @@ use Rattle.giop_sig.specs.Trees.{tree}
 abbrev pub part_in : Ty → ℕ → ℕ → OpenPart
 part_in (Union choice scalar select names cases) i count =
     Member (Union choice scalar select names cases) i
+part_in (Led h F parts) i count = Member (Led h F parts) i
 part_in T i count = Part T i count
 
 -- Of an encapsulation the index is how many of its octets stand in front of this offset, and the
@@ -46,10 +49,17 @@ open_part C here f = open_part_in here f.inside (tree C f.of.0) f.index f.count
 abbrev pub open_parts : Table → ℕ → List Frame → List OpenPart
 open_parts C here frames = map (open_part C here) frames
 
+-- a shape of which one part is read, whose frames have no count
+abbrev pub IsUncounted : Shape → Type 0
+IsUncounted (shapes.Union count) = Unit {0}
+IsUncounted shapes.Tagged = Unit {0}
+IsUncounted shapes.Led = Unit {0}
+IsUncounted s = ⊥
+
 -- an index and a count of an encapsulation, or of another type
 abbrev pub IsWithin : Option Order → ℕ → ℕ → Ty → Type 0
 IsWithin None i count T = HasPlace (shape_in T) i × (IsEncapsulation T → ⊥)
-    × (IsUnion (shape_in T) → count ≡ 0)
+    × (IsUncounted (shape_in T) → count ≡ 0)
 IsWithin (Some order) i count T = IsEncapsulation T × (0 < i) × (i ≤ count)
 
 -- a frame of a type of the table, which has a part of that index; a union's has no count
@@ -196,7 +206,7 @@ after_transition C T (transitions.Opened count) carry piece lines at =
 after_transition C T (transitions.Selected i) carry piece lines at =
     Short lines at (Member T i ∷ start_outer (part_of T i)) (start_leaf (part_of T i))
 after_transition C T (transitions.Entered order count) carry piece lines at =
-    enclosed [] T (coded order (at - 1)) (at + (count - 1))
+    enclosed [] T (coded order (at - 1)) (at + (count - 1)) none_left
     (Short lines at (start_outer (part_of T 0)) (start_leaf (part_of T 0))) []
 after_transition C T (transitions.Refused kind) carry piece lines at = Fault lines at kind T
 
@@ -207,6 +217,7 @@ TransitionFits T of (transitions.More leaf) carry piece =
 TransitionFits T of (transitions.Opened count) carry piece = HasParts T count × (0 < count)
 TransitionFits T of (transitions.Selected i) carry piece = HasCase T i
 TransitionFits T of (transitions.Entered order count) carry piece = IsEncapsulation T × (0 < count)
+TransitionFits T of (transitions.Refused kind) carry piece = IsRule kind
 TransitionFits T of transition carry piece = Unit {0}
 
 -- a number that is a value of a type of one number

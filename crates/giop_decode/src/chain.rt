@@ -111,6 +111,8 @@ fn is_encapsulation(catalogue: &Catalogue, of: TypeId) -> bool
         Shape::Enumeration(_) => false,
         Shape::Text(_) => false,
         Shape::Octets(_) => false,
+        Shape::Marked(_) => false,
+        Shape::Led => false,
     }
 }
 
@@ -130,6 +132,8 @@ fn has_part(catalogue: &Catalogue, of: TypeId, index: u32, count: u32) -> bool
         Shape::Enumeration(_) => false,
         Shape::Text(_) => false,
         Shape::Octets(_) => false,
+        Shape::Marked(_) => false,
+        Shape::Led => false,
     }
 }
 

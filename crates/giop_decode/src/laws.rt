@@ -3,10 +3,10 @@
 ghost use Rattle.std.specs.Prelude.{◌≡◌, ℕ, ◌+◌, Bool, List, [], ◌∷◌, ◌++◌, length, flat_map};
 ghost use Rattle.giop_sig.specs.Types.{Ty};
 ghost use Rattle.giop_sig.specs.Fits.{IsFit};
-ghost use Rattle.giop_decode.specs.ReadResult.{Coding, PathSegment, Line, OpenPart, Leaf, Short, lines_of};
-ghost use Rattle.giop_decode.specs.Reading.{read};
+ghost use Rattle.giop_decode.specs.ReadResult.{Coding, PathSegment, Line, OpenPart, Leaf, Read, Short, lines_of, with_front};
+ghost use Rattle.giop_decode.specs.Reading.{read, reading};
 ghost use Rattle.giop_decode.specs.Begins.{start_outer, start_leaf};
-ghost use Rattle.giop_decode.specs.ReadingSteps.{step, advance, resumes, IsOctetResult};
+ghost use Rattle.giop_decode.specs.ReadingSteps.{step, advance, around, root_step, root_advance, root_resumes, resumes, heard_parts, IsOctetResult};
 ghost use Rattle.giop_decode.specs.Fits.{FitsIn, Sound, Surrounds};
 ghost use Rattle.giop_decode.specs.Noted.{noted_of};
 ghost use Rattle.giop_decode.specs.NotedFromLines.{TextPiece, pieces_of, AreUnended, IsLeft};
@@ -60,4 +60,45 @@ pub fn noting_laws()
         AreUnended begun → AreUnended other →
         flat_map pieces_of contents ++ begun ≡ flat_map pieces_of others ++ other →
         contents ≡ others }
+{}
+
+/// What holds of a whole value, which ends where octets of no type follow. It has no body, and is called for its contract.
+pub fn whole_laws()
+    // One octet more is one step on the parts that are begun.
+    ensures step { (coding : Coding) (path : List PathSegment) (T : Ty) (at : ℕ)
+        (s : List ℕ) (b : ℕ) →
+        reading coding path T at (s ++ b ∷ [])
+        ≡ root_advance coding path (reading coding path T at s) b }
+    // Many octets more are as many steps.
+    ensures more { (coding : Coding) (path : List PathSegment) (T : Ty) (at : ℕ)
+        (s t : List ℕ) →
+        reading coding path T at (s ++ t)
+        ≡ root_resumes coding path (reading coding path T at s) t }
+    // The lines of a longer list begin with those of a shorter.
+    ensures lines { (coding : Coding) (path : List PathSegment) (T : Ty) (at : ℕ) (s t : List ℕ) →
+        (more : List Line)
+        × (lines_of (reading coding path T at (s ++ t))
+        ≡ lines_of (reading coding path T at s) ++ more) }
+    // A step has at most one line, which stands at its octet.
+    ensures octet { (coding : Coding) (path : List PathSegment) (outer : List OpenPart)
+        (leaf : Leaf)
+        (at b : ℕ) →
+        IsOctetResult (at + 1) (root_step coding path outer leaf at b) }
+    ensures begins { (d : ℕ) (coding : Coding) (path : List PathSegment) (T : Ty) (at : ℕ) →
+        IsFit d T →
+        reading coding path T at [] ≡ Short [] at (start_outer T) (start_leaf T) }
+    ensures sound { (d : ℕ) (coding : Coding) (path : List PathSegment) (T : Ty) (at : ℕ)
+        (s : List ℕ) →
+        IsFit d T →
+        Sound T (at + length s) (reading coding path T at s) }
+    ensures kept { (d : ℕ) (coding : Coding) (path : List PathSegment) (T : Ty)
+        (outer : List OpenPart)
+        (leaf : Leaf) (at b : ℕ) → IsFit d T →
+        FitsIn T outer leaf → Surrounds at outer →
+        Sound T (at + 1) (root_step coding path outer leaf at b) }
+    // The lines of a part are heard by each part around it that tells what follows, and stand in front of what comes of it.
+    ensures heard { (coding : Coding) (path : List PathSegment) (outer : List OpenPart)
+        (lines : List Line) (r : Read) →
+        around coding path outer (with_front lines r)
+        ≡ with_front lines (around coding path (heard_parts lines outer) r) }
 {}

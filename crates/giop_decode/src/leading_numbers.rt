@@ -136,6 +136,11 @@ pub(crate) fn take_value(catalogue: &Catalogue, order: Order, of: TypeId, octets
         Shape::Encapsulation => encapsulation::take_length(catalogue, of, long_of(order, octets)),
         Shape::Members(_) => unreachable!(),
         Shape::Array(_) => unreachable!(),
+        Shape::Marked(_) => Step {
+            transition: Transition::Ended,
+            output: Output::Number(Number::Unsigned(u64::from(long_of(order, octets)))),
+        },
+        Shape::Led => unreachable!(),
     }
 }
 

@@ -21,5 +21,5 @@ mod run;
 mod stored;
 
 pub use decoder::Decoder;
-pub use laws::{noting_laws, reading_laws};
+pub use laws::{noting_laws, reading_laws, whole_laws};
 pub use progress::{Kind, Progress};

@@ -2,7 +2,7 @@
 
 use crate::rows::row_of;
 use crate::tracing::differs;
-use giop_decode::{Kind, reading_laws};
+use giop_decode::{Kind, reading_laws, whole_laws};
 use giop_sig::Catalogue;
 use std::process::Abort;
 use std::test::Fail;
@@ -125,4 +125,5 @@ fn the_numbers_of_faults_stay(rt: HostRuntime) {
 #[test]
 fn laws_can_be_called(_rt: HostRuntime) {
     reading_laws();
+    whole_laws();
 }

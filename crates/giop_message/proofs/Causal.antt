@@ -10,11 +10,11 @@ use Rattle.giop_print.specs.declared.path.Root.{Root}
 use Rattle.giop_sig.specs.Types.{Ty}
 use Rattle.giop_decode.specs.declared.progress.Kind.{Kind}
 use Rattle.giop_decode.specs.ReadResult.{plain, PathSegment, Value as Valued, Line, Read, Done, Short, Fault}
-use Rattle.giop_decode.specs.Reading.{read}
+use Rattle.giop_decode.specs.Reading.{reading}
 use Rattle.giop_decode.specs.ReadingSteps as decoder
-use Rattle.giop_decode.specs.ReadingSteps.{IsEmptyResult, OneAt, IsOctetResult}
+use Rattle.giop_decode.specs.ReadingSteps.{IsEmptyResult, OneAt, IsOctetResult, root_step}
 use Rattle.giop_decode.specs.Noted.{Noted, nothing_noted, note, ends_operation, is_header_root}
-use Rattle.giop_decode.proofs.ReadingLaws.{length_one_more, each_append, read_quiet, step_now}
+use Rattle.giop_decode.proofs.ReadingLaws.{length_one_more, each_append, root_now, reading_quiet}
 use Rattle.giop_message.specs.declared.part.Section.{Section}
 use Rattle.giop_message.specs.Headers.{order}
 use Rattle.giop_message.specs.MessageReader.{LineClass, TimedLine, AreInLineOrder, IsOrdered, IsCausal}
@@ -22,7 +22,7 @@ use Rattle.giop_message.specs.Signatures.{Signatures}
 use Rattle.giop_message.specs.Messages.{ValueLine, CallLine, RestLine, FaultLine, LineAt, line_at, call_of, calls, section_lines, BodyType, Stage, In_typed, In_padding, In_rest, Over, Message, ReadTo, with_front, section_then, rest_in, rest, body, padded, message, message_lines, root_of, may_call, after, section_and_rest}
 use Rattle.giop_message.specs.StageSteps.{rest_step, message_step, advance}
 use Rattle.giop_message.specs.ReaderOfTable.{line_class_of, timed_line_of, remarks_by, reader_by}
-use Rattle.giop_message.proofs.LastParts.{CallsNone, step_none}
+use Rattle.giop_message.proofs.LastParts.{CallsNone, root_none}
 use Rattle.giop_message.proofs.StepLines.{one_faulted}
 use Rattle.giop_message.proofs.Going.{front_none, body_has, after_has, message_has, message_goes}
 
@@ -126,8 +126,8 @@ module _ (S : Signatures) (header : List ℕ) where
   reads_silent : (section : Section) (T : Ty) →
       ((h : Noted) → IsSilent (after S header section h)) →
       IsSilent (λ at s. section_and_rest S header section nothing_noted
-      (read (plain (order header)) [] T at s))
-  reads_silent section T silent n = search (arith, passes_silent, read_quiet)
+      (reading (plain (order header)) [] T at s))
+  reads_silent section T silent n = search (arith, passes_silent, reading_quiet)
 
   padded_silent : (t : BodyType) → IsSilent (body S header t) → IsSilent (padded S header t)
   unfolding padded
@@ -159,9 +159,9 @@ unfolding message_step rest_step
 step_prompt S header at (In_typed section k outer leaf) b =
     passes_prompt section (may_call header section) (after S header section) (at + 1)
     (λ k. after_silent S header section k (at + 1)) k
-    (decoder.step (plain (order header)) [] outer leaf at b)
-    (step_now (plain (order header)) [] outer leaf at b)
-    (step_none (may_call header section) (plain (order header)) [] outer leaf at b)
+    (decoder.root_step (plain (order header)) [] outer leaf at b)
+    (root_now (plain (order header)) [] outer leaf at b)
+    (root_none (may_call header section) (plain (order header)) [] outer leaf at b)
 step_prompt S header at (In_padding t) b = go (nat_lt 1 (padding at 8))
   where
     go : (test : Bool) → Prompt (at + 1)

@@ -5,7 +5,7 @@ use Rattle.std.specs.List.{list_any}
 use Rattle.giop_print.specs.declared.path.Root.{Root}
 use Rattle.giop_sig.specs.Types.{Ty}
 use Rattle.giop_decode.specs.ReadResult.{plain, Line, Read, Done, Short, Fault}
-use Rattle.giop_decode.specs.Reading.{read}
+use Rattle.giop_decode.specs.Reading.{reading}
 use Rattle.giop_decode.specs.Noted.{Noted, nothing_noted, note, is_header_root}
 use Rattle.giop_message.specs.declared.part.Section.{Section}
 use Rattle.giop_message.specs.Headers.{minor, kind, order}
@@ -81,7 +81,7 @@ all_rest at s = rest_tallies _ 0 at s
 module _ (S : Signatures) (header : List ℕ) where
   reads_tally : (section : Section) (T : Ty) → ((h : Noted) → AllTally (after S header section h)) →
       AllTally (λ at s. section_and_rest S header section nothing_noted
-      (read (plain (order header)) [] T at s))
+      (reading (plain (order header)) [] T at s))
   reads_tally section T tallies at s = search (arith, passes_tallies)
 
   padded_tallies : (t : BodyType) → AllTally (body S header t) → AllTally (padded S header t)

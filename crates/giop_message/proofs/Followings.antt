@@ -10,7 +10,7 @@ use Rattle.giop_sig.specs.Table.{Table}
 use Rattle.giop_decode.specs.declared.decoder.Decoder.{Decoder}
 use Rattle.giop_decode.specs.declared.leaf.Leaf.{Leaf as Innermost}
 use Rattle.giop_decode.specs.ReadResult.{plain, PathSegment, Value, Number, Piece, Line, Read, Done, lines_of}
-use Rattle.giop_decode.specs.Reading.{read}
+use Rattle.giop_decode.specs.Reading.{reading}
 use Rattle.giop_decode.specs.Noted.{Noted, nothing_noted, first_of, note, noted, noted_of, without_name_if, ends_in_string, is_header_root}
 use Rattle.giop_decode.specs.DecoderState as decoders
 use Rattle.giop_message.specs.declared.message.Message.{Message as Struct_of}
@@ -61,7 +61,7 @@ section_over : {C : Table} {S : Signatures} {number : ℕ} {header s : List ℕ}
     {d : Decoder} →
     Decodes C S number header s section d → is_over (stage_of (message S header s)) ≡ false
 section_over {C} {S} {number} {header} {s} {section} {d} e =
-    let r = read (plain (order header)) [] e.T (12 + length e.front) e.octets in
+    let r = reading (plain (order header)) [] e.T (12 + length e.front) e.octets in
     ap (λ m. is_over (stage_of m)) e.is ∙ (ap is_over
     (stage_front e.before (section_and_rest S header section nothing_noted r))
     ∙ (ap (λ r. is_over (stage_of (section_and_rest S header section nothing_noted r))) e.reads.is
@@ -196,7 +196,7 @@ module _ {C : Table} {S : Signatures} {number : ℕ} {header s : List ℕ} {sect
     (e : Decodes C S number header s section d) where
   -- the reading whose notes the decoder has
   abbrev pub noted_reading : Read
-  noted_reading = read (plain (order header)) [] e.T (12 + length e.front) e.octets
+  noted_reading = reading (plain (order header)) [] e.T (12 + length e.front) e.octets
 
   header_told : section ≡ sections.Header → message_lines (message S header s)
       ≡ section_lines (root_of section) (may_call header section) nothing_noted e.reads.lines

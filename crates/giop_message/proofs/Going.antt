@@ -9,10 +9,10 @@ use Rattle.giop_print.specs.declared.path.Root.{Root}
 use Rattle.giop_sig.specs.Types.{Ty}
 use Rattle.giop_decode.specs.ReadResult
 use Rattle.giop_decode.specs.ReadResult.{plain, Line, Read, Done, Short, Fault}
-use Rattle.giop_decode.specs.Reading.{read}
+use Rattle.giop_decode.specs.Reading.{reading}
 use Rattle.giop_decode.specs.ReadingSteps as decoder
 use Rattle.giop_decode.specs.Noted.{Noted, nothing_noted, note, noted, is_header_root}
-use Rattle.giop_decode.proofs.ReadingLaws.{read_goes, noted-append, length_one_more}
+use Rattle.giop_decode.proofs.ReadingLaws.{noted-append, length_one_more, reading_goes}
 use Rattle.giop_message.specs.declared.part.Section.{Section}
 use Rattle.giop_message.specs.declared.part.Section.TheVariants as sections
 use Rattle.giop_message.specs.Headers.{minor, kind, order}
@@ -83,13 +83,13 @@ module _ (section : Section) (is : Bool) (next : Noted → ℕ → List ℕ → 
 -- a section goes on as its reading does, where what follows it goes on
 pub through_goes : (S : Signatures) (header : List ℕ) (section : Section) →
     ((h : Noted) → Goes S header (after S header section h)) → (h : Noted) (r : Read) (b : ℕ) →
-    section_and_rest S header section h (decoder.advance (plain (order header)) [] r b)
+    section_and_rest S header section h (decoder.root_advance (plain (order header)) [] r b)
     ≡ advance S header (section_and_rest S header section h r) b
 unfolding section_then with_front advance message_step
 through_goes S header section goes h (Done lines at s) b = search (arith, front_advance)
 through_goes S header section goes h (Short lines at outer leaf) b =
     passes_front section (may_call header section) (after S header section) h lines
-    (decoder.step (plain (order header)) [] outer leaf at b)
+    (decoder.root_step (plain (order header)) [] outer leaf at b)
 through_goes S header section goes h (Fault lines at why T) b = search (arith, stays)
 
 -- ---- the rest
@@ -194,7 +194,7 @@ padded_goes S header t goes at s b = go (cases_lt (length s) (padding at 8))
 module _ (S : Signatures) (header : List ℕ) (P : (ℕ → List ℕ → Message) → Type 0) (rests : P rest)
     (reads : (section : Section) (T : Ty) → ((h : Noted) → P (after S header section h)) →
     P (λ at s. section_and_rest S header section nothing_noted
-    (read (plain (order header)) [] T at s)))
+    (reading (plain (order header)) [] T at s)))
     (pads : (t : BodyType) → P (body S header t) → P (padded S header t)) where
   typed_has : (T : Ty) → P (typed (order header) T)
   unfolding typed
@@ -244,8 +244,8 @@ module _ (S : Signatures) (header : List ℕ) (P : (ℕ → List ℕ → Message
 reads_go : (S : Signatures) (header : List ℕ) (section : Section) (T : Ty) →
     ((h : Noted) → Goes S header (after S header section h)) →
     Goes S header (λ at s. section_and_rest S header section nothing_noted
-    (read (plain (order header)) [] T at s))
-reads_go S header section T goes at s b = search (arith, read_goes, through_goes)
+    (reading (plain (order header)) [] T at s))
+reads_go S header section T goes at s b = search (arith, reading_goes, through_goes)
 
 pub after_goes : (S : Signatures) (header : List ℕ) (section : Section) (h : Noted) →
     Goes S header (after S header section h)

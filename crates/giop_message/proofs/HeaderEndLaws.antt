@@ -6,10 +6,10 @@ use Rattle.std.proofs.lemmas.Bool.{cases_lt, false≢true}
 use Rattle.giop_sig.specs.Types.{Ty}
 use Rattle.giop_sig.specs.Table.{Table}
 use Rattle.giop_decode.specs.ReadResult.{plain, Read, Done, Short, Fault}
-use Rattle.giop_decode.specs.Reading.{read}
-use Rattle.giop_decode.specs.ReadingSteps.{advance}
+use Rattle.giop_decode.specs.Reading.{reading}
+use Rattle.giop_decode.specs.ReadingSteps.{root_advance}
 use Rattle.giop_decode.specs.Noted.{Noted, nothing_noted}
-use Rattle.giop_decode.proofs.ReadingLaws.{read_goes}
+use Rattle.giop_decode.proofs.ReadingLaws.{reading_goes}
 use Rattle.giop_message.specs.declared.part.Section.TheVariants as sections
 use Rattle.giop_message.specs.Headers.{order}
 use Rattle.giop_message.specs.Signatures.{Answer, Answers, signatures_of}
@@ -24,7 +24,7 @@ use Rattle.giop_message.specs.HeaderEnds.{HeaderEnd, Header_end, Exception_end, 
 
 module _ (header : List ℕ) (T : Ty) where
   abbrev Reads : List ℕ → Read
-  Reads s = read (plain (order header)) [] T 12 s
+  Reads s = reading (plain (order header)) [] T 12 s
 
   faulted : Read → Bool
   faulted (Done lines at s) = false
@@ -32,13 +32,13 @@ module _ (header : List ℕ) (T : Ty) where
   faulted (Fault lines at why U) = true
 
   whole_on : (r : Read) (b : ℕ) (h : Noted) → noted_if_whole r ≡ Some h →
-      noted_if_whole (advance (plain (order header)) [] r b) ≡ Some h
+      noted_if_whole (root_advance (plain (order header)) [] r b) ≡ Some h
   whole_on (Done lines at s) b h e = e
   whole_on (Short lines at outer leaf) b h e = absurd cc
   whole_on (Fault lines at why U) b h e = absurd cc
 
   fault_on : (r : Read) (b : ℕ) → faulted r ≡ true →
-      faulted (advance (plain (order header)) [] r b) ≡ true
+      faulted (root_advance (plain (order header)) [] r b) ≡ true
   unfolding faulted
   fault_on (Done lines at s) b e = absurd (false≢true e)
   fault_on (Short lines at outer leaf) b e = absurd (false≢true e)
@@ -48,7 +48,7 @@ module _ (header : List ℕ) (T : Ty) where
       noted_if_whole (Reads (s ++ more)) ≡ Some h
   whole_stays [] s h e = search (arith, append-nil)
   whole_stays (b ∷ more) s h e =
-      let one = ap noted_if_whole (read_goes (plain (order header)) [] T 12 s b)
+      let one = ap noted_if_whole (reading_goes (plain (order header)) [] T 12 s b)
       ∙ whole_on (Reads s) b h e in
       ap (λ z. noted_if_whole (Reads z)) (sym (append_assoc s (b ∷ []) more))
       ∙ whole_stays more (s ++ b ∷ []) h one
@@ -56,7 +56,7 @@ module _ (header : List ℕ) (T : Ty) where
   fault_stays : (more s : List ℕ) → faulted (Reads s) ≡ true → faulted (Reads (s ++ more)) ≡ true
   fault_stays [] s e = search (arith, append-nil)
   fault_stays (b ∷ more) s e =
-      let one = ap faulted (read_goes (plain (order header)) [] T 12 s b)
+      let one = ap faulted (reading_goes (plain (order header)) [] T 12 s b)
       ∙ fault_on (Reads s) b e in
       ap (λ z. faulted (Reads z)) (sym (append_assoc s (b ∷ []) more))
       ∙ fault_stays more (s ++ b ∷ []) one
@@ -225,20 +225,21 @@ over_by : (C : Table) (answer : Answer) (number : ℕ) (header : List ℕ) (foun
     (noted_by_type header found (s ++ more)) ≡ []
 unfolding is_over section_then stage_of of_header faulted
 over_by C answer number header None s more e = refl
-over_by C answer number header (Some T) s more e = go (read (plain (order header)) [] T 12 s) refl e
+over_by C answer number header (Some T) s more e =
+    go (reading (plain (order header)) [] T 12 s) refl e
   where
     Later : Option Noted
-    Later = noted_if_whole (read (plain (order header)) [] T 12 (s ++ more))
+    Later = noted_if_whole (reading (plain (order header)) [] T 12 (s ++ more))
 
-    go : (r : Read) → read (plain (order header)) [] T 12 s ≡ r →
+    go : (r : Read) → reading (plain (order header)) [] T 12 s ≡ r →
         is_over (stage_of (section_then sections.Header (is_request header)
         (after_header (signatures_of C answer) header) nothing_noted r)) ≡ true →
         ends_between number header (noted_if_whole r)
-        (noted_if_whole (read (plain (order header)) [] T 12 (s ++ more))) ≡ []
+        (noted_if_whole (reading (plain (order header)) [] T 12 (s ++ more))) ≡ []
     go (Done lines at rest) is e = refl
     go (Short lines at outer leaf) is e = absurd (false≢true e)
     go (Fault lines at why U) is e =
-        let late = fault_none header T (read (plain (order header)) [] T 12 (s ++ more))
+        let late = fault_none header T (reading (plain (order header)) [] T 12 (s ++ more))
         (fault_stays header T more s (ap (faulted header T) is)) in
         rw late refl
 

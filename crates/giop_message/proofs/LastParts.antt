@@ -6,19 +6,20 @@ use Rattle.std.specs.List.{AllByRecursion as Each}
 use Rattle.std.specs.Option.{option_map}
 use Rattle.std.specs.Str.{bytes_eq}
 use Rattle.std.proofs.lemmas.Bool.{false≢true, cases_lt}
-use Rattle.giop_sig.specs.Types.{Ty, Struct}
+use Rattle.giop_sig.specs.Types.{Ty, Struct, Hearing, Told, Sequel, Then, Ends, Stops, part_of, sequel}
+use Rattle.giop_decode.specs.declared.progress.Kind.TheVariants as kinds
 use Rattle.giop_sig.specs.Fits.{IsFit}
 use Rattle.giop_sig.specs.Trees.{trees_after, type_in}
 use Rattle.giop_sig.specs.Builtin.{builtin_types, builtin_table}
 use Rattle.giop_sig.specs.HeaderTypes.{header_type, header_number}
 use Rattle.giop_sig.proofs.Builtins.{builtin_is, builtin_fit, header_built_in}
 use Rattle.giop_decode.specs.ReadResult
-use Rattle.giop_decode.specs.ReadResult.{Coding, PathSegment, Name, Switch, Held, Line, OpenPart, Part, Member, Inside, Leaf, LeadingNumber, Opening, Content, Read, Done, Short, Fault, lines_of, with_front, followed, within}
-use Rattle.giop_decode.specs.Reading.{parts_from}
-use Rattle.giop_decode.specs.ReadingSteps.{IsOctetResult, part_at, path_in, segment_of, segment_in, step, resumed, IsEmptyResult}
+use Rattle.giop_decode.specs.ReadResult.{Coding, PathSegment, Name, Switch, Held, Line, OpenPart, Part, Member, Inside, Leaf, LeadingNumber, Opening, Content, Read, Done, Short, Fault, lines_of, with_front, followed, within, Telling}
+use Rattle.giop_decode.specs.Reading.{parts_from, following, led, told_after, none_left, rooted}
+use Rattle.giop_decode.specs.ReadingSteps.{IsOctetResult, part_at, path_in, segment_of, segment_in, step, resumed, IsEmptyResult, after_told, hearing_in, root_step, leaf_step}
 use Rattle.giop_decode.specs.Fits.{FitsIn}
 use Rattle.giop_decode.specs.Noted.{is_member, ends_operation, ends_text}
-use Rattle.giop_decode.proofs.ReadingLaws.{step_now, next_part, switch_member, now_within, parts_quiet}
+use Rattle.giop_decode.proofs.ReadingLaws.{quiet_within, read_quiet, step_now, next_part, switch_member, now_within, parts_quiet}
 use Rattle.giop_message.proofs.StepLines.{IsOf, step_of, Firm, leaf_says}
 
 -- a struct whose last part has another name
@@ -126,6 +127,7 @@ module _ (coding : Coding) (is : Bool) (n : ℕ) (names : ℕ → List ℕ) (par
   in_struct [] (Content U total offset piece) fits done = absurd fits.kind
   in_struct (Inside U inner end ∷ outer) leaf fits done = absurd fits.0.kind
   in_struct (Member U i ∷ outer) leaf fits done = absurd fits.0.kind
+  in_struct (Telling U told ∷ outer) leaf fits done = absurd fits.0.kind
   in_struct (Part U i count ∷ []) leaf fits done = search (arith, in_part)
   in_struct (Part U i count ∷ place ∷ outer) leaf fits done =
       no_ends is (path_in (segment_of U i ∷ segment_in place ∷ []) outer) _
@@ -142,13 +144,15 @@ last_no_call coding is T outer leaf at b (n, names, parts, same, other) fit fits
     (subst (λ U. FitsIn U outer leaf) same fits) done
 
 -- of a reading that is faulted no line ends an operation
-abbrev pub CallsNone : Bool → Read → Type 0
-CallsNone is (Fault lines at why T) = Each (λ l. ends_operation is l ≡ false) lines
-CallsNone is _ = Unit {0}
+abbrev pub CallsIn : Bool → Read → Type 0
+CallsIn is (Fault lines at kinds.Untyped T) = Unit {0}
+CallsIn is (Fault lines at why T) = Each (λ l. ends_operation is l ≡ false) lines
+CallsIn is _ = Unit {0}
 
 -- it is so where no line of the reading ends an operation
 each_none : (is : Bool) (r : Read) → Each (λ l. ends_operation is l ≡ false) (lines_of r) →
-    CallsNone is r
+    CallsIn is r
+each_none is (Fault lines at kinds.Untyped T) h = tt
 each_none is (Fault lines at why T) h = h
 each_none is _ h = tt
 
@@ -162,24 +166,43 @@ ends_none : (is : Bool) (lines : List Line) → Each (λ l. ends_text l.value �
 ends_none is [] h = tt
 ends_none is (l ∷ ls) h = search (arith, and_false, ends_none is ls h.1)
 
-firm_none : (is : Bool) (r : Read) → Firm r → CallsNone is r
+firm_none : (is : Bool) (r : Read) → Firm r → CallsIn is r
 firm_none is (Done lines at rest) h = tt
 firm_none is (Short lines at outer leaf) h = tt
+firm_none is (Fault lines at kinds.Untyped T) h = tt
 firm_none is (Fault lines at why T) (inl h) = ends_none is lines h
 firm_none is (Fault lines at why T) (inr h) = absurd (false≢true (sym h.1))
 
 -- ---- the parts around it
 
 followed_none : (is : Bool) (n : ℕ) (r : Read) (next : ℕ → List ℕ → Read) → IsOctetResult n r →
-    IsEmptyResult n (next n []) → CallsNone is r → CallsNone is (followed r next)
+    IsEmptyResult n (next n []) → CallsIn is r → CallsIn is (followed r next)
 followed_none is n (Done lines at rest) next now quiet h = search (arith)
 followed_none is n (Short lines at outer leaf) next now quiet h = tt
 followed_none is n (Fault lines at why T) next now quiet h = h
 
-within_none : (is : Bool) (place : OpenPart) (r : Read) → CallsNone is r →
-    CallsNone is (within place r)
+within_none : (is : Bool) (place : OpenPart) (r : Read) → CallsIn is r →
+    CallsIn is (within place r)
 within_none is place (Done lines at rest) h = h
 within_none is place r h = h
+
+led_none : (is : Bool) (n : ℕ) (T : Ty) (g : Hearing) (told : Told) (part : ℕ → ℕ → List ℕ → Read)
+    (r : Read) → ((i : ℕ) → IsEmptyResult n (part i n [])) → IsOctetResult n r → CallsIn is r →
+    CallsIn is (led T g told part r)
+led_none is n T g told part (Done lines at rest) each now h =
+    rw (now.1, now.2) (go (sequel g (told_after g told lines)))
+  where
+    behind : (q : Read) → IsEmptyResult n q → CallsIn is (with_front lines q)
+    behind (Done ls at rest) k = tt
+    behind (Short ls at outer leaf) k = tt
+    behind (Fault ls at why S) k = absurd k
+
+    go : (what : Sequel) → CallsIn is (with_front lines (following T what part n []))
+    go (Then i) = behind (part i n []) (each i)
+    go Ends = tt
+    go Stops = tt
+led_none is n T g told part (Short lines at outer leaf) each now h = tt
+led_none is n T g told part (Fault lines at why S) each now h = h
 
 -- what is in an encapsulation is no member of the root
 held_member : (name : List ℕ) (path : List PathSegment) (outer : List OpenPart) →
@@ -193,7 +216,7 @@ held_member name (a ∷ b ∷ path) outer = search (arith, deep_member)
 -- operation.
 pub step_none : (is : Bool) (coding : Coding) (path : List PathSegment) (outer : List OpenPart)
     (leaf : Leaf)
-    (at b : ℕ) → CallsNone is (step coding path outer leaf at b)
+    (at b : ℕ) → CallsIn is (step coding path outer leaf at b)
 step_none is coding path [] leaf at b = search (arith, firm_none, leaf_says)
 step_none is coding path (Part T i count ∷ outer) leaf at b =
     let inner = step coding (path ++ segment_of T i ∷ []) outer leaf at b in
@@ -207,8 +230,116 @@ step_none is coding path (Part T i count ∷ outer) leaf at b =
 step_none is coding path (Member T i ∷ outer) leaf at b =
     within_none is (Member T i) (step coding (path ++ segment_of T i ∷ []) outer leaf at b)
     (step_none is coding (path ++ segment_of T i ∷ []) outer leaf at b)
+step_none is coding path (Telling T told ∷ outer) leaf at b =
+    led_none is (at + 1) T (hearing_in T) told (after_told coding path T)
+    (step coding (path ++ segment_of T 0 ∷ []) outer leaf at b)
+    (λ i. quiet_within (at + 1) (Member T (suc i)) _
+    (read_quiet coding (path ++ segment_of T (suc i) ∷ []) (part_of T (suc i)) (at + 1)))
+    (step_now coding (path ++ segment_of T 0 ∷ []) outer leaf at b)
+    (step_none is coding (path ++ segment_of T 0 ∷ []) outer leaf at b)
 step_none is coding path (Inside T inner end ∷ outer) leaf at b =
     let r = step coding path (Inside T inner end ∷ outer) leaf at b in
     each_none is r (no_ends is (path_in (path ++ Held ∷ []) outer) (lines_of r)
     (step_of coding path (Inside T inner end ∷ outer) leaf at b)
     (held_member (codes "operation") path outer))
+
+-- of a whole that is faulted no line ends an operation
+abbrev pub CallsNone : Bool → Read → Type 0
+CallsNone is (Fault lines at why T) = Each (λ l. ends_operation is l ≡ false) lines
+CallsNone is _ = Unit {0}
+
+rooted_none : (is : Bool) (r : Read) → CallsIn is r → CallsNone is (rooted none_left r)
+rooted_none is (Fault lines at kinds.Untyped T) h = tt
+rooted_none is (Fault lines at why T) h = h
+rooted_none is (Done lines at rest) h = tt
+rooted_none is (Short lines at outer leaf) h = tt
+
+pub root_none : (is : Bool) (coding : Coding) (path : List PathSegment) (outer : List OpenPart)
+    (leaf : Leaf) (at b : ℕ) → CallsNone is (root_step coding path outer leaf at b)
+root_none is coding path outer leaf at b = search (arith, rooted_none, step_none)
+
+-- ---- the octet that ends a whole
+
+-- where octets of no type follow it no line ends an operation
+abbrev StillNone : Bool → Read → Type 0
+StillNone is (Fault lines at kinds.Untyped T) = Each (λ l. ends_operation is l ≡ false) lines
+StillNone is _ = Unit {0}
+
+still_each : (is : Bool) (r : Read) → Each (λ l. ends_operation is l ≡ false) (lines_of r) →
+    StillNone is r
+still_each is (Fault lines at kinds.Untyped T) h = h
+still_each is (Fault lines at why T) h = tt
+still_each is (Done lines at rest) h = tt
+still_each is (Short lines at outer leaf) h = tt
+
+still_firm : (is : Bool) (r : Read) → Firm r → StillNone is r
+still_firm is (Fault lines at kinds.Untyped T) (inl h) = ends_none is lines h
+still_firm is (Fault lines at kinds.Untyped T) (inr h) = absurd (false≢true (sym h.1))
+still_firm is (Fault lines at why T) h = tt
+still_firm is (Done lines at rest) h = tt
+still_firm is (Short lines at outer leaf) h = tt
+
+still_followed : (is : Bool) (n : ℕ) (r : Read) (next : ℕ → List ℕ → Read) → IsOctetResult n r →
+    IsEmptyResult n (next n []) → StillNone is r → StillNone is (followed r next)
+still_followed is n (Done lines at rest) next now quiet h =
+    rw (now.1, now.2) (behind (next n []) quiet)
+  where
+    behind : (q : Read) → IsEmptyResult n q → StillNone is (ReadResult.with_front lines q)
+    behind (Done ls at rest) k = tt
+    behind (Short ls at outer leaf) k = tt
+    behind (Fault ls at why S) k = absurd k
+still_followed is n (Short lines at outer leaf) next now quiet h = tt
+still_followed is n (Fault lines at why T) next now quiet h = h
+
+still_within : (is : Bool) (place : OpenPart) (r : Read) → StillNone is r →
+    StillNone is (within place r)
+still_within is place (Done lines at rest) h = tt
+still_within is place r h = h
+
+still_struct : (coding : Coding) (is : Bool) (n : ℕ) (names : ℕ → List ℕ) (parts : ℕ → Ty)
+    (outer : List OpenPart) (leaf : Leaf) (at b : ℕ) →
+    FitsIn (Struct (suc n) names parts) outer leaf → StillNone is (step coding [] outer leaf at b)
+still_struct coding is n names parts [] (LeadingNumber U carry) at b fits = absurd fits.kind
+still_struct coding is n names parts [] (Opening U k) at b fits = absurd fits.kind
+still_struct coding is n names parts [] (Content U total offset piece) at b fits = absurd fits.kind
+still_struct coding is n names parts (Inside U inner end ∷ outer) leaf at b fits =
+    absurd fits.0.kind
+still_struct coding is n names parts (Member U i ∷ outer) leaf at b fits = absurd fits.0.kind
+still_struct coding is n names parts (Telling U told ∷ outer) leaf at b fits = absurd fits.0.kind
+still_struct coding is n names parts (Part U i count ∷ []) leaf at b fits =
+    let inner = leaf_step coding (segment_of U i ∷ []) leaf at b in
+    still_followed is (at + 1) (within (Part U i count) inner)
+    (parts_from (part_at coding [] U count) (count - suc i) (suc i))
+    (now_within (at + 1) (Part U i count) inner
+    (step_now coding (segment_of U i ∷ []) [] leaf at b))
+    (parts_quiet coding [] U count (at + 1) (count - suc i) (suc i))
+    (still_within is (Part U i count) inner
+    (still_firm is inner (leaf_says coding (segment_of U i ∷ []) leaf at b).firm))
+still_struct coding is n names parts (Part U i count ∷ place ∷ outer) leaf at b fits =
+    still_each is (step coding [] (Part U i count ∷ place ∷ outer) leaf at b)
+    (no_ends is (path_in (segment_of U i ∷ segment_in place ∷ []) outer) _
+    (step_of coding [] (Part U i count ∷ place ∷ outer) leaf at b)
+    (deep_member (codes "operation") (segment_of U i) (segment_in place) [] outer))
+
+pub root_no_call : (coding : Coding) (is : Bool) (T : Ty) (outer : List OpenPart) (leaf : Leaf)
+    (at b : ℕ) → EndsOtherwise T → IsFit 24 T → FitsIn T outer leaf →
+    done_test (root_step coding [] outer leaf at b) ≡ true →
+    Each (λ l. ends_operation is l ≡ false) (lines_of (root_step coding [] outer leaf at b))
+root_no_call coding is T outer leaf at b ends fit fits done =
+    go (step coding [] outer leaf at b) (last_no_call coding is T outer leaf at b ends fit fits)
+    still done
+  where
+    still : StillNone is (step coding [] outer leaf at b)
+    still = by ends
+      where
+        by : EndsOtherwise T → StillNone is (step coding [] outer leaf at b)
+        by (n, names, parts, same, other) = still_struct coding is n names parts outer leaf at b
+            (subst (λ U. FitsIn U outer leaf) same fits)
+
+    go : (r : Read) → (done_test r ≡ true → Each (λ l. ends_operation is l ≡ false) (lines_of r)) →
+        StillNone is r → done_test (rooted none_left r) ≡ true →
+        Each (λ l. ends_operation is l ≡ false) (lines_of (rooted none_left r))
+    go (Done lines at' rest) h k e = h refl
+    go (Short lines at' outer' leaf') h k e = absurd (false≢true e)
+    go (Fault lines at' kinds.Untyped S) h k e = k
+    go (Fault lines at' why S) h k e = absurd (false≢true e)

@@ -8,9 +8,9 @@ use Rattle.std.proofs.Math.Seq.{drop-append_seam}
 use Rattle.giop_print.specs.declared.path.Root.{Root}
 use Rattle.giop_decode.specs.ReadResult.{plain, Line, Read, Done, Short, Fault as Faulted}
 use Rattle.giop_decode.specs.ReadingSteps as decoder
-use Rattle.giop_decode.specs.ReadingSteps.{IsOctetResult}
+use Rattle.giop_decode.specs.ReadingSteps.{IsOctetResult, root_step}
 use Rattle.giop_decode.specs.Noted.{Noted, note, noted, is_header_root}
-use Rattle.giop_decode.proofs.ReadingLaws.{step_now}
+use Rattle.giop_decode.proofs.ReadingLaws.{root_now}
 use Rattle.giop_message.specs.declared.part.Section.{Section}
 use Rattle.giop_message.specs.Headers.{order}
 use Rattle.giop_message.specs.MessageState.{due}
@@ -100,8 +100,8 @@ unfolding message_step rest_step
 step_settles S header at (In_typed section k outer leaf) b =
     passes_settles section (may_call header section) (after S header section) (at + 1)
     (λ k. after_silent S header section k (at + 1)) k
-    (decoder.step (plain (order header)) [] outer leaf at b)
-    (step_now (plain (order header)) [] outer leaf at b)
+    (decoder.root_step (plain (order header)) [] outer leaf at b)
+    (root_now (plain (order header)) [] outer leaf at b)
 step_settles S header at (In_padding t) b = search (arith, false≢true, silent_settles, body_silent)
 step_settles S header at (In_rest offset held) b = search (arith, rest_settles)
 step_settles S header at Over b = search (arith, false≢true)

@@ -3,7 +3,7 @@ use Rattle.std.proofs.Common.{arith, ◌≡◌, ℕ, ◌+◌, List, [], length, 
 use Rattle.giop_sig.specs.Table.{Table}
 use Rattle.giop_decode.specs.declared.decoder.Decoder.{Decoder}
 use Rattle.giop_decode.specs.ReadResult.{plain, Read, Done, Short, Fault}
-use Rattle.giop_decode.specs.Reading.{read}
+use Rattle.giop_decode.specs.Reading.{reading}
 use Rattle.giop_decode.specs.Noted.{nothing_noted}
 use Rattle.giop_message.specs.declared.message.Message.{Message as Struct_of}
 use Rattle.giop_message.specs.declared.part.Part.{Part}
@@ -20,7 +20,7 @@ use Rattle.giop_message.proofs.HeaderEndLaws.{unended_agree}
 header_read : (C : Table) (x : Answer) (number : ℕ) (header s : List ℕ) (d : Decoder)
     (e : Decodes C (signatures_of C x) number header s sections.Header d) →
     header_noted header s ≡ noted_if_whole
-    (read (plain (order header)) [] e.T (12 + length e.front) e.octets)
+    (reading (plain (order header)) [] e.T (12 + length e.front) e.octets)
 unfolding header_noted
 header_read C x number header s d e = search (arith)
 
@@ -74,9 +74,9 @@ module _ (C : Table) (a b : Answers) (number : ℕ) (header s : List ℕ) where
           (k : Decodes C (signatures_of C (a number)) number header s section' d') →
           header_noted header s ≡ None →
           section_and_rest (signatures_of C (a number)) header section' nothing_noted
-          (read (plain (order header)) [] k.T (12 + length k.front) k.octets)
+          (reading (plain (order header)) [] k.T (12 + length k.front) k.octets)
           ≡ section_and_rest (signatures_of C (b number)) header section' nothing_noted
-          (read (plain (order header)) [] k.T (12 + length k.front) k.octets)
+          (reading (plain (order header)) [] k.T (12 + length k.front) k.octets)
       go sections.Header d' k none' = through_header C (a number) (b number) header _
           (sym (header_read C (a number) number header s d' k) ∙ none')
       go sections.Exception d' k none' = search (arith, through_exception)

@@ -14,9 +14,9 @@ use Rattle.giop_sig.specs.Table.{Table}
 use Rattle.giop_sig.specs.HeaderTypes.{BeginsWithId, IdStandsFirst, header_type}
 use Rattle.giop_sig.proofs.HeaderLaws.{id_first}
 use Rattle.giop_decode.specs.ReadResult as spine
-use Rattle.giop_decode.specs.ReadResult.{plain, PathSegment, Name, Line, Number, line, Part, Read, Done, followed, within}
+use Rattle.giop_decode.specs.ReadResult.{plain, PathSegment, Name, Line, Number, line, Part, Read, Done, Short, followed, within, Fault}
 use Rattle.giop_decode.specs.Pieces.{block, number}
-use Rattle.giop_decode.specs.Reading.{read, parts_from}
+use Rattle.giop_decode.specs.Reading.{read, left_after, parts_from, reading, rooted}
 use Rattle.giop_decode.specs.ReadingSteps.{IsEmptyResult, part_at}
 use Rattle.giop_decode.specs.Noted.{Noted, nothing_noted, ends_operation}
 use Rattle.giop_decode.proofs.ReadingLaws.{quiet_parts, part_quiet}
@@ -67,30 +67,41 @@ module _ (o : Order) (n : ℕ) (of : ℕ → List ℕ) (parts : ℕ → Ty)
   next : ℕ → List ℕ → Read
   next = parts_from (part_at (plain o) [] (Struct (suc n) of parts) (suc n)) n 1
 
-  first_part : (xs : List ℕ) → read (plain o) [] (Struct (suc n) of parts) 12 xs ≡ followed
-      (within (Part (Struct (suc n) of parts) 0 (suc n))
-      (read (plain o) (Name (of 0) ∷ []) (Single (Plain prims.ULong)) 12 xs)) next
-  unfolding next
-  first_part xs = search (arith, next)
+  -- a whole whose first part is the number that it begins with
+  in_first : List ℕ → Read → Read
+  in_first xs r = rooted (left_after 12 xs)
+      (followed (within (Part (Struct (suc n) of parts) 0 (suc n)) r) next)
+
+  first_part : (xs : List ℕ) → reading (plain o) [] (Struct (suc n) of parts) 12 xs
+      ≡ in_first xs (read (plain o) (Name (of 0) ∷ []) (Single (Plain prims.ULong)) 12 xs)
+  unfolding next in_first
+  first_part xs = search (arith, next, in_first)
 
   id_line : List ℕ → Line
   id_line xs = line 16 (Name (of 0) ∷ []) (Number (Plain prims.ULong) (num o xs))
-
-  first_four : (a b c d : ℕ) → read (plain o) [] (Struct (suc n) of parts) 12 (a ∷ b ∷ c ∷ d ∷ [])
-      ≡ spine.with_front (id_line (a ∷ b ∷ c ∷ d ∷ []) ∷ []) (next 16 [])
-  unfolding id_line
-  first_four a b c d = search (arith, first_part, next, read_four)
 
   next_quiet : IsEmptyResult 16 (next 16 [])
   unfolding next
   next_quiet = search (arith, quiet_parts, part_quiet)
 
+  rooted_quiet : (left : ℕ → List ℕ) (front : List Line) (q : Read) → IsEmptyResult 16 q →
+      rooted left (spine.with_front front q) ≡ spine.with_front front q
+  rooted_quiet left front (Done lines at rest) h = refl
+  rooted_quiet left front (Short lines at outer leaf) h = refl
+  rooted_quiet left front (Fault lines at why T) h = absurd h
+
+  first_four : (a b c d : ℕ) →
+      reading (plain o) [] (Struct (suc n) of parts) 12 (a ∷ b ∷ c ∷ d ∷ [])
+      ≡ spine.with_front (id_line (a ∷ b ∷ c ∷ d ∷ []) ∷ []) (next 16 [])
+  unfolding id_line in_first
+  first_four a b c d = search (arith, first_part, in_first, read_four, rooted_quiet, next_quiet)
+
   module _ (is_req : Bool) (onward : Noted → ℕ → List ℕ → Message)
       (silent : (h : Noted) → Silent 16 (onward h 16 [])) where
     told_few : (xs : List ℕ) → length xs < 4 →
         message_lines (section_then sections.Header is_req onward nothing_noted
-        (read (plain o) [] (Struct (suc n) of parts) 12 xs)) ≡ []
-    unfolding number block padding section_then section_lines message_lines
+        (reading (plain o) [] (Struct (suc n) of parts) 12 xs)) ≡ []
+    unfolding in_first number block padding section_then section_lines message_lines
     told_few [] h = search (arith, first_part)
     told_few (a ∷ []) h = search (arith, first_part)
     told_few (a ∷ b ∷ []) h = search (arith, first_part)
@@ -99,7 +110,7 @@ module _ (o : Order) (n : ℕ) (of : ℕ → List ℕ) (parts : ℕ → Ty)
 
     told_four : (a b c d : ℕ) → message_lines
         (section_then sections.Header is_req onward nothing_noted
-        (read (plain o) [] (Struct (suc n) of parts) 12 (a ∷ b ∷ c ∷ d ∷ []))) ≡ line_at 16
+        (reading (plain o) [] (Struct (suc n) of parts) 12 (a ∷ b ∷ c ∷ d ∷ []))) ≡ line_at 16
         (ValueLine roots.Header (Name (of 0) ∷ [])
         (Number (Plain prims.ULong) (num o (a ∷ b ∷ c ∷ d ∷ [])))) ∷ []
     unfolding id_line

@@ -1,14 +1,15 @@
 -- Where a line ends a string, as that of an operation does, no other string has begun.
 use Rattle.std.proofs.Common.{◌≡◌, ℕ, zero, suc, ◌+◌, ◌-◌, ◌⊎◌, inl, inr, false, List, [], ◌∷◌, ◌++◌, refl, sym, subst, ◌∙◌, arith, lit<}
 use Rattle.std.specs.List.{AllByRecursion as Each}
-use Rattle.giop_sig.specs.Types.{Encapsulation, Ty, Single, Struct, Union, Array, part_of}
-use Rattle.giop_decode.specs.ReadResult.{Coding, PathSegment, Name, Index, Held, OpenPart, Part, Member, Inside, Leaf, Read, Done, Short, Fault, followed, within}
+use Rattle.giop_sig.specs.Types.{Encapsulation, Ty, Single, Struct, Union, Array, part_of, Led, Hearing, Told, Untold, Sequel, Then, sequel}
+use Rattle.giop_decode.specs.declared.progress.Kind.TheVariants as kinds
+use Rattle.giop_decode.specs.ReadResult.{Coding, PathSegment, Name, Index, Held, OpenPart, Part, Member, Inside, Leaf, Read, Done, Short, Fault, followed, within, Telling}
 use Rattle.giop_decode.specs.Pieces.{content, full_pieces}
-use Rattle.giop_decode.specs.Reading.{read, parts_from, enclosed, rest_of}
-use Rattle.giop_decode.specs.ReadingSteps.{IsEmptyResult, IsOctetResult, part_at, segment_of, step}
+use Rattle.giop_decode.specs.Reading.{read, parts_from, enclosed, rest_of, following, led, led_segment, none_left, rooted, told_after}
+use Rattle.giop_decode.specs.ReadingSteps.{IsEmptyResult, IsOctetResult, part_at, segment_of, step, after_told, hearing_in}
 use Rattle.giop_decode.specs.Fits.{FitsIn, IsEncapsulation}
 use Rattle.giop_decode.specs.Noted.{ends_in_string}
-use Rattle.giop_decode.proofs.ReadingLaws.{cut_inside, front_inside, now_within, block_waits, width_pos, number_none, part_quiet, step_now}
+use Rattle.giop_decode.proofs.ReadingLaws.{read_quiet, cut_inside, front_inside, now_within, block_waits, width_pos, number_none, part_quiet, step_now}
 use Rattle.giop_message.proofs.StepLines.{NoEnds, Firm, leaf_says}
 
 -- ---- no octets begin no string
@@ -34,6 +35,12 @@ mute_parts n part quiet h (suc more) i = search (
       more (suc i),
 )
 
+mute_led : (n : ℕ) (T : Ty) (g : Hearing) (part : ℕ → ℕ → List ℕ → Read) (r : Read) →
+    IsEmptyResult n r → ends_in_string r ≡ false → ends_in_string (led T g Untold part r) ≡ false
+mute_led n T g part (Done lines at rest) quiet h = rw quiet.0 refl
+mute_led n T g part (Short lines at outer leaf) quiet h = h
+mute_led n T g part (Fault lines at why S) quiet h = absurd quiet
+
 pub read_mute : (coding : Coding) (path : List PathSegment) (T : Ty) (n : ℕ) →
     ends_in_string (read coding path T n []) ≡ false
 read_mute coding path (Single scalar) n = search (arith, number_none, width_pos)
@@ -52,6 +59,12 @@ read_mute coding path (Union choice scalar select names cases) n = search (
   arith,
   number_none,
   width_pos,
+)
+read_mute coding path (Led g F parts) n = search (
+  arith,
+  mute_led,
+  read_quiet,
+  read_mute coding (path ++ led_segment g 0 ∷ []) F n,
 )
 read_mute coding path _ n = search (arith, number_none, lit<)
 
@@ -91,6 +104,7 @@ pub fits_hold : (outer : List OpenPart) (T : Ty) (leaf : Leaf) → FitsIn T oute
 fits_hold [] T leaf fits = tt
 fits_hold (Part U i count ∷ outer) T leaf fits = (tt, fits_hold outer (part_of T i) leaf fits.1)
 fits_hold (Member U i ∷ outer) T leaf fits = (tt, fits_hold outer (part_of T i) leaf fits.1)
+fits_hold (Telling U told ∷ outer) T leaf fits = (tt, fits_hold outer (part_of T 0) leaf fits.1)
 fits_hold (Inside U inner end ∷ outer) T leaf fits =
     (subst IsEncapsulation (sym fits.0.same) fits.0.kind, fits_hold outer (part_of T 0) leaf fits.1)
 
@@ -106,14 +120,38 @@ rest_mute path (Encapsulation T) (suc k) n is = go (full_pieces (suc k))
 rest_mute path T k n is = absurd is
 
 closed_enclosed : (n : ℕ) (path : List PathSegment) (T : Ty) (inner : Coding) (end : ℕ) (r : Read) →
-    IsEncapsulation T → IsOctetResult n r → Closed r → Closed (enclosed path T inner end r [])
+    IsEncapsulation T → IsOctetResult n r → Closed r →
+    Closed (enclosed path T inner end none_left r [])
 closed_enclosed n path T inner end (Done lines at rest) is now h = search (
   arith,
   front_inside,
   rest_mute,
 )
 closed_enclosed n path T inner end (Short lines at outer leaf) is now h = search (arith, cut_inside)
+closed_enclosed n path T inner end (Fault lines at kinds.Untyped S) is now h = search (
+  arith,
+  front_inside,
+  rest_mute,
+)
 closed_enclosed n path T inner end (Fault lines at why S) is now h = h
+
+following_mute : (n : ℕ) (T : Ty) (what : Sequel) (part : ℕ → ℕ → List ℕ → Read) →
+    ((i : ℕ) → ends_in_string (part i n []) ≡ false) →
+    ends_in_string (following T what part n []) ≡ false
+following_mute n T (Then i) part each = each i
+following_mute n T what part each = refl
+
+closed_led : (n : ℕ) (T : Ty) (g : Hearing) (told : Told) (part : ℕ → ℕ → List ℕ → Read)
+    (r : Read) →
+    ((i : ℕ) → ends_in_string (part i n []) ≡ false) → IsOctetResult n r → Closed r →
+    Closed (led T g told part r)
+closed_led n T g told part (Done lines at rest) each now h = search (
+  arith,
+  front_inside,
+  following_mute,
+)
+closed_led n T g told part (Short lines at outer leaf) each now h = search (arith)
+closed_led n T g told part (Fault lines at why S) each now h = h
 
 -- Where a line ends a string no other has begun.
 pub step_closed : (coding : Coding) (path : List PathSegment) (outer : List OpenPart) (leaf : Leaf)
@@ -124,6 +162,13 @@ step_closed coding path (Inside T inner end ∷ outer) leaf at b hold =
     closed_enclosed (at + 1) path T inner end r hold.0
     (step_now inner (path ++ Held ∷ []) outer leaf at b)
     (step_closed inner (path ++ Held ∷ []) outer leaf at b hold.1)
+step_closed coding path (Telling T told ∷ outer) leaf at b hold =
+    let inner = step coding (path ++ segment_of T 0 ∷ []) outer leaf at b in
+    closed_led (at + 1) T (hearing_in T) told (after_told coding path T) inner
+    (λ i. mute_within (Member T (suc i)) _
+    ∙ read_mute coding (path ++ segment_of T (suc i) ∷ []) (part_of T (suc i)) (at + 1))
+    (step_now coding (path ++ segment_of T 0 ∷ []) outer leaf at b)
+    (step_closed coding (path ++ segment_of T 0 ∷ []) outer leaf at b hold.1)
 step_closed coding path (Part T i count ∷ outer) leaf at b hold =
     let inner = step coding (path ++ segment_of T i ∷ []) outer leaf at b in
     closed_followed (at + 1) (within (Part T i count) inner)
@@ -138,3 +183,10 @@ step_closed coding path (Part T i count ∷ outer) leaf at b hold =
 step_closed coding path (Member T i ∷ outer) leaf at b hold =
     closed_within (Member T i) (step coding (path ++ segment_of T i ∷ []) outer leaf at b)
     (step_closed coding (path ++ segment_of T i ∷ []) outer leaf at b hold.1)
+
+pub closed_root : (r : Read) → Closed r → Closed (rooted none_left r)
+closed_root (Fault lines at kinds.Untyped S) (inl h) = inl h
+closed_root (Fault lines at kinds.Untyped S) (inr h) = inr refl
+closed_root (Fault lines at why S) h = h
+closed_root (Done lines at rest) h = h
+closed_root (Short lines at outer leaf) h = h

@@ -5,14 +5,14 @@ use Rattle.giop_print.specs.declared.path.Root.{Root}
 use Rattle.giop_decode.specs.declared.progress.Progress.TheVariants as progress
 use Rattle.giop_decode.specs.ReadResult
 use Rattle.giop_decode.specs.ReadResult.{Coding, plain, Line, OpenPart, Leaf, Read, Done, Short, Fault, lines_of}
-use Rattle.giop_decode.specs.Reading.{read}
+use Rattle.giop_decode.specs.Reading.{reading as whole_of}
 use Rattle.giop_decode.specs.ReadingSteps as decoder
 use Rattle.giop_decode.specs.ReadingSteps.{IsOctetResult}
 use Rattle.giop_decode.specs.Noted.{Noted, nothing_noted, noted, is_header_root, names_operation}
 use Rattle.giop_decode.specs.Runs.{Answers}
 use Rattle.giop_decode.specs.DecoderState as decoders
 use Rattle.giop_decode.specs.Spelling.{lines_text}
-use Rattle.giop_decode.proofs.ReadingLaws.{read_goes, length_one_more, step_now, lines_front}
+use Rattle.giop_decode.proofs.ReadingLaws.{length_one_more, lines_front, reading_goes, root_now}
 use Rattle.giop_sig.specs.Types.{Ty}
 use Rattle.giop_message.specs.declared.part.Section.{Section}
 use Rattle.giop_message.specs.Headers.{order}
@@ -22,7 +22,7 @@ use Rattle.giop_message.specs.MessageState.{message_lines_text, due, due_text, I
 use Rattle.giop_message.specs.MessageSteps.{fault_text}
 use Rattle.giop_message.proofs.Going.{front_twice, front_advance, passes_front, through_goes, after_goes, message_goes}
 use Rattle.giop_message.proofs.Causal.{after_silent}
-use Rattle.giop_message.proofs.LastParts.{CallsNone, step_none}
+use Rattle.giop_message.proofs.LastParts.{CallsNone, root_none}
 use Rattle.giop_message.proofs.Octets.{told_front, told_silent, due_is, wrongs, first_call, step_text}
 
 -- A section that a message has begun: the message's number and header, the section and its type,
@@ -45,7 +45,7 @@ module _ (w : Begun) where
 
   -- the reading of its octets
   abbrev pub reading : List ℕ → Read
-  reading octets = read (plain (order header)) [] T start octets
+  reading octets = whole_of (plain (order header)) [] T start octets
 
   -- whether an octet after these ends an operation
   abbrev pub is_named : List ℕ → ℕ → Bool
@@ -136,7 +136,7 @@ goes_one w s octets is b = search (
   front_advance,
   through_goes,
   after_goes,
-  read_goes,
+  reading_goes,
 )
 
 module _ (w : Begun) (s octets : List ℕ) (i : Inside w s octets) (b : ℕ) where
@@ -159,19 +159,19 @@ module _ (w : Begun) (s octets : List ℕ) (i : Inside w s octets) (b : ℕ) whe
   Next = reading w (octets ++ b ∷ [])
 
   abbrev pub Added : Read
-  Added = decoder.step coding [] i.outer i.leaf Here b
+  Added = decoder.root_step coding [] i.outer i.leaf Here b
 
   abbrev pub noted_before : Noted
   noted_before = noted (is_header_root R) nothing_noted i.lines
 
   pub next_is : Next ≡ ReadResult.with_front i.lines Added
-  next_is = search (arith, read_goes)
+  next_is = search (arith, reading_goes)
 
   pub added_now : IsOctetResult (Here + 1) Added
-  added_now = search (arith, step_now)
+  added_now = search (arith, root_now)
 
   pub added_none : CallsNone Is Added
-  added_none = search (arith, step_none)
+  added_none = search (arith, root_none)
 
   pub lines_due : decoders.added_lines (order header) T (start w) octets b ≡ lines_of Added
   lines_due = search (arith, next_is, lines_front, drop-append_seam)

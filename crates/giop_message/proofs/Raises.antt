@@ -10,11 +10,11 @@ use Rattle.giop_sig.specs.HeaderTypes.{header_type}
 use Rattle.giop_decode.specs.declared.progress.Kind.{Kind}
 use Rattle.giop_decode.specs.ReadResult
 use Rattle.giop_decode.specs.ReadResult.{Coding, plain, Line, OpenPart, Leaf, Read, Done, Short, Fault}
-use Rattle.giop_decode.specs.Reading.{read}
+use Rattle.giop_decode.specs.Reading.{reading}
 use Rattle.giop_decode.specs.ReadingSteps as decoder
-use Rattle.giop_decode.specs.ReadingSteps.{IsEmptyResult, resumes}
+use Rattle.giop_decode.specs.ReadingSteps.{IsEmptyResult, root_advance, root_resumes}
 use Rattle.giop_decode.specs.Noted.{Noted, nothing_noted, noted, is_header_root}
-use Rattle.giop_decode.proofs.ReadingLaws.{read_goes, read_quiet, step_now, noted-append, length_one_more}
+use Rattle.giop_decode.proofs.ReadingLaws.{noted-append, length_one_more, reading_goes, root_now, reading_quiet}
 use Rattle.giop_message.specs.declared.part.Section.{Section}
 use Rattle.giop_message.specs.declared.part.Section.TheVariants as sections
 use Rattle.giop_message.specs.Headers.{minor, kind, order}
@@ -31,12 +31,12 @@ module _ (header : List ℕ) where
   P = plain (order header)
 
   read_resumes : (T : Ty) (at : ℕ) (s t : List ℕ) →
-      read P [] T at (s ++ t) ≡ resumes P [] (read P [] T at s) t
+      reading P [] T at (s ++ t) ≡ root_resumes P [] (reading P [] T at s) t
   read_resumes T at s [] = search (arith, append-nil)
   read_resumes T at s (b ∷ t) = search (
     arith,
     append_assoc,
-    read_goes,
+    reading_goes,
     read_resumes T at (s ++ b ∷
         []) t,
   )
@@ -48,21 +48,22 @@ module _ (header : List ℕ) where
   front_both ls ms (Fault lines at why T) = search (arith, append_assoc)
 
   front_advance : (ls : List Line) (r : Read) (b : ℕ) →
-      decoder.advance P [] (ReadResult.with_front ls r) b
-      ≡ ReadResult.with_front ls (decoder.advance P [] r b)
+      decoder.root_advance P [] (ReadResult.with_front ls r) b
+      ≡ ReadResult.with_front ls (decoder.root_advance P [] r b)
   front_advance ls (Done lines at s) b = refl
   front_advance ls (Short lines at outer leaf) b = search (arith, front_both)
   front_advance ls (Fault lines at why T) b = refl
 
   front_resumes : (ls : List Line) (t : List ℕ) (r : Read) →
-      resumes P [] (ReadResult.with_front ls r) t ≡ ReadResult.with_front ls (resumes P [] r t)
+      root_resumes P [] (ReadResult.with_front ls r) t
+      ≡ ReadResult.with_front ls (root_resumes P [] r t)
   front_resumes ls [] r = refl
   front_resumes ls (b ∷ t) r =
-      ap (λ z. resumes P [] z t) (front_advance ls r b)
-      ∙ front_resumes ls t (decoder.advance P [] r b)
+      ap (λ z. root_resumes P [] z t) (front_advance ls r b)
+      ∙ front_resumes ls t (decoder.root_advance P [] r b)
 
   done_resumes : (lines : List Line) (at : ℕ) (t z : List ℕ) →
-      resumes P [] (Done lines at z) t ≡ Done lines at (z ++ t)
+      root_resumes P [] (Done lines at z) t ≡ Done lines at (z ++ t)
   done_resumes lines at [] z = search (arith, append-nil)
   done_resumes lines at (b ∷ t) z = search (
     arith,
@@ -72,16 +73,16 @@ module _ (header : List ℕ) where
   )
 
   fault_resumes : (lines : List Line) (at : ℕ) (why : Kind) (T : Ty) (t : List ℕ) →
-      resumes P [] (Fault lines at why T) t ≡ Fault lines at why T
+      root_resumes P [] (Fault lines at why T) t ≡ Fault lines at why T
   fault_resumes lines at why T [] = refl
   fault_resumes lines at why T (b ∷ t) = fault_resumes lines at why T t
 
   done_on : (T : Ty) (at : ℕ) (s t : List ℕ) (lines : List Line) (n : ℕ) (z : List ℕ) →
-      read P [] T at s ≡ Done lines n z → read P [] T at (s ++ t) ≡ Done lines n (z ++ t)
+      reading P [] T at s ≡ Done lines n z → reading P [] T at (s ++ t) ≡ Done lines n (z ++ t)
   done_on T at s t lines n z e = search (arith, read_resumes, done_resumes)
 
   fault_on : (T : Ty) (at : ℕ) (s t : List ℕ) (lines : List Line) (n : ℕ) (why : Kind) (U : Ty) →
-      read P [] T at s ≡ Fault lines n why U → read P [] T at (s ++ t) ≡ Fault lines n why U
+      reading P [] T at s ≡ Fault lines n why U → reading P [] T at (s ++ t) ≡ Fault lines n why U
   fault_on T at s t lines n why U e = search (arith, read_resumes, fault_resumes)
 
   named_front : (h : Noted) (ls : List Line) (r : Read) →
@@ -93,15 +94,15 @@ module _ (header : List ℕ) where
   -- the name that a value has after more octets, by what it has begun and not ended
   pub named_on : (h : Noted) (T : Ty) (at : ℕ) (s t : List ℕ) (lines : List Line) (n : ℕ)
       (outer : List OpenPart) (leaf : Leaf) →
-      read P [] T at s ≡ Short lines n outer leaf →
-      named_if_whole h (read P [] T at (s ++ t))
-      ≡ named_if_whole (noted false h lines) (resumes P [] (Short [] n outer leaf) t)
+      reading P [] T at s ≡ Short lines n outer leaf →
+      named_if_whole h (reading P [] T at (s ++ t))
+      ≡ named_if_whole (noted false h lines) (root_resumes P [] (Short [] n outer leaf) t)
   named_on h T at s t lines n outer leaf e =
       let short = e ∙ ap (λ k. Short k n outer leaf) (sym (append-nil lines)) in
       ap (named_if_whole h)
-      (read_resumes T at s t ∙ (ap (λ r. resumes P [] r t) short
+      (read_resumes T at s t ∙ (ap (λ r. root_resumes P [] r t) short
       ∙ front_resumes lines t (Short [] n outer leaf)))
-      ∙ named_front h lines (resumes P [] (Short [] n outer leaf) t)
+      ∙ named_front h lines (root_resumes P [] (Short [] n outer leaf) t)
 
 -- ---- where a message is
 
@@ -199,7 +200,7 @@ module _ (header : List ℕ) where
   -- the name after more octets, where a message is at this offset and at this stage
   unfoldable pub tail_name : ℕ → List ℕ → Stage → Option (List ℕ)
   tail_name n t (In_typed section h outer leaf) =
-      named_if_whole h (resumes (P header) [] (Short [] n outer leaf) t)
+      named_if_whole h (root_resumes (P header) [] (Short [] n outer leaf) t)
   tail_name n t stage = None
 
   -- The names are those of a part of a message, and of what follows it.
@@ -232,25 +233,25 @@ module _ (header : List ℕ) where
     name_none (Short lines n outer leaf) h = refl
     name_none (Fault lines n why U) h = refl
 
-    name_stays : (s t name : List ℕ) (r : Read) → read (P header) [] T at s ≡ r →
+    name_stays : (s t name : List ℕ) (r : Read) → reading (P header) [] T at s ≡ r →
         named_if_whole nothing_noted r ≡ Some name →
-        named_if_whole nothing_noted (read (P header) [] T at (s ++ t)) ≡ Some name
+        named_if_whole nothing_noted (reading (P header) [] T at (s ++ t)) ≡ Some name
     name_stays s t name (Done lines n rest) e k = search (arith, done_on)
     name_stays s t name (Short lines n outer leaf) e k = absurd cc
     name_stays s t name (Fault lines n why U) e k = absurd cc
 
-    name_settled : (s t : List ℕ) (r : Read) → read (P header) [] T at s ≡ r →
+    name_settled : (s t : List ℕ) (r : Read) → reading (P header) [] T at s ≡ r →
         is_settled (stage_of (Within r)) ≡ true →
-        named_if_whole nothing_noted (read (P header) [] T at (s ++ t))
+        named_if_whole nothing_noted (reading (P header) [] T at (s ++ t))
         ≡ named_if_whole nothing_noted r
     unfolding section_then stage_of is_settled
     name_settled s t (Done lines n rest) e k = search (arith, done_on)
     name_settled s t (Short lines n outer leaf) e k = search (arith, false≢true)
     name_settled s t (Fault lines n why U) e k = search (arith, fault_on)
 
-    name_inside : (s t : List ℕ) (r : Read) → read (P header) [] T at s ≡ r →
+    name_inside : (s t : List ℕ) (r : Read) → reading (P header) [] T at s ≡ r →
         raises_here (stage_of (Within r)) ≡ true →
-        named_if_whole nothing_noted (read (P header) [] T at (s ++ t))
+        named_if_whole nothing_noted (reading (P header) [] T at (s ++ t))
         ≡ tail_name (offset_of (Within r)) t (stage_of (Within r))
     unfolding section_then stage_of raises_here offset_of tail_name
     name_inside s t (Done lines n rest) e k = search (arith, false≢true, stage_front, settled_quiet)
@@ -263,14 +264,14 @@ module _ (header : List ℕ) where
     name_pads s x (Short lines n outer leaf) k = false≢true k
     name_pads s x (Fault lines n why U) k = false≢true k
 
-    tells_section : Tells (λ s. Within (read (P header) [] T at s))
-        (λ s. named_if_whole nothing_noted (read (P header) [] T at s))
+    tells_section : Tells (λ s. Within (reading (P header) [] T at s))
+        (λ s. named_if_whole nothing_noted (reading (P header) [] T at s))
     tells_section = record {
-      none = name_none (read (P header) [] T at []) (read_quiet (P header) [] T at);
-      stays = λ s t name e. name_stays s t name (read (P header) [] T at s) refl e;
-      settled = λ s t e. name_settled s t (read (P header) [] T at s) refl e;
-      inside = λ s t e. name_inside s t (read (P header) [] T at s) refl e;
-      pads = λ s x e. absurd (name_pads s x (read (P header) [] T at s) e);
+      none = name_none (reading (P header) [] T at []) (reading_quiet (P header) [] T at);
+      stays = λ s t name e. name_stays s t name (reading (P header) [] T at s) refl e;
+      settled = λ s t e. name_settled s t (reading (P header) [] T at s) refl e;
+      inside = λ s t e. name_inside s t (reading (P header) [] T at s) refl e;
+      pads = λ s x e. absurd (name_pads s x (reading (P header) [] T at s) e);
     }
 
   -- the type that has the name, by the type of the body
@@ -470,7 +471,7 @@ module _ (header : List ℕ) where
         r
 
     abbrev Reading : List ℕ → Read
-    Reading s = read (P header) [] T 12 s
+    Reading s = reading (P header) [] T 12 s
 
     abbrev heard : List Line → Noted
     heard lines = noted true nothing_noted lines
@@ -530,7 +531,7 @@ module _ (header : List ℕ) where
 
     tells_header : Tells (λ s. Whole (Reading s)) (λ s. raised_after header (Reading s))
     tells_header = record {
-      none = header_none (Reading []) (read_quiet (P header) [] T 12);
+      none = header_none (Reading []) (reading_quiet (P header) [] T 12);
       stays = λ s t name e. header_stays s t name (Reading s) refl e;
       settled = λ s t e. header_settled s t (Reading s) refl e;
       inside = λ s t e. header_inside s t (Reading s) refl e;
@@ -601,7 +602,7 @@ raised_before header s e = search (arith, before_by)
 named_none : (header : List ℕ) (found : Option Ty) (at : ℕ) →
     named_by_type header found at [] ≡ None
 named_none header None at = refl
-named_none header (Some T) at = search (arith, read_quiet)
+named_none header (Some T) at = search (arith, reading_quiet)
 
 behind_none : (header : List ℕ) (found : Option Ty) (at : ℕ) →
     named_behind header found at [] ≡ None
@@ -621,24 +622,24 @@ ended_by header (Fault lines n why U) e = refl
 -- at the last octet of a header there is none
 ended_found : (header s : List ℕ) (found : Option Ty) →
     header_type (minor header) (kind header) ≡ found →
-    ((T : Ty) → found ≡ Some T → EndsHere (read (plain (order header)) [] T 12 s)) →
+    ((T : Ty) → found ≡ Some T → EndsHere (reading (plain (order header)) [] T 12 s)) →
     raised header s ≡ None
 unfolding raised
 ended_found header s found e ends = search (arith, ended_by)
 
 pub raised_ended : (header s : List ℕ) (T : Ty) →
     header_type (minor header) (kind header) ≡ Some T →
-    EndsHere (read (plain (order header)) [] T 12 s) → raised header s ≡ None
+    EndsHere (reading (plain (order header)) [] T 12 s) → raised header s ≡ None
 raised_ended header s T e h = search (arith, ended_found)
 
 octet_ends : (header : List ℕ) (r : Read) (x : ℕ) → noted_if_whole r ≡ None →
-    EndsHere (decoder.advance (plain (order header)) [] r x)
+    EndsHere (decoder.root_advance (plain (order header)) [] r x)
 octet_ends header (Done lines n z) x e = absurd cc
-octet_ends header (Short lines n outer leaf) x e = search (arith, step_now)
+octet_ends header (Short lines n outer leaf) x e = search (arith, root_now)
 octet_ends header (Fault lines n why U) x e = tt
 
 -- so a name never ends at the octet that ends the header
 pub raised_apart : (header s : List ℕ) (x : ℕ) → header_noted header s ≡ None →
     raised header (s ++ x ∷ []) ≡ None
 unfolding header_noted
-raised_apart header s x e = search (arith, ended_found, read_goes, octet_ends)
+raised_apart header s x e = search (arith, ended_found, reading_goes, octet_ends)

@@ -18,8 +18,8 @@ use Rattle.giop_decode.specs.declared.progress.Kind.{Kind}
 use Rattle.giop_decode.specs.declared.progress.Progress.{Progress}
 use Rattle.giop_decode.specs.declared.progress.Progress.TheVariants as progress
 use Rattle.giop_decode.specs.ReadResult.{plain, Line, OpenPart, Leaf, Read, Done, Short, Fault}
-use Rattle.giop_decode.specs.Reading.{read}
-use Rattle.giop_decode.specs.ReadingSteps.{resumes}
+use Rattle.giop_decode.specs.Reading.{reading as whole_of}
+use Rattle.giop_decode.specs.ReadingSteps.{root_resumes}
 use Rattle.giop_decode.specs.Noted.{Noted, nothing_noted, noted, noted_of, is_header_root}
 use Rattle.giop_decode.specs.DecoderState as decoders
 use Rattle.giop_decode.specs.Runs.{AreAnswered, TakesRun, BreaksOff}
@@ -313,7 +313,7 @@ short_tail : (S : Signatures) (header : List ℕ) (section : Section) (before : 
     (stage_of (with_front before (section_and_rest S header section nothing_noted
     (Short lines at outer leaf))))
     ≡ named_if_whole (noted (is_header_root (root_of section)) nothing_noted lines)
-    (resumes (plain (order header)) [] (Short [] at outer leaf) xs)
+    (root_resumes (plain (order header)) [] (Short [] at outer leaf) xs)
 unfolding section_then with_front offset_of stage_of tail_name
 short_tail S header section before lines at outer leaf xs = refl
 
@@ -329,15 +329,15 @@ module _ (t : Standing) where
 
   header_reads : section ≡ sections.Header → (xs : List ℕ) →
       (header_type (minor header) (kind header) ≡ Some (opened t).T)
-      × (read (plain (order header)) [] (opened t).T 12 (s ++ xs) ≡ ReadWith t xs)
+      × (whole_of (plain (order header)) [] (opened t).T 12 (s ++ xs) ≡ ReadWith t xs)
   header_reads in_it xs =
       let o = opened t in
       let first = subst (λ x. IsFirst header x o.T o.before o.front) in_it o.first in
       let P = plain (order header) in (
         first.0,
-        ap (λ (z : List ℕ). read P [] o.T 12 (z ++ xs))
+        ap (λ (z : List ℕ). whole_of P [] o.T 12 (z ++ xs))
             (o.since ∙ ap (λ (f : List ℕ). f ++ o.octets) first.2)
-            ∙ ap (λ (f : List ℕ). read P [] o.T (12 + length f) (o.octets ++ xs)) (sym first.2),
+            ∙ ap (λ (f : List ℕ). whole_of P [] o.T (12 + length f) (o.octets ++ xs)) (sym first.2),
       )
 
   -- what is noted of a header is what its decoder reads
@@ -395,7 +395,7 @@ module _ (t : Standing) where
       ∙ (ap (λ z. tail_name header (offset_of z) xs (stage_of z)) stands_short
       ∙ (short_tail (S t) header section (begun t).before i.lines n i.outer i.leaf xs
       ∙ (ap (λ b. named_if_whole (noted b nothing_noted i.lines)
-      (resumes (plain (order header)) [] (Short [] n i.outer i.leaf) xs))
+      (root_resumes (plain (order header)) [] (Short [] n i.outer i.leaf) xs))
       (raising_root section raises)
       ∙ sym (named_on header nothing_noted (opened t).T (start (begun t)) (octets_of t) xs i.lines n
       i.outer i.leaf i.was_short))))

@@ -17,7 +17,7 @@ use Rattle.giop_decode.specs.Noted.{Noted, nothing_noted, note, noted, noted_of,
 use Rattle.giop_decode.specs.DecoderState as decoders
 use Rattle.giop_decode.specs.Runs.{Answers}
 use Rattle.giop_decode.specs.Spelling.{lines_text}
-use Rattle.giop_decode.proofs.ReadingLaws.{front_inside, lines_front, noted-append, read_keeps}
+use Rattle.giop_decode.proofs.ReadingLaws.{front_inside, lines_front, noted-append, reading_keeps}
 use Rattle.giop_message.specs.declared.part.Section.{Section}
 use Rattle.giop_message.specs.declared.part.Section.TheVariants as sections
 use Rattle.giop_message.specs.Headers.{minor, kind, order}
@@ -27,8 +27,8 @@ use Rattle.giop_message.specs.Text.{fault_word}
 use Rattle.giop_message.specs.MessageState.{message_line_text, message_lines_text, due_text, IsFirst}
 use Rattle.giop_message.specs.MessageSteps.{fault_text, called_text, request_call}
 use Rattle.giop_message.proofs.Spelling.{call_said}
-use Rattle.giop_message.proofs.LastParts.{CallsNone, request_ends, header_fit, EndsOtherwise, done_test, last_no_call}
-use Rattle.giop_message.proofs.Operations.{AllHold, fits_hold, step_closed}
+use Rattle.giop_message.proofs.LastParts.{CallsNone, request_ends, header_fit, EndsOtherwise, done_test, root_no_call}
+use Rattle.giop_message.proofs.Operations.{AllHold, closed_root, fits_hold, step_closed}
 use Rattle.giop_message.proofs.Octets.{first_call, no_first}
 use Rattle.giop_message.proofs.StepLines.{NoEnds, one_of}
 use Rattle.giop_message.proofs.Parts.{Begun, start, is_named, Inside, Next, Added, noted_before, next_is, added_none, added_now, lines_due, text_here}
@@ -190,7 +190,7 @@ named_is end named r answer = absurd answer
 sound_by : (w : Begun) (s octets : List ℕ) (i : Inside w s octets) →
     header_type (minor w.header) (kind w.header) ≡ Some w.T → FitsIn w.T i.outer i.leaf
 sound_by w s octets i found =
-    let reads = read_keeps 24 (plain (order w.header)) [] w.T
+    let reads = reading_keeps 24 (plain (order w.header)) [] w.T
     (header_fit (minor w.header) (kind w.header) w.T found) (start w) octets in
     (subst (Sound w.T (start w + length octets)) i.was_short reads).1
 
@@ -257,7 +257,7 @@ module _ (w : Begun) (s octets : List ℕ) (i : Inside w s octets) (b : ℕ) whe
               let found = subst (λ k. header_type (minor header) k ≡ Some T) (request_kind header r)
               first.0 in
               let ends = subst (λ o. IfSome o EndsOtherwise) found (request_ends (minor header)) in
-              last_no_call (plain (order header)) true T _ _ _ b ends
+              root_no_call (plain (order header)) true T _ _ _ b ends
               (header_fit (minor header) (kind header) T first.0)
               (sound_by w s octets i first.0) done
       go section first = never (lines_of St)
@@ -317,8 +317,8 @@ module _ (w : Begun) (s octets : List ℕ) (i : Inside w s octets) (b : ℕ) whe
       let now = added_now w s octets i b in
       let named = subst (λ ls. names_operation (is_header_root R) ls ≡ true)
       (lines_due w s octets i b) (named_is End Names Behind answer) in
-      let closed = step_closed (plain (order header)) [] i.outer i.leaf _ b
-      (holds_by w s octets i (named_in answer)) in
+      let closed = closed_root _ (step_closed (plain (order header)) [] i.outer i.leaf _ b
+      (holds_by w s octets i (named_in answer))) in
       joined_text place [] _ (no_fault number (place + 1) End Names progress.Named Behind answer
       (λ fault. fault))
       (call_here number place (12 + length s) header section i.lines St _ (one_of _ St now) closed

@@ -7,7 +7,7 @@ use Rattle.giop_cdr.specs.declared.order.Order.{Order}
 use Rattle.giop_sig.specs.Types.{Ty, Struct}
 use Rattle.giop_sig.specs.Fits.{IsFit, IsEmptyStruct}
 use Rattle.giop_decode.specs.ReadResult.{plain}
-use Rattle.giop_decode.specs.Reading.{read}
+use Rattle.giop_decode.specs.Reading.{reading}
 use Rattle.giop_decode.specs.Noted.{Noted, nothing_noted}
 use Rattle.giop_message.specs.declared.part.Section.{Section}
 use Rattle.giop_message.specs.declared.part.Section.TheVariants as sections
@@ -42,7 +42,7 @@ none_rests S header e = rw e refl
 pub header_first : (S : Signatures) (header : List ℕ) (T : Ty) →
     S.header (minor header) (kind header) ≡ Some T → message S header [] ≡ with_front []
     (section_and_rest S header sections.Header nothing_noted
-    (read (plain (order header)) [] T 12 []))
+    (reading (plain (order header)) [] T 12 []))
 unfolding message of_header
 header_first S header T e = rw (e, front_none) refl
 

@@ -2,16 +2,16 @@
 use Rattle.std.proofs.Common.{arith, ◌≡◌, ℕ, zero, suc, ◌+◌, ◌-◌, ◌⊎◌, inl, Bool, true, false, List, [], ◌∷◌, ◌++◌, take, get_or, Option, Some, None, refl, ◌∙◌, append-nil}
 use Rattle.std.specs.List.{AllByRecursion as Each}
 use Rattle.giop_cdr.specs.Numbers.{num}
-use Rattle.giop_sig.specs.Types.{Encapsulation, Ty, Single, Text, Octets, Struct, Union, Sequence, Array}
+use Rattle.giop_sig.specs.Types.{Encapsulation, Ty, Single, Text, Octets, Struct, Union, Sequence, Array, Led, Hearing, Told, Sequel, Then, Ends, Stops, part_of, sequel}
 use Rattle.giop_decode.specs.declared.progress.Kind.{Kind}
 use Rattle.giop_decode.specs.declared.progress.Kind.TheVariants as kinds
 use Rattle.giop_decode.specs.ReadResult
-use Rattle.giop_decode.specs.ReadResult.{Coding, PathSegment, Switch, Held, Line, Piece, line, OpenPart, Part, Member, Inside, Leaf, LeadingNumber, Opening, Content, Read, Done, Short, Fault, lines_of, with_front, followed, within}
+use Rattle.giop_decode.specs.ReadResult.{Coding, PathSegment, Switch, Held, Line, Piece, line, OpenPart, Part, Member, Inside, Leaf, LeadingNumber, Opening, Content, Read, Done, Short, Fault, lines_of, with_front, followed, within, Telling}
 use Rattle.giop_decode.specs.Pieces.{Block, Partial, Complete, unless, content, full_piece, last_piece}
-use Rattle.giop_decode.specs.Reading.{after_leading_number, parts_from, enclosed, opening}
-use Rattle.giop_decode.specs.ReadingSteps.{coding_in, held, Faulted, OneAt, IsEmptyResult, IsOctetResult, after, leaf_step, part_at, path_in, segment_of, step}
+use Rattle.giop_decode.specs.Reading.{after_leading_number, parts_from, enclosed, opening, following, led, none_left, told_after}
+use Rattle.giop_decode.specs.ReadingSteps.{coding_in, held, Faulted, OneAt, IsEmptyResult, IsOctetResult, after, leaf_step, part_at, path_in, segment_of, step, after_told, hearing_in}
 use Rattle.giop_decode.specs.Noted.{ends_text, ends_in_string}
-use Rattle.giop_decode.proofs.ReadingLaws.{now_within, rest_quiet, parts_quiet, step_now, lines_front}
+use Rattle.giop_decode.proofs.ReadingLaws.{quiet_within, read_quiet, now_within, rest_quiet, parts_quiet, step_now, lines_front}
 
 -- a line of the part with this path
 pub record IsOf (path : List PathSegment) (l : Line) : Type 0 where
@@ -36,6 +36,7 @@ Firm r = NoEnds r ⊎ ((ends_in_string r ≡ false) × (is_faulted r ≡ false))
 -- a fault has one line at most in front of it
 pub one_faulted : (n : ℕ) (why : Kind) (lines : List Line) → Faulted n why lines → OneAt n lines
 one_faulted n kinds.EncapShort lines h = h
+one_faulted n kinds.Untyped lines h = h
 one_faulted n why lines h = rw h tt
 
 pub one_of : (n : ℕ) (st : Read) → IsOctetResult n st → OneAt n (lines_of st)
@@ -105,6 +106,7 @@ module _ (n : ℕ) (path : List PathSegment) where
   after_says coding (Octets bound) k at s = search (arith, unless_says, content_says)
   after_says coding (Struct count names parts) k at s = bare _ refl
   after_says coding (Array count T) k at s = bare _ refl
+  after_says coding (Led g F parts) k at s = bare _ refl
   after_says coding (Sequence bound T) k at s = search (arith, unless_says, front_says, at_path)
   after_says coding (Union choice scalar select names cases) k at s = search (
     arith,
@@ -158,10 +160,27 @@ lines_within place (Done lines at rest) = refl
 lines_within place r = refl
 
 lines_enclosed : (n : ℕ) (path : List PathSegment) (T : Ty) (inner : Coding) (end : ℕ) (r : Read) →
-    IsOctetResult n r → lines_of (enclosed path T inner end r []) ≡ lines_of r
+    IsOctetResult n r → lines_of (enclosed path T inner end none_left r []) ≡ lines_of r
 lines_enclosed n path T inner end (Done lines at rest) h = search (arith, lines_alone, rest_quiet)
 lines_enclosed n path T inner end (Short lines at outer leaf) h = search (arith)
+lines_enclosed n path T inner end (Fault lines at kinds.Untyped S) h = search
+    (arith, lines_alone, rest_quiet)
 lines_enclosed n path T inner end (Fault lines at why S) h = refl
+
+-- what a part that tells it says of what follows has no line yet
+lines_following : (n : ℕ) (T : Ty) (what : Sequel) (part : ℕ → ℕ → List ℕ → Read)
+    (lines : List Line) → ((i : ℕ) → IsEmptyResult n (part i n [])) →
+    lines_of (with_front lines (following T what part n [])) ≡ lines
+lines_following n T (Then i) part lines each = lines_alone n lines (part i n []) (each i)
+lines_following n T Ends part lines each = append-nil lines
+lines_following n T Stops part lines each = append-nil lines
+
+lines_led : (n : ℕ) (T : Ty) (g : Hearing) (told : Told) (part : ℕ → ℕ → List ℕ → Read) (r : Read) →
+    ((i : ℕ) → IsEmptyResult n (part i n [])) → IsOctetResult n r →
+    lines_of (led T g told part r) ≡ lines_of r
+lines_led n T g told part (Done lines at rest) each h = search (arith, lines_following)
+lines_led n T g told part (Short lines at outer leaf) each h = refl
+lines_led n T g told part (Fault lines at why S) each h = refl
 
 lines_step : (coding : Coding) (path : List PathSegment) (outer : List OpenPart) (leaf : Leaf)
     (at b : ℕ) →
@@ -180,6 +199,13 @@ lines_step coding path (Part T i count ∷ outer) leaf at b =
 lines_step coding path (Member T i ∷ outer) leaf at b =
     lines_within (Member T i) (step coding (path ++ segment_of T i ∷ []) outer leaf at b)
     ∙ lines_step coding (path ++ segment_of T i ∷ []) outer leaf at b
+lines_step coding path (Telling T told ∷ outer) leaf at b =
+    let inner = step coding (path ++ segment_of T 0 ∷ []) outer leaf at b in
+    lines_led (at + 1) T (hearing_in T) told (after_told coding path T) inner
+    (λ i. quiet_within (at + 1) (Member T (suc i)) _
+    (read_quiet coding (path ++ segment_of T (suc i) ∷ []) (part_of T (suc i)) (at + 1)))
+    (step_now coding (path ++ segment_of T 0 ∷ []) outer leaf at b)
+    ∙ lines_step coding (path ++ segment_of T 0 ∷ []) outer leaf at b
 lines_step coding path (Inside T inner end ∷ outer) leaf at b = search (
   arith,
   lines_enclosed,

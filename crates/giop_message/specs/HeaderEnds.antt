@@ -8,7 +8,7 @@ use Rattle.giop_sig.specs.Types.{Ty}
 use Rattle.giop_sig.specs.Table.{Table, operation_in}
 use Rattle.giop_sig.specs.HeaderTypes.{header_type, fixed_type}
 use Rattle.giop_decode.specs.ReadResult.{plain, Read, Done, Short, Fault}
-use Rattle.giop_decode.specs.Reading.{read}
+use Rattle.giop_decode.specs.Reading.{reading}
 use Rattle.giop_decode.specs.Noted.{Noted, nothing_noted, noted}
 use Rattle.giop_message.specs.Headers.{minor, kind, order}
 use Rattle.giop_message.specs.Signatures.{Answer, Answers}
@@ -31,7 +31,7 @@ noted_if_whole (Fault lines at why T) = None
 -- by the type of the header, where it has one
 abbrev pub noted_by_type : List ℕ → Option Ty → List ℕ → Option Noted
 noted_by_type header None s = None
-noted_by_type header (Some T) s = noted_if_whole (read (plain (order header)) [] T 12 s)
+noted_by_type header (Some T) s = noted_if_whole (reading (plain (order header)) [] T 12 s)
 
 -- what is noted of a message's header once it is complete, by the octets `s` that follow the 12 of
 -- `header`
@@ -56,7 +56,7 @@ named_if_whole h (Fault lines at why T) = None
 abbrev pub named_by_type : List ℕ → Option Ty → ℕ → List ℕ → Option (List ℕ)
 named_by_type header None at s = None
 named_by_type header (Some T) at s = named_if_whole nothing_noted
-    (read (plain (order header)) [] T at s)
+    (reading (plain (order header)) [] T at s)
 
 -- after a header that ends at this offset: in 1.2 a body begins at the next multiple of 8
 abbrev pub named_behind : List ℕ → Option Ty → ℕ → List ℕ → Option (List ℕ)
@@ -82,7 +82,7 @@ raised_after header (Fault lines at why T) = None
 
 abbrev pub raised_by_type : List ℕ → Option Ty → List ℕ → Option (List ℕ)
 raised_by_type header None s = None
-raised_by_type header (Some T) s = raised_after header (read (plain (order header)) [] T 12 s)
+raised_by_type header (Some T) s = raised_after header (reading (plain (order header)) [] T 12 s)
 
 -- The name of the exception that a Reply raises, once the repository id or the body of the system
 -- exception is complete, by the octets `s` that follow the 12 of its header (GIOP Message Formats,

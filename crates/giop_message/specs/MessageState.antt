@@ -8,7 +8,7 @@ use Rattle.giop_sig.specs.HeaderTypes.{header_type}
 use Rattle.giop_sig.specs.RequestList.{Entry, IsOf}
 use Rattle.giop_decode.specs.ReadResult.{plain}
 use Rattle.giop_decode.specs.declared.decoder.Decoder.{Decoder}
-use Rattle.giop_decode.specs.Reading.{read}
+use Rattle.giop_decode.specs.Reading.{reading}
 use Rattle.giop_decode.specs.Noted.{nothing_noted}
 use Rattle.giop_decode.specs.DecoderState as decoder
 use Rattle.giop_message.specs.declared.message.Message.{Message}
@@ -125,7 +125,7 @@ pub record Decodes (C : Table) (S : Signatures) (number : ℕ) (header s : List 
   pub since : s ≡ front ++ octets
   pub is : message S header s ≡ with_front before
       (section_and_rest S header section nothing_noted
-      (read (plain (order header)) [] T (12 + length front) octets))
+      (reading (plain (order header)) [] T (12 + length front) octets))
   pub first : IsFirst header section T before front
   pub reads : decoder.Reads C T (order header) (12 + length front) number (root_of section) d octets
 

@@ -8,7 +8,7 @@ use Rattle.giop_sig.specs.Types.{Ty}
 use Rattle.giop_sig.specs.Table.{Table}
 use Rattle.giop_decode.specs.declared.decoder.Decoder.{Decoder}
 use Rattle.giop_decode.specs.ReadResult.{plain, Read, Done, Short, Fault}
-use Rattle.giop_decode.specs.Reading.{read}
+use Rattle.giop_decode.specs.Reading.{reading}
 use Rattle.giop_decode.specs.Noted.{Noted, nothing_noted, noted_of}
 use Rattle.giop_decode.specs.DecoderState.{KeepsNoted}
 use Rattle.giop_message.specs.declared.message.Message.{Message}
@@ -81,7 +81,7 @@ Enters C answers number header old new s section T =
     IsAt number header old s → (before : List LineAt) → IsFirst header section T before s →
     message (signatures_of C (answers number)) header s
     ≡ with_front before (section_and_rest (signatures_of C (answers number)) header section
-    nothing_noted (read (plain (order header)) [] T (12 + length s) [])) →
+    nothing_noted (reading (plain (order header)) [] T (12 + length s) [])) →
     Stands C answers number header s new.decoder new.part
 
 -- a part that is read as a value

@@ -10,7 +10,7 @@ use Rattle.giop_print.specs.declared.path.Root.TheVariants as roots
 use Rattle.giop_sig.specs.Types.{Ty, Struct}
 use Rattle.giop_decode.specs.declared.progress.Kind.{Kind}
 use Rattle.giop_decode.specs.ReadResult.{plain, PathSegment, Value, Line, OpenPart, Leaf, Read, Done, Short, Fault}
-use Rattle.giop_decode.specs.Reading.{read}
+use Rattle.giop_decode.specs.Reading.{reading}
 use Rattle.giop_decode.specs.Noted.{Noted, nothing_noted, note, noted, ends_operation, is_header_root}
 use Rattle.giop_message.specs.declared.part.Section.{Section}
 use Rattle.giop_message.specs.declared.part.Section.TheVariants as sections
@@ -129,7 +129,7 @@ rest at s = rest_in (length s / 32) 0 at s
 
 unfoldable pub typed : Order → Ty → ℕ → List ℕ → Message
 typed o T at s = section_then sections.Body false (λ h. rest) nothing_noted
-    (read (plain o) [] T at s)
+    (reading (plain o) [] T at s)
 
 unfoldable pub option_typed : Order → Option Ty → ℕ → List ℕ → Message
 option_typed o None at s = rest at s
@@ -148,10 +148,10 @@ body S header Untyped at s = rest at s
 body S header (Typed T) at s = typed (order header) T at s
 body S header UserException at s =
     section_then sections.Exception false (after_exception S header) nothing_noted
-    (read (plain (order header)) [] S.exception_id at s)
+    (reading (plain (order header)) [] S.exception_id at s)
 body S header SystemException at s =
     section_then sections.SystemException false (λ h. rest) nothing_noted
-    (read (plain (order header)) [] S.system_exception at s)
+    (reading (plain (order header)) [] S.system_exception at s)
 
 unfoldable pub type_if : Option Ty → BodyType
 type_if None = Untyped
@@ -208,7 +208,7 @@ unfoldable pub of_header : Signatures → List ℕ → Option Ty → ℕ → Lis
 of_header S header None at s = rest at s
 of_header S header (Some T) at s =
     section_then sections.Header (is_request header) (after_header S header) nothing_noted
-    (read (plain (order header)) [] T at s)
+    (reading (plain (order header)) [] T at s)
 
 -- of this header of 12 octets and these octets after it
 unfoldable pub message : Signatures → List ℕ → List ℕ → Message

@@ -15,7 +15,8 @@ rest_step offset held at =
 -- The octet is at that offset. After a part that ends, what follows it is read with no octets.
 unfoldable pub message_step : Signatures → List ℕ → ℕ → Stage → ℕ → Message
 message_step S header at (In_typed section h outer leaf) b =
-    section_and_rest S header section h (decoder.step (plain (order header)) [] outer leaf at b)
+    section_and_rest S header section h
+    (decoder.root_step (plain (order header)) [] outer leaf at b)
 message_step S header at (In_padding t) b =
     if nat_lt 1 (padding at 8) then ReadTo [] (at + 1) (In_padding t) else body S header t (at + 1)
     []

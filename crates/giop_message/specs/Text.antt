@@ -30,6 +30,7 @@ fault_word kinds.Bound = codes "bound"
 fault_word kinds.Disposition = codes "disposition"
 fault_word kinds.EncapShort = codes "encap-short"
 fault_word kinds.EncapOrder = codes "encap-order"
+fault_word kinds.Untyped = codes "untyped"
 
 -- ---- whole lines
 

@@ -18,6 +18,7 @@ pub fn fault_word(kind: Kind) -> &'static str
         Kind::Disposition => "disposition",
         Kind::EncapShort => "encap-short",
         Kind::EncapOrder => "encap-order",
+        Kind::Untyped => "untyped",
     }
 }
 

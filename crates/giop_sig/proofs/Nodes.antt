@@ -3,7 +3,7 @@ use Rattle.std.proofs.Common.{◌≡◌, ℕ, zero, suc, ◌<◌, Bool, true, fa
 use Rattle.std.proofs.lemmas.Bool.{ltb-true, ltb-false}
 use Rattle.std.specs.Prelude.{slice_get}
 use Rattle.giop_cdr.specs.declared.number.Number.{Number}
-use Rattle.giop_sig.specs.Types.{Cases, Enum, Ty, Single, Struct, Union, Sequence, Array, shape_in, HasShape, HasMember, HasPlace, part_of, name_in, enum_name_in, switch_of, select_in, interpreted_in, Tag, Encapsulation}
+use Rattle.giop_sig.specs.Types.{Cases, Enum, Ty, Single, Struct, Union, Sequence, Array, shape_in, HasShape, HasMember, HasPlace, part_of, name_in, enum_name_in, switch_of, select_in, interpreted_in, Tag, Encapsulation, Led}
 use Rattle.giop_sig.specs.Table.{Node, Part, Case, shape_of, part_at, type_of, name_of, name_at, selected, case_part}
 use Rattle.giop_sig.specs.Table as nodes
 use Rattle.giop_sig.specs.Trees.{grow, name_or}
@@ -20,6 +20,7 @@ has_shape (Union Tag scalar select names cases) = search (arith)
 has_shape (Encapsulation T) = (T, refl)
 has_shape (Sequence bound T) = (T, refl)
 has_shape (Array count T) = (T, refl)
+has_shape (Led h F parts) = (h, F, parts, refl)
 has_shape _ = refl
 
 read_below : (ps : List Part) (i : ℕ) → i < length ps → (p : Part) × (slice_get ps i ≡ Some p)

@@ -6,7 +6,7 @@ use Rattle.std.proofs.lemmas.Bool.{cases_lt}
 use Rattle.giop_cdr.specs.declared.number.Number.{Number}
 use Rattle.giop_sig.specs.declared.types.Selected.{Selected}
 use Rattle.giop_sig.specs.declared.types.Selected.TheVariants as selecteds
-use Rattle.giop_sig.specs.Types.{places_of, interpreted_by, Ty, Single, Text, Octets, Struct, Union, Sequence, Array, depth, most, HasMember, HasPlace, part_of, Encapsulation}
+use Rattle.giop_sig.specs.Types.{places_of, interpreted_by, Ty, Single, Text, Octets, Struct, Union, Sequence, Array, depth, most, HasMember, HasPlace, part_of, Encapsulation, Led}
 use Rattle.giop_sig.specs.Fits.{IsSolid, IsFit, IsRoot}
 use Rattle.giop_sig.specs.Table.{Node, Part, Case, node_in, shape_of, selected, case_or, IsFormed, IsInner, IsCaseBelow, TakesOctet}
 use Rattle.giop_sig.specs.Table as nodes
@@ -134,6 +134,7 @@ fit_by (Encapsulation T) zero solid le = absurd (omega arith)
 fit_by (Encapsulation T) (suc d) solid le = fit_by T d solid (omega arith)
 fit_by (Array count T) zero solid le = absurd (omega arith)
 fit_by (Array count T) (suc d) solid le = (solid.0, fit_by T d solid.1 (omega arith))
+fit_by (Led h F parts) d solid le = absurd solid
 
 pub fit_at : (types : List Node) (i : ℕ) → AreTypes types → i < length types
     → TakesOctet (node_in types i) → IsFit 24 (type_in types i)

@@ -2,7 +2,7 @@
 use Rattle.std.specs.Prelude.{◌≡◌, ℕ, zero, suc, ◌<◌, ◌⊎◌}
 use Rattle.giop_sig.specs.declared.types.Selected.{Selected}
 use Rattle.giop_sig.specs.declared.types.Selected.TheVariants.{Case}
-use Rattle.giop_sig.specs.Types.{Ty, places_of, Struct, Union, Sequence, Array, Encapsulation}
+use Rattle.giop_sig.specs.Types.{Ty, places_of, Struct, Union, Sequence, Array, Encapsulation, Led, Told, Then, Sequel, sequel}
 
 -- each case that is selected is one of so many
 abbrev pub SelectsBelow : ℕ → (ℕ → Selected) → Type 0
@@ -14,6 +14,7 @@ IsSolid (Struct count names parts) = (0 < count) × ((i : ℕ) → i < count →
 IsSolid (Array count T) = (0 < count) × IsSolid T
 IsSolid (Sequence bound T) = IsSolid T
 IsSolid (Encapsulation T) = IsSolid T
+IsSolid (Led h F parts) = ⊥
 IsSolid (Union choice scalar select names cases) =
     SelectsBelow (places_of choice) select × ((i : ℕ) → i < places_of choice → IsSolid (cases i))
 IsSolid T = Unit {0}
@@ -24,6 +25,8 @@ IsFit (suc d) (Struct count names parts) = (0 < count) × ((i : ℕ) → i < cou
 IsFit (suc d) (Array count T) = (0 < count) × IsFit d T
 IsFit (suc d) (Sequence bound T) = IsFit d T
 IsFit (suc d) (Encapsulation T) = IsFit d T
+IsFit (suc d) (Led h F parts) =
+    IsFit d F × ((told : Told) (i : ℕ) → sequel h told ≡ Then i → IsFit d (parts i))
 IsFit (suc d) (Union choice scalar select names cases) =
     SelectsBelow (places_of choice) select × ((i : ℕ) → i < places_of choice → IsFit d (cases i))
 IsFit (suc d) T = Unit {0}

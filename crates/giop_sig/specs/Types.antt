@@ -4,7 +4,7 @@
 -- label of a signed type is compared
 -- with that number taken in two's complement, so that -1 of a short is selected by the octets of
 -- 65535.
-use Rattle.std.specs.Prelude.{◌≡◌, ℕ, zero, suc, ◌+◌, ◌<◌, max, cond, nat_lt, List, [], Option, Some, None}
+use Rattle.std.specs.Prelude.{◌≡◌, ℕ, zero, suc, ◌+◌, ◌<◌, max, cond, nat_lt, Bool, List, [], Option, Some, None}
 use Rattle.giop_cdr.specs.declared.prim.Primitive.{Primitive}
 use Rattle.giop_cdr.specs.declared.number.Number.{Number}
 use Rattle.giop_cdr.specs.declared.number.Number.TheVariants as numbers
@@ -15,20 +15,24 @@ use Rattle.giop_sig.specs.declared.types.Selected.TheVariants.{Nothing}
 use Rattle.giop_sig.specs.declared.types.Shape.{Shape}
 use Rattle.giop_sig.specs.declared.types.Shape.TheVariants as shapes
 
--- A type of one number: a primitive, or an enum of so many names.
+-- A type of one number: a primitive, an enum of so many names, or a number of four octets with a
+-- mark, by which it is heard.
 pub data Scalar : Type 0 where
   Plain : Primitive → Scalar
   Enum : ℕ → (ℕ → List ℕ) → Scalar
+  Marked : ℕ → Scalar
 
 -- how many octets its number takes
 abbrev pub width : Scalar → ℕ
 width (Plain p) = size_of p
 width (Enum count names) = 4
+width (Marked mark) = 4
 
 -- what a whole number is as a value of such a type: none for a boolean above 1
 abbrev pub interpreted_by : Scalar → ℕ → Option Number
 interpreted_by (Plain p) n = interpreted_as p n
 interpreted_by (Enum count names) n = Some (numbers.Unsigned n)
+interpreted_by (Marked mark) n = Some (numbers.Unsigned n)
 
 -- what a union's discriminator chooses among: so many cases; or it is a tag, a member itself, part
 -- 0 of three
@@ -46,6 +50,48 @@ abbrev pub tag_of : Choice → (ℕ → List ℕ) → Option (List ℕ)
 tag_of (Cases n) names = None
 tag_of Tag names = Some (names 0)
 
+-- ---- what a value tells of what follows it
+
+-- what of a line can tell it: the number of a leaf with a mark, a count of elements, or a piece of
+-- a string and whether more follow
+pub data Sign : Type 0 where
+  MarkedNumber : ℕ → ℕ → Sign
+  Counted : ℕ → Sign
+  Spelt : List ℕ → Bool → Sign
+
+-- What was told so far.
+pub data Told : Type 0 where
+  -- nothing
+  Untold : Told
+  -- a kind whose repository id comes, and what has come of it, where that is at most 128 octets
+  Awaits : ℕ → Option (List ℕ) → Told
+  -- a type, whose count of members comes
+  Offers : ℕ → Told
+  -- a type
+  Is : ℕ → Told
+  -- no octet follows
+  Empty : Told
+  -- what follows has no type
+  Unknown : Told
+
+-- what follows: the part of a number, no part, or octets of no type
+pub data Sequel : Type 0 where
+  Then : ℕ → Sequel
+  Ends : Sequel
+  Stops : Sequel
+
+-- How a value is heard: what a sign changes, what was told selects, and the names of both parts.
+pub record Hearing : Type 0 where
+  pub hears : Told → Sign → Told
+  pub selects : Told → Sequel
+  pub first : Option (List ℕ)
+  pub second : Option (List ℕ)
+
+-- what follows: no part where nothing was told
+abbrev pub sequel : Hearing → Told → Sequel
+sequel h Untold = Ends
+sequel h told = h.selects told
+
 pub data Ty : Type 0 where
   Single : Scalar → Ty
   -- a string, perhaps with a bound
@@ -60,8 +106,15 @@ pub data Ty : Type 0 where
   Array : ℕ → Ty → Ty
   -- octets with a byte order of their own, that hold a value of a type
   Encapsulation : Ty → Ty
+  -- a part that tells what follows it: how it is heard, its type, and the types of what can follow
+  Led : Hearing → Ty → (ℕ → Ty) → Ty
 
 -- ---- what stands in a type
+
+-- that part is in place 0, and what can follow in the places after it
+abbrev pub led_part : Ty → (ℕ → Ty) → ℕ → Ty
+led_part F parts zero = F
+led_part F parts (suc i) = parts i
 
 -- the part in a place; an element's for any place
 abbrev pub part_of : Ty → ℕ → Ty
@@ -70,6 +123,7 @@ part_of (Union choice scalar select names cases) i = cases i
 part_of (Array count T) i = T
 part_of (Sequence bound T) i = T
 part_of (Encapsulation T) i = T
+part_of (Led h F parts) i = led_part F parts i
 part_of T i = T
 
 -- the name of the part in a place; an element has none
@@ -108,6 +162,7 @@ union_shape Tag = shapes.Tagged
 abbrev pub shape_in : Ty → Shape
 shape_in (Single (Plain p)) = shapes.Prim p
 shape_in (Single (Enum count names)) = shapes.Enumeration count
+shape_in (Single (Marked mark)) = shapes.Marked mark
 shape_in (Text bound) = shapes.Text bound
 shape_in (Octets bound) = shapes.Octets bound
 shape_in (Struct count names parts) = shapes.Members count
@@ -115,11 +170,14 @@ shape_in (Union choice scalar select names cases) = union_shape choice
 shape_in (Sequence bound T) = shapes.Sequence bound
 shape_in (Array count T) = shapes.Array count
 shape_in (Encapsulation T) = shapes.Encapsulation
+shape_in (Led h F parts) = shapes.Led
 
 -- a type has that outermost form
 abbrev pub HasShape : Ty → Shape → Type 0
 HasShape T (shapes.Prim p) = T ≡ Single (Plain p)
 HasShape T (shapes.Enumeration count) = (names : ℕ → List ℕ) × (T ≡ Single (Enum count names))
+HasShape T (shapes.Marked mark) = T ≡ Single (Marked mark)
+HasShape T shapes.Led = (h : Hearing) × (F : Ty) × (parts : ℕ → Ty) × (T ≡ Led h F parts)
 HasShape T (shapes.Text bound) = T ≡ Text bound
 HasShape T (shapes.Octets bound) = T ≡ Octets bound
 HasShape T (shapes.Members count) =
@@ -148,6 +206,7 @@ HasPlace (shapes.Union count) i = i < count
 HasPlace (shapes.Sequence bound) i = Unit {0}
 HasPlace (shapes.Array count) i = Unit {0}
 HasPlace shapes.Encapsulation i = Unit {0}
+HasPlace shapes.Led i = Unit {0}
 HasPlace shapes.Tagged i = i < 3
 HasPlace s i = ⊥
 
@@ -174,3 +233,5 @@ depth (Union choice scalar select names cases) =
 depth (Sequence bound T) = 1 + depth T
 depth (Array count T) = 1 + depth T
 depth (Encapsulation T) = 1 + depth T
+-- what can follow is counted where it begins
+depth (Led h F parts) = 1 + depth F

@@ -285,6 +285,8 @@ impl Types {
             Shape::Array(_) => 1 + self.depth_at(entry.part(0)),
             Shape::Encapsulation => 1 + self.depth_at(entry.part(0)),
             Shape::Tagged => 1 + self.deepest_part(entry, 3).max(1),
+            Shape::Marked(_) => 1,
+            Shape::Led => unreachable!(),
         }
     }
 

@@ -63,6 +63,8 @@ fn add_kind(catalogue: &Catalogue, t: TypeId, row: &mut Sheet) -> Result<(), Out
         Shape::Array(_) => b"array",
         Shape::Encapsulation => b"encapsulation",
         Shape::Tagged => b"tagged",
+        Shape::Marked(_) => b"marked",
+        Shape::Led => b"led",
     };
     put_all(row, word)
 }

@@ -119,14 +119,14 @@ pub payload_reset : (F : Reader) (w : State) (id : ℕ) (s : Segment) (f : FlowS
     flow_at w id ≡ Some f → s.reset ≡ true → payload_taken F w id s ≡ w
 unfolding payload_taken
 payload_reset F w id s f e r = rw (e, payload_taken)
-    (cond-true s.reset w (arrived F w id (Octets (first_number s) s.payload)) r)
+    (cond-true s.reset w (arrived F w id (Octets (first_number s) s.payload w.arrival)) r)
 
 pub payload_later : (F : Reader) (w : State) (id : ℕ) (s : Segment) (f : FlowState) →
     flow_at w id ≡ Some f → s.reset ≡ false →
-    payload_taken F w id s ≡ arrived F w id (Octets (first_number s) s.payload)
+    payload_taken F w id s ≡ arrived F w id (Octets (first_number s) s.payload w.arrival)
 unfolding payload_taken
 payload_later F w id s f e r = rw (e, payload_taken)
-    (cond-false s.reset w (arrived F w id (Octets (first_number s) s.payload)) r)
+    (cond-false s.reset w (arrived F w id (Octets (first_number s) s.payload w.arrival)) r)
 
 pub no_fin : (F : Reader) (w : State) (id : ℕ) (s : Segment) → s.fin ≡ false →
     fin_taken F w id s ≡ w

@@ -34,7 +34,8 @@ noted O live c c' w room h same free table =
       same = same w.events ∙ ap (λ (u : State). record u { lasts = set u.lasts room u.segments })
           h.same;
       told = h.told;
-      sound = sound_seen w (set w.lasts room w.segments) w.syns w.segments w.events long h.sound;
+      sound = sound_seen w (set w.lasts room w.segments) w.syns w.segments w.events w.arrival
+          long h.sound;
       free = free ∙ h.free ∙ sym long;
       room = table ∙ h.room ∙ sym long;
     }
@@ -56,7 +57,7 @@ syn_noted O live c c' w room id s h same free table =
       told = h.told;
       sound = sound_seen w (set w.lasts room w.segments)
           (set w.syns room (Some (record { flow = id; number = onward s.sequence 1 }))) w.segments
-          w.events long h.sound;
+          w.events w.arrival long h.sound;
       free = free ∙ h.free ∙ sym long;
       room = table ∙ h.room ∙ sym long;
     }
@@ -72,7 +73,7 @@ counted O live c c' w h same free table =
       live = h.live;
       same = same w.events ∙ ap (λ (u : State). record u { segments = u.segments + 1 }) h.same;
       told = h.told;
-      sound = sound_seen w w.lasts w.syns (w.segments + 1) w.events refl h.sound;
+      sound = sound_seen w w.lasts w.syns (w.segments + 1) w.events w.arrival refl h.sound;
       free = free ∙ h.free;
       room = table ∙ h.room;
     }

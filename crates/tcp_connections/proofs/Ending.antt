@@ -1,5 +1,5 @@
 -- Gaps in the order of the live streams leave nothing held.
-use Rattle.std.proofs.Common.{◌≡◌, ℕ, zero, suc, ◌+◌, ◌-◌, ◌<◌, ◌≤◌, ◌⊎◌, Bool, true, false, cond, eqb, nat_eq, nat_lt, List, [], ◌∷◌, ◌++◌, length, drop, get_or, Option, Some, None, is_some, refl, sym, ◌∙◌, ap, subst, arith, inl, inr, true≢false, length-append}
+use Rattle.std.proofs.Common.{◌≡◌, ℕ, zero, suc, ◌+◌, ◌-◌, ◌<◌, ◌≤◌, ◌⊎◌, Bool, true, false, cond, eqb, nat_eq, nat_lt, List, [], ◌∷◌, ◌++◌, length, get_or, Option, Some, None, is_some, refl, sym, ◌∙◌, ap, subst, arith, inl, inr, true≢false, length-append}
 use Rattle.std.specs.List.{AllByRecursion, IsDistinct, remove}
 use Rattle.std.proofs.lemmas.Bool.{cases_Bool, cond-true, cond-false, eqb-true, eq-eqb, ne_eqb, lt-ltb, ltb-true, ltb-false}
 use Rattle.std.proofs.lemmas.List.{get_or_append_left}
@@ -8,8 +8,8 @@ use Rattle.tcp_flow.specs.declared.flow.CloseCause.{CloseCause}
 use Rattle.tcp_flow.specs.declared.flow.CloseCause.TheVariants.{Fault, Gap}
 use Rattle.tcp_flow.specs.declared.flow.FlowState.{FlowState}
 use Rattle.tcp_waiting.specs.Numbers.{onward}
-use Rattle.tcp_waiting.specs.Payload.{Payload, payload, first, count_of}
-use Rattle.tcp_flow.specs.Flow.{Flow, Begins, Delivers, Closes, Reader, left, with_event, delivered, begun as flow_begun, taken, stream_at, at, closed, gap, first_of, held_by_others}
+use Rattle.tcp_waiting.specs.Payload.{without_first, Payload, first, count_of}
+use Rattle.tcp_flow.specs.Flow.{Flow, Begins, Delivers, Closes, OfCapture, ComesFrom, Reader, left, with_event, delivered, begun as flow_begun, told_from, taken, stream_at, at, closed, gap, first_of, held_by_others}
 use Rattle.tcp_flow.specs.State.{state}
 use Rattle.tcp_flow.proofs.Preserving.{Keeps, gone_on_keeps}
 use Rattle.tcp_flow.proofs.Room.{gap_fewer}
@@ -202,7 +202,7 @@ begun_tail F id others g q (Some i) o t =
       held = g.held;
       events = g.events ++ Begins g.id n ∷ [];
     })
-    (payload q.flow n (drop i q.octets)) o
+    (without_first i q) o
     (record {
       same = t.same;
       tail =
@@ -214,16 +214,28 @@ begun_tail F id others g q (Some i) o t =
           ];
     })
 
+from_tail : (id : ℕ) (others : List ℕ) (g : Flow) (p : Payload) → IsTail id others g →
+    IsTail id others (told_from g p)
+unfolding told_from with_event behind
+from_tail id others g p t =
+    let more = lives_more [] g.events (OfCapture (ComesFrom p.arrival)) in
+    record {
+      same = t.same;
+      tail = elim t.tail [ inl e ↦ inl (more ∙ e) | inr e ↦ inr (more ∙ e) ];
+    }
+
 taken_tail : (F : Reader) (id : ℕ) (others : List ℕ) (g : Flow) (p : Payload) → IsOther id others →
     IsTail id others g → IsTail id others (taken F g p)
 unfolding taken
 taken_tail F id others g p o t =
     let q : Payload = left g.next (is_some g.live) p in
-    let d : Flow = delivered F g q in
-    let b : Flow = flow_begun F g q (stream_at q.octets) in
+    let h : Flow = told_from g p in
+    let u : IsTail id others h = from_tail id others g p t in
+    let d : Flow = delivered F h q in
+    let b : Flow = flow_begun F h q (stream_at q.octets) in
     either (IsTail id others) (nat_eq (length q.octets) 0) g (cond (is_some g.live) d b) t
-    (either (IsTail id others) (is_some g.live) d b (delivered_tail F id others g q o t)
-    (begun_tail F id others g q (stream_at q.octets) o t))
+    (either (IsTail id others) (is_some g.live) d b (delivered_tail F id others h q o u)
+    (begun_tail F id others h q (stream_at q.octets) o u))
 
 tail_keeps : (F : Reader) (id : ℕ) (others : List ℕ) → IsOther id others →
     Keeps F (IsTail id others)

@@ -45,7 +45,7 @@ pub others_kept : (payloads : List Payload) (id other : ℕ) (due : Option ℕ) 
     IsKept (λ es. AllFollow payloads other None es due) id
 others_kept payloads id other due apart es e of t =
     runs_more payloads other None due due es e t
-    (inr (λ o. apart (some_same other id (sym o ∙ of)), refl))
+    (inr (λ o. apart (of other o), refl))
 
 -- one of them, before it does anything
 pub flow_before : (payloads : List Payload) (w : State) (id : ℕ) (s : FlowState) →
@@ -106,14 +106,15 @@ flow_behind payloads w id f h l own g beside =
 step_blocks : (A : Setting) (f : Flow) (a : Arrival) → blocks_of f.held ≤ A.blocks →
     blocks_of (flow_step A f a).held ≤ A.blocks
 unfolding flow_step
-step_blocks A f (Octets n octets) l = room_after A f (payload f.id n octets) refl l
+step_blocks A f (Octets n octets arrival) l = room_after A f (payload f.id n octets arrival) refl l
 step_blocks A f (End n) l = omega (arith, l, fin_blocks A.faulted f n)
 step_blocks A f (Acknowledged n) l = omega (arith, l, missed_blocks A.faulted (length f.held) n f)
 
 step_settled : (A : Setting) (f : Flow) (a : Arrival) → IsSettled f →
     (flow_step A f a).next < 2 ^ 32 → IsSettled (flow_step A f a)
 unfolding flow_step
-step_settled A f (Octets n octets) t l = came_settled A f (payload f.id n octets) t l
+step_settled A f (Octets n octets arrival) t l = came_settled A f
+    (payload f.id n octets arrival) t l
 step_settled A f (End n) t l = fin_settled A.faulted f n t l
 step_settled A f (Acknowledged n) t l = missed_settled A.faulted (length f.held) n f t l
 
@@ -156,14 +157,15 @@ arrived_both payloads more F w id a h t u goes = by (flow_at w id) refl
 
 pub began_both : (payloads : List Payload) (F : Reader) (w : State) (id n : ℕ) (octets : List ℕ) →
     n < 2 ^ 32 → IsSound w → Follow payloads w
-    → Follow (payloads ++ payload id n octets ∷ []) w → flow_at w id ≡ None → id < length w.flows →
+    → Follow (payloads ++ payload id n octets w.arrival ∷ []) w → flow_at w id ≡ None → id <
+    length w.flows →
     IsApart w id
-    → IsSound (began F w id n octets) × Follow (payloads ++ payload id n octets ∷ [])
+    → IsSound (began F w id n octets) × Follow (payloads ++ payload id n octets w.arrival ∷ [])
     (began F w id n octets)
 unfolding began first_payload flow_step first_of
 began_both payloads F w id n octets small h t u e within apart =
     let A : Setting = setting F w.blocks in
-    let p : Payload = payload id n octets in
+    let p : Payload = payload id n octets w.arrival in
     let more : List Payload = payloads ++ p ∷ [] in
     let before : Flow = fresh id n w.held w.events in
     let f : Flow = payload_came A before p in
@@ -176,7 +178,7 @@ began_both payloads F w id n octets small h t u e within apart =
     (record { same = refl; told = tt })).same in
     let idle : IsSettled before = fresh_settled before refl
     (ap is_some (first_none id n w.held (h.vacant id e))) in (
-      with_flow_sound w id f h within same (step_others A before (Octets n octets))
+      with_flow_sound w id f h within same (step_others A before (Octets n octets w.arrival))
           (room_after A before p refl h.blocks)
           (settled_whatever (flow_state f) f.held f.events [] (came_settled A before p idle g.next))
           apart,

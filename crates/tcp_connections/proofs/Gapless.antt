@@ -8,6 +8,7 @@ use Rattle.std.proofs.lemmas.List.{length-replicate}
 use Rattle.tcp_segment.specs.Segments.{Segment}
 use Rattle.tcp_waiting.specs.Numbers.{onward}
 use Rattle.tcp_waiting.specs.Payload.{Payload}
+use Rattle.tcp_waiting.specs.declared.arrival.Arrival as origin
 use Rattle.tcp_flow.specs.declared.flow.CloseCause.TheVariants.{Syn}
 use Rattle.tcp_flow.specs.Flow.{Event, OfCapture, CaptureEvent, Reader}
 use Rattle.tcp_flow.specs.Laws.{AllFollow, AllArePartsOf}
@@ -16,9 +17,9 @@ use Rattle.tcp_streams.specs.declared.pair.EndpointPair.{EndpointPair}
 use Rattle.tcp_streams.specs.declared.pair.Side.{Side}
 use Rattle.tcp_streams.specs.Lives.{lives}
 use Rattle.tcp_streams.specs.Pairs.{compare_pairs, pair_of, opposite, flow_id, flow_from}
-use Rattle.tcp_connections.specs.Connections.{State, none_known, flow_at, began, syn_at, syn_kept, flow_of_side, place_of, room_at, ended_by, with_room, next_room, made_known, first_number, is_first, is_kept, is_anew, fin_taken, unknown_taken, acknowledgement_taken, payload_taken, known_taken, step, after, with_capture_event, gaps_from, ended}
+use Rattle.tcp_connections.specs.Connections.{State, none_known, flow_at, began, syn_at, syn_kept, flow_of_side, place_of, room_at, ended_by, with_room, next_room, made_known, first_number, is_first, is_kept, is_anew, fin_taken, unknown_taken, acknowledgement_taken, payload_taken, known_taken, step, after, with_packet, with_capture_event, gaps_from, ended}
 use Rattle.tcp_connections.specs.declared.syns.KeptSyn.{KeptSyn}
-use Rattle.tcp_connections.specs.Gapless.{IsOfSegment, AreGapless, AreWhole}
+use Rattle.tcp_connections.specs.Gapless.{IsOfSegment, AreGapless, AreWhole, HaveRooms}
 use Rattle.tcp_connections.specs.Owned.{AreOwned}
 use Rattle.tcp_connections.specs.State.{times}
 use Rattle.tcp_connections.proofs.Cases.{step_unknown, step_kept, step_anew, step_known}
@@ -27,6 +28,7 @@ use Rattle.tcp_connections.proofs.Following.{some_same, due_in, Follow, gaps_fol
 use Rattle.tcp_connections.proofs.Kept.{acknowledgement_kept, payload_kept, fin_kept, half}
 use Rattle.tcp_connections.proofs.Owners.{owner_of}
 use Rattle.tcp_connections.proofs.OwnersEnd.{end_owns}
+use Rattle.tcp_connections.proofs.Roomy.{rooms_in, after_rooms, ended_rooms, owned_rooms}
 use Rattle.tcp_connections.proofs.OwnersGrown.{slice_more, owns_grown, none_owns}
 use Rattle.tcp_connections.proofs.OwnersKnown.{told_owns, theirs_at, flow_of_pair}
 use Rattle.tcp_connections.proofs.OwnFlows.{either}
@@ -73,11 +75,11 @@ unknown_at segments F w s among new h =
     (fin_at segments F began_there id s b) h
 
 seen_at : (segments : List Segment) (w : State) (lasts : List ℕ) (syns : List (Option KeptSyn))
-    (count : ℕ) → length lasts ≡ length w.lasts → At segments w →
-    At segments (record w { lasts = lasts; syns = syns; segments = count })
-seen_at segments w lasts syns count e h =
+    (count : ℕ) (arrival : origin.Arrival) → length lasts ≡ length w.lasts → At segments w →
+    At segments (record w { lasts = lasts; syns = syns; segments = count; arrival = arrival })
+seen_at segments w lasts syns count arrival e h =
     record {
-      sound = sound_seen w lasts syns count w.events e h.sound;
+      sound = sound_seen w lasts syns count w.events arrival e h.sound;
       payloads = h.payloads;
       came = h.came;
       follow = record {
@@ -91,6 +93,7 @@ seen_at segments w lasts syns count e h =
         flows = h.owns.flows;
         held = h.owns.held;
         known = h.owns.known;
+        beyond = λ id many. h.owns.beyond id (omega (arith, many, e));
       };
     }
 
@@ -99,6 +102,7 @@ syn_kept_at : (segments : List Segment) (w : State) (room id : ℕ) (s : Segment
 unfolding syn_kept
 syn_kept_at segments w room id s h = seen_at segments w (set w.lasts room w.segments)
     (set w.syns room (Some (record { flow = id; number = onward s.sequence 1 }))) w.segments
+    w.arrival
     (length-set w.lasts room w.segments) h
 
 known_at : (segments : List Segment) (F : Reader) (w : State) (place : ℕ) (s : Segment) →
@@ -115,7 +119,7 @@ known_at segments F w place s among is l h =
     let paid : State = payload_taken F heard id s in
     let kept = acknowledgement_kept F seen opposite_id s in
     let at_heard : At segments heard = acknowledgement_at segments F seen opposite_id s
-    (seen_at segments w (set w.lasts room w.segments) w.syns w.segments
+    (seen_at segments w (set w.lasts room w.segments) w.syns w.segments w.arrival
     (length-set w.lasts room w.segments) h) in
     let within : id < length heard.flows =
     omega (arith, id_within w room side h.sound (room_below w place h.sound l), kept.flows) in
@@ -168,7 +172,7 @@ step_at_in segments F w s among h = by (place_of (pair_of s.flow).0 w.known) ref
     v = record w { segments = w.segments + 1 }
 
     counted : At segments v
-    counted = seen_at segments w w.lasts w.syns (w.segments + 1) refl h
+    counted = seen_at segments w w.lasts w.syns (w.segments + 1) w.arrival refl h
 
     by : (o : Option ℕ) → place_of (pair_of s.flow).0 w.known ≡ o → At segments (step F w s)
     by None e = subst (At segments) (sym (step_unknown F w s e))
@@ -238,13 +242,19 @@ after_at before (s ∷ ss) F w h =
     (append_assoc before (s ∷ []) ss) (after_at (before ++ s ∷ []) ss F (step F w s)
     (step_at before F w s h))
 
+-- one packet more is read
+pub packet_at : (segments : List Segment) (w : State) (time : Option ℕ) → At segments w →
+    At segments (with_packet w time)
+packet_at segments w time h =
+    seen_at segments w w.lasts w.syns w.segments (with_packet w time).arrival refl h
+
 -- the listener is told of the capture
 pub told_at : (segments : List Segment) (w : State) (event : CaptureEvent) → At segments w →
     At segments (with_capture_event w event)
 told_at segments w event h =
     let events : List Event = w.events ++ OfCapture event ∷ [] in
     record {
-      sound = sound_seen w w.lasts w.syns w.segments events refl h.sound;
+      sound = sound_seen w w.lasts w.syns w.segments events w.arrival refl h.sound;
       payloads = h.payloads;
       came = h.came;
       follow =
@@ -348,3 +358,19 @@ pub after_end_owned : (F : Reader) (ports : List ℕ) (blocks most : ℕ) (segme
 after_end_owned F ports blocks most segments some few =
     ended_owned segments F (after F (none_known ports blocks most []) segments)
     (after_at [] segments F (none_known ports blocks most []) (start_at ports blocks most some few))
+
+-- ---- Each event is in a flow of a connection that has a room.
+
+pub ended_have_rooms : (segments : List Segment) (F : Reader) (most : ℕ) (w : State) →
+    At segments w → rooms_in w ≡ most → HaveRooms most (ended F w).events
+ended_have_rooms segments F most w h many =
+    owned_rooms segments most (ended F w) (end_owns segments h.payloads F w h.follow h.owns)
+    (ended_rooms F w ∙ many)
+
+pub after_end_rooms : (F : Reader) (ports : List ℕ) (blocks most : ℕ) (segments : List Segment) →
+    1 ≤ most → most ≤ 65536
+    → HaveRooms most (ended F (after F (none_known ports blocks most []) segments)).events
+after_end_rooms F ports blocks most segments some few =
+    ended_have_rooms segments F most (after F (none_known ports blocks most []) segments)
+    (after_at [] segments F (none_known ports blocks most []) (start_at ports blocks most some few))
+    (after_rooms F (none_known ports blocks most []) segments ∙ length-replicate most 0)

@@ -276,7 +276,7 @@ step_gone F w s p h k e = by (place_of (pair_of s.flow).0 w.known) refl
     v = record w { segments = w.segments + 1 }
 
     sound : IsSound v
-    sound = sound_seen w w.lasts w.syns (w.segments + 1) w.events refl h
+    sound = sound_seen w w.lasts w.syns (w.segments + 1) w.events w.arrival refl h
 
     after_step : (u : State) → step F w s ≡ u → place_of p u.known ≡ None
     after_step u d = sym (ap (λ (x : State). place_of p x.known) d) ∙ e

@@ -52,7 +52,7 @@ pub began_kept : (F : Reader) (w : State) (id number : ℕ) (octets : List ℕ) 
     IsKept w (began F w id number octets)
 unfolding began
 began_kept F w id number octets = with_flow_kept w id
-    (first_payload (setting F w.blocks) id number octets w.held w.events)
+    (first_payload (setting F w.blocks) id number octets w.arrival w.held w.events)
 
 either : (w : State) (b : Bool) (u v : State) → IsKept w u → IsKept w v → IsKept w (cond b u v)
 either w true u v h k = h
@@ -77,12 +77,12 @@ payload_kept F w id s =
       | None ↦ cond (is_first w.ports s)
           (began F w id (first_number s) s.payload) w
       | Some f ↦ cond s.reset w
-          (arrived F w id (Octets (first_number s) s.payload))
+          (arrived F w id (Octets (first_number s) s.payload w.arrival))
     ])) [
       | None ↦ either w (is_first w.ports s) (began F w id (first_number s) s.payload) w
           (began_kept F w id (first_number s) s.payload) (kept_self w)
-      | Some f ↦ either w s.reset w (arrived F w id (Octets (first_number s) s.payload))
-          (kept_self w) (arrived_kept F w id (Octets (first_number s) s.payload))
+      | Some f ↦ either w s.reset w (arrived F w id (Octets (first_number s) s.payload w.arrival))
+          (kept_self w) (arrived_kept F w id (Octets (first_number s) s.payload w.arrival))
     ]
 
 pub fin_kept : (F : Reader) (w : State) (id : ℕ) (s : Segment) → IsKept w (fin_taken F w id s)

@@ -17,6 +17,7 @@ pub mod OwnersGrown
 pub mod OwnersKnown
 pub mod OwnFlows
 pub mod Repeated
+pub mod Roomy
 pub mod SamePairs
 pub mod Search
 pub mod SegmentParts

@@ -1,12 +1,13 @@
 -- A flow whose stream lives is one of those of whose streams the listener was told that they live.
-use Rattle.std.proofs.Common.{◌≡◌, ℕ, ◌+◌, ◌<◌, Bool, true, false, cond, eqb, nat_eq, nat_lt, ◌&&◌, ◌||◌, List, [], ◌∷◌, ◌++◌, length, drop, Option, Some, None, is_some, refl, sym, ◌∙◌, ap, subst, arith, inl, inr, true≢false}
+use Rattle.std.proofs.Common.{◌≡◌, ℕ, ◌+◌, ◌<◌, Bool, true, false, cond, eqb, nat_eq, nat_lt, ◌&&◌, ◌||◌, List, [], ◌∷◌, ◌++◌, length, Option, Some, None, is_some, refl, sym, ◌∙◌, ap, subst, arith, inl, inr, true≢false}
 use Rattle.std.specs.List.{AllByRecursion, IsDistinct, remove}
 use Rattle.std.proofs.lemmas.Bool.{cases_Bool, cond-true, cond-false, eqb-true, eq-eqb, ne_eqb, lt-ltb}
 use Rattle.tcp_flow.specs.declared.flow.CloseCause.{CloseCause}
 use Rattle.tcp_flow.specs.declared.flow.CloseCause.TheVariants.{Fault}
 use Rattle.tcp_waiting.specs.Numbers.{onward, age}
-use Rattle.tcp_waiting.specs.Payload.{Payload, payload, has_as_much, put}
-use Rattle.tcp_flow.specs.Flow.{Flow, Event, Opens, Begins, Delivers, Closes, OfCapture, Reader, Setting, Arrival, Octets, End, Acknowledged, left, with_event, delivered, begun as flow_begun, taken, stream_at, at, closed, holding, gone_on, within_bounds, payload_came, fin_came, gap, fresh, first_payload, step}
+use Rattle.tcp_waiting.specs.declared.arrival.Arrival as origin
+use Rattle.tcp_waiting.specs.Payload.{without_first, Payload, payload, has_as_much, put}
+use Rattle.tcp_flow.specs.Flow.{Flow, Event, Opens, Begins, Delivers, Closes, OfCapture, ComesFrom, Reader, Setting, Arrival, Octets, End, Acknowledged, left, with_event, delivered, begun as flow_begun, told_from, taken, stream_at, at, closed, holding, gone_on, within_bounds, payload_came, fin_came, gap, fresh, first_payload, step}
 use Rattle.tcp_flow.proofs.Preserving.{Keeps, gone_on_keeps, relieved_keeps, missed_keeps, gap_keeps}
 use Rattle.tcp_streams.specs.Lives.{lives, lives_from, behind, begun, without, most_ids, AreIds}
 use Rattle.tcp_streams.proofs.Ids.{none_ids, begun_ids, without_ids, none_left}
@@ -187,7 +188,7 @@ begun_turn {exact} F id es g q (Some i) l t =
       held =
           g.held;
       events = g.events ++ Begins g.id n ∷ [];
-    }) (payload q.flow n (drop i q.octets))
+    }) (without_first i q)
     (record {
       same = t.same;
       own = told_on exact (times id (lives (g.events ++ Begins g.id n ∷ [])))
@@ -198,17 +199,30 @@ begun_turn {exact} F id es g q (Some i) l t =
           ∙ t.beside j k;
     })
 
+from_turn : {exact : Bool} (id : ℕ) (es : List Event) (g : Flow) (p : Payload) →
+    IsTurn exact id es g → IsTurn exact id es (told_from g p)
+unfolding told_from with_event behind
+from_turn {exact} id es g p t =
+    let more = lives_more [] g.events (OfCapture (ComesFrom p.arrival)) in
+    record {
+      same = t.same;
+      own = subst (λ (xs : List ℕ). IsTold exact (is_some g.live) (times id xs)) (sym more) t.own;
+      beside = λ j n. ap (times j) more ∙ t.beside j n;
+    }
+
 taken_turn : {exact : Bool} (F : Reader) (id : ℕ) (es : List Event) (g : Flow) (p : Payload) →
     id < most_ids →
     IsTurn exact id es g → IsTurn exact id es (taken F g p)
 unfolding taken
 taken_turn {exact} F id es g p l t =
     let q : Payload = left g.next (is_some g.live) p in
-    let d : Flow = delivered F g q in
-    let b : Flow = flow_begun F g q (stream_at q.octets) in
+    let h : Flow = told_from g p in
+    let u : IsTurn exact id es h = from_turn id es g p t in
+    let d : Flow = delivered F h q in
+    let b : Flow = flow_begun F h q (stream_at q.octets) in
     either (IsTurn exact id es) (nat_eq (length q.octets) 0) g (cond (is_some g.live) d b) t
-    (either (IsTurn exact id es) (is_some g.live) d b (delivered_turn F id es g q t)
-    (begun_turn F id es g q (stream_at q.octets) l t))
+    (either (IsTurn exact id es) (is_some g.live) d b (delivered_turn F id es h q u)
+    (begun_turn F id es h q (stream_at q.octets) l u))
 
 pub turn_keeps : {exact : Bool} (F : Reader) (id : ℕ) (es : List Event) → id < most_ids →
     Keeps F (IsTurn exact id es)
@@ -250,7 +264,8 @@ pub step_turn : {exact : Bool} (A : Setting) (id : ℕ) (es : List Event) (f : F
     id < most_ids →
     IsTurn exact id es f → IsTurn exact id es (step A f a)
 unfolding step
-step_turn {exact} A id es f (Octets n octets) l t = came_turn A id es f (payload f.id n octets) l t
+step_turn {exact} A id es f (Octets n octets arrival) l t = came_turn A id es f
+    (payload f.id n octets arrival) l t
 step_turn {exact} A id es f (End n) l t = fin_turn A.faulted id es f n l t
 step_turn {exact} A id es f (Acknowledged n) l t =
     missed_keeps A.faulted (IsTurn exact id es) (turn_keeps A.faulted id es l) (length f.held) n f t
@@ -260,11 +275,12 @@ pub gap_turn : {exact : Bool} (F : Reader) (id : ℕ) (es : List Event) (f : Flo
     IsTurn exact id es (gap F f)
 gap_turn {exact} F id es f l t = gap_keeps F (IsTurn exact id es) (turn_keeps F id es l) f t
 
-pub first_turn : (A : Setting) (id n : ℕ) (octets : List ℕ) (held : List Payload)
-    (es : List Event) → id < most_ids → IsTurn false id es (first_payload A id n octets held es)
+pub first_turn : (A : Setting) (id n : ℕ) (octets : List ℕ) (arrival : origin.Arrival)
+    (held : List Payload) (es : List Event) → id < most_ids →
+    IsTurn false id es (first_payload A id n octets arrival held es)
 unfolding first_payload
-first_turn A id n octets held es l =
-    came_turn A id es (fresh id n held es) (payload id n octets) l
+first_turn A id n octets arrival held es l =
+    came_turn A id es (fresh id n held es) (payload id n octets arrival) l
     (record { same = refl; own = λ e. absurd (true≢false (sym e)); beside = λ j k. refl })
 
 -- what a flow has done so far is nothing yet

@@ -1,5 +1,5 @@
 -- What a flow delivers is of its own segments, whatever comes for it.
-use Rattle.std.proofs.Common.{◌≡◌, ℕ, zero, suc, ◌+◌, ◌^◌, ◌<◌, Bool, true, false, cond, nat_eq, nat_lt, ◌&&◌, ◌||◌, not, List, [], ◌∷◌, ◌++◌, length, drop, get_or, Option, Some, None, is_some, unwrap_or, refl, sym, ◌∙◌, ap, subst, arith, inl, inr, true≢false}
+use Rattle.std.proofs.Common.{◌≡◌, ℕ, ◌+◌, ◌^◌, ◌<◌, Bool, true, false, cond, nat_eq, nat_lt, ◌&&◌, ◌||◌, not, List, [], ◌∷◌, ◌++◌, length, drop, get_or, Option, Some, None, is_some, unwrap_or, refl, sym, ◌∙◌, ap, subst, arith, inl, inr, true≢false}
 use Rattle.std.specs.List.{AllByRecursion, remove}
 use Rattle.std.proofs.lemmas.Bool.{cases_Bool, cond-true, cond-false, and_cases, not-true, and_right, not_from_true, both_ways, eq-eqb}
 use Rattle.std.proofs.lemmas.List.{drop-drop}
@@ -8,10 +8,11 @@ use Rattle.tcp_segment.specs.Segments.{Segment}
 use Rattle.tcp_flow.specs.declared.flow.CloseCause.{CloseCause}
 use Rattle.tcp_flow.specs.declared.flow.CloseCause.TheVariants.{Fault}
 use Rattle.tcp_waiting.specs.Numbers.{onward, age, is_to_come}
-use Rattle.tcp_waiting.specs.Payload.{Payload, payload, window, has_as_much, put, place_of, key_of}
+use Rattle.tcp_waiting.specs.declared.arrival.Arrival as origin
+use Rattle.tcp_waiting.specs.Payload.{without_first, Payload, payload, no_payload, window, has_as_much, put, place_of, key_of}
 use Rattle.tcp_waiting.proofs.Held.{all_at, all_insert, all_remove}
 use Rattle.tcp_waiting.proofs.Order.{first_within, first_own}
-use Rattle.tcp_flow.specs.Flow.{Flow, Event, Begins, Delivers, Closes, Reader, Setting, Arrival, Octets, End, Acknowledged, left, with_event, delivered, begun as flow_begun, taken, stream_at, first_of, is_due, at, closed, holding, gone_on, within_bounds, payload_came, fin_came, gap, step}
+use Rattle.tcp_flow.specs.Flow.{Flow, Event, Begins, Delivers, Closes, OfCapture, ComesFrom, Reader, Setting, Arrival, Octets, End, Acknowledged, left, with_event, delivered, begun as flow_begun, told_from, taken, stream_at, first_of, is_due, at, closed, holding, gone_on, within_bounds, payload_came, fin_came, gap, step}
 use Rattle.tcp_flow.proofs.Preserving.{Keeps, gone_on_keeps, relieved_keeps, missed_keeps, gap_keeps}
 use Rattle.tcp_flow.proofs.Truth.{reached}
 use Rattle.tcp_connections.specs.Owned.{IsPartOf, Standing, Unopened, Idle, Live, is_of, behind, MayCome, standing, AllMayCome}
@@ -88,14 +89,14 @@ unfolding left
 part_left segments o next live p h =
     either (λ (q : Payload). IsPartOf segments o q.number q.octets)
     (nat_lt window (age next p.number) && not live) p
-    (payload p.flow (onward p.number (age next p.number)) (drop (age next p.number) p.octets)) h
+    (without_first (age next p.number) p) h
     (part_more segments o p.number (age next p.number) p.octets h)
 
 flow_left : (next : ℕ) (live : Bool) (p : Payload) → (left next live p).flow ≡ p.flow
 unfolding left
 flow_left next live p = either (λ (q : Payload). q.flow ≡ p.flow)
     (nat_lt window (age next p.number) && not live) p
-    (payload p.flow (onward p.number (age next p.number)) (drop (age next p.number) p.octets)) refl
+    (without_first (age next p.number) p) refl
     refl
 
 due_left : (next : ℕ) (live : Bool) (p : Payload) → next < 2 ^ 32 → live ≡ true →
@@ -104,7 +105,7 @@ unfolding left
 due_left next live p small l h =
     subst (λ (q : Payload). q.number ≡ next)
     (sym (cond-false (nat_lt window (age next p.number) && not live) p
-    (payload p.flow (onward p.number (age next p.number)) (drop (age next p.number) p.octets))
+    (without_first (age next p.number) p)
     (and_right (nat_lt window (age next p.number)) (not live) (not_from_true live l))))
     (reached next p.number small h)
 
@@ -232,30 +233,43 @@ module _ (segments : List Segment) (owners : ℕ → Option Endpoints) (id : ℕ
         fin = g.fin;
         held = g.held;
         events = g.events ++ Begins g.id n ∷ [];
-      }) (payload q.flow n (drop i q.octets)) n t.same t.held
+      }) (without_first i q) n t.same t.held
       (own_more segments id g.events (Idle o) (Begins g.id n) (eq-eqb g.id id t.same) tt idle)
       (part_more segments o q.number i q.octets part) refl refl
+
+  from_own : (g : Flow) (p : Payload) → IsOwn segments owners id o g →
+      IsOwn segments owners id o (told_from g p)
+  unfolding told_from with_event
+  from_own g p t = record {
+    same = t.same;
+    next = t.next;
+    held = t.held;
+    stands = other_more segments id g.events (stand_of o (is_some g.live) g.next)
+        (OfCapture (ComesFrom p.arrival)) refl t.stands;
+  }
 
   taken_own : (F : Reader) (f : Flow) (p : Payload) → IsOwn segments owners id o f →
       IsPartOf segments o p.number p.octets →
       (is_some f.live ≡ true → is_to_come f.next p.number ≡ false) →
       IsOwn segments owners id o (taken F f p)
-  unfolding taken
+  unfolding taken told_from with_event
   taken_own F f p t part reach =
       let q : Payload = left f.next (is_some f.live) p in
       let has : IsPartOf segments o q.number q.octets =
       part_left segments o f.next (is_some f.live) p part in
-      let d : Flow = delivered F f q in
-      let b : Flow = flow_begun F f q (stream_at q.octets) in
+      let g : Flow = told_from f p in
+      let u : IsOwn segments owners id o g = from_own f p t in
+      let d : Flow = delivered F g q in
+      let b : Flow = flow_begun F g q (stream_at q.octets) in
       let all : IsOwn segments owners id o (cond (is_some f.live) d b) =
       elim (cases_Bool (is_some f.live)) [
         | inl e ↦
             (let due : q.number ≡ f.next = due_left f.next (is_some f.live) p t.next e (reach e) in
             subst (IsOwn segments owners id o) (sym (cond-true (is_some f.live) d b e))
-            (delivered_own F f q f.next t.same t.held (live_stands f e t)
+            (delivered_own F g q f.next t.same t.held (live_stands g e u)
             (subst (λ (n : ℕ). IsPartOf segments o n q.octets) due has) due e))
         | inr e ↦ subst (IsOwn segments owners id o) (sym (cond-false (is_some f.live) d b e))
-            (begun_own F f q (stream_at q.octets) t e has)
+            (begun_own F g q (stream_at q.octets) u e has)
       ] in
       either (IsOwn segments owners id o) (nat_eq (length q.octets) 0) f (cond (is_some f.live) d b)
       t all
@@ -267,11 +281,11 @@ module _ (segments : List Segment) (owners : ℕ → Option Endpoints) (id : ℕ
         takes =
             λ f i e d t.
             let within : i < length f.held = rw e at (first_within f.id f.next f.held) in
-            let mine : (get_or f.held i (payload 0 0 [])).flow ≡ f.id =
-            rw e at (first_own f.id f.next (payload 0 0 []) f.held) in
-            let p : Payload = get_or f.held i (payload 0 0 []) in
+            let mine : (get_or f.held i no_payload).flow ≡ f.id =
+            rw e at (first_own f.id f.next no_payload f.held) in
+            let p : Payload = get_or f.held i no_payload in
             let part : IsPartOf segments o p.number p.octets =
-            all_at (IsPartOfOwn segments owners) f.held i (payload 0 0 []) t.held within o
+            all_at (IsPartOfOwn segments owners) f.held i no_payload t.held within o
             (ap owners (mine ∙ t.same) ∙ own) in
             taken_own F (record f { held = remove f.held i }) p (record {
               same = t.same;
@@ -332,11 +346,12 @@ module _ (segments : List Segment) (owners : ℕ → Option Endpoints) (id : ℕ
 
   -- what comes is, where it is octets, part of a segment of the flow
   pub step_own : (A : Setting) (f : Flow) (a : Arrival) →
-      ((n : ℕ) (octets : List ℕ) → a ≡ Octets n octets → IsPartOf segments o n octets) →
+      ((n : ℕ) (octets : List ℕ) (arrival : origin.Arrival) → a ≡ Octets n octets arrival →
+      IsPartOf segments o n octets) →
       IsOwn segments owners id o f → IsOwn segments owners id o (step A f a)
   unfolding step
-  step_own A f (Octets n octets) part t =
-      came_own A f (payload f.id n octets) t.same (part n octets refl) t
+  step_own A f (Octets n octets arrival) part t =
+      came_own A f (payload f.id n octets arrival) t.same (part n octets arrival refl) t
   step_own A f (End n) part t = fin_own A.faulted f n t
   step_own A f (Acknowledged n) part t = missed_keeps A.faulted (IsOwn segments owners id o)
       (own_keeps A.faulted) (length f.held) n f t

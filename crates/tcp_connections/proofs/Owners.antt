@@ -1,11 +1,12 @@
 -- Which flows are whose, behind each change of a state.
-use Rattle.std.proofs.Common.{◌≡◌, ℕ, ◌+◌, ◌*◌, ◌^◌, ◌<◌, Bool, true, false, List, [], ◌∷◌, length, set, get_or, Option, Some, None, is_some, unwrap_or, refl, sym, ◌∙◌, ap, subst, inl, inr, true≢false, get_or-set_same, get_or-set_other}
+use Rattle.std.proofs.Common.{◌≡◌, ℕ, ◌+◌, ◌*◌, ◌^◌, ◌<◌, ◌≤◌, Bool, true, false, List, [], ◌∷◌, length, set, get_or, Option, Some, None, is_some, unwrap_or, refl, sym, ◌∙◌, ap, subst, inl, inr, true≢false, get_or-set_same, get_or-set_other}
 use Rattle.std.specs.List.{AllByRecursion}
 use Rattle.std.proofs.lemmas.Bool.{cases_eq, ne_eqb}
 use Rattle.tcp_segment.specs.declared.endpoint.Flow.{Flow as Endpoints}
 use Rattle.tcp_segment.specs.Segments.{Segment}
 use Rattle.tcp_flow.specs.declared.flow.CloseCause.{CloseCause}
 use Rattle.tcp_flow.specs.declared.flow.FlowState.{FlowState}
+use Rattle.tcp_waiting.specs.declared.arrival.Arrival as origin
 use Rattle.tcp_waiting.specs.Payload.{Payload, payload}
 use Rattle.tcp_flow.specs.Flow.{Flow, Event, Opens, Begins, Delivers, Closes, OfCapture, flow_of, Reader, Setting, Arrival, Octets, setting, fresh, payload_came, closed, gap, step as flow_step, first_payload}
 use Rattle.tcp_flow.specs.State.{state}
@@ -19,16 +20,13 @@ use Rattle.tcp_connections.proofs.Cases.{arrived_none, arrived_some, gapped_none
 use Rattle.tcp_connections.proofs.OwnFlows.{Stands, other_more, IsPartOfOwn, stand_of, IsOwn, closed_own, came_own, step_own, gap_own}
 use Rattle.tcp_connections.proofs.Sound.{some_within}
 
-some_number : (x y : ℕ) → Some x ≡ Some y → x ≡ y
-some_number x y e = ap (λ (s : Option ℕ). unwrap_or s x) e
-
 -- an event of another flow
-not_of : (j id : ℕ) (e : Event) → flow_of e ≡ Some id → (j ≡ id → ⊥) → is_of j e ≡ false
-not_of j id (Opens flow endpoints) of n = ne_eqb flow j
-    (λ o. n (sym o ∙ some_number flow id of))
-not_of j id (Begins flow number) of n = ne_eqb flow j (λ o. n (sym o ∙ some_number flow id of))
-not_of j id (Delivers flow octets) of n = ne_eqb flow j (λ o. n (sym o ∙ some_number flow id of))
-not_of j id (Closes flow cause) of n = ne_eqb flow j (λ o. n (sym o ∙ some_number flow id of))
+not_of : (j id : ℕ) (e : Event) → ((k : ℕ) → flow_of e ≡ Some k → k ≡ id) → (j ≡ id → ⊥) →
+    is_of j e ≡ false
+not_of j id (Opens flow endpoints) of n = ne_eqb flow j (λ o. n (sym o ∙ of flow refl))
+not_of j id (Begins flow number) of n = ne_eqb flow j (λ o. n (sym o ∙ of flow refl))
+not_of j id (Delivers flow octets) of n = ne_eqb flow j (λ o. n (sym o ∙ of flow refl))
+not_of j id (Closes flow cause) of n = ne_eqb flow j (λ o. n (sym o ∙ of flow refl))
 not_of j id (OfCapture event) of n = refl
 
 -- what a flow does is nothing to where another stands
@@ -67,6 +65,7 @@ pub record Owns (segments : List Segment) (w : State) : Type 0 where
   pub flows : (id : ℕ) → StandsAs (stands_for w.events id) (flow_at w id)
   pub held : AllByRecursion (IsPartOfOwn segments (owner_of w.events)) w.held
   pub known : AreTheirs (owner_of w.events) w.known w.rooms
+  pub beyond : (id : ℕ) → 2 * length w.lasts ≤ id → owner_of w.events id ≡ None
 
 pub all_map : (P Q : Payload → Type 0) (ps : List Payload) → ((p : Payload) → P p → Q p) →
     AllByRecursion P ps → AllByRecursion Q ps
@@ -137,6 +136,7 @@ owned_flow segments w id o f h l own t others =
           ];
       held = held_same segments (owner_of w.events) (owner_of f.events) f.held same t.held;
       known = theirs_same (owner_of w.events) (owner_of f.events) w.known w.rooms same h.known;
+      beyond = λ j many. same j ∙ h.beyond j many;
     }
 
 -- a flow that there is, before it does anything
@@ -161,7 +161,8 @@ AreNumbered w = (id : ℕ) (s : FlowState) → flow_at w id ≡ Some s → (s.id
 
 pub arrived_owns : (segments : List Segment) (F : Reader) (w : State) (id : ℕ) (a : Arrival) →
     AreNumbered w → ((o : Endpoints) → owner_of w.events id ≡ Some o → (n : ℕ)
-    (octets : List ℕ) → a ≡ Octets n octets → IsPartOf segments o n octets)
+    (octets : List ℕ) (arrival : origin.Arrival) → a ≡ Octets n octets arrival →
+    IsPartOf segments o n octets)
     → Owns segments w → Owns segments (arrived F w id a)
 arrived_owns segments F w id a numbers part h = by (flow_at w id) refl
   where
@@ -201,8 +202,9 @@ began_owns segments F w id n octets o small e within own part h =
     let idle : stands_for w.events id ≡ Idle o =
     idle_of (stands_for w.events id) o (subst (StandsAs (stands_for w.events id)) e (h.flows id))
     own in
-    owned_flow segments w id o (payload_came A before (payload id n octets)) h within own
-    (came_own segments (owner_of w.events) id o own A before (payload id n octets) refl part
+    owned_flow segments w id o (payload_came A before (payload id n octets w.arrival)) h within own
+    (came_own segments (owner_of w.events) id o own A before (payload id n octets w.arrival)
+    refl part
     (record {
       same = refl;
       next = small;
@@ -210,7 +212,7 @@ began_owns segments F w id n octets o small e within own part h =
       stands = record { come = h.come id; is = idle };
     }))
     (λ j m. (came_told (λ es. Stands segments j es (stands_for w.events j)) id
-    (others_stand segments j id (stands_for w.events j) m) A before (payload id n octets)
+    (others_stand segments j id (stands_for w.events j) m) A before (payload id n octets w.arrival)
     (record { same = refl; told = stands_now segments w j h })).told)
 
 pub gapped_owns : (segments : List Segment) (F : Reader) (w : State) (id : ℕ) → AreNumbered w →

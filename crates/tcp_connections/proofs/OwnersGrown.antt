@@ -1,5 +1,5 @@
 -- Whose flows are, where no connection is known, and where one segment more has come.
-use Rattle.std.proofs.Common.{◌≡◌, ℕ, zero, suc, ◌*◌, Bool, true, false, cond, List, [], ◌∷◌, ◌++◌, Some, is_some, sym, ap, subst, true≢false}
+use Rattle.std.proofs.Common.{◌≡◌, ℕ, zero, suc, ◌*◌, Bool, true, false, cond, List, [], ◌∷◌, ◌++◌, Some, is_some, refl, sym, ap, subst, true≢false}
 use Rattle.std.specs.Prelude.{slice_get}
 use Rattle.tcp_segment.specs.declared.endpoint.Flow.{Flow as Endpoints}
 use Rattle.tcp_segment.specs.Segments.{Segment}
@@ -24,6 +24,7 @@ none_owns ports blocks most = record {
   flows = λ id. subst (StandsAs Unopened) (sym (none_there (2 * most) id)) unopened;
   held = tt;
   known = tt;
+  beyond = λ id many. refl;
 }
 
 pub slice_more : {X : Type 0} (xs : List X) (y : X) (i : ℕ) (x : X) → slice_get xs i ≡ Some x →
@@ -84,4 +85,5 @@ owns_grown segments s w h = record {
       (IsPartOfOwn (segments ++ s ∷ []) (owner_of w.events)) w.held
       (λ p part o e. part_grown segments s o p.number p.octets (part o e)) h.held;
   known = h.known;
+  beyond = h.beyond;
 }

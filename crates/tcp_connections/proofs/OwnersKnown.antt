@@ -1,5 +1,5 @@
 -- Whose flows are, where connections are forgotten and become known.
-use Rattle.std.proofs.Common.{◌≡◌, ℕ, zero, suc, ◌+◌, ◌*◌, Bool, true, false, cond, nat_eq, List, [], ◌∷◌, ◌++◌, length, set, get_or, Option, Some, None, is_some, unwrap_or, is_eq, refl, sym, ◌∙◌, ap, subst, arith, inl, inr, true≢false, Ordering, Less, Equal, Greater, get_or-set_same, get_or-set_other}
+use Rattle.std.proofs.Common.{◌≡◌, ℕ, zero, suc, ◌+◌, ◌*◌, ◌<◌, Bool, true, false, cond, nat_eq, List, [], ◌∷◌, ◌++◌, length, set, get_or, Option, Some, None, is_some, unwrap_or, is_eq, refl, sym, ◌∙◌, ap, subst, arith, inl, inr, true≢false, length-set, Ordering, Less, Equal, Greater, get_or-set_same, get_or-set_other}
 use Rattle.std.specs.List.{AllByRecursion, insert, remove}
 use Rattle.std.specs.Option.{option_map}
 use Rattle.std.proofs.lemmas.Bool.{cases_eq, cases_Bool, cond-true, cond-false, ne_eqb, eq-eqb}
@@ -93,6 +93,7 @@ forgot_owns segments w id cause numbers h =
           (held_by_others id w.held) there
           (all_others (IsPartOfOwn segments (owner_of w.events)) id w.held h.held);
       known = theirs_same (owner_of w.events) (owner_of c.events) w.known w.rooms there h.known;
+      beyond = λ j many. there j ∙ h.beyond j many;
     })
 
 -- of the connections that are known one goes
@@ -135,6 +136,7 @@ told_owns segments w event h =
           (λ j. ap owner (all j).is) h.held;
       known = theirs_same (owner_of w.events) (owner_of events) w.known w.rooms
           (λ j. ap owner (all j).is) h.known;
+      beyond = λ j many. ap owner (all j).is ∙ h.beyond j many;
     }
 
 -- ---- An id opens.
@@ -308,12 +310,13 @@ pub record MadeKnown (segments : List Segment) (w : State) (p : EndpointPair) (r
       ≡ Some (flow_from p side)
 
 pub made_owns : (segments : List Segment) (w : State) (p : EndpointPair) →
-    flow_at w (2 * next_room w.free) ≡ None → flow_at w (2 * next_room w.free + 1) ≡ None
+    next_room w.free < length w.lasts → flow_at w (2 * next_room w.free) ≡ None → flow_at w
+    (2 * next_room w.free + 1) ≡ None
     → count_of (2 * next_room w.free) w.held ≡ 0 → count_of (2 * next_room w.free + 1) w.held ≡ 0
     → times (next_room w.free) w.rooms ≡ 0 → length w.known ≡ length w.rooms → Owns segments w →
     MadeKnown segments w p (next_room w.free)
 unfolding made_known
-made_owns segments w p lesser greater none none' apart l h =
+made_owns segments w p below lesser greater none none' apart l h =
     let room : ℕ = next_room w.free in
     let a : Endpoints = flow_from p FromLesser in
     let b : Endpoints = flow_from p FromGreater in
@@ -332,6 +335,12 @@ made_owns segments w p lesser greater none none' apart l h =
         known = theirs_with (owner_of w.events) (owner_of two) p room w.known w.rooms
             (place_among p w.known) apart own second.1.own
             (λ j m n. second.1.others j n ∙ first.1.others j m) l h.known;
+        beyond =
+            λ j many.
+            let size = length-set w.lasts room w.segments in
+            second.1.others j (λ o. absurd (omega (arith, o, many, size, below)))
+            ∙ first.1.others j (λ o. absurd (omega (arith, o, many, size, below)))
+            ∙ h.beyond j (omega (arith, many, size));
       };
       own = λ side. by (owner_of two) room p own second.1.own side;
     }

@@ -6,6 +6,7 @@ use Rattle.std.specs.List.{AllByRecursion}
 use Rattle.std.proofs.lemmas.Bool.{cases_eq, cases_lt, cond-false}
 use Rattle.tcp_segment.specs.Segments.{Segment}
 use Rattle.tcp_segment.specs.declared.endpoint.Flow.{Flow as Endpoints}
+use Rattle.tcp_waiting.specs.declared.arrival.Arrival as origin
 use Rattle.tcp_waiting.specs.Payload.{Payload, payload}
 use Rattle.tcp_flow.specs.declared.flow.CloseCause.{CloseCause}
 use Rattle.tcp_flow.specs.declared.flow.CloseCause.TheVariants.{Reset, Room}
@@ -15,7 +16,7 @@ use Rattle.tcp_flow.specs.Laws.{AllFollow, OwnMayFollow, AllArePartsOf, IsGaples
 use Rattle.tcp_flow.specs.State.{state}
 use Rattle.tcp_flow.proofs.Room.{closed_dead}
 use Rattle.tcp_flow.proofs.Truth.{runs_more, came_true, fin_true, missed_true, true_keeps}
-use Rattle.tcp_flow.proofs.Told.{closed_told}
+use Rattle.tcp_flow.proofs.Told.{same_flow, closed_told}
 use Rattle.tcp_streams.specs.declared.pair.EndpointPair.{EndpointPair}
 use Rattle.tcp_streams.specs.declared.pair.Side.{Side}
 use Rattle.tcp_streams.specs.declared.pair.Side.TheVariants.{FromLesser, FromGreater}
@@ -34,7 +35,7 @@ use Rattle.tcp_connections.proofs.OwnersKnown.{MadeKnown, forgot_owns, theirs_wi
 use Rattle.tcp_connections.proofs.OwnFlows.{either, all_push}
 use Rattle.tcp_connections.proofs.Shown.{shown_kept, shown_keeps}
 use Rattle.tcp_connections.proofs.Sound.{IsApart, some_none, some_within, room_below, forgot_sound, known_sound}
-use Rattle.tcp_connections.proofs.Unknown.{eldest_within, next_free}
+use Rattle.tcp_connections.proofs.Unknown.{eldest_within, next_free, next_below}
 
 -- ---- What is so of a state, behind these segments.
 
@@ -49,17 +50,18 @@ unfoldable pub IsIn : List Segment → Segment → Type 0
 IsIn segments s = (index : ℕ) × (slice_get segments index ≡ Some s)
 
 abbrev is_octets : Arrival → Bool
-is_octets (Octets n octets) = true
+is_octets (Octets n octets arrival) = true
 is_octets (End n) = false
 is_octets (Acknowledged n) = false
 
 -- a segment's payload is that of its flow
 own_part : (segments : List Segment) (w : State) (id : ℕ) (s : Segment) → IsIn segments s →
     owner_of w.events id ≡ Some s.flow → (o : Endpoints) → owner_of w.events id ≡ Some o → (n : ℕ)
-    (octets : List ℕ) → Octets (first_number s) s.payload ≡ Octets n octets →
+    (octets : List ℕ) (arrival : origin.Arrival) →
+    Octets (first_number s) s.payload w.arrival ≡ Octets n octets arrival →
     IsPartOf segments o n octets
 unfolding IsIn
-own_part segments w id s among own o is n octets e =
+own_part segments w id s among own o is n octets arrival e =
     subst (λ (x : Endpoints). IsPartOf segments x n octets)
     (ap (λ (x : Option Endpoints). unwrap_or x s.flow) (sym own ∙ is))
     (subst (λ (k : ℕ). IsPartOf segments s.flow k octets) (ap number_of e)
@@ -74,12 +76,12 @@ own_part segments w id s among own o is n octets e =
     })))
   where
     number_of : Arrival → ℕ
-    number_of (Octets k xs) = k
+    number_of (Octets k xs arrival) = k
     number_of (End k) = k
     number_of (Acknowledged k) = k
 
     octets_of : Arrival → List ℕ
-    octets_of (Octets k xs) = xs
+    octets_of (Octets k xs arrival) = xs
     octets_of (End k) = []
     octets_of (Acknowledged k) = []
 
@@ -97,7 +99,7 @@ fin_at segments F w id s h =
       came = h.came;
       follow = both.1;
       owns = arrived_owns segments F w id (End n) h.follow.own
-          (λ o own k octets e. absurd (true≢false (sym (ap is_octets e)))) h.owns;
+          (λ o own k octets arrival e. absurd (true≢false (sym (ap is_octets e)))) h.owns;
     }) h
 
 pub acknowledgement_at : (segments : List Segment) (F : Reader) (w : State) (id : ℕ) (s : Segment) →
@@ -117,20 +119,21 @@ acknowledgement_at segments F w id s h =
             came = h.came;
             follow = both.1;
             owns = arrived_owns segments F w id (Acknowledged number) h.follow.own
-                (λ o own k octets e. absurd (true≢false (sym (ap is_octets e)))) h.owns;
+                (λ o own k octets arrival e. absurd (true≢false (sym (ap is_octets e)))) h.owns;
           })
     ]
 
 -- the payload of a segment, for a flow
-with_payload : List Payload → ℕ → Segment → List Payload
-with_payload payloads id s = payloads ++ payload id (first_number s) s.payload ∷ []
+with_payload : List Payload → ℕ → Segment → origin.Arrival → List Payload
+with_payload payloads id s arrival =
+    payloads ++ payload id (first_number s) s.payload arrival ∷ []
 
-payload_came_of : (segments : List Segment) (payloads : List Payload) (id : ℕ) (s : Segment) →
-    IsIn segments s → AllByRecursion (IsOfSegment segments) payloads
-    → AllByRecursion (IsOfSegment segments) (with_payload payloads id s)
+payload_came_of : (segments : List Segment) (payloads : List Payload) (id : ℕ) (s : Segment)
+    (arrival : origin.Arrival) → IsIn segments s → AllByRecursion (IsOfSegment segments) payloads
+    → AllByRecursion (IsOfSegment segments) (with_payload payloads id s arrival)
 unfolding IsIn with_payload
-payload_came_of segments payloads id s among came =
-    all_push (IsOfSegment segments) payloads (payload id (first_number s) s.payload) came
+payload_came_of segments payloads id s arrival among came =
+    all_push (IsOfSegment segments) payloads (payload id (first_number s) s.payload arrival) came
     (record { index = among.0; segment = s; among = among.1; number_is = refl; octets_are = refl })
 
 pub first_at : (segments : List Segment) (F : Reader) (w : State) (id : ℕ) (s : Segment) →
@@ -142,39 +145,40 @@ first_at segments F w id s among own h e within apart =
     let n : ℕ = first_number s in
     let small : n < 2 ^ 32 = omega arith in
     let both = began_both h.payloads F w id n s.payload small h.sound h.follow
-    (follow_grown h.payloads (payload id n s.payload) w h.follow) e within apart in
+    (follow_grown h.payloads (payload id n s.payload w.arrival) w h.follow) e within apart in
     record {
       sound = both.0;
-      payloads = with_payload h.payloads id s;
+      payloads = with_payload h.payloads id s w.arrival;
       came =
-          payload_came_of segments h.payloads id s among h.came;
+          payload_came_of segments h.payloads id s w.arrival among h.came;
       follow = both.1;
       owns = began_owns segments F w id n s.payload s.flow small e within own
-          (own_part segments w id s among own s.flow own n s.payload refl) h.owns;
+          (own_part segments w id s among own s.flow own n s.payload w.arrival refl) h.owns;
     }
 
 later_at : (segments : List Segment) (F : Reader) (w : State) (id : ℕ) (s : Segment) →
     IsIn segments s → owner_of w.events id ≡ Some s.flow → At segments w → At segments
-    (arrived F w id (Octets (first_number s) s.payload))
+    (arrived F w id (Octets (first_number s) s.payload w.arrival))
 unfolding with_payload flow_step Goes
 later_at segments F w id s among own h =
     let A : Setting = setting F w.blocks in
     let n : ℕ = first_number s in
     let small : n < 2 ^ 32 = omega arith in
     let both =
-    arrived_both h.payloads (with_payload h.payloads id s) F w id (Octets n s.payload) h.sound
-    h.follow (follow_grown h.payloads (payload id n s.payload) w h.follow)
+    arrived_both h.payloads (with_payload h.payloads id s w.arrival) F w id
+    (Octets n s.payload w.arrival) h.sound
+    h.follow (follow_grown h.payloads (payload id n s.payload w.arrival) w h.follow)
     (λ f same g.
-    subst (λ (k : ℕ). IsGapless (h.payloads ++ payload k n s.payload ∷ [])
-    (payload_came A f (payload f.id n s.payload))) same
-    (came_true A h.payloads f (payload f.id n s.payload) small g)) in
+    subst (λ (k : ℕ). IsGapless (h.payloads ++ payload k n s.payload w.arrival ∷ [])
+    (payload_came A f (payload f.id n s.payload w.arrival))) same
+    (came_true A h.payloads f (payload f.id n s.payload w.arrival) small g)) in
     record {
       sound = both.0;
-      payloads = with_payload h.payloads id s;
+      payloads = with_payload h.payloads id s w.arrival;
       came =
-          payload_came_of segments h.payloads id s among h.came;
+          payload_came_of segments h.payloads id s w.arrival among h.came;
       follow = both.1;
-      owns = arrived_owns segments F w id (Octets n s.payload) h.follow.own
+      owns = arrived_owns segments F w id (Octets n s.payload w.arrival) h.follow.own
           (own_part segments w id s among own) h.owns;
     }
 
@@ -185,13 +189,13 @@ unfolding payload_taken
 payload_at segments F w id s among own h within apart =
     elim (flow_at w id) as (λ (o : Option FlowState). flow_at w id ≡ o → At segments (elim o [
       | None ↦ cond (is_first w.ports s) (began F w id (first_number s) s.payload) w
-      | Some f ↦ cond s.reset w (arrived F w id (Octets (first_number s) s.payload))
+      | Some f ↦ cond s.reset w (arrived F w id (Octets (first_number s) s.payload w.arrival))
     ])) [
       | None ↦ (λ e. either (At segments) (is_first w.ports s)
           (began F w id (first_number s) s.payload) w
           (first_at segments F w id s among own h e within apart) h)
       | Some f ↦ (λ e. either (At segments) s.reset w
-          (arrived F w id (Octets (first_number s) s.payload)) h
+          (arrived F w id (Octets (first_number s) s.payload w.arrival)) h
           (later_at segments F w id s among own h))
     ] refl
 
@@ -296,6 +300,7 @@ forgotten_at segments w place side cause l h =
         known = theirs_without (owner_of (both_forgotten w room side cause).events)
             (both_forgotten w room side cause).known (both_forgotten w room side cause).rooms place
             v.owns.known;
+        beyond = v.owns.beyond;
       };
     }
 
@@ -368,7 +373,7 @@ opens_more payloads w es id other endpoints none t =
           (runs_more payloads other None None None es (Opens id endpoints)
           (subst (AllFollow payloads other None es) e t) (inl (ap Some (sym y), tt))))
       | inr n ↦ others_kept payloads id other (due_in (flow_at w other)) n es (Opens id endpoints)
-          refl t
+          (same_flow id id refl) t
     ]
 
 pub made_owner : (segments : List Segment) (w : State) (p : EndpointPair) →
@@ -378,7 +383,7 @@ made_owner segments w p l h owns =
     let room : ℕ = next_room w.free in
     let free : 0 < times room w.free = next_free w h l in
     let none = h.freed room free in
-    made_owns segments w p none.0 none.1 (h.vacant (2 * room) none.0)
+    made_owns segments w p (next_below w h l) none.0 none.1 (h.vacant (2 * room) none.0)
     (h.vacant (2 * room + 1) none.1) (omega (arith, free, h.once room)) (sym h.pairs) owns
 
 pub made_at : (segments : List Segment) (w : State) (p : EndpointPair) →

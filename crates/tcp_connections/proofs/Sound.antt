@@ -3,6 +3,7 @@ use Rattle.std.proofs.Common.{◌≡◌, ℕ, zero, suc, ◌+◌, ◌*◌, ◌/�
 use Rattle.std.specs.List.{insert, remove}
 use Rattle.std.proofs.lemmas.Bool.{cases_eq, cases_Bool, eqb-true, ne_eqb}
 use Rattle.std.proofs.lemmas.List.Edits.{length-insert, length-remove}
+use Rattle.tcp_waiting.specs.declared.arrival.Arrival as origin
 use Rattle.tcp_waiting.specs.Payload.{Payload, count_of, blocks_of}
 use Rattle.tcp_flow.specs.declared.flow.FlowState.{FlowState}
 use Rattle.tcp_flow.specs.Flow.{Flow, Event, held_by_others}
@@ -193,11 +194,18 @@ forgot_sound w id events h l =
           ];
     }
 
--- what has happened, when, which SYN is kept, and how many segments came, is no part of it
+-- what has happened, when, which SYN is kept, how many segments came, and which packet is read, is
+-- no part of it
 pub sound_seen : (w : State) (lasts : List ℕ) (syns : List (Option KeptSyn)) (segments : ℕ)
-    (events : List Event) → length lasts ≡ length w.lasts → IsSound w →
-    IsSound (record w { lasts = lasts; syns = syns; segments = segments; events = events })
-sound_seen w lasts syns segments events e h =
+    (events : List Event) (arrival : origin.Arrival) → length lasts ≡ length w.lasts → IsSound w →
+    IsSound (record w {
+      lasts = lasts;
+      syns = syns;
+      segments = segments;
+      events = events;
+      arrival = arrival;
+    })
+sound_seen w lasts syns segments events arrival e h =
     record {
       some = rw e h.some;
       most = rw e h.most;

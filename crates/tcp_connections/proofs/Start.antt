@@ -2,6 +2,7 @@
 use Rattle.std.proofs.Common.{◌≡◌, ℕ, ◌+◌, ◌*◌, ◌≤◌, List, [], length, replicate, get_or, Option, None, refl, arith}
 use Rattle.std.proofs.lemmas.List.{length-replicate}
 use Rattle.std.specs.List.Sorted.{IsStrictlySortedBy}
+use Rattle.tcp_waiting.specs.declared.arrival.Arrival as origin
 use Rattle.tcp_waiting.specs.Payload.{Payload, count_of, blocks_of}
 use Rattle.tcp_flow.specs.declared.flow.FlowState.{FlowState}
 use Rattle.tcp_flow.specs.Flow.{Event}
@@ -39,9 +40,10 @@ none_sound ports blocks most events some few =
 
 pub start_sound : (ports : List ℕ) (blocks most segments : ℕ) (known : List EndpointPair)
     (rooms free lasts : List ℕ) (syns : List (Option KeptSyn)) (flows : List (Option FlowState))
-    (held : List Payload) (events : List Event)
+    (held : List Payload) (events : List Event) (arrival : origin.Arrival)
     → known ≡ [] → rooms ≡ [] → free ≡ rooms_below most → lasts ≡ replicate most 0 →
     syns ≡ replicate most None → flows ≡ replicate (2 * most) None → held ≡ [] → segments ≡ 0 →
+    arrival ≡ (record { time = None; packet = 0 }) →
     1 ≤ most → most ≤ 65536
     → IsSound (record {
       ports = ports;
@@ -55,6 +57,8 @@ pub start_sound : (ports : List ℕ) (blocks most segments : ℕ) (known : List 
       held = held;
       events = events;
       segments = segments;
+      arrival = arrival;
     })
-start_sound ports blocks most segments known rooms free lasts syns flows held events k r f l y w h s
-    some few = rw (k, r, f, l, y, w, h, s) (none_sound ports blocks most events some few)
+start_sound ports blocks most segments known rooms free lasts syns flows held events arrival k r f l
+    y w h s a some few = rw (k, r, f, l, y, w, h, s, a) (none_sound ports blocks most events
+    some few)

@@ -15,7 +15,7 @@ use Rattle.tcp_connections.specs.declared.connections.Connections.{Connections}
 use Rattle.tcp_streams.specs.declared.pair.Side.{Side}
 use Rattle.tcp_streams.specs.Lives.{lives, behind, most_ids}
 use Rattle.tcp_streams.proofs.Order.{lives_more}
-use Rattle.tcp_connections.specs.Connections.{State, none_known, flow_at, live_at, live_of, with_flow, with_capture_event, room_at, flow_forgotten, forgotten, goes_before, eldest}
+use Rattle.tcp_connections.specs.Connections.{State, none_known, flow_at, live_at, live_of, with_flow, with_packet, with_capture_event, room_at, flow_forgotten, forgotten, goes_before, eldest}
 use Rattle.tcp_connections.specs.State.{IsSound, IsState, IsAt, state_of, times}
 use Rattle.tcp_connections.proofs.Living.{IsTold, IsTurn, no_turn}
 use Rattle.tcp_connections.proofs.Forgotten.{both_forgotten, forgotten_sound}
@@ -54,7 +54,7 @@ segments_of (Err x) O live c w n e h = tt
 pub sound_any : (c : Connections) (es fs : List Event) → IsSound (state_of c es) →
     IsSound (state_of c fs)
 sound_any c es fs h = sound_seen (state_of c es) (state_of c es).lasts (state_of c es).syns
-    (state_of c es).segments fs refl h
+    (state_of c es).segments fs (state_of c es).arrival refl h
 
 -- what is no flow's
 abbrev pub rest_of : Connections → List Event → State
@@ -354,6 +354,24 @@ starts O live c ports blocks most events o lived same sound free room =
       sound = sound_any c [] events sound;
       free = free ∙ sym many;
       room = room ∙ sym many;
+    }
+
+-- ---- A packet more is read.
+
+pub packet_read : (O : List Event → Type 0) (live : List ℕ) (c c' : Connections) (w : State)
+    (time : Option ℕ) → ((e : List Event) → state_of c' e ≡ with_packet (state_of c e) time)
+    → c'.free.most ≡ c.free.most → c'.table.most ≡ c.table.most → IsState O live c w
+    → IsState O live c' (with_packet w time)
+packet_read O live c c' w time same free table h =
+    let a = (with_packet w time).arrival in
+    record {
+      observed = h.observed;
+      live = h.live;
+      same = same w.events ∙ ap (λ (u : State). with_packet u time) h.same;
+      told = h.told;
+      sound = sound_seen w w.lasts w.syns w.segments w.events a refl h.sound;
+      free = free ∙ h.free;
+      room = table ∙ h.room;
     }
 
 -- ---- The listener is told of the capture.

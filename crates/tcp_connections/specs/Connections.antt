@@ -1,11 +1,12 @@
 -- The connections of a capture (RFC 9293): which are known, what their flows hold, and what happens
 -- (meaning).
-use Rattle.std.specs.Prelude.{ℕ, zero, suc, ◌+◌, ◌-◌, ◌*◌, ◌==◌, Bool, true, false, cond, not, nat_eq, nat_lt, ◌&&◌, ◌||◌, List, [], ◌∷◌, ◌++◌, length, take, get_or, set, replicate, Option, Some, None, is_some}
+use Rattle.std.specs.Prelude.{ℕ, zero, suc, ◌+◌, ◌-◌, ◌*◌, ◌^◌, ◌==◌, min, Bool, true, false, cond, not, nat_eq, nat_lt, ◌&&◌, ◌||◌, List, [], ◌∷◌, ◌++◌, length, take, get_or, set, replicate, Option, Some, None, is_some}
 use Rattle.std.specs.Option.{option_map}
 use Rattle.std.specs.List.{insert, remove, list_any}
 use Rattle.std.specs.Ordering.{is_eq, is_lt}
 use Rattle.tcp_segment.specs.declared.endpoint.Flow as endpoints
 use Rattle.tcp_segment.specs.Segments.{Segment}
+use Rattle.tcp_waiting.specs.declared.arrival.Arrival as origin
 use Rattle.tcp_waiting.specs.Numbers.{onward}
 use Rattle.tcp_waiting.specs.Payload.{Payload, first}
 use Rattle.tcp_flow.specs.declared.flow.CloseCause.{CloseCause}
@@ -24,7 +25,7 @@ use Rattle.tcp_streams.specs.Lives.{lives, elder_side}
 -- the ports that are chosen and the blocks of the pool; the pairs that are known, in their order,
 -- and the room of each; the rooms that are free, the next one last; of each room the number of its
 -- last segment, and the SYN that is kept; of each id the flow, from its first stream on; what is
--- held, what has happened, and how many segments came
+-- held, what has happened, how many segments came, and the packet that is read
 pub record State : Type 0 where
   pub ports : List ℕ
   pub blocks : ℕ
@@ -37,6 +38,7 @@ pub record State : Type 0 where
   pub held : List Payload
   pub events : List Event
   pub segments : ℕ
+  pub arrival : origin.Arrival
 
 -- no connection is known: there are so many rooms
 abbrev pub none_known : List ℕ → ℕ → ℕ → List Event → State
@@ -52,6 +54,7 @@ none_known ports blocks most events = record {
   held = [];
   events = events;
   segments = 0;
+  arrival = record { time = None; packet = 0 };
 }
 
 -- ---- One flow.
@@ -80,7 +83,7 @@ arrived F w id arrival =
 -- the first payload with a header comes for a flow
 unfoldable pub began : Reader → State → ℕ → ℕ → List ℕ → State
 began F w id number octets =
-    with_flow w id (first_payload (setting F w.blocks) id number octets w.held w.events)
+    with_flow w id (first_payload (setting F w.blocks) id number octets w.arrival w.held w.events)
 
 -- a gap of a flow
 unfoldable pub gapped : Reader → State → ℕ → State
@@ -324,7 +327,7 @@ unfoldable pub payload_taken : Reader → State → ℕ → Segment → State
 payload_taken F w id s =
     elim (flow_at w id) [
       | None ↦ cond (is_first w.ports s) (began F w id (first_number s) s.payload) w
-      | Some f ↦ cond s.reset w (arrived F w id (Octets (first_number s) s.payload))
+      | Some f ↦ cond s.reset w (arrived F w id (Octets (first_number s) s.payload w.arrival))
     ]
 
 -- whether a segment of a flow is a RST that counts: its number is near the one that is due
@@ -378,6 +381,12 @@ after F w [] = w
 after F w (s ∷ ss) = after F (step F w s) ss
 
 -- ---- What happens in the capture beside its segments.
+
+-- one packet more is read, which came at this time, if it has one
+abbrev pub with_packet : State → Option ℕ → State
+with_packet w time = record w {
+  arrival = record { time = time; packet = min (w.arrival.packet + 1) (2 ^ 64 - 1) };
+}
 
 -- the listener is told of it, and nothing else changes
 abbrev pub with_capture_event : State → CaptureEvent → State

@@ -1,10 +1,10 @@
 -- That streams are without a gap: the octets that are delivered between the beginning and the close
 -- of one stand one behind another (RFC 9293, Sequence Numbers; meaning).
-use Rattle.std.specs.Prelude.{◌≡◌, ℕ, List, Option, Some, None, slice_get}
+use Rattle.std.specs.Prelude.{◌≡◌, ℕ, ◌/◌, ◌<◌, List, Option, Some, None, slice_get}
 use Rattle.std.specs.List.{AllByRecursion}
 use Rattle.tcp_segment.specs.Segments.{Segment}
 use Rattle.tcp_waiting.specs.Payload.{Payload}
-use Rattle.tcp_flow.specs.Flow.{Event}
+use Rattle.tcp_flow.specs.Flow.{Event, flow_of}
 use Rattle.tcp_flow.specs.Laws.{AllFollow}
 use Rattle.tcp_connections.specs.Connections.{first_number}
 
@@ -29,3 +29,8 @@ pub record AreWhole (segments : List Segment) (events : List Event) : Type 0 whe
   pub payloads : List Payload
   pub came : AllByRecursion (IsOfSegment segments) payloads
   pub follow : (flow : ℕ) → AllFollow payloads flow None events None
+
+-- each event in a flow is in one of a connection that has a room, of so many
+abbrev pub HaveRooms : ℕ → List Event → Type 0
+HaveRooms most events =
+    AllByRecursion (λ e. (id : ℕ) → flow_of e ≡ Some id → id / 2 < most) events

@@ -51,6 +51,7 @@ state_of c events = record {
   held = c.pool.held;
   events = events;
   segments = c.segments;
+  arrival = c.arrival;
 }
 
 -- a flow's stream lives where it is one of those that live, and only there

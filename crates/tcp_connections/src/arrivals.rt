@@ -70,7 +70,13 @@ impl Connections {
         if segment.reset {
             return Ok(());
         }
-        flow.payload(first_number(segment), segment.payload, &mut self.pool, to)?;
+        flow.payload(
+            first_number(segment),
+            segment.payload,
+            self.arrival,
+            &mut self.pool,
+            to,
+        )?;
         self.flows[id as usize] = Some(flow);
         Ok(())
     }
@@ -117,7 +123,14 @@ impl Connections {
         ensures cause { OnErr result (L.failed to.new.listener) }
     {
         let number = first_number(segment);
-        let flow = FlowState::begin(id, number, segment.payload, &mut self.pool, to)?;
+        let flow = FlowState::begin(
+            id,
+            number,
+            segment.payload,
+            self.arrival,
+            &mut self.pool,
+            to,
+        )?;
         self.flows[id as usize] = Some(flow);
         Ok(())
     }

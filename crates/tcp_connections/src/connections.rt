@@ -19,7 +19,7 @@ use tcp_flow::{CloseCause, FlowState, Listener, ListenerFault};
 use tcp_rooms::{FreeRooms, RoomTable, Stamps};
 use tcp_segment::Segment;
 use tcp_streams::{EndpointPair, Side, Streams, flow_from, flow_id, other, pair_of};
-use tcp_waiting::{Pool, onward};
+use tcp_waiting::{Arrival, Pool, onward};
 
 /// The connections of a capture. The flows of a connection have ids by the room that it has while it is known.
 #[derive(Drop)]
@@ -32,6 +32,8 @@ pub struct Connections {
     pub(crate) flows: Vec<Option<FlowState>>,
     pub(crate) pool: Pool,
     segments: u64,
+    /// The packet that is read.
+    pub(crate) arrival: Arrival,
     /// The place that the connection of the last segment had: a guess, since others come and go.
     recent: usize,
 }
@@ -40,7 +42,7 @@ impl Connections {
     ghost use Rattle.tcp_flow.specs.Flow.{Event};
     ghost use Rattle.tcp_connections.specs.Connections.{none_known, live_of, made_known, place_of};
     ghost use Rattle.tcp_connections.specs.Connections.{place_among, next_room, unknown_taken};
-    ghost use Rattle.tcp_connections.specs.Connections.{known_taken, step, syn_kept};
+    ghost use Rattle.tcp_connections.specs.Connections.{known_taken, step, syn_kept, with_packet};
     ghost use Rattle.tcp_connections.specs.State.{IsSound, HasState, Makes, state_of};
 
     /// No connection is known. At most so many will be at once, 1 to 65,536, and what waits takes at most so many blocks of
@@ -75,8 +77,26 @@ impl Connections {
             flows,
             pool,
             segments: 0,
+            arrival: Arrival {
+                time: None,
+                packet: 0,
+            },
             recent: 0,
         })
+    }
+
+    /// A packet more is read from now on, which came at a time in nanoseconds since 1970-01-01 UTC, if it has one. The payloads
+    /// that come are of it.
+    pub fn read(&mut self, time: Option<u128>)
+        ensures does { (events : List Event) → state_of self.new events
+            ≡ with_packet (state_of self.old events) time }
+        ensures free { self.new.free.most ≡ self.old.free.most }
+        ensures room { self.new.table.most ≡ self.old.table.most }
+    {
+        self.arrival = Arrival {
+            time,
+            packet: self.arrival.packet.saturating_add(1),
+        };
     }
 
     /// A segment comes.

@@ -6,7 +6,7 @@ ghost use Rattle.tcp_flow.specs.Flow.{CaptureEvent, OfCapture, Reader};
 ghost use Rattle.tcp_streams.specs.declared.pair.EndpointPair.{EndpointPair};
 ghost use Rattle.tcp_connections.specs.Connections.{State, none_known, place_of, after, with_capture_event, ended};
 ghost use Rattle.tcp_connections.specs.Forgetting.{IsForgottenBy, MakesRoom};
-ghost use Rattle.tcp_connections.specs.Gapless.{AreGapless, AreWhole};
+ghost use Rattle.tcp_connections.specs.Gapless.{AreGapless, AreWhole, HaveRooms};
 ghost use Rattle.tcp_connections.specs.Owned.{AreOwned};
 ghost use Rattle.tcp_connections.specs.State.{IsState, HasState};
 
@@ -66,5 +66,10 @@ pub fn no_stream_has_a_gap()
     ensures own_to_the_end { (faulted : Reader) (ports : List ℕ) (blocks most : ℕ)
         (segments : List Segment) → 1 ≤ most → most ≤ 65536
         → AreOwned segments
+        (ended faulted (after faulted (none_known ports blocks most []) segments)).events }
+    // Each event in a flow is in one of a connection that has a room.
+    ensures rooms { (faulted : Reader) (ports : List ℕ) (blocks most : ℕ) (segments : List Segment)
+        → 1 ≤ most → most ≤ 65536
+        → HaveRooms most
         (ended faulted (after faulted (none_known ports blocks most []) segments)).events }
 {}

@@ -6,6 +6,7 @@ use crate::endpoint::shown;
 use std::fmt;
 use tcp_flow::{CloseCause, Listener, ListenerFault};
 use tcp_segment::Flow;
+use tcp_waiting::Arrival;
 
 /// What is told of the flow of an id.
 #[derive(Clone, Copy)]
@@ -86,6 +87,8 @@ impl Listener for Teller {
     fn opens(&mut self, flow: u32, endpoints: Flow) -> Result<(), ListenerFault> {
         self.tell(Told::Opens(flow, endpoints))
     }
+
+    fn comes_from(&mut self, _arrival: Arrival) {}
 
     fn begins(&mut self, flow: u32, number: u32) -> Result<(), ListenerFault> {
         self.tell(Told::Begins(flow, number))

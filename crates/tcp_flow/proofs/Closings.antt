@@ -1,12 +1,12 @@
 -- A stream of a flow that has closed stays so, whatever comes.
-use Rattle.std.proofs.Common.{◌≡◌, ℕ, ◌+◌, ◌<◌, Bool, true, false, cond, nat_eq, ◌||◌, List, [], ◌∷◌, ◌++◌, length, drop, Option, Some, None, is_some, sym, ◌∙◌, ap, arith, append-nil}
+use Rattle.std.proofs.Common.{◌≡◌, ℕ, ◌+◌, ◌<◌, Bool, true, false, cond, nat_eq, ◌||◌, List, [], ◌∷◌, ◌++◌, length, Option, Some, None, is_some, sym, ◌∙◌, ap, arith, append-nil}
 use Rattle.std.specs.List.{remove}
 use Rattle.std.proofs.lemmas.List.{append_assoc}
 use Rattle.tcp_flow.specs.declared.flow.CloseCause.{CloseCause}
 use Rattle.tcp_flow.specs.declared.flow.CloseCause.TheVariants.{Fault}
 use Rattle.tcp_waiting.specs.Numbers.{onward}
-use Rattle.tcp_waiting.specs.Payload.{Payload, payload, has_as_much, put}
-use Rattle.tcp_flow.specs.Flow.{Flow, Event, Begins, Delivers, Closes, Reader, Setting, left, with_event, delivered, begun, taken, stream_at, at as held_at, closed, holding, gone_on, within_bounds, payload_came}
+use Rattle.tcp_waiting.specs.Payload.{without_first, Payload, has_as_much, put}
+use Rattle.tcp_flow.specs.Flow.{Flow, Event, Begins, Delivers, Closes, OfCapture, ComesFrom, Reader, Setting, left, with_event, delivered, begun, told_from, taken, stream_at, at as held_at, closed, holding, gone_on, within_bounds, payload_came}
 use Rattle.tcp_flow.specs.Order.{octets_in, octets_of, closes_in, closes_of}
 use Rattle.tcp_flow.proofs.Preserving.{Keeps, gone_on_keeps, relieved_keeps}
 
@@ -74,20 +74,23 @@ begun_more F n id g p (Some i) l =
       held =
           g.held;
       events = g.events ++ Begins g.id k ∷ [];
-    }) (payload p.flow k (drop i p.octets))
+    }) (without_first i p)
     (more_event n id g.events (Begins g.id k) l)
 
 pub taken_more : (F : Reader) (n id : ℕ) (g : Flow) (p : Payload) → n < closes_of id g.events →
     n < closes_of id (taken F g p).events
-unfolding taken
+unfolding taken told_from with_event
 taken_more F n id g p l =
     let q : Payload = left g.next (is_some g.live) p in
-    let d : Flow = delivered F g q in
-    let b : Flow = begun F g q (stream_at q.octets) in
+    let h : Flow = told_from g p in
+    let m : n < closes_of id h.events =
+    more_event n id g.events (OfCapture (ComesFrom p.arrival)) l in
+    let d : Flow = delivered F h q in
+    let b : Flow = begun F h q (stream_at q.octets) in
     either (λ (h : Flow). n < closes_of id h.events) (nat_eq (length q.octets) 0) g
     (cond (is_some g.live) d b) l
     (either (λ (h : Flow). n < closes_of id h.events) (is_some g.live) d b
-    (delivered_more F n id g q l) (begun_more F n id g q (stream_at q.octets) l))
+    (delivered_more F n id h q m) (begun_more F n id h q (stream_at q.octets) m))
 
 pub closed_more : (n id : ℕ) (g : Flow) (cause : CloseCause) → n < closes_of id g.events →
     n < closes_of id (closed g cause).events

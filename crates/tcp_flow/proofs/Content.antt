@@ -1,14 +1,14 @@
 -- What has come of a content, while its stream lives: in whatever order, its octets up to the first
 -- place that no payload spans.
-use Rattle.std.proofs.Common.{◌≡◌, ◌⊎◌, ℕ, zero, suc, ◌+◌, ◌-◌, ◌^◌, ◌<◌, ◌≤◌, Bool, true, false, cond, not, nat_eq, nat_lt, ◌&&◌, List, [], ◌∷◌, ◌++◌, length, take, drop, get_or, Some, None, is_some, refl, sym, ◌∙◌, ap, subst, arith, inl, inr, true≢false}
+use Rattle.std.proofs.Common.{◌≡◌, ◌⊎◌, ℕ, zero, suc, ◌+◌, ◌-◌, ◌^◌, ◌<◌, ◌≤◌, Bool, true, false, cond, not, nat_eq, nat_lt, ◌&&◌, List, [], ◌∷◌, ◌++◌, length, take, drop, get_or, Some, None, is_some, refl, sym, ◌∙◌, ap, subst, arith, inl, inr, true≢false, append-nil}
 use Rattle.std.specs.List.{AllByRecursion, insert, remove}
 use Rattle.std.proofs.lemmas.Bool.{cases_Bool, cond-true, cond-false, and_cases, and_right, not-true, not_from_true, both_ways, eqb-true, eq-eqb}
 use Rattle.std.proofs.lemmas.List.{append_assoc, length-drop}
 use Rattle.tcp_flow.specs.declared.flow.CloseCause.{CloseCause}
 use Rattle.tcp_flow.specs.declared.flow.CloseCause.TheVariants.{Fault}
 use Rattle.tcp_waiting.specs.Numbers.{onward, age, is_to_come}
-use Rattle.tcp_waiting.specs.Payload.{Payload, payload, window}
-use Rattle.tcp_flow.specs.Flow.{Flow, Event, Delivers, Closes, Reader, left, with_event, delivered, taken, first_of, is_due, at as held_at, closed}
+use Rattle.tcp_waiting.specs.Payload.{without_first, Payload, no_payload, window}
+use Rattle.tcp_flow.specs.Flow.{Flow, Event, Delivers, Closes, OfCapture, ComesFrom, Reader, left, with_event, delivered, told_from, taken, first_of, is_due, at as held_at, closed}
 use Rattle.tcp_flow.specs.Order.{octets_of, closes_of, Agrees}
 use Rattle.tcp_waiting.proofs.Held.{all_at, all_remove}
 use Rattle.tcp_waiting.proofs.Order.{first_within, first_own}
@@ -144,12 +144,12 @@ covered_taken x U r s ps i d small l piece m (inr (inr a)) =
     ]
 
 pub left_live : (next k : ℕ) (live : Bool) (p : Payload) → live ≡ true → age next p.number ≡ k →
-    payload p.flow (onward p.number k) (drop k p.octets) ≡ left next live p
+    without_first k p ≡ left next live p
 unfolding left
 left_live next k live p l e =
-    ap (λ (n : ℕ). payload p.flow (onward p.number n) (drop n p.octets)) (sym e)
+    ap (λ (n : ℕ). without_first n p) (sym e)
     ∙ sym (cond-false (nat_lt window (age next p.number) && not live) p
-    (payload p.flow (onward p.number (age next p.number)) (drop (age next p.number) p.octets))
+    (without_first (age next p.number) p)
     (and_right (nat_lt window (age next p.number)) (not live) (not_from_true live l)))
 
 pub some_octets : (n : ℕ) → nat_eq n 0 ≡ false → 0 < n
@@ -166,10 +166,10 @@ deliver_so : (F : Reader) (x : Case) (U : ℕ → Type 0) (K : Type 0) (g : Flow
     → ((u : ℕ) → x.at ≤ u → U u → place + length p.octets ≤ u)
     → AllByRecursion (λ q. q.flow ≡ x.id → Piece x U q) g.held →
     (K → Covered x (place + length p.octets) g.held)
-    → HasGone x U K (delivered F g (payload p.flow (onward p.number k) (drop k p.octets)))
+    → HasGone x U K (delivered F g (without_first k p))
 unfolding HasGone
 deliver_so F x U K g p r place k live same agrees kis l m from said count least held covered =
-    let q : Payload = payload p.flow (onward p.number k) (drop k p.octets) in
+    let q : Payload = without_first k p in
     let es : List Event = g.events ++ Delivers g.id q.octets ∷ [] in
     let own : nat_eq g.id x.id ≡ true = eq-eqb g.id x.id same in
     let counted : closes_of x.id es ≡ x.closings =
@@ -214,9 +214,9 @@ deliver_so F x U K g p r place k live same agrees kis l m from said count least 
 take_so : (F : Reader) (x : Case) (U : ℕ → Type 0) (K : Type 0) (f : Flow) (i : ℕ) →
     length x.content < 2 ^ 31 → first_of f ≡ Some i → is_due f i ≡ true → So x U K f
     → HasGone x U K (taken F (record f { held = remove f.held i }) (held_at f i))
-unfolding first_of is_due held_at HasGone
+unfolding first_of is_due held_at told_from with_event HasGone
 take_so F x U K f i small e d so =
-    let none : Payload = payload 0 0 [] in
+    let none : Payload = no_payload in
     let p : Payload = get_or f.held i none in
     let within : i < length f.held = rw e at (first_within f.id f.next f.held) in
     let own : p.flow ≡ f.id = rw e at (first_own f.id f.next none f.held) in
@@ -239,7 +239,7 @@ take_so F x U K f i small e d so =
     ap (λ (n : ℕ). age n p.number) so.next ∙ ap (age (onward x.start so.r)) piece.agrees.number_is
     ∙ age_before x.start so.r s before (omega (arith, so.within, small)) in
     let g : Flow = record f { held = remove f.held i } in
-    let q : Payload = payload p.flow (onward p.number k) (drop k p.octets) in
+    let q : Payload = without_first k p in
     let is_left : q ≡ left g.next (is_some g.live) p =
     left_live f.next k (is_some f.live) p so.live aged in
     let long : length (drop k p.octets) ≡ length p.octets - k = length-drop k p.octets in
@@ -268,8 +268,11 @@ take_so F x U K f i small e d so =
           omega (arith, long, some_octets (length q.octets) z, before) in
           subst (λ (h : Flow). (x.closings < closes_of x.id h.events) ⊎ So x U K h)
           (sym (taken_live F g p q is_left z so.live))
-          (deliver_so F x U K g p so.r s k so.live so.same piece.agrees refl before some so.from
-          so.said so.count
+          (deliver_so F x U K (told_from g p) p so.r s k so.live so.same piece.agrees refl before
+          some so.from
+          (octets_more x.id g.events (OfCapture (ComesFrom p.arrival))
+          ∙ append-nil (octets_of x.id g.events) ∙ so.said)
+          (closes_more x.id g.events (OfCapture (ComesFrom p.arrival)) ∙ omega (arith, so.count))
           (λ u l c. piece.spans u c (omega (arith, before, so.least u l c))) rest
           (λ c. covered_taken x U so.r (s + length p.octets) f.held i none small
           (omega (arith, some)) piece (omega arith) (so.covered c))))

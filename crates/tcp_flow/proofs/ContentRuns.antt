@@ -1,11 +1,12 @@
 -- Payloads of a content come, one and then all that do: their octets are delivered or wait, while
 -- the stream lives.
-use Rattle.std.proofs.Common.{◌≡◌, ◌⊎◌, ℕ, ◌+◌, ◌-◌, ◌^◌, ◌<◌, ◌≤◌, true, nat_eq, nat_le, ◌&&◌, ◌||◌, List, [], ◌∷◌, ◌++◌, length, take, drop, is_some, refl, sym, ◌∙◌, ap, subst, arith, inl, inr, true≢false}
+use Rattle.std.proofs.Common.{◌≡◌, ◌⊎◌, ℕ, ◌+◌, ◌-◌, ◌^◌, ◌<◌, ◌≤◌, true, nat_eq, nat_le, ◌&&◌, ◌||◌, List, [], ◌∷◌, length, take, drop, is_some, refl, sym, ◌∙◌, ap, subst, arith, inl, inr, true≢false}
 use Rattle.std.specs.List.{AllByRecursion}
 use Rattle.std.proofs.lemmas.Bool.{cases_Bool, cases_lt, and_parts, or_cases, or_parts, eqb-true, leb-true}
 use Rattle.std.proofs.lemmas.List.{length-drop}
 use Rattle.tcp_waiting.specs.Numbers.{onward, age}
-use Rattle.tcp_waiting.specs.Payload.{Payload, payload, has_as_much, put, place_of, key_of}
+use Rattle.tcp_waiting.specs.declared.arrival.Arrival as packet
+use Rattle.tcp_waiting.specs.Payload.{Payload, payload, without_first, has_as_much, put, place_of, key_of}
 use Rattle.tcp_flow.specs.Flow.{Flow, Setting, Arrival, Octets, End, Acknowledged, left, holding, gone_on, payload_came, step, after}
 use Rattle.tcp_flow.specs.Laws.{IsSettled}
 use Rattle.tcp_flow.specs.Order.{closes_of, Agrees, StandsIn}
@@ -121,14 +122,14 @@ nothing_so x U K f number place k octets so small num early within e same end =
 
 -- a payload of the content comes
 came_so : (A : Setting) (x : Case) (U : ℕ → Type 0) (K L : Type 0) (f : Flow) (n place : ℕ)
-    (octets : List ℕ) → length x.content < 2 ^ 31
+    (octets : List ℕ) (arrival : packet.Arrival) → length x.content < 2 ^ 31
     → Agrees x.start x.content place n octets →
     ((u : ℕ) → U u → place ≤ u → place + length octets ≤ u) →
     (L → IsOrHas x K place (place + length octets))
-    → So x U K f → HasGone x U L (payload_came A f (payload f.id n octets))
+    → So x U K f → HasGone x U L (payload_came A f (payload f.id n octets arrival))
 unfolding HasGone IsOrHas holding
-came_so A x U K L f n place octets small agrees spans new so =
-    let p : Payload = payload f.id n octets in
+came_so A x U K L f n place octets arrival small agrees spans new so =
+    let p : Payload = payload f.id n octets arrival in
     let k : ℕ = age f.next n in
     let aged : k ≡ age (onward x.start so.r) (onward x.start place) =
     ap (λ (m : ℕ). age m n) so.next ∙ ap (age (onward x.start so.r)) agrees.number_is in
@@ -137,7 +138,7 @@ came_so A x U K L f n place octets small agrees spans new so =
     let here = place_left x so.r place side k small so.within (omega (arith, agrees.within)) aged in
     let number : onward n k ≡ onward x.start (place + k) =
     ap (λ (m : ℕ). onward m k) agrees.number_is ∙ place_further x.start place k in
-    let q : Payload = payload f.id (onward n k) (drop k octets) in
+    let q : Payload = without_first k p in
     let is_left : q ≡ left f.next (is_some f.live) p =
     left_live f.next k (is_some f.live) p so.live refl in
     let long : length (drop k octets) ≡ length octets - k = length-drop k octets in
@@ -225,29 +226,29 @@ IsSo x U K g = (x.closings < closes_of x.id g.events) ⊎ (So x U K g × IsSettl
 
 -- what comes is a payload of the content, and no place that no payload spans is in it
 unfoldable pub Comes : Case → (ℕ → Type 0) → Arrival → Type 0
-Comes x U (Octets n octets) =
+Comes x U (Octets n octets arrival) =
     (place : ℕ) × (Agrees x.start x.content place n octets
     × ((u : ℕ) → U u → place ≤ u → place + length octets ≤ u))
 Comes x U (End n) = ⊥
 Comes x U (Acknowledged n) = ⊥
 
 step_so : (A : Setting) (x : Case) (U : ℕ → Type 0) (K L : Type 0) (f : Flow) (n place : ℕ)
-    (octets : List ℕ) → length x.content < 2 ^ 31
+    (octets : List ℕ) (arrival : packet.Arrival) → length x.content < 2 ^ 31
     → Agrees x.start x.content place n octets →
     ((u : ℕ) → U u → place ≤ u → place + length octets ≤ u) →
     (L → IsOrHas x K place (place + length octets))
-    → IsSo x U K f → IsSo x U L (payload_came A f (payload f.id n octets))
+    → IsSo x U K f → IsSo x U L (payload_came A f (payload f.id n octets arrival))
 unfolding IsSo HasGone
-step_so A x U K L f n place octets small agrees spans new (inl m) =
-    inl (came_more A x.closings x.id f (payload f.id n octets) m)
-step_so A x U K L f n place octets small agrees spans new (inr h) =
-    elim (came_so A x U K L f n place octets small agrees spans new h.0) [
+step_so A x U K L f n place octets arrival small agrees spans new (inl m) =
+    inl (came_more A x.closings x.id f (payload f.id n octets arrival) m)
+step_so A x U K L f n place octets arrival small agrees spans new (inr h) =
+    elim (came_so A x U K L f n place octets arrival small agrees spans new h.0) [
       | inl m ↦ inl m
       | inr so ↦
           (let low : onward x.start so.r < 2 ^ 32 = omega arith in
           inr (
             so,
-            came_settled A f (payload f.id n octets) h.1
+            came_settled A f (payload f.id n octets arrival) h.1
                 (subst (λ (m : ℕ). m < 2 ^ 32) (sym so.next) low),
           ))
     ]
@@ -257,27 +258,30 @@ pub run : (A : Setting) (x : Case) (U : ℕ → Type 0) (K : Type 0) (cs : List 
     IsSo x U K (after A f cs)
 unfolding after step Comes IsOrHas
 run A x U K [] f small h t = t
-run A x U K (Octets n octets ∷ cs) f small h t =
-    run A x U K cs (payload_came A f (payload f.id n octets)) small h.1
-    (step_so A x U K K f n h.0.0 octets small h.0.1.0 h.0.1.1 (λ k. inl k) t)
+run A x U K (Octets n octets arrival ∷ cs) f small h t =
+    run A x U K cs (payload_came A f (payload f.id n octets arrival)) small h.1
+    (step_so A x U K K f n h.0.0 octets arrival small h.0.1.0 h.0.1.1 (λ k. inl k) t)
 run A x U K (End n ∷ cs) f small h t = absurd h.0
 run A x U K (Acknowledged n ∷ cs) f small h t = absurd h.0
 
 -- the one payload is among them
 pub run_has : (A : Setting) (x : Case) (U : ℕ → Type 0) (n : ℕ) (octets : List ℕ)
-    (cs : List Arrival) (f : Flow) → length x.content < 2 ^ 31
+    (arrival : packet.Arrival) (cs : List Arrival) (f : Flow) → length x.content < 2 ^ 31
     → Agrees x.start x.content x.place n octets → x.place + length octets ≡ x.end →
     ((u : ℕ) → U u → x.place ≤ u → x.place + length octets ≤ u)
-    → StandsIn cs (Octets n octets) → AllByRecursion (Comes x U) cs → IsSo x U ⊥ f →
+    → StandsIn cs (Octets n octets arrival) → AllByRecursion (Comes x U) cs → IsSo x U ⊥ f →
     IsSo x U (Unit {0}) (after A f cs)
 unfolding after step Comes StandsIn IsOrHas
-run_has A x U n octets [] f small agrees end spans s h t = absurd s
-run_has A x U n octets (d ∷ ds) f small agrees end spans (inl e) h t =
+run_has A x U n octets arrival [] f small agrees end spans s h t = absurd s
+run_has A x U n octets arrival (d ∷ ds) f small agrees end spans (inl e) h t =
     subst (λ (c : Arrival). IsSo x U (Unit {0}) (after A (step A f c) ds)) e
-    (run A x U (Unit {0}) ds (payload_came A f (payload f.id n octets)) small h.1
-    (step_so A x U ⊥ (Unit {0}) f n x.place octets small agrees spans (λ k. inr (refl, end)) t))
-run_has A x U n octets (Octets m os ∷ ds) f small agrees end spans (inr s) h t =
-    run_has A x U n octets ds (payload_came A f (payload f.id m os)) small agrees end spans s h.1
-    (step_so A x U ⊥ ⊥ f m h.0.0 os small h.0.1.0 h.0.1.1 (λ k. inl k) t)
-run_has A x U n octets (End m ∷ ds) f small agrees end spans (inr s) h t = absurd h.0
-run_has A x U n octets (Acknowledged m ∷ ds) f small agrees end spans (inr s) h t = absurd h.0
+    (run A x U (Unit {0}) ds (payload_came A f (payload f.id n octets arrival)) small h.1
+    (step_so A x U ⊥ (Unit {0}) f n x.place octets arrival small agrees spans
+    (λ k. inr (refl, end)) t))
+run_has A x U n octets arrival (Octets m os came ∷ ds) f small agrees end spans (inr s) h t =
+    run_has A x U n octets arrival ds (payload_came A f (payload f.id m os came)) small agrees
+    end spans s h.1
+    (step_so A x U ⊥ ⊥ f m h.0.0 os came small h.0.1.0 h.0.1.1 (λ k. inl k) t)
+run_has A x U n octets arrival (End m ∷ ds) f small agrees end spans (inr s) h t = absurd h.0
+run_has A x U n octets arrival (Acknowledged m ∷ ds) f small agrees end spans (inr s) h t =
+    absurd h.0

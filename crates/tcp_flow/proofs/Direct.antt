@@ -1,6 +1,6 @@
 -- A payload that is due at once is taken from where it is: to hold it first makes no difference.
 -- Behind going on nothing of a flow is due.
-use Rattle.std.proofs.Common.{◌≡◌, ℕ, zero, suc, ◌+◌, ◌^◌, ◌<◌, ◌≤◌, Bool, true, false, cond, nat_eq, nat_lt, nat_le, ◌&&◌, ◌||◌, not, List, [], ◌∷◌, ◌++◌, length, drop, get_or, Option, Some, None, is_some, IfSome, refl, sym, ◌∙◌, ap, subst, arith, add-one, inl, inr}
+use Rattle.std.proofs.Common.{◌≡◌, ℕ, zero, suc, ◌+◌, ◌^◌, ◌<◌, ◌≤◌, Bool, true, false, cond, nat_eq, nat_lt, nat_le, ◌&&◌, ◌||◌, not, List, [], ◌∷◌, length, get_or, Option, Some, None, is_some, IfSome, refl, sym, ◌∙◌, ap, subst, arith, add-one, inl, inr}
 use Rattle.std.specs.Option.{option_map}
 use Rattle.std.specs.List.{insert, remove}
 use Rattle.std.proofs.lemmas.Bool.{cases_Bool, cases_eq, cases_lt, and_parts, or_parts, ltb-true, lt-ltb, le-ltb, true≢false, eqb-true, eqb-false, eq-eqb, ne_eqb, both_ways, cond-true, cond-false, not-true, not-false, or_from, and_left, and_right, not_from_true}
@@ -8,7 +8,7 @@ use Rattle.std.proofs.lemmas.List.{get_or_default}
 use Rattle.std.proofs.lemmas.List.Edits.{length-insert, get_or-insert_at}
 use Rattle.tcp_flow.specs.declared.flow.CloseCause.TheVariants.{Fin, Gap}
 use Rattle.tcp_waiting.specs.Numbers.{ahead, age, onward, is_to_come, rank}
-use Rattle.tcp_waiting.specs.Payload.{Payload, payload, earlier, first, has_as_much, window, put, place_of, key_of}
+use Rattle.tcp_waiting.specs.Payload.{without_first, Payload, no_payload, earlier, first, has_as_much, window, put, place_of, key_of}
 use Rattle.tcp_flow.specs.Flow.{Flow, Reader, Setting, first_of, is_due, at, taken, drained_at_most, drained, fin_is_reached, closed, without_stale_fin, ended, gone_on, gap, is_too_much, within_bounds, acknowledgement_came, holding, payload_came, left, fin_came}
 use Rattle.tcp_flow.specs.Laws.{AreLater, IsSettled}
 use Rattle.tcp_waiting.proofs.Order.{both, first_here, first_within, place_within}
@@ -30,21 +30,21 @@ either_place false i j P p q = q
 
 least_by : (id next n : ℕ) (p : Payload) (ps : List Payload) (c : Bool) (r : Option ℕ) →
     nat_eq p.flow id ≡ c → (p.flow ≡ id → n < rank next p.number)
-    → IfSome r (λ i. n < rank next (get_or ps i (payload 0 0 [])).number)
+    → IfSome r (λ i. n < rank next (get_or ps i no_payload).number)
     → IfSome (cond c (earlier next p ps r) (option_map suc r))
-    (λ i. n < rank next (get_or (p ∷ ps) i (payload 0 0 [])).number)
+    (λ i. n < rank next (get_or (p ∷ ps) i no_payload).number)
 unfolding earlier
 least_by id next n p ps true None e own h = own (eqb-true p.flow id e)
 least_by id next n p ps true (Some k) e own h =
     either_place (nat_lt (rank next (get_or ps k p).number) (rank next p.number)) (suc k) 0
-    (λ i. n < rank next (get_or (p ∷ ps) i (payload 0 0 [])).number) h
+    (λ i. n < rank next (get_or (p ∷ ps) i no_payload).number) h
     (own (eqb-true p.flow id e))
 least_by id next n p ps false None e own h = tt
 least_by id next n p ps false (Some k) e own h = h
 
 -- the first of what is later than a rank is later
 least_later : (id next n : ℕ) (ps : List Payload) → AreLater id next n ps →
-    IfSome (first id next ps) (λ i. n < rank next (get_or ps i (payload 0 0 [])).number)
+    IfSome (first id next ps) (λ i. n < rank next (get_or ps i no_payload).number)
 unfolding AreLater first
 least_later id next n [] h = tt
 least_later id next n (p ∷ ps) h =
@@ -59,7 +59,7 @@ first_before id next q ps own h = rw (eq-eqb q.flow id own) (first_here next q p
     (first id next ps) (both (first id next ps) _ _ _ (λ k w l. omega (
       arith,
       l,
-      ap (λ (p : Payload). rank next p.number) (get_or_default ps k q (payload 0 0 []) w),
+      ap (λ (p : Payload). rank next p.number) (get_or_default ps k q no_payload w),
     )) (first_within id next ps) (least_later id next (rank next q.number) ps h)))
 
 first_put : (id next : ℕ) (q : Payload) (ps : List Payload) (i : ℕ) → q.flow ≡ id →
@@ -93,7 +93,7 @@ gone_on_direct F f q own h due =
     let m : ℕ = length f.held in
     let l : i ≤ m = place_within (key_of q) f.held in
     let e : first_of g ≡ Some i = first_put f.id f.next q f.held i own l h in
-    let here : at g i ≡ q = get_or-insert_at f.held i q (payload 0 0 []) l in
+    let here : at g i ≡ q = get_or-insert_at f.held i q no_payload l in
     let now : is_due g i ≡ true = rw (here, due) refl in
     let n : length g.held ≡ suc m = length-insert f.held i q l ∙ add-one m in
     let goes : drained_at_most F (suc m) g
@@ -121,32 +121,32 @@ later_none id next n (p ∷ ps) h =
 -- a number below the first's is below all
 later_by : (id next n : ℕ) (p : Payload) (ps : List Payload) (c : Bool) (r : Option ℕ) →
     nat_eq p.flow id ≡ c → first id next ps ≡ r
-    → (IfSome (first id next ps) (λ i. n < rank next (get_or ps i (payload 0 0 [])).number) →
+    → (IfSome (first id next ps) (λ i. n < rank next (get_or ps i no_payload).number) →
     AreLater id next n ps)
     → IfSome (cond c (earlier next p ps r) (option_map suc r))
-    (λ i. n < rank next (get_or (p ∷ ps) i (payload 0 0 [])).number)
+    (λ i. n < rank next (get_or (p ∷ ps) i no_payload).number)
     → AreLater id next n (p ∷ ps)
 unfolding AreLater earlier
 later_by id next n p ps true None e f rest h = ((λ x. h), rest (rw f tt))
 later_by id next n p ps true (Some k) e f rest h =
     let within : k < length ps = rw f at (first_within id next ps) in
-    let same : get_or ps k p ≡ get_or ps k (payload 0 0 []) =
-    get_or_default ps k p (payload 0 0 []) within in
+    let same : get_or ps k p ≡ get_or ps k no_payload =
+    get_or_default ps k p no_payload within in
     elim (cases_lt (rank next (get_or ps k p).number) (rank next p.number)) [
       | inl l ↦
           (let t : nat_lt (rank next (get_or ps k p).number) (rank next p.number) ≡ true =
           lt-ltb (rank next (get_or ps k p).number) (rank next p.number) l in
-          let m : n < rank next (get_or ps k (payload 0 0 [])).number = rw t at h in
-          let o : rank next (get_or ps k (payload 0 0 [])).number < rank next p.number =
+          let m : n < rank next (get_or ps k no_payload).number = rw t at h in
+          let o : rank next (get_or ps k no_payload).number < rank next p.number =
           rw same at l in
           ((λ x. omega arith), rest (rw f m)))
       | inr g ↦
           (let t : nat_lt (rank next (get_or ps k p).number) (rank next p.number) ≡ false =
           le-ltb (rank next (get_or ps k p).number) (rank next p.number) g in
           let m : n < rank next p.number = rw t at h in
-          let o : rank next p.number ≤ rank next (get_or ps k (payload 0 0 [])).number =
+          let o : rank next p.number ≤ rank next (get_or ps k no_payload).number =
           rw same at g in
-          let u : n < rank next (get_or ps k (payload 0 0 [])).number = omega arith in
+          let u : n < rank next (get_or ps k no_payload).number = omega arith in
           ((λ x. m), rest (rw f u)))
     ]
 later_by id next n p ps false None e f rest h =
@@ -155,7 +155,7 @@ later_by id next n p ps false (Some k) e f rest h =
     ((λ x. absurd (eqb-false p.flow id e x)), rest (rw f h))
 
 later_least : (id next n : ℕ) (ps : List Payload) →
-    IfSome (first id next ps) (λ i. n < rank next (get_or ps i (payload 0 0 [])).number) →
+    IfSome (first id next ps) (λ i. n < rank next (get_or ps i no_payload).number) →
     AreLater id next n ps
 unfolding AreLater first
 later_least id next n [] h = tt
@@ -234,22 +234,22 @@ ended_settled f small h =
     record {
       live = λ l. later_least f.id f.next (2 ^ 31) f.held
           (if_more (first f.id f.next f.held) (λ i.
-          not ((is_some f.live) && is_to_come f.next (get_or f.held i (payload 0 0 [])).number)
+          not ((is_some f.live) && is_to_come f.next (get_or f.held i no_payload).number)
           ≡ false)
-          (λ i. 2 ^ 31 < rank f.next (get_or f.held i (payload 0 0 [])).number)
-          (λ i e. to_come_place f.next (get_or f.held i (payload 0 0 [])).number
+          (λ i. 2 ^ 31 < rank f.next (get_or f.held i no_payload).number)
+          (λ i e. to_come_place f.next (get_or f.held i no_payload).number
           (and_parts (is_some f.live) (is_to_come f.next
-          (get_or f.held i (payload 0 0 [])).number)
+          (get_or f.held i no_payload).number)
           (not-false ((is_some f.live) && is_to_come f.next
-          (get_or f.held i (payload 0 0 [])).number) e)).1) h);
+          (get_or f.held i no_payload).number) e)).1) h);
       dead = λ d. if_none (first f.id f.next f.held)
           (λ i. not ((is_some f.live) && is_to_come f.next
-          (get_or f.held i (payload 0 0 [])).number) ≡ false)
+          (get_or f.held i no_payload).number) ≡ false)
           (λ i e. both_ways (is_some f.live) d
           (and_parts (is_some f.live) (is_to_come f.next
-          (get_or f.held i (payload 0 0 [])).number)
+          (get_or f.held i no_payload).number)
           (not-false ((is_some f.live) && is_to_come f.next
-          (get_or f.held i (payload 0 0 [])).number) e)).0) h;
+          (get_or f.held i no_payload).number) e)).0) h;
     }
 
 either : (P : Flow → Type 0) (b : Bool) (f g : Flow) → P f → P g → P (cond b f g)
@@ -394,7 +394,7 @@ due_number next live p q small bound l e h =
     let number : q.number ≡ onward p.number (age next p.number) =
     ap (λ (r : Payload). r.number) e ∙ ap (λ (r : Payload). r.number)
     (cond-false (nat_lt window (age next p.number) && not live) p
-    (payload p.flow (onward p.number (age next p.number)) (drop (age next p.number) p.octets))
+    (without_first (age next p.number) p)
     b) in
     elim (cases_Bool (is_to_come next p.number)) [
       | inl x ↦
@@ -437,11 +437,11 @@ gone_on_held F f q t live come =
     let least = least_later f.id f.next (2 ^ 31) g.held later in
     let stays : drained_at_most F (length g.held) g ≡ g =
     elim (first_of g) as (λ (r : Option ℕ). first_of g ≡ r →
-    IfSome r (λ i. 2 ^ 31 < rank f.next (get_or g.held i (payload 0 0 [])).number) →
+    IfSome r (λ i. 2 ^ 31 < rank f.next (get_or g.held i no_payload).number) →
     drained_at_most F (length g.held) g ≡ g) [
       | None ↦ (λ e h. flowing_none F (length g.held) g e)
       | Some i ↦ (λ e h. flowing_stays F (length g.held) g i e
-          (due_not g i live (come_by_place f.next (get_or g.held i (payload 0 0 [])).number h)))
+          (due_not g i live (come_by_place f.next (get_or g.held i no_payload).number h)))
     ] refl least in
     ap (λ (d : Flow). without_stale_fin (ended F d)) (sym stays)
 

@@ -3,6 +3,7 @@ use Rattle.std.proofs.Common.{◌≡◌, ℕ, ◌+◌, ◌-◌, ◌^◌, ◌<◌
 use Rattle.std.specs.List.{AllByRecursion}
 use Rattle.std.proofs.lemmas.Bool.{or_parts, eq-eqb}
 use Rattle.tcp_waiting.specs.Numbers.{onward, rank}
+use Rattle.tcp_waiting.specs.declared.arrival.Arrival as packet
 use Rattle.tcp_waiting.specs.Payload.{Payload, first}
 use Rattle.tcp_flow.specs.Flow.{Flow, Setting, Arrival, Octets, End, Acknowledged, first_of, after}
 use Rattle.tcp_flow.specs.Laws.{IsSettled, AreLater}
@@ -50,7 +51,8 @@ members P (d ∷ ds) k = (k d (inl refl), members P ds (λ c s. k c (inr s)))
 record IsSpan (start : ℕ) (content : List ℕ) (ps : List Arrival) (place end : ℕ) : Type 0 where
   pub number : ℕ
   pub octets : List ℕ
-  pub among : StandsIn ps (Octets number octets)
+  pub arrival : packet.Arrival
+  pub among : StandsIn ps (Octets number octets arrival)
   pub agrees : Agrees start content place number octets
   pub long : place + length octets ≡ end
 
@@ -101,12 +103,19 @@ comes_of : (start at : ℕ) (content : List ℕ) (f : Flow) (ps : List Arrival) 
     (c : Arrival) → StandsIn ps c → IsOfContent start content c
     → Comes (case_of f start at content place end) (IsUnspanned start content ps) c
 unfolding Comes IsOfContent IsUnspanned
-comes_of start at content f ps place end (Octets n octets) s h = (
+comes_of start at content f ps place end (Octets n octets arrival) s h = (
   h.0,
   (
     h.1,
     λ u k l. k h.0 (h.0 + length octets)
-        (record { number = n; octets = octets; among = s; agrees = h.1; long = refl }) l,
+        (record {
+          number = n;
+          octets = octets;
+          arrival = arrival;
+          among = s;
+          agrees = h.1;
+          long = refl;
+        }) l,
   ),
 )
 comes_of start at content f ps place end (End n) s h = absurd h
@@ -173,9 +182,9 @@ reached A f start at content ps cs small h agree into back same =
             from = so.from;
             unspanned =
                 λ place end s l.
-                elim (run_has A (case_of f start at content place end) U s.number s.octets cs f
-                small s.agrees s.long (λ u k m. omega (arith, k place end s m, s.long))
-                (into (Octets s.number s.octets) s.among) (comes place end)
+                elim (run_has A (case_of f start at content place end) U s.number s.octets s.arrival
+                cs f small s.agrees s.long (λ u k m. omega (arith, k place end s m, s.long))
+                (into (Octets s.number s.octets s.arrival) s.among) (comes place end)
                 (start_so f start at content U place end h)) [
                   | inl m ↦ absurd (omega (arith, m, same))
                   | inr v ↦

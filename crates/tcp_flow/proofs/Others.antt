@@ -1,9 +1,9 @@
 -- Flows side by side: a step of one leaves what the others hold, and so leaves them settled and
 -- without a hole.
-use Rattle.std.proofs.Common.{◌≡◌, ℕ, zero, suc, ◌+◌, ◌<◌, ◌≤◌, ◌^◌, Bool, true, false, cond, nat_eq, ◌&&◌, ◌||◌, List, [], ◌∷◌, ◌++◌, length, get_or, Some, is_some, refl, sym, ◌∙◌, ap, subst, arith}
+use Rattle.std.proofs.Common.{◌≡◌, ℕ, zero, suc, ◌+◌, ◌<◌, ◌≤◌, ◌^◌, Bool, true, false, cond, nat_eq, ◌&&◌, ◌||◌, List, [], ◌∷◌, length, get_or, Some, is_some, refl, sym, ◌∙◌, ap, subst, arith}
 use Rattle.std.specs.List.{insert, remove}
 use Rattle.std.proofs.lemmas.Bool.{or_parts, eq-eqb, ne_eqb, eqb-true}
-use Rattle.tcp_waiting.specs.Payload.{Payload, payload, first, blocks_of, has_as_much, put, place_of, key_of}
+use Rattle.tcp_waiting.specs.Payload.{Payload, payload, no_payload, first, blocks_of, has_as_much, put, place_of, key_of}
 use Rattle.tcp_waiting.specs.Numbers.{age, rank}
 use Rattle.tcp_flow.specs.Flow.{Flow, Reader, Setting, Arrival, Octets, End, Acknowledged, held_by_others, first_of, left, gone_on, gap, within_bounds, holding, payload_came, fin_came, step}
 use Rattle.tcp_flow.specs.Laws.{AreLater, IsSettled}
@@ -12,7 +12,7 @@ use Rattle.tcp_flow.proofs.Room.{Holds, held_keeps, left_flow, first_some}
 
 -- a payload of the flow falls away
 pub others_keep : (id : ℕ) (ps : List Payload) (i : ℕ) → i < length ps →
-    (get_or ps i (payload 0 0 [])).flow ≡ id →
+    (get_or ps i no_payload).flow ≡ id →
     held_by_others id (remove ps i) ≡ held_by_others id ps
 unfolding held_by_others
 others_keep id [] i h own = absurd (omega (arith, h))
@@ -92,7 +92,7 @@ came_others A f p own =
 step_holds : (A : Setting) (f : Flow) (a : Arrival) →
     Holds (OthersHold (held_by_others f.id f.held)) f.id (step A f a)
 unfolding step fin_came OthersHold
-step_holds A f (Octets n octets) = came_others A f (payload f.id n octets) refl
+step_holds A f (Octets n octets arrival) = came_others A f (payload f.id n octets arrival) refl
 step_holds A f (End n) =
     let P = Holds (OthersHold (held_by_others f.id f.held)) f.id in
     either P (is_some f.live && nat_eq (age f.next n) 0)

@@ -1,6 +1,6 @@
 -- The pool's blocks suffice behind each payload: the gaps end, and what other flows hold is left
 -- alone.
-use Rattle.std.proofs.Common.{◌≡◌, ℕ, zero, suc, ◌+◌, ◌-◌, ◌/◌, ◌<◌, ◌≤◌, Bool, true, false, cond, nat_eq, nat_lt, ◌&&◌, ◌||◌, not, List, [], ◌∷◌, ◌++◌, length, drop, get_or, Option, Some, None, is_some, refl, sym, ◌∙◌, ap, subst, arith, inl, inr}
+use Rattle.std.proofs.Common.{◌≡◌, ℕ, zero, suc, ◌+◌, ◌-◌, ◌/◌, ◌<◌, ◌≤◌, Bool, true, false, cond, nat_eq, nat_lt, ◌&&◌, ◌||◌, not, List, [], ◌∷◌, ◌++◌, length, get_or, Option, Some, None, is_some, refl, sym, ◌∙◌, ap, subst, arith, inl, inr}
 use Rattle.std.specs.List.{insert, remove}
 use Rattle.std.proofs.lemmas.Bool.{cases_Bool, and_cases, or_cases, or_parts, and_parts, ltb-false, true≢false, eq-eqb, or_left, or_right, and_left, cond-true, cond-false}
 use Rattle.std.proofs.lemmas.List.{nil_from_length}
@@ -9,8 +9,8 @@ use Rattle.tcp_flow.specs.declared.flow.CloseCause.{CloseCause}
 use Rattle.tcp_flow.specs.declared.flow.CloseCause.TheVariants.{Gap, Fault}
 use Rattle.std.specs.Option.{option_map}
 use Rattle.tcp_waiting.specs.Numbers.{ahead, age, is_to_come, onward, rank}
-use Rattle.tcp_waiting.specs.Payload.{Payload, payload, window, earlier, first, blocks_of, is_far, has_as_much, put, place_of, key_of}
-use Rattle.tcp_flow.specs.Flow.{Flow, Event, Begins, Delivers, Closes, Reader, Setting, left, with_event, delivered, begun, taken, stream_at, first_of, at, drained_at_most, drained, closed, gone_on, gap, is_too_much, within_bounds, acknowledgement_came, holding, payload_came, fin_came}
+use Rattle.tcp_waiting.specs.Payload.{without_first, Payload, no_payload, window, earlier, first, blocks_of, is_far, has_as_much, put, place_of, key_of}
+use Rattle.tcp_flow.specs.Flow.{Flow, Event, Begins, Delivers, Closes, Reader, Setting, left, with_event, delivered, begun, told_from, taken, stream_at, first_of, at, drained_at_most, drained, closed, gone_on, gap, is_too_much, within_bounds, acknowledgement_came, holding, payload_came, fin_came}
 use Rattle.tcp_waiting.proofs.Order.{first_within, first_own, place_within}
 use Rattle.tcp_flow.proofs.Steps.{length_remove, flowing_takes, due_now}
 use Rattle.tcp_flow.proofs.Preserving.{gap_keeps, Keeps, flowing_by, rest_keeps, gone_on_keeps, relieved_keeps, missed_keeps}
@@ -58,19 +58,25 @@ begun_stays F f p (Some i) =
       held = f.held;
       events = f.events ++ Begins f.id (onward p.number i) ∷ [];
     } in
-    let s : Stays g (delivered F g (payload p.flow (onward p.number i) (drop i p.octets))) =
-    delivered_stays F g (payload p.flow (onward p.number i) (drop i p.octets)) in
+    let s : Stays g (delivered F g (without_first i p)) =
+    delivered_stays F g (without_first i p) in
     record { held = s.held; id = s.id }
 
+stays_from : (f : Flow) (p : Payload) (g : Flow) → Stays (told_from f p) g → Stays f g
+unfolding told_from with_event
+stays_from f p g s = record { held = s.held; id = s.id }
+
 pub taken_stays : (F : Reader) (f : Flow) (p : Payload) → Stays f (taken F f p)
-unfolding taken
+unfolding taken told_from with_event
 taken_stays F f p =
     let q : Payload = left f.next (is_some f.live) p in
-    stays_either f (nat_eq (length q.octets) 0) f
-    (cond (is_some f.live) (delivered F f q) (begun F f q (stream_at q.octets)))
+    let g : Flow = told_from f p in
+    let d : Flow = delivered F g q in
+    let b : Flow = begun F g q (stream_at q.octets) in
+    stays_either f (nat_eq (length q.octets) 0) f (cond (is_some f.live) d b)
     (record { held = refl; id = refl })
-    (stays_either f (is_some f.live) (delivered F f q) (begun F f q (stream_at q.octets))
-    (delivered_stays F f q) (begun_stays F f q (stream_at q.octets)))
+    (stays_either f (is_some f.live) d b (stays_from f p d (delivered_stays F g q))
+    (stays_from f p b (begun_stays F g q (stream_at q.octets))))
 
 closed_stays : (f : Flow) (cause : CloseCause) → Stays f (closed f cause)
 unfolding closed with_event
@@ -95,7 +101,7 @@ holds_on : (P : ℕ → List Payload → Type 0) (id : ℕ) (f g : Flow) → Sta
 holds_on P id f g s h = record { own = s.id ∙ h.own; held = subst (P id) (sym s.held) h.held }
 
 pub held_keeps : (F : Reader) (P : ℕ → List Payload → Type 0) (id : ℕ) →
-    ((ps : List Payload) (i : ℕ) → i < length ps → (get_or ps i (payload 0 0 [])).flow ≡ id →
+    ((ps : List Payload) (i : ℕ) → i < length ps → (get_or ps i no_payload).flow ≡ id →
     P id ps → P id (remove ps i))
     → Keeps F (Holds P id)
 unfolding first_of at
@@ -104,11 +110,11 @@ held_keeps F P id keeps =
       takes =
           λ f i e d h.
           let within : i < length f.held = rw e at (first_within f.id f.next f.held) in
-          let own : (get_or f.held i (payload 0 0 [])).flow ≡ f.id =
-          rw e at (first_own f.id f.next (payload 0 0 []) f.held) in
+          let own : (get_or f.held i no_payload).flow ≡ f.id =
+          rw e at (first_own f.id f.next no_payload f.held) in
           let g : Flow = record f { held = remove f.held i } in
-          holds_on P id g (taken F g (get_or f.held i (payload 0 0 [])))
-          (taken_stays F g (get_or f.held i (payload 0 0 [])))
+          holds_on P id g (taken F g (get_or f.held i no_payload))
+          (taken_stays F g (get_or f.held i no_payload))
           (record { own = h.own; held = keeps f.held i within (own ∙ h.own) h.held });
       closes = λ f cause h. holds_on P id f (closed f cause) (closed_stays f cause) h;
       fins = λ f n h. record { own = h.own; held = h.held };
@@ -120,7 +126,7 @@ others id [] = 0
 others id (p ∷ ps) = cond (nat_eq p.flow id) 0 ((length p.octets + 1023) / 1024) + others id ps
 
 others_remove : (id : ℕ) (ps : List Payload) (i : ℕ) → i < length ps →
-    (get_or ps i (payload 0 0 [])).flow ≡ id → others id (remove ps i) ≡ others id ps
+    (get_or ps i no_payload).flow ≡ id → others id (remove ps i) ≡ others id ps
 unfolding others
 others_remove id [] i h own = absurd (omega (arith, h))
 others_remove id (p ∷ ps) zero h own = rw (eq-eqb p.flow id own) (omega arith)
@@ -337,7 +343,7 @@ flow_either false p q n e d = d
 pub left_flow : (next : ℕ) (live : Bool) (p : Payload) → (left next live p).flow ≡ p.flow
 unfolding left
 left_flow next live p = flow_either (nat_lt window (age next p.number) && not live) p
-    (payload p.flow (onward p.number (age next p.number)) (drop (age next p.number) p.octets))
+    (without_first (age next p.number) p)
     p.flow refl refl
 
 blocks_either : (blocks : ℕ) (b : Bool) (f g : Flow) → blocks_of f.held ≤ blocks →

@@ -4,8 +4,8 @@ use Rattle.std.specs.List.{remove}
 use Rattle.std.proofs.lemmas.Bool.{cond-true, cond-false, and_left, and_right, and_from}
 use Rattle.tcp_waiting.specs.Numbers.{is_to_come}
 use Rattle.tcp_waiting.proofs.Order.{first_within, first_own}
-use Rattle.tcp_waiting.specs.Payload.{Payload, payload, first, has_as_much}
-use Rattle.tcp_flow.specs.Flow.{Flow, Reader, left, delivered, begun, taken, stream_at, first_of, is_due, at, drained_at_most, Setting, is_too_much, within_bounds, gap, acknowledgement_came, payload_came, gone_on, holding}
+use Rattle.tcp_waiting.specs.Payload.{Payload, payload, no_payload, first, has_as_much}
+use Rattle.tcp_flow.specs.Flow.{Flow, Reader, left, delivered, begun, told_from, taken, stream_at, first_of, is_due, at, drained_at_most, Setting, is_too_much, within_bounds, gap, acknowledgement_came, payload_came, gone_on, holding}
 
 pub taken_none : (F : Reader) (f : Flow) (p q : Payload) → q ≡ left f.next (is_some f.live) p →
     nat_eq (length q.octets) 0 ≡ true → taken F f p ≡ f
@@ -13,17 +13,18 @@ unfolding taken
 taken_none F f p q e z = rw (← e, z) refl
 
 pub taken_live : (F : Reader) (f : Flow) (p q : Payload) → q ≡ left f.next (is_some f.live) p →
-    nat_eq (length q.octets) 0 ≡ false → (is_some f.live) ≡ true → taken F f p ≡ delivered F f q
+    nat_eq (length q.octets) 0 ≡ false → (is_some f.live) ≡ true →
+    taken F f p ≡ delivered F (told_from f p) q
 unfolding taken
-taken_live F f p q e z l = rw (← e, z) (cond-true (is_some f.live) (delivered F f q)
-    (begun F f q (stream_at q.octets)) l)
+taken_live F f p q e z l = rw (← e, z) (cond-true (is_some f.live) (delivered F (told_from f p) q)
+    (begun F (told_from f p) q (stream_at q.octets)) l)
 
 pub taken_dead : (F : Reader) (f : Flow) (p q : Payload) → q ≡ left f.next (is_some f.live) p →
     nat_eq (length q.octets) 0 ≡ false → (is_some f.live) ≡ false →
-    taken F f p ≡ begun F f q (stream_at q.octets)
+    taken F f p ≡ begun F (told_from f p) q (stream_at q.octets)
 unfolding taken
-taken_dead F f p q e z l = rw (← e, z) (cond-false (is_some f.live) (delivered F f q)
-    (begun F f q (stream_at q.octets)) l)
+taken_dead F f p q e z l = rw (← e, z) (cond-false (is_some f.live) (delivered F (told_from f p) q)
+    (begun F (told_from f p) q (stream_at q.octets)) l)
 
 -- a payload is taken while it is due
 pub flowing_none : (F : Reader) (count : ℕ) (f : Flow) → first_of f ≡ None →
@@ -54,15 +55,15 @@ length_remove (p ∷ ps) (suc i) h = ap suc (length_remove ps i (omega (arith, h
 pub drain_takes : (F : Reader) (f g : Flow) (i : ℕ) → first f.id f.next f.held ≡ Some i →
     is_due f i ≡ true
     → g ≡ taken F (record f { held = remove f.held i })
-    (payload f.id (at f i).number (at f i).octets)
+    (payload f.id (at f i).number (at f i).octets (at f i).arrival)
     → drained_at_most F (length f.held) f ≡ drained_at_most F (length (remove f.held i)) g
 unfolding first_of at
 drain_takes F f g i e d t =
     let within : i < length f.held = rw e at (first_within f.id f.next f.held) in
-    let own : (get_or f.held i (payload 0 0 [])).flow ≡ f.id =
-    rw e at (first_own f.id f.next (payload 0 0 []) f.held) in
-    let same : payload f.id (at f i).number (at f i).octets ≡ at f i =
-    ap (λ (n : ℕ). payload n (at f i).number (at f i).octets) (sym own) in
+    let own : (get_or f.held i no_payload).flow ≡ f.id =
+    rw e at (first_own f.id f.next no_payload f.held) in
+    let same : payload f.id (at f i).number (at f i).octets (at f i).arrival ≡ at f i =
+    ap (λ (n : ℕ). payload n (at f i).number (at f i).octets (at f i).arrival) (sym own) in
     let u : g ≡ taken F (record f { held = remove f.held i }) (at f i) =
     t ∙ ap (λ (p : Payload). taken F (record f { held = remove f.held i }) p) same in
     rw (length_remove f.held i within, u) (flowing_takes F (length (remove f.held i)) f i e d)

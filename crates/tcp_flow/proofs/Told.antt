@@ -1,11 +1,11 @@
 -- What each event of a flow keeps of all that has happened, the flow keeps whatever comes.
-use Rattle.std.proofs.Common.{◌≡◌, ℕ, cond, nat_eq, ◌&&◌, ◌||◌, ◌+◌, List, [], ◌∷◌, ◌++◌, length, drop, Option, Some, None, is_some, ap}
+use Rattle.std.proofs.Common.{◌≡◌, ℕ, cond, nat_eq, ◌&&◌, ◌||◌, ◌+◌, List, [], ◌∷◌, ◌++◌, length, Option, Some, None, is_some, unwrap_or, sym, ◌∙◌, ap, true≢false}
 use Rattle.std.specs.List.{remove}
 use Rattle.tcp_flow.specs.declared.flow.CloseCause.{CloseCause}
 use Rattle.tcp_flow.specs.declared.flow.CloseCause.TheVariants.{Fault}
 use Rattle.tcp_waiting.specs.Numbers.{onward, age}
-use Rattle.tcp_waiting.specs.Payload.{Payload, payload, has_as_much, put}
-use Rattle.tcp_flow.specs.Flow.{Flow, Event, Begins, Delivers, Closes, flow_of, Reader, Setting, Arrival, Octets, End, Acknowledged, left, with_event, delivered, begun, taken, stream_at, at, closed, holding, gone_on, within_bounds, payload_came, fin_came, gap, step}
+use Rattle.tcp_waiting.specs.Payload.{without_first, Payload, payload, has_as_much, put}
+use Rattle.tcp_flow.specs.Flow.{Flow, Event, Begins, Delivers, Closes, flow_of, OfCapture, ComesFrom, Reader, Setting, Arrival, Octets, End, Acknowledged, left, with_event, delivered, begun, told_from, taken, stream_at, at, closed, holding, gone_on, within_bounds, payload_came, fin_came, gap, step}
 use Rattle.tcp_flow.proofs.Preserving.{Keeps, cond_keeps, gone_on_keeps, relieved_keeps, missed_keeps, gap_keeps}
 
 -- it is so of all that has happened, behind a flow of this id
@@ -13,9 +13,16 @@ pub record Told (Q : List Event → Type 0) (id : ℕ) (f : Flow) : Type 0 where
   pub same : f.id ≡ id
   pub told : Q f.events
 
--- an event of the flow of this id keeps it
+-- an event of no other flow than that of this id keeps it
 abbrev pub IsKept : (List Event → Type 0) → ℕ → Type 0
-IsKept Q id = (es : List Event) (e : Event) → flow_of e ≡ Some id → Q es → Q (es ++ e ∷ [])
+IsKept Q id = (es : List Event) (e : Event) → ((j : ℕ) → flow_of e ≡ Some j → j ≡ id) → Q es →
+    Q (es ++ e ∷ [])
+
+pub same_flow : (n id : ℕ) → n ≡ id → (j : ℕ) → Some n ≡ Some j → j ≡ id
+same_flow n id same j e = ap (λ (o : Option ℕ). unwrap_or o n) (sym e) ∙ same
+
+of_capture : (id j : ℕ) → ◌≡◌ {A = Option ℕ} None (Some j) → j ≡ id
+of_capture id j e = absurd (true≢false (sym (ap is_some e)))
 
 module _ (Q : List Event → Type 0) (id : ℕ) (more : IsKept Q id) where
   closing_told : (f : Flow) (cause : CloseCause) → Told Q id f
@@ -30,7 +37,7 @@ module _ (Q : List Event → Type 0) (id : ℕ) (more : IsKept Q id) where
   closing_told f cause t = record {
     same = t.same;
     told =
-        more f.events (Closes f.id cause) (ap Some t.same) t.told;
+        more f.events (Closes f.id cause) (same_flow f.id id t.same) t.told;
   }
 
   pub closed_told : (f : Flow) (cause : CloseCause) → Told Q id f → Told Q id (closed f cause)
@@ -63,7 +70,7 @@ module _ (Q : List Event → Type 0) (id : ℕ) (more : IsKept Q id) where
       let u : Told Q id d = record {
         same = t.same;
         told =
-            more f.events (Delivers f.id p.octets) (ap Some t.same) t.told;
+            more f.events (Delivers f.id p.octets) (same_flow f.id id t.same) t.told;
       } in
       cond_keeps (Told Q id) (F d.events)
       (record {
@@ -92,18 +99,31 @@ module _ (Q : List Event → Type 0) (id : ℕ) (more : IsKept Q id) where
             f.held;
         events = f.events ++ Begins f.id n ∷ [];
       })
-      (payload q.flow n (drop i q.octets))
-      (record { same = t.same; told = more f.events (Begins f.id n) (ap Some t.same) t.told })
+      (without_first i q)
+      (record {
+        same = t.same;
+        told = more f.events (Begins f.id n) (same_flow f.id id t.same)
+            t.told;
+      })
+
+  from_told : (f : Flow) (p : Payload) → Told Q id f → Told Q id (told_from f p)
+  unfolding told_from with_event
+  from_told f p t = record {
+    same = t.same;
+    told = more f.events (OfCapture (ComesFrom p.arrival)) (of_capture id) t.told;
+  }
 
   taken_told : (F : Reader) (f : Flow) (p : Payload) → Told Q id f → Told Q id (taken F f p)
   unfolding taken
   taken_told F f p t =
       let q : Payload = left f.next (is_some f.live) p in
-      let d : Flow = delivered F f q in
-      let b : Flow = begun F f q (stream_at q.octets) in
+      let g : Flow = told_from f p in
+      let u : Told Q id g = from_told f p t in
+      let d : Flow = delivered F g q in
+      let b : Flow = begun F g q (stream_at q.octets) in
       cond_keeps (Told Q id) (nat_eq (length q.octets) 0) f (cond (is_some f.live) d b) t
-      (cond_keeps (Told Q id) (is_some f.live) d b (delivered_told F f q t)
-      (begun_told F f q (stream_at q.octets) t))
+      (cond_keeps (Told Q id) (is_some f.live) d b (delivered_told F g q u)
+      (begun_told F g q (stream_at q.octets) u))
 
   told_keeps : (F : Reader) → Keeps F (Told Q id)
   told_keeps F =
@@ -136,7 +156,7 @@ module _ (Q : List Event → Type 0) (id : ℕ) (more : IsKept Q id) where
 
   pub step_told : (A : Setting) (f : Flow) (a : Arrival) → Told Q id f → Told Q id (step A f a)
   unfolding step
-  step_told A f (Octets n octets) t = came_told A f (payload f.id n octets) t
+  step_told A f (Octets n octets arrival) t = came_told A f (payload f.id n octets arrival) t
   step_told A f (End n) t = fin_told A.faulted f n t
   step_told A f (Acknowledged n) t = missed_keeps A.faulted (Told Q id) (told_keeps A.faulted)
       (length f.held) n f t

@@ -1,12 +1,12 @@
 -- Streams are gapless, whatever comes.
-use Rattle.std.proofs.Common.{◌≡◌, ℕ, zero, suc, ◌+◌, ◌-◌, ◌^◌, ◌<◌, ◌≤◌, Bool, true, false, cond, nat_eq, nat_lt, ◌&&◌, ◌||◌, not, List, [], ◌∷◌, ◌++◌, length, drop, get_or, Option, Some, None, refl, sym, ◌∙◌, ap, subst, arith, inl, inr, is_some}
+use Rattle.std.proofs.Common.{◌≡◌, ℕ, zero, suc, ◌+◌, ◌-◌, ◌^◌, ◌<◌, ◌≤◌, Bool, true, false, cond, nat_eq, nat_lt, ◌&&◌, ◌||◌, not, List, [], ◌∷◌, ◌++◌, length, drop, get_or, Option, Some, None, refl, sym, ◌∙◌, ap, subst, arith, inl, inr, is_some, true≢false}
 use Rattle.std.specs.List.{insert, remove}
 use Rattle.std.proofs.lemmas.Bool.{cases_lt, cases_Bool, lt-ltb, le-ltb, ltb-false, and_cases, cond-true, cond-false, not-true, and_right, not_from_true, both_ways}
 use Rattle.std.proofs.lemmas.List.{drop-drop, get_or-append_right, get_or_append_left, length-append}
 use Rattle.tcp_flow.specs.declared.flow.CloseCause.TheVariants.{Fault}
 use Rattle.tcp_waiting.specs.Numbers.{ahead, onward, age, is_to_come}
-use Rattle.tcp_waiting.specs.Payload.{Payload, payload, window, has_as_much, put, place_of, key_of}
-use Rattle.tcp_flow.specs.Flow.{gap, Flow, Event, Begins, Delivers, Closes, Reader, Setting, left, with_event, delivered, begun, taken, stream_at, first_of, is_due, at, closed, payload_came, holding, within_bounds, gone_on, fin_came, acknowledgement_came}
+use Rattle.tcp_waiting.specs.Payload.{without_first, Payload, no_payload, window, has_as_much, put, place_of, key_of}
+use Rattle.tcp_flow.specs.Flow.{gap, Flow, Event, Begins, Delivers, Closes, Reader, Setting, left, with_event, delivered, begun, told_from, OfCapture, ComesFrom, taken, stream_at, first_of, is_due, at, closed, payload_came, holding, within_bounds, gone_on, fin_came, acknowledgement_came}
 use Rattle.tcp_flow.specs.Laws.{IsPartOf, OwnMayFollow, MayFollow, AllFollow, AllArePartsOf, due_of, IsGapless}
 use Rattle.tcp_waiting.proofs.Order.{first_within, first_own}
 use Rattle.tcp_flow.proofs.Preserving.{gap_keeps, Keeps, relieved_keeps, gone_on_keeps, missed_keeps}
@@ -50,10 +50,10 @@ has_more payloads id n a xs h =
       among = h.among;
       own = h.own;
       skipped = h.skipped + a;
-      number_is = rw h.number_is (onward_onward (get_or payloads h.index (payload 0 0 [])).number
+      number_is = rw h.number_is (onward_onward (get_or payloads h.index no_payload).number
           h.skipped a);
       octets_are = rw h.octets_are (drop-drop a h.skipped
-          (get_or payloads h.index (payload 0 0 [])).octets);
+          (get_or payloads h.index no_payload).octets);
     }
 
 have_at : (payloads ps : List Payload) (i : ℕ) (d : Payload) → AllArePartsOf payloads ps →
@@ -97,7 +97,7 @@ unfolding left
 left_has payloads id next live p h =
     either (λ (q : Payload). IsPartOf payloads id q.number q.octets)
     (nat_lt window (age next p.number) && not live) p
-    (payload p.flow (onward p.number (age next p.number)) (drop (age next p.number) p.octets)) h
+    (without_first (age next p.number) p) h
     (has_more payloads id p.number (age next p.number) p.octets h)
 
 left_due : (next : ℕ) (live : Bool) (p : Payload) → next < 2 ^ 32 → live ≡ true →
@@ -105,7 +105,7 @@ left_due : (next : ℕ) (live : Bool) (p : Payload) → next < 2 ^ 32 → live �
 unfolding left
 left_due next live p small l h =
     when_false (λ (q : Payload). q.number ≡ next) (nat_lt window (age next p.number) && not live) p
-    (payload p.flow (onward p.number (age next p.number)) (drop (age next p.number) p.octets))
+    (without_first (age next p.number) p)
     (and_right (nat_lt window (age next p.number)) (not live) (not_from_true live l))
     (reached next p.number small h)
 
@@ -162,33 +162,46 @@ begun_true F payloads g q (Some i) t dead has =
       held =
           g.held;
       events = g.events ++ Begins g.id n ∷ [];
-    }) (payload q.flow n (drop i q.octets)) n
+    }) (without_first i q) n
     t.held begins
     (has_more payloads g.id q.number i q.octets has) refl refl
+
+from_true : (payloads : List Payload) (f : Flow) (p : Payload) → IsGapless payloads f →
+    IsGapless payloads (told_from f p)
+unfolding told_from with_event
+from_true payloads f p t = record {
+  next = t.next;
+  held = t.held;
+  events = runs_more payloads f.id None (due_of f) (due_of f) f.events
+      (OfCapture (ComesFrom p.arrival)) t.events
+      (inr (λ o. true≢false (sym (ap is_some o)), refl));
+}
 
 pub taken_true : (F : Reader) (payloads : List Payload) (f : Flow) (p : Payload) →
     IsGapless payloads f → IsPartOf payloads f.id p.number p.octets →
     ((is_some f.live) ≡ true → is_to_come f.next p.number ≡ false) →
     IsGapless payloads (taken F f p)
-unfolding taken
+unfolding taken told_from with_event
 taken_true F payloads f p t has reach =
     let q : Payload = left f.next (is_some f.live) p in
     let left : IsPartOf payloads f.id q.number q.octets =
     left_has payloads f.id f.next (is_some f.live) p has in
-    let d : Flow = delivered F f q in
-    let b : Flow = begun F f q (stream_at q.octets) in
+    let g : Flow = told_from f p in
+    let u : IsGapless payloads g = from_true payloads f p t in
+    let d : Flow = delivered F g q in
+    let b : Flow = begun F g q (stream_at q.octets) in
     let live : IsGapless payloads (cond (is_some f.live) d b) =
     elim (cases_Bool (is_some f.live)) [
       | inl e ↦
           (let due : q.number ≡ f.next = left_due f.next (is_some f.live) p t.next e (reach e) in
-          let runs : AllFollow payloads f.id None f.events (Some f.next) =
-          subst (AllFollow payloads f.id None f.events)
-          (cond-true (is_some f.live) (Some f.next) None e) t.events in
+          let runs : AllFollow payloads f.id None g.events (Some f.next) =
+          subst (AllFollow payloads f.id None g.events)
+          (cond-true (is_some f.live) (Some f.next) None e) u.events in
           when_true (IsGapless payloads) (is_some f.live) d b e
-          (delivered_true F payloads f q f.next t.held runs
+          (delivered_true F payloads g q f.next t.held runs
           (subst (λ (n : ℕ). IsPartOf payloads f.id n q.octets) due left) due e))
       | inr e ↦ when_false (IsGapless payloads) (is_some f.live) d b e
-          (begun_true F payloads f q (stream_at q.octets) t e left)
+          (begun_true F payloads g q (stream_at q.octets) u e left)
     ] in
     either (IsGapless payloads) (nat_eq (length q.octets) 0) f (cond (is_some f.live) d b) t live
 
@@ -199,12 +212,12 @@ true_keeps F payloads =
       takes =
           λ f i e d t.
           let within : i < length f.held = rw e at (first_within f.id f.next f.held) in
-          let own : (get_or f.held i (payload 0 0 [])).flow ≡ f.id =
-          rw e at (first_own f.id f.next (payload 0 0 []) f.held) in
-          let p : Payload = get_or f.held i (payload 0 0 []) in
+          let own : (get_or f.held i no_payload).flow ≡ f.id =
+          rw e at (first_own f.id f.next no_payload f.held) in
+          let p : Payload = get_or f.held i no_payload in
           let has : IsPartOf payloads f.id p.number p.octets =
           subst (λ (n : ℕ). IsPartOf payloads n p.number p.octets) own
-          (have_at payloads f.held i (payload 0 0 []) t.held within) in
+          (have_at payloads f.held i no_payload t.held within) in
           let g : Flow = record f { held = remove f.held i } in
           let u : IsGapless payloads g = record {
             next = t.next;
@@ -251,7 +264,7 @@ true_keeps F payloads =
 has_grow : (payloads : List Payload) (p : Payload) (id n : ℕ) (xs : List ℕ) →
     IsPartOf payloads id n xs → IsPartOf (payloads ++ p ∷ []) id n xs
 has_grow payloads p id n xs h =
-    let d : Payload = payload 0 0 [] in
+    let d : Payload = no_payload in
     let e : get_or payloads h.index d ≡ get_or (payloads ++ p ∷ []) h.index d =
     sym (get_or_append_left payloads (p ∷ []) d h.index h.among) in
     record {
@@ -311,7 +324,7 @@ true_grows payloads p f t = record {
 has_last : (payloads : List Payload) (p : Payload) → p.number < 2 ^ 32 →
     IsPartOf (payloads ++ p ∷ []) p.flow p.number p.octets
 has_last payloads p small =
-    let d : Payload = payload 0 0 [] in
+    let d : Payload = no_payload in
     let n : length payloads - length payloads ≡ 0 = omega arith in
     let e : p ≡ get_or (payloads ++ p ∷ []) (length payloads) d =
     sym (get_or-append_right payloads (p ∷ []) (length payloads) (length payloads) d refl
@@ -332,7 +345,7 @@ unfolding left
 left_all payloads next live p h =
     either (λ (q : Payload). IsPartOf payloads q.flow q.number q.octets)
     (nat_lt window (age next p.number) && not live) p
-    (payload p.flow (onward p.number (age next p.number)) (drop (age next p.number) p.octets)) h
+    (without_first (age next p.number) p) h
     (has_more payloads p.flow p.number (age next p.number) p.octets h)
 
 pub came_true : (A : Setting) (payloads' : List Payload) (f : Flow) (p : Payload) →

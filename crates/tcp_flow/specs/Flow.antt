@@ -5,19 +5,19 @@ use Rattle.std.specs.List.{remove}
 use Rattle.tcp_flow.specs.declared.flow.CloseCause.{CloseCause}
 use Rattle.tcp_flow.specs.declared.flow.CloseCause.TheVariants.{Fin, Gap, Fault}
 use Rattle.tcp_segment.specs.declared.endpoint.Flow as endpoints
-use Rattle.tcp_waiting.specs.Payload.{Payload, payload, window, first, blocks_of, is_far, has_as_much, put}
+use Rattle.tcp_waiting.specs.declared.arrival.Arrival as origin
+use Rattle.tcp_waiting.specs.Payload.{Payload, payload, no_payload, without_first, window, first, blocks_of, is_far, has_as_much, put}
 use Rattle.tcp_waiting.specs.Numbers.{ahead, onward, age, is_to_come}
 
--- what happens in a capture beside its flows: a packet arrives, at a time in nanoseconds since
--- 1970-01-01 UTC where it has one;
--- it has a fault, of this word, at the octet of this number
+-- what happens in a capture beside its flows: what is delivered next came in this packet; it has a
+-- fault, of this word, at the octet of this number
 pub data CaptureEvent : Type 0 where
-  PacketArrives : Option ℕ → CaptureEvent
+  ComesFrom : origin.Arrival → CaptureEvent
   HasFault : List ℕ → ℕ → CaptureEvent
 
 -- what happens in flows, each by its id: the id stands for the flow between these endpoints from
 -- now on, a stream begins at a number, octets are delivered to it, it closes; and what happens in
--- the capture, which whoever reads it tells between segments
+-- the capture
 pub data Event : Type 0 where
   Opens : ℕ → endpoints.Flow → Event
   Begins : ℕ → ℕ → Event
@@ -125,7 +125,7 @@ stream_at xs =
 -- live and it begins more than W before
 unfoldable pub left : ℕ → Bool → Payload → Payload
 left next live p = cond (nat_lt window (age next p.number) && not live) p
-    (payload p.flow (onward p.number (age next p.number)) (drop (age next p.number) p.octets))
+    (without_first (age next p.number) p)
 
 unfoldable pub with_event : Flow → Event → Flow
 with_event f h = record f { events = f.events ++ h ∷ [] }
@@ -143,20 +143,25 @@ begun F f p None = f
 begun F f p (Some i) =
     delivered F
     (with_event (record f { live = Some (onward p.number i) }) (Begins f.id (onward p.number i)))
-    (payload p.flow (onward p.number i) (drop i p.octets))
+    (without_first i p)
+
+-- what is told next came in the packet of a payload
+unfoldable pub told_from : Flow → Payload → Flow
+told_from f p = with_event f (OfCapture (ComesFrom p.arrival))
 
 -- a payload is taken: delivered, or a stream begins in it, or it is nothing
 unfoldable pub taken : Reader → Flow → Payload → Flow
 taken F f p =
     let q : Payload = left f.next (is_some f.live) p in
     cond (nat_eq (length q.octets) 0) f
-    (cond (is_some f.live) (delivered F f q) (begun F f q (stream_at q.octets)))
+    (cond (is_some f.live) (delivered F (told_from f p) q)
+    (begun F (told_from f p) q (stream_at q.octets)))
 
 unfoldable pub first_of : Flow → Option ℕ
 first_of f = first f.id f.next f.held
 
 unfoldable pub at : Flow → ℕ → Payload
-at f i = get_or f.held i (payload 0 0 [])
+at f i = get_or f.held i no_payload
 
 -- whether the held payload at an index is taken now
 unfoldable pub is_due : Flow → ℕ → Bool
@@ -241,12 +246,12 @@ acknowledgement_came F (suc count) n f =
 
 -- what comes for a flow
 pub data Arrival : Type 0 where
-  Octets : ℕ → List ℕ → Arrival
+  Octets : ℕ → List ℕ → origin.Arrival → Arrival
   End : ℕ → Arrival
   Acknowledged : ℕ → Arrival
 
 unfoldable pub step : Setting → Flow → Arrival → Flow
-step A f (Octets n octets) = payload_came A f (payload f.id n octets)
+step A f (Octets n octets arrival) = payload_came A f (payload f.id n octets arrival)
 step A f (End n) = fin_came A.faulted f n
 step A f (Acknowledged n) = acknowledgement_came A.faulted (length f.held) n f
 
@@ -261,9 +266,10 @@ fresh id n held events =
     record { id = id; next = n; live = None; fin = None; held = held; events = events }
 
 -- a flow of which the first payload with a header comes: its number is due
-unfoldable pub first_payload : Setting → ℕ → ℕ → List ℕ → List Payload → List Event → Flow
-first_payload A id n octets held events =
-    payload_came A (fresh id n held events) (payload id n octets)
+unfoldable pub first_payload : Setting → ℕ → ℕ → List ℕ → origin.Arrival → List Payload →
+    List Event → Flow
+first_payload A id n octets arrival held events =
+    payload_came A (fresh id n held events) (payload id n octets arrival)
 
 -- the payloads that other flows hold
 unfoldable pub held_by_others : ℕ → List Payload → List Payload

@@ -1,17 +1,17 @@
 -- What a stream is: octet by octet, without a hole, what payloads of its flow have there.
 use Rattle.std.specs.Prelude.{◌≡◌, ◌⊎◌, ℕ, ◌<◌, ◌^◌, cond, List, [], ◌∷◌, length, drop, get_or, Option, Some, None, is_some, true, false}
 use Rattle.tcp_waiting.specs.Numbers.{onward, rank}
-use Rattle.tcp_waiting.specs.Payload.{Payload, payload}
+use Rattle.tcp_waiting.specs.Payload.{Payload, no_payload}
 use Rattle.tcp_flow.specs.Flow.{Flow, Event, Opens, Begins, Delivers, Closes, flow_of, first_of}
 
 -- octets are at a number what a payload of the flow has from there on
 pub record IsPartOf (payloads : List Payload) (id number : ℕ) (octets : List ℕ) : Type 0 where
   pub index : ℕ
   pub among : index < length payloads
-  pub own : (get_or payloads index (payload 0 0 [])).flow ≡ id
+  pub own : (get_or payloads index no_payload).flow ≡ id
   pub skipped : ℕ
-  pub number_is : number ≡ onward (get_or payloads index (payload 0 0 [])).number skipped
-  pub octets_are : octets ≡ drop skipped (get_or payloads index (payload 0 0 [])).octets
+  pub number_is : number ≡ onward (get_or payloads index no_payload).number skipped
+  pub octets_are : octets ≡ drop skipped (get_or payloads index no_payload).octets
 
 -- one event of the flow, by the number that is due in the live stream before and behind it
 unfoldable pub OwnMayFollow : List Payload → ℕ → Option ℕ → Event → Option ℕ → Type 0

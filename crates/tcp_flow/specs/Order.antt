@@ -39,7 +39,7 @@ pub record Agrees (start : ℕ) (content : List ℕ) (place number : ℕ) (octet
 
 -- what comes is a payload of the content
 unfoldable pub IsOfContent : ℕ → List ℕ → Arrival → Type 0
-IsOfContent start content (Octets n octets) =
+IsOfContent start content (Octets n octets arrival) =
     (place : ℕ) × Agrees start content place n octets
 IsOfContent start content (End n) = ⊥
 IsOfContent start content (Acknowledged n) = ⊥

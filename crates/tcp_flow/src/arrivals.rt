@@ -4,7 +4,7 @@
 ghost use Rattle.std.specs.Prelude.{◌≡◌, ◌≤◌, ◌∷◌, ◌++◌, [], List, IfOk, OnOk, OnErr, length};
 
 use crate::flow::{FlowState, Listener, ListenerFault};
-use tcp_waiting::{Pool, age, is_to_come};
+use tcp_waiting::{Arrival, Pool, age, is_to_come};
 
 impl FlowState {
     ghost use Rattle.std.specs.Prelude.{◌&&◌, is_some, not, false};
@@ -21,6 +21,7 @@ impl FlowState {
         id: u32,
         number: u32,
         octets: &[u8],
+        arrival: Arrival,
         pool: &mut Pool,
         to: &mut T,
     ) -> Result<FlowState, ListenerFault>
@@ -30,12 +31,12 @@ impl FlowState {
         ensures does { (events : List Event) → T.observed to.old events → IfOk result (λ flow.
             IsState (T.observed to.new) flow pool.new.held
             (first_payload (setting T.faulted pool.old.blocks) id number octets.now
-            pool.old.held events)) }
+            arrival pool.old.held events)) }
         ensures gapless { (payloads : List Payload) (events : List Event)
             → T.observed to.old events → IsGapless payloads (fresh id number pool.old.held events)
-            → OnOk result (IsGapless (payloads ++ payload id number octets.now ∷ [])
+            → OnOk result (IsGapless (payloads ++ payload id number octets.now arrival ∷ [])
             (first_payload (setting T.faulted pool.old.blocks) id number octets.now
-            pool.old.held events)) }
+            arrival pool.old.held events)) }
         ensures beside { (events : List Event) → T.observed to.old events
             → OnOk result (held_by_others id pool.new.held ≡ held_by_others id pool.old.held) }
         ensures room { (events : List Event) → T.observed to.old events
@@ -47,7 +48,7 @@ impl FlowState {
         ensures cause { OnErr result (T.failed to.new) }
     {
         let mut flow = FlowState::new(id, number);
-        flow.payload(number, octets, pool, to)?;
+        flow.payload(number, octets, arrival, pool, to)?;
         Ok(flow)
     }
 
@@ -56,6 +57,7 @@ impl FlowState {
         &mut self,
         number: u32,
         octets: &[u8],
+        arrival: Arrival,
         pool: &mut Pool,
         to: &mut T,
     ) -> Result<(), ListenerFault>
@@ -64,11 +66,12 @@ impl FlowState {
         requires settled { IsSettled (state self.old pool.old.held []) }
         ensures does { (f : Flow) → IsState (T.observed to.old) self.old pool.old.held f
             → OnOk result (IsState (T.observed to.new) self.new pool.new.held
-            (step (setting T.faulted pool.old.blocks) f (Octets number octets.now))) }
+            (step (setting T.faulted pool.old.blocks) f (Octets number octets.now arrival))) }
         ensures gapless { (payloads : List Payload) (f : Flow)
             → IsState (T.observed to.old) self.old pool.old.held f → IsGapless payloads f
-            → OnOk result (IsGapless (payloads ++ payload self.old.id number octets.now ∷ [])
-            (step (setting T.faulted pool.old.blocks) f (Octets number octets.now))) }
+            → OnOk result (IsGapless
+            (payloads ++ payload self.old.id number octets.now arrival ∷ [])
+            (step (setting T.faulted pool.old.blocks) f (Octets number octets.now arrival))) }
         ensures beside { (f : Flow) → IsState (T.observed to.old) self.old pool.old.held f
             → OnOk result (held_by_others self.old.id pool.new.held
             ≡ held_by_others self.old.id pool.old.held) }
@@ -80,7 +83,7 @@ impl FlowState {
         ensures blocks { pool.new.blocks ≡ pool.old.blocks }
         ensures cause { OnErr result (T.failed to.new) }
     {
-        self.take_payload(number, octets, pool, to)?;
+        self.take_payload(number, octets, arrival, pool, to)?;
         // Its range is known once it is read.
         let _next = self.next;
         Ok(())
@@ -158,6 +161,7 @@ impl FlowState {
         &mut self,
         number: u32,
         octets: &[u8],
+        arrival: Arrival,
         pool: &mut Pool,
         to: &mut T,
     ) -> Result<(), ListenerFault>
@@ -167,7 +171,7 @@ impl FlowState {
         ensures does { (f : Flow) → IsState (T.observed to.old) self.old pool.old.held f
             → OnOk result (IsState (T.observed to.new) self.new pool.new.held
             (payload_came (setting T.faulted pool.old.blocks) f
-            (payload self.old.id number octets.now))) }
+            (payload self.old.id number octets.now arrival))) }
         ensures id { self.new.id ≡ self.old.id }
         ensures blocks { pool.new.blocks ≡ pool.old.blocks }
         ensures cause { OnErr result (T.failed to.new) }
@@ -178,7 +182,7 @@ impl FlowState {
         }
         if self.is_due(number) {
             let count = pool.len() + 1;
-            self.take(number, octets, to)?;
+            self.take(number, octets, arrival, to)?;
             if self.keeps_nothing(pool) {
                 return Ok(());
             }
@@ -189,7 +193,7 @@ impl FlowState {
             return Ok(());
         }
         let count = pool.len() + 1;
-        pool.hold(self.id, self.next, number, octets);
+        pool.hold(self.id, self.next, number, octets, arrival);
         // All that is held is to come, and so nothing is looked for.
         self.end_at_fin(pool, to)?;
         self.keep_within_bounds(count, pool, to)

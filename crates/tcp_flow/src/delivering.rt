@@ -5,7 +5,7 @@ ghost use Rattle.std.specs.Prelude.{◌≡◌, ◌≤◌, List, OnOk, OnErr, is_
 
 use crate::flow::{CloseCause, FlowState, Listener, ListenerFault};
 use crate::looking::stream_at;
-use tcp_waiting::{Pool, WINDOW, age, is_to_come, onward};
+use tcp_waiting::{Arrival, Pool, WINDOW, age, is_to_come, onward};
 
 impl FlowState {
     ghost use Rattle.tcp_waiting.specs.Payload.{Payload, payload};
@@ -15,8 +15,9 @@ impl FlowState {
     /// What is left of a payload: what is before the number that is due falls away.
     pub(crate) fn left<'a>(&self, number: u32, octets: &'a [u8]) -> (u32, &'a [u8])
         ensures shorter { length result.1.now ≤ length octets.now }
-        ensures left { payload self.now.id result.0 result.1.now
-            ≡ left self.now.next (is_some self.now.live) (payload self.now.id number octets.now) }
+        ensures left { (arrival : Arrival) → payload self.now.id result.0 result.1.now arrival
+            ≡ left self.now.next (is_some self.now.live)
+            (payload self.now.id number octets.now arrival) }
     {
         let age = age(self.next, number);
         if age as usize > WINDOW && !self.is_live() {
@@ -34,10 +35,10 @@ impl FlowState {
         to: &mut T,
     ) -> Result<(), ListenerFault>
         ensures id { self.new.id ≡ self.old.id }
-        ensures does { (held : List Payload) (f : Flow)
+        ensures does { (held : List Payload) (f : Flow) (arrival : Arrival)
             → IsState (T.observed to.old) self.old held f → OnOk result
             (IsState (T.observed to.new) self.new held
-            (delivered T.faulted f (payload self.old.id number octets.now))) }
+            (delivered T.faulted f (payload self.old.id number octets.now arrival))) }
         ensures cause { OnErr result (T.failed to.new) }
     {
         self.next = onward(number, octets.len());
@@ -54,19 +55,21 @@ impl FlowState {
         &mut self,
         number: u32,
         octets: &[u8],
+        arrival: Arrival,
         to: &mut T,
     ) -> Result<(), ListenerFault>
         ensures id { self.new.id ≡ self.old.id }
         ensures does { (held : List Payload) (f : Flow)
             → IsState (T.observed to.old) self.old held f → OnOk result
             (IsState (T.observed to.new) self.new held
-            (taken T.faulted f (payload self.old.id number octets.now))) }
+            (taken T.faulted f (payload self.old.id number octets.now arrival))) }
         ensures cause { OnErr result (T.failed to.new) }
     {
         let (number, octets) = self.left(number, octets);
         if octets.is_empty() {
             return Ok(());
         }
+        to.comes_from(arrival);
         if self.is_live() {
             return self.deliver(number, octets, to);
         }
@@ -98,7 +101,7 @@ impl FlowState {
             if self.is_live() && is_to_come(self.next, number) {
                 return Ok(());
             }
-            self.take(number, pool.octets(index), to)?;
+            self.take(number, pool.octets(index), pool.arrival(index), to)?;
             pool.remove(index);
             first = pool.first(self.id, self.next);
         }

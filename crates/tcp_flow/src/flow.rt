@@ -6,7 +6,7 @@ ghost use Rattle.std.specs.Prelude.{IfOk, IfSome, OnErr, OnOk};
 ghost use Rattle.tcp_flow.specs.Flow.{is_header as spec_is_header, header_at as spec_header_at};
 
 use tcp_segment::Flow as Endpoints;
-use tcp_waiting::{Pool, WINDOW, ahead};
+use tcp_waiting::{Arrival, Pool, WINDOW, ahead};
 
 /// Why a stream closed.
 #[derive(Clone, Copy, Debug, Drop, PartialEq, Eq)]
@@ -34,6 +34,7 @@ pub struct ListenerFault;
 /// Is told what happens in flows, each by its id.
 pub trait Listener {
     ghost use Rattle.tcp_flow.specs.Flow.{Event, Opens, Begins, Delivers, Closes, Reader};
+    ghost use Rattle.tcp_flow.specs.Flow.{OfCapture, ComesFrom};
 
     /// The listener has observed these events of all flows, and of the capture: a relation, so that one that forgets can
     /// be a listener.
@@ -50,6 +51,11 @@ pub trait Listener {
         ensures does { (events : List Event) → observed self.old events
             → OnOk result (observed self.new (events ++ Opens flow endpoints ∷ [])) }
         ensures cause { OnErr result (failed self.new) };
+
+    /// What is told next of any flow came in this packet.
+    fn comes_from(&mut self, arrival: Arrival)
+        ensures { (events : List Event) → observed self.old events
+            → observed self.new (events ++ OfCapture (ComesFrom arrival) ∷ []) };
 
     /// A stream of a flow begins at a sequence number.
     fn begins(&mut self, flow: u32, number: u32) -> Result<(), ListenerFault>

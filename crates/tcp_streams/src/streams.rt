@@ -11,6 +11,7 @@ use std::alloc::{AllocError, Global};
 use std::collections::VecDeque;
 use tcp_flow::{CloseCause, Listener, ListenerFault};
 use tcp_segment::Flow;
+use tcp_waiting::Arrival;
 
 /// Flows have ids below this: two for each of 65,536 connections.
 const MOST_IDS: u32 = 131_072;
@@ -119,6 +120,10 @@ impl<L: Listener + Drop> Listener for Streams<L> {
 
     fn opens(&mut self, flow: u32, endpoints: Flow) -> Result<(), ListenerFault> {
         self.listener.opens(flow, endpoints)
+    }
+
+    fn comes_from(&mut self, arrival: Arrival) {
+        self.listener.comes_from(arrival);
     }
 
     fn begins(&mut self, flow: u32, number: u32) -> Result<(), ListenerFault> {

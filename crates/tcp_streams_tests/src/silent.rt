@@ -4,6 +4,7 @@ ghost use Rattle.std.specs.Prelude.{false};
 
 use tcp_flow::{CloseCause, Listener, ListenerFault};
 use tcp_segment::Flow;
+use tcp_waiting::Arrival;
 
 /// Keeps nothing. Its readers are never at a fault.
 #[derive(Drop)]
@@ -19,6 +20,8 @@ impl Listener for Silent {
     fn opens(&mut self, _flow: u32, _endpoints: Flow) -> Result<(), ListenerFault> {
         Ok(())
     }
+
+    fn comes_from(&mut self, _arrival: Arrival) {}
 
     fn begins(&mut self, _flow: u32, _number: u32) -> Result<(), ListenerFault> {
         Ok(())

@@ -1,5 +1,5 @@
 -- How many payloads a flow holds.
-use Rattle.std.proofs.Common.{◌≡◌, ℕ, zero, suc, ◌+◌, ◌<◌, ◌≤◌, Bool, true, false, cond, nat_eq, List, [], ◌∷◌, ◌++◌, length, get_or, None, refl, ap, arith}
+use Rattle.std.proofs.Common.{◌≡◌, ℕ, zero, suc, ◌+◌, ◌<◌, ◌≤◌, false, cond, nat_eq, List, [], ◌∷◌, length, get_or, None, refl, ap, arith}
 use Rattle.std.specs.List.{insert, remove}
 use Rattle.std.proofs.lemmas.Bool.{eq-eqb}
 use Rattle.tcp_waiting.specs.declared.pool.Waiting.{Waiting}
@@ -24,40 +24,26 @@ count_remove id [] i d h = absurd (omega (arith, h))
 count_remove id (p ∷ ps) zero d h = omega arith
 count_remove id (p ∷ ps) (suc i) d h = omega (arith, count_remove id ps i d (omega (arith, h)))
 
-one : (b : Bool) → cond b 1 0 ≤ 1
-one true = omega arith
-one false = omega arith
-
 pub count_most : (id : ℕ) (ps : List Payload) → count_of id ps ≤ length ps
 unfolding count_of
 count_most id [] = omega arith
-count_most id (p ∷ ps) = omega (arith, count_most id ps, one (nat_eq p.flow id))
-
-none_here : (b : Bool) (n : ℕ) → cond b 1 0 + n ≡ 0 → (b ≡ false) × (n ≡ 0)
-none_here true n h = absurd (omega (arith, h))
-none_here false n h = (refl, omega (arith, h))
+count_most id (p ∷ ps) = grind (arith, count_most id ps)
 
 pub first_none : (id next : ℕ) (ps : List Payload) → count_of id ps ≡ 0 → first id next ps ≡ None
 unfolding count_of first
 first_none id next [] h = refl
-first_none id next (p ∷ ps) h =
-    let e = none_here (nat_eq p.flow id) (count_of id ps) h in
-    rw (e.0, first_none id next ps e.1) refl
+first_none id next (p ∷ ps) h = grind (arith, h, first_none id next ps)
 
 pub far_none : (id next : ℕ) (ps : List Payload) → count_of id ps ≡ 0 → is_far id next ps ≡ false
 unfolding count_of is_far
 far_none id next [] h = refl
-far_none id next (p ∷ ps) h =
-    let e = none_here (nat_eq p.flow id) (count_of id ps) h in
-    rw (e.0, far_none id next ps e.1) refl
+far_none id next (p ∷ ps) h = grind (arith, h, far_none id next ps)
 
 pub has_none : (id number count : ℕ) (ps : List Payload) → count_of id ps ≡ 0 →
     has_as_much id number count ps ≡ false
 unfolding count_of has_as_much
 has_none id number count [] h = refl
-has_none id number count (p ∷ ps) h =
-    let e = none_here (nat_eq p.flow id) (count_of id ps) h in
-    rw (e.0, has_none id number count ps e.1) refl
+has_none id number count (p ∷ ps) h = grind (arith, h, has_none id number count ps)
 
 -- a payload of its flow less is counted
 pub removed_counts : (all : List ℕ) (ws : List Waiting) (i : ℕ) (w : Waiting) (id : ℕ) →

@@ -1,11 +1,11 @@
 -- How far what a flow holds reaches: what is known of it stays so, and answers for another number.
-use Rattle.std.proofs.Common.{◌≡◌, ◌⊎◌, ℕ, zero, suc, ◌+◌, ◌-◌, ◌%◌, ◌^◌, ◌<◌, ◌≤◌, Bool, true, false, cond, not, nat_eq, nat_lt, nat_le, ◌&&◌, ◌||◌, List, [], ◌∷◌, length, get_or, set, Option, Some, None, refl, ap, sym, ◌∙◌, subst, arith, inl, inr}
+use Rattle.std.proofs.Common.{◌≡◌, ◌⊎◌, ℕ, zero, suc, ◌^◌, ◌<◌, ◌≤◌, Bool, true, false, cond, not, nat_eq, nat_lt, ◌&&◌, List, [], ◌∷◌, length, get_or, set, Option, Some, None, refl, ap, sym, subst, arith, inl, inr}
 use Rattle.std.specs.List.{insert, remove}
 use Rattle.std.specs.Option.{option_map}
-use Rattle.std.proofs.lemmas.Bool.{eqb-true, eqb-false, eq-eqb, ne_eqb, ltb-true, ltb-false, le-ltb, leb-true, le-leb, and_parts, and_from, and_left, and_right, or_parts, or_from, both_ways, false_from_ne_true, true_from_ne_false}
+use Rattle.std.proofs.lemmas.Bool.{eqb-false, ne_eqb, ltb-true, ltb-false, and_right}
 use Rattle.std.proofs.lemmas.Option.{none-some}
 use Rattle.tcp_waiting.specs.Numbers.{ahead, rank}
-use Rattle.tcp_waiting.specs.Payload.{Payload, payload, earlier, first, is_far, ends_far, has_as_much, window}
+use Rattle.tcp_waiting.specs.Payload.{Payload, earlier, first, is_far, ends_far, has_as_much}
 use Rattle.tcp_waiting.specs.Layout.{AreSmall, is_far_but}
 use Rattle.tcp_waiting.proofs.Order.{same_at}
 
@@ -19,16 +19,11 @@ pub far_insert : (id next number count : ℕ) (ps : List Payload) (i : ℕ) (p :
     is_far_but id next number count ps ≡ false → counts_far id next number count p ≡ false
     → is_far_but id next number count (insert ps i p) ≡ false
 unfolding is_far_but
-far_insert id next number count [] zero p h c = or_from (counts_far id next number count p) false c
-    refl
-far_insert id next number count [] (suc i) p h c = or_from (counts_far id next number count p) false
-    c refl
-far_insert id next number count (q ∷ ps) zero p h c = or_from (counts_far id next number count p)
-    (counts_far id next number count q || is_far_but id next number count ps) c h
+far_insert id next number count [] zero p h c = grind (arith, h, c)
+far_insert id next number count [] (suc i) p h c = grind (arith, h, c)
+far_insert id next number count (q ∷ ps) zero p h c = grind (arith, h, c)
 far_insert id next number count (q ∷ ps) (suc i) p h c =
-    let e = or_parts (counts_far id next number count q) (is_far_but id next number count ps) h in
-    or_from (counts_far id next number count q) (is_far_but id next number count (insert ps i p))
-    e.0 (far_insert id next number count ps i p e.1 c)
+    grind (arith, h, c, far_insert id next number count ps i p)
 
 pub far_remove : (id next number count : ℕ) (ps : List Payload) (i : ℕ) →
     is_far_but id next number count ps ≡ false
@@ -37,16 +32,9 @@ unfolding is_far_but
 far_remove id next number count [] zero h = h
 far_remove id next number count [] (suc i) h = h
 far_remove id next number count (q ∷ ps) zero h =
-    (or_parts (counts_far id next number count q) (is_far_but id next number count ps) h).1
+    grind (arith, h)
 far_remove id next number count (q ∷ ps) (suc i) h =
-    let e = or_parts (counts_far id next number count q) (is_far_but id next number count ps) h in
-    or_from (counts_far id next number count q) (is_far_but id next number count (remove ps i)) e.0
-    (far_remove id next number count ps i e.1)
-
-fewer : (a b c : Bool) → (a && c) ≡ false → (a && b && c) ≡ false
-fewer true true c h = h
-fewer true false c h = refl
-fewer false b c h = refl
+    grind (arith, h, far_remove id next number count ps i)
 
 -- where none ends far, none but some does
 pub far_none_but : (id next number count : ℕ) (ps : List Payload) → is_far id next ps ≡ false →
@@ -54,64 +42,18 @@ pub far_none_but : (id next number count : ℕ) (ps : List Payload) → is_far i
 unfolding is_far is_far_but
 far_none_but id next number count [] h = refl
 far_none_but id next number count (p ∷ ps) h =
-    let e = or_parts (nat_eq p.flow id && ends_far next p.number (length p.octets))
-    (is_far id next ps) h in
-    or_from (counts_far id next number count p) (is_far_but id next number count ps)
-    (fewer (nat_eq p.flow id) (not (nat_eq p.number number && nat_eq (length p.octets) count))
-    (ends_far next p.number (length p.octets)) e.0)
-    (far_none_but id next number count ps e.1)
+    grind (arith, h, far_none_but id next number count ps)
 
 -- the payload itself isn't counted
 pub itself : (id next : ℕ) (p : Payload) → counts_far id next p.number (length p.octets) p ≡ false
-itself id next p =
-    rw (eq-eqb p.number p.number refl, eq-eqb (length p.octets) (length p.octets) refl)
-    (and_left (nat_eq p.flow id && false) (ends_far next p.number (length p.octets))
-    (and_right (nat_eq p.flow id) false refl))
+itself id next p = grind arith
 
 -- nor is one of another flow
 pub another : (id next number count : ℕ) (p : Payload) → (p.flow ≡ id → ⊥) →
     counts_far id next number count p ≡ false
-another id next number count p h = and_left
-    (nat_eq p.flow id && not (nat_eq p.number number && nat_eq (length p.octets) count))
-    (ends_far next p.number (length p.octets)) (and_left (nat_eq p.flow id)
-    (not (nat_eq p.number number && nat_eq (length p.octets) count)) (ne_eqb p.flow id h))
+another id next number count p h = grind (arith, ne_eqb p.flow id h)
 
 -- ---- The answer by the one that is left out.
-
-shorter : (next number count more : ℕ) → count ≤ more → ends_far next number more ≡ false →
-    ends_far next number count ≡ false
-shorter next number count more h e = le-ltb window (ahead next number + count)
-    (omega (arith, ltb-false window (ahead next number + more) e))
-
-by_cases : (own same long as_long far it rest : Bool) →
-    (own && not (same && long) && far) ≡ false
-    → (same ≡ true → long ≡ true → (far ≡ it) × (as_long ≡ true))
-    → (same ≡ true → far ≡ false → as_long ≡ true → it ≡ false)
-    → ((own && far) || (it && rest)) ≡ (it && ((own && same && as_long) || rest))
-by_cases false same long as_long far it rest h q r = refl
-by_cases true false long as_long far it rest h q r = rw h refl
-by_cases true true true as_long far true rest h q r =
-    rw ((q refl refl).0, (q refl refl).1) refl
-by_cases true true true as_long far false rest h q r = rw (q refl refl).0 refl
-by_cases true true false true far it rest h q r = rw (h, r refl h refl) refl
-by_cases true true false false far it rest h q r = rw h refl
-
-one_far : (id next number count : ℕ) (p : Payload) → counts_far id next number count p ≡ false →
-    (rest : Bool) → ((nat_eq p.flow id && ends_far next p.number (length p.octets))
-    || (ends_far next number count && rest))
-    ≡ (ends_far next number count && ((nat_eq p.flow id && nat_eq p.number number
-    && nat_le count (length p.octets)) || rest))
-one_far id next number count p h rest = by_cases (nat_eq p.flow id) (nat_eq p.number number)
-    (nat_eq (length p.octets) count) (nat_le count (length p.octets))
-    (ends_far next p.number (length p.octets)) (ends_far next number count) rest h
-    (λ n l. (
-      (let x : p.number ≡ number = eqb-true p.number number n in
-          let y : length p.octets ≡ count = eqb-true (length p.octets) count l in
-          rw (x, y) refl),
-      le-leb count (length p.octets) (omega (arith, eqb-true (length p.octets) count l)),
-    ))
-    (λ n f l. shorter next number count (length p.octets) (leb-true count (length p.octets) l)
-    (subst (λ (m : ℕ). ends_far next m (length p.octets) ≡ false) (eqb-true p.number number n) f))
 
 pub far_by : (id next number count : ℕ) (ps : List Payload) →
     is_far_but id next number count ps ≡ false
@@ -119,33 +61,9 @@ pub far_by : (id next number count : ℕ) (ps : List Payload) →
 unfolding is_far is_far_but has_as_much
 far_by id next number count [] h = sym (and_right (ends_far next number count) false refl)
 far_by id next number count (p ∷ ps) h =
-    let e = or_parts (counts_far id next number count p) (is_far_but id next number count ps) h in
-    rw (far_by id next number count ps e.1)
-    (one_far id next number count p e.0 (has_as_much id number count ps))
+    grind (arith, h, far_by id next number count ps)
 
 -- ---- Another number that is due.
-
-near_on : (base next number count : ℕ) → next < 2 ^ 32 → number < 2 ^ 32 →
-    ahead base next ≤ 2 ^ 31 → ahead next number < 2 ^ 31 → ends_far base number count ≡ false
-    → ends_far next number count ≡ false
-near_on base next number count n m a c h = le-ltb window (ahead next number + count)
-    (omega (arith, n, m, a, c, ltb-false window (ahead base number + count) h))
-
-one_on : (id base next number count : ℕ) (p : Payload) → next < 2 ^ 32 →
-    p.number < 2 ^ 32 → ahead base next ≤ 2 ^ 31
-    → (p.flow ≡ id → ahead next p.number < 2 ^ 31) → counts_far id base number count p ≡ false
-    → counts_far id next number count p ≡ false
-one_on id base next number count p n m a c h = false_from_ne_true
-    (counts_far id next number count p) (λ e.
-    let out : Bool = not (nat_eq p.number number && nat_eq (length p.octets) count) in
-    let there : Bool = ends_far next p.number (length p.octets) in
-    let here : Bool = ends_far base p.number (length p.octets) in
-    let x = and_parts (nat_eq p.flow id && out) there e in
-    let own = (and_parts (nat_eq p.flow id) out x.0).0 in
-    let far : here ≡ true = true_from_ne_false here (λ g. both_ways there
-    (near_on base next p.number (length p.octets) n m a (c (eqb-true p.flow id own)) g) x.1) in
-    both_ways (counts_far id base number count p) h
-    (and_from (nat_eq p.flow id && out) here x.0 far))
 
 -- all that a flow holds is ahead
 abbrev pub AreAhead : ℕ → ℕ → List Payload → Type 0
@@ -157,12 +75,15 @@ pub far_on : (id base next number count : ℕ) (ps : List Payload) → next < 2 
     → is_far_but id base number count ps ≡ false → is_far_but id next number count ps ≡ false
 unfolding is_far_but
 far_on id base next number count [] n a s c h = refl
-far_on id base next number count (p ∷ ps) n a s c h =
-    let e = or_parts (counts_far id base number count p) (is_far_but id base number count ps) h in
-    or_from (counts_far id next number count p) (is_far_but id next number count ps)
-    (one_on id base next number count p n s.0.number a (λ own. c 0 p (omega arith) own) e.0)
-    (far_on id base next number count ps n a s.1
-    (λ j d l own. c (suc j) d (omega (arith, l)) own) e.1)
+far_on id base next number count (p ∷ ps) n a s c h = grind (
+  arith,
+  n,
+  a,
+  s.0.number,
+  c 0 p (omega arith),
+  h,
+  far_on id base next number count ps n a s.1 (λ j d l own. c (suc j) d (omega (arith, l)) own),
+)
 
 -- ---- What the first of a flow says of all.
 

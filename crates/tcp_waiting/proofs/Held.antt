@@ -77,7 +77,8 @@ held_more all more (w ∷ ws) h =
 pub held_inserted : (all more : List ℕ) (ws : List Waiting) (i : ℕ) (w : Waiting) →
     AreWithin (length all) ws → w.from ≡ length all → w.count ≡ length more
     → held_in (all ++ more) (insert ws i w)
-    ≡ insert (held_in all ws) i (payload w.flow w.number more)
+    ≡ insert (held_in all ws) i
+    (payload w.flow w.number more (record { time = w.time; packet = w.packet }))
 held_inserted all more ws i w h f c =
     let here : octets_at (all ++ more) w.from w.count ≡ more =
     rw (f, c, drop-append_seam all more) (take-length more) in

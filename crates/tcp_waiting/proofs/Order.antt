@@ -1,10 +1,10 @@
 -- The order of what waits, and what is found by it.
-use Rattle.std.proofs.Common.{◌≡◌, ℕ, zero, suc, ◌+◌, ◌-◌, ◌*◌, ◌%◌, ◌^◌, ◌<◌, ◌≤◌, Bool, true, false, cond, nat_eq, nat_lt, nat_le, ◌&&◌, ◌||◌, List, [], ◌∷◌, length, get_or, Option, Some, None, IfSome, refl, ap, ◌∙◌, arith, inl, inr}
+use Rattle.std.proofs.Common.{◌≡◌, ℕ, zero, suc, ◌+◌, ◌%◌, ◌^◌, ◌<◌, ◌≤◌, Bool, true, false, cond, nat_eq, nat_lt, List, [], ◌∷◌, length, get_or, Option, Some, None, IfSome, refl, ap, ◌∙◌, arith, inl, inr}
 use Rattle.std.specs.List.{AllByRecursion, insert, remove}
 use Rattle.std.specs.Option.{option_map}
-use Rattle.std.proofs.lemmas.Bool.{eqb-true, eqb-false, ne_eqb, eq-eqb, lt-ltb, le-ltb, ltb-true, ltb-false, cases_lt, and_parts, and_from, false_from_ne_true, both_ways, le-leb, leb-true, or_right, or_from}
+use Rattle.std.proofs.lemmas.Bool.{eqb-true, eq-eqb, ltb-true, ltb-false, cases_lt, and_parts, both_ways}
 use Rattle.tcp_waiting.specs.Numbers.{rank}
-use Rattle.tcp_waiting.specs.Payload.{Payload, payload, key, key_of, place_of, earlier, first, has_as_much}
+use Rattle.tcp_waiting.specs.Payload.{Payload, no_payload, key, key_of, place_of, earlier, first, has_as_much}
 use Rattle.tcp_waiting.specs.Layout.{IsSmall, AreSmall, AreOrdered, stands_at}
 use Rattle.tcp_waiting.proofs.Held.{all_at, all_insert, all_remove}
 
@@ -13,35 +13,25 @@ use Rattle.tcp_waiting.proofs.Held.{all_at, all_insert, all_remove}
 pub place_within : (k : ℕ) (ps : List Payload) → place_of k ps ≤ length ps
 unfolding place_of
 place_within k [] = omega arith
-place_within k (p ∷ ps) =
-    elim (nat_lt (key_of p) k) as (λ b. cond b (suc (place_of k ps)) 0 ≤ suc (length ps)) [
-      | true ↦ omega (arith, place_within k ps)
-      | false ↦ omega arith
-    ]
+place_within k (p ∷ ps) = grind (arith, place_within k ps)
 
 -- a payload with a lesser key is in front of the place
 pub place_above : (k : ℕ) (ps : List Payload) (i : ℕ) (d : Payload) → AreOrdered ps →
     i < length ps → key_of (get_or ps i d) < k → i < place_of k ps
 unfolding place_of AreOrdered
 place_above k [] i d o l h = absurd (omega (arith, l))
-place_above k (p ∷ ps) zero d o l h = rw (lt-ltb (key_of p) k h) (omega arith)
+place_above k (p ∷ ps) zero d o l h = grind (arith, h)
 place_above k (p ∷ ps) (suc i) d o l h =
     let l' : i < length ps = omega (arith, l) in
-    let first : key_of p < k =
-    omega (arith, all_at (λ q. key_of p ≤ key_of q) ps i d o.0 l', h) in
-    rw (lt-ltb (key_of p) k first) (omega (arith, place_above k ps i d o.1 l' h))
+    grind (arith, h, all_at (λ q. key_of p ≤ key_of q) ps i d o.0 l', place_above k ps i d o.1 l' h)
 
 -- one with none lesser isn't
 pub place_below : (k : ℕ) (ps : List Payload) (i : ℕ) (d : Payload) → i < length ps →
     k ≤ key_of (get_or ps i d) → place_of k ps ≤ i
 unfolding place_of
 place_below k [] i d l h = absurd (omega (arith, l))
-place_below k (p ∷ ps) zero d l h = rw (le-ltb (key_of p) k h) (omega arith)
-place_below k (p ∷ ps) (suc i) d l h =
-    elim (nat_lt (key_of p) k) as (λ b. cond b (suc (place_of k ps)) 0 ≤ suc i) [
-      | true ↦ omega (arith, place_below k ps i d (omega (arith, l)) h)
-      | false ↦ omega arith
-    ]
+place_below k (p ∷ ps) zero d l h = grind (arith, h)
+place_below k (p ∷ ps) (suc i) d l h = grind (arith, place_below k ps i d (omega (arith, l)) h)
 
 -- ---- The order.
 
@@ -93,12 +83,7 @@ within_by : (next : ℕ) (p : Payload) (ps : List Payload) (c : Bool) (r : Optio
     (λ k. k < suc (length ps))
 unfolding earlier
 within_by next p ps true None h = omega arith
-within_by next p ps true (Some k) h =
-    elim (nat_lt (rank next (get_or ps k p).number) (rank next p.number)) as
-    (λ b. IfSome (cond b (Some (suc k)) (Some 0)) (λ k. k < suc (length ps))) [
-      | true ↦ omega (arith, h)
-      | false ↦ omega arith
-    ]
+within_by next p ps true (Some k) h = grind (arith, h)
 within_by next p ps false None h = tt
 within_by next p ps false (Some k) h = omega (arith, h)
 
@@ -116,12 +101,7 @@ own_by : (id next : ℕ) (p d : Payload) (ps : List Payload) (c : Bool) (r : Opt
     (λ k. (get_or (p ∷ ps) k d).flow ≡ id)
 unfolding earlier
 own_by id next p d ps true None own h = own refl
-own_by id next p d ps true (Some k) own h =
-    elim (nat_lt (rank next (get_or ps k p).number) (rank next p.number)) as
-    (λ b. IfSome (cond b (Some (suc k)) (Some 0)) (λ k. (get_or (p ∷ ps) k d).flow ≡ id)) [
-      | true ↦ h
-      | false ↦ own refl
-    ]
+own_by id next p d ps true (Some k) own h = grind (arith, h, own refl)
 own_by id next p d ps false None own h = tt
 own_by id next p d ps false (Some k) own h = h
 
@@ -149,7 +129,7 @@ pub first_here : (next : ℕ) (p : Payload) (ps : List Payload) (r : Option ℕ)
 unfolding earlier
 first_here next p ps None h = refl
 first_here next p ps (Some k) h =
-    rw (le-ltb (rank next (get_or ps k p).number) (rank next p.number) h) refl
+    grind (arith, h)
 
 pub both : (r : Option ℕ) (P Q R : ℕ → Type 0) → ((k : ℕ) → P k → Q k → R k) → IfSome r P →
     IfSome r Q → IfSome r R
@@ -161,7 +141,7 @@ first_behind : (next : ℕ) (p : Payload) (ps : List Payload) (i : ℕ) (c : Boo
     → cond c (earlier next p ps (Some i)) (option_map suc (Some i)) ≡ Some (suc i)
 unfolding earlier
 first_behind next p ps i true h =
-    rw (lt-ltb (rank next (get_or ps i p).number) (rank next p.number) (h refl)) refl
+    grind (arith, h refl)
 first_behind next p ps i false h = refl
 
 first_is : (id next : ℕ) (ps : List Payload) (i : ℕ) → IsLeast id next ps i →
@@ -188,10 +168,11 @@ first_is_none : (id next : ℕ) (ps : List Payload) →
 unfolding first
 first_is_none id next [] h = refl
 first_is_none id next (p ∷ ps) h =
-    rw (
-      ne_eqb p.flow id (λ e. h 0 p (omega arith) e),
+    grind (
+      arith,
+      h 0 p (omega arith),
       first_is_none id next ps (λ j d l own. h (suc j) d (omega (arith, l)) own),
-    ) refl
+    )
 
 -- the number of the least rank
 abbrev pub oldest : ℕ → ℕ
@@ -215,35 +196,26 @@ same_at (p ∷ ps) (suc i) d e l = same_at ps i d e (omega (arith, l))
 -- those from a place on, and those in front of it
 pub behind : (k : ℕ) (ps : List Payload) (i : ℕ) (d : Payload) → AreOrdered ps → i < length ps →
     place_of k ps ≤ i → k ≤ key_of (get_or ps i d)
-behind k ps i d o l h = elim (cases_lt (key_of (get_or ps i d)) k) [
-  | inl a ↦ absurd (omega (arith, place_above k ps i d o l a, h))
-  | inr b ↦ b
-]
+behind k ps i d o l h = grind (arith, place_above k ps i d o l, h)
 
 in_front : (k : ℕ) (ps : List Payload) (i : ℕ) (d : Payload) → i < place_of k ps →
     key_of (get_or ps i d) < k
-in_front k ps i d h = elim (cases_lt (key_of (get_or ps i d)) k) [
-  | inl a ↦ a
-  | inr b ↦
-      absurd (omega (arith, h, place_below k ps i d (omega (arith, h, place_within k ps)) b))
-]
+in_front k ps i d h =
+    grind (arith, h, place_below k ps i d (omega (arith, h, place_within k ps)))
 
 pub stands_own : (i id : ℕ) (ps : List Payload) → stands_at i id ps ≡ true →
     (i < length ps) × ((d : Payload) → (get_or ps i d).flow ≡ id)
 stands_own i id ps h =
-    let e = and_parts (nat_lt i (length ps)) (nat_eq (get_or ps i (payload 0 0 [])).flow id) h in
+    let e = and_parts (nat_lt i (length ps)) (nat_eq (get_or ps i no_payload).flow id) h in
     let l : i < length ps = ltb-true i (length ps) e.0 in (
       l,
-      λ d. ap (λ (p : Payload). p.flow) (same_at ps i d (payload 0 0 []) l)
-          ∙ eqb-true (get_or ps i (payload 0 0 [])).flow id e.1,
+      λ d. ap (λ (p : Payload). p.flow) (same_at ps i d no_payload l)
+          ∙ eqb-true (get_or ps i no_payload).flow id e.1,
     )
 
 stands_so : (i id : ℕ) (ps : List Payload) (d : Payload) → i < length ps →
     (get_or ps i d).flow ≡ id → stands_at i id ps ≡ true
-stands_so i id ps d l h = and_from (nat_lt i (length ps))
-    (nat_eq (get_or ps i (payload 0 0 [])).flow id) (lt-ltb i (length ps) l)
-    (eq-eqb (get_or ps i (payload 0 0 [])).flow id
-    (ap (λ (p : Payload). p.flow) (same_at ps i (payload 0 0 []) d l) ∙ h))
+stands_so i id ps d l h = grind (arith, l, h, same_at ps i no_payload d l)
 
 -- a payload between two keys of a flow is the flow's
 between : (id n m : ℕ) (p q : Payload) → IsSmall p → IsSmall q → q.flow ≡ id →
@@ -390,11 +362,9 @@ has_so : (id number count : ℕ) (ps : List Payload) (i : ℕ) (d : Payload) →
 unfolding has_as_much
 has_so id number count [] i d l f n c = absurd (omega (arith, l))
 has_so id number count (p ∷ ps) zero d l f n c =
-    rw (eq-eqb p.flow id f, eq-eqb p.number number n, le-leb count (length p.octets) c) refl
+    grind (arith, f, n, c)
 has_so id number count (p ∷ ps) (suc i) d l f n c =
-    or_right (nat_eq p.flow id && nat_eq p.number number && nat_le count (length p.octets))
-    (has_as_much id number count ps)
-    (has_so id number count ps i d (omega (arith, l)) f n c)
+    grind (arith, has_so id number count ps i d (omega (arith, l)) f n c)
 
 has_not : (id number count : ℕ) (ps : List Payload) →
     ((i : ℕ) (d : Payload) → i < length ps → (get_or ps i d).flow ≡ id
@@ -403,16 +373,11 @@ has_not : (id number count : ℕ) (ps : List Payload) →
 unfolding has_as_much
 has_not id number count [] h = refl
 has_not id number count (p ∷ ps) h =
-    or_from (nat_eq p.flow id && nat_eq p.number number && nat_le count (length p.octets))
-    (has_as_much id number count ps)
-    (false_from_ne_true
-    (nat_eq p.flow id && nat_eq p.number number && nat_le count (length p.octets)) (λ e.
-    let a = and_parts (nat_eq p.flow id && nat_eq p.number number)
-    (nat_le count (length p.octets)) e in
-    let b = and_parts (nat_eq p.flow id) (nat_eq p.number number) a.0 in
-    h 0 p (omega arith) (eqb-true p.flow id b.0) (eqb-true p.number number b.1)
-    (leb-true count (length p.octets) a.1)))
-    (has_not id number count ps (λ i d l f n c. h (suc i) d (omega (arith, l)) f n c))
+    grind (
+      arith,
+      h 0 p (omega arith),
+      has_not id number count ps (λ i d l f n c. h (suc i) d (omega (arith, l)) f n c),
+    )
 
 -- by one search
 has_there : (id number count : ℕ) (ps : List Payload) (i : ℕ) (d : Payload) → AreOrdered ps →
@@ -450,13 +415,11 @@ has_other id number count ps i e o s is at other =
 pub has_by : (id number count : ℕ) (ps : List Payload) (i : ℕ) (d : Payload) → AreOrdered ps →
     AreSmall ps → i ≡ place_of (key id number count) ps → stands_at i id ps ≡ true
     → has_as_much id number count ps ≡ nat_eq (get_or ps i d).number number
-has_by id number count ps i d o s is at = elim (nat_eq (get_or ps i d).number number) as
-    (λ b. nat_eq (get_or ps i d).number number ≡ b → has_as_much id number count ps ≡ b) [
-      | true ↦ (λ e. has_there id number count ps i d o is at
-          (eqb-true (get_or ps i d).number number e))
-      | false ↦ (λ e. has_other id number count ps i d o s is at
-          (eqb-false (get_or ps i d).number number e))
-    ] refl
+has_by id number count ps i d o s is at = grind (
+  arith,
+  has_there id number count ps i d o is at,
+  has_other id number count ps i d o s is at,
+)
 
 pub has_nowhere : (id number count : ℕ) (ps : List Payload) (i : ℕ) → AreOrdered ps →
     AreSmall ps → i ≡ place_of (key id number count) ps → stands_at i id ps ≡ false

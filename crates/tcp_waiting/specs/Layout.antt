@@ -3,7 +3,7 @@ use Rattle.std.specs.Prelude.{◌≡◌, ℕ, ◌+◌, ◌*◌, ◌^◌, ◌<◌
 use Rattle.std.specs.List.{AllByRecursion}
 use Rattle.std.specs.Vec.{vec_capacity}
 use Rattle.std.specs.VecDeque.{deque_capacity}
-use Rattle.tcp_waiting.specs.Payload.{Payload, payload, blocks_of, count_of, key_of, ends_far}
+use Rattle.tcp_waiting.specs.Payload.{Payload, payload, no_payload, blocks_of, count_of, key_of, ends_far}
 use Rattle.tcp_waiting.specs.Pool.{PoolView}
 use Rattle.tcp_waiting.specs.declared.pool.Near.{Near}
 use Rattle.tcp_waiting.specs.declared.pool.Waiting.{Waiting}
@@ -13,7 +13,12 @@ abbrev pub octets_at : List ℕ → ℕ → ℕ → List ℕ
 octets_at all from count = take count (drop from all)
 
 abbrev pub payload_in : List ℕ → Waiting → Payload
-payload_in all w = payload w.flow w.number (octets_at all w.from w.count)
+payload_in all w =
+    payload w.flow w.number (octets_at all w.from w.count) (record {
+      time = w.time;
+      packet =
+          w.packet;
+    })
 
 -- what waits, by where it is
 abbrev pub held_in : List ℕ → List Waiting → List Payload
@@ -40,7 +45,7 @@ AreOrdered (p ∷ ps) = AllByRecursion (λ q. key_of p ≤ key_of q) ps × AreOr
 -- whether the payload at a place is one of a flow
 abbrev pub stands_at : ℕ → ℕ → List Payload → Bool
 stands_at place id ps =
-    nat_lt place (length ps) && nat_eq (get_or ps place (payload 0 0 [])).flow id
+    nat_lt place (length ps) && nat_eq (get_or ps place no_payload).flow id
 
 -- whether one of the payloads that a flow holds ends more than W behind `next`, but for those with a
 -- number and a length

@@ -1,17 +1,29 @@
 -- Payloads that wait: which of a flow is first, what they take, and how far they reach (meaning).
-use Rattle.std.specs.Prelude.{ℕ, suc, ◌+◌, ◌*◌, ◌^◌, ◌/◌, Bool, false, cond, nat_lt, nat_le, nat_eq, ◌&&◌, ◌||◌, List, [], ◌∷◌, length, Option, Some, None, get_or}
+use Rattle.std.specs.Prelude.{ℕ, suc, ◌+◌, ◌*◌, ◌^◌, ◌/◌, Bool, false, cond, nat_lt, nat_le, nat_eq, ◌&&◌, ◌||◌, List, [], ◌∷◌, length, drop, Option, Some, None, get_or}
 use Rattle.std.specs.List.{insert}
 use Rattle.std.specs.Option.{option_map}
-use Rattle.tcp_waiting.specs.Numbers.{ahead, rank}
+use Rattle.tcp_waiting.specs.declared.arrival.Arrival.{Arrival}
+use Rattle.tcp_waiting.specs.Numbers.{ahead, onward, rank}
 
--- a payload: the flow that it is of, the sequence number of its first octet, and its octets
+-- a payload: the flow that it is of, the sequence number of its first octet, its octets, and the
+-- packet that they came in
 pub record Payload : Type 0 where
   pub flow : ℕ
   pub number : ℕ
   pub octets : List ℕ
+  pub arrival : Arrival
 
-abbrev pub payload : ℕ → ℕ → List ℕ → Payload
-payload flow number octets = record { flow = flow; number = number; octets = octets }
+abbrev pub payload : ℕ → ℕ → List ℕ → Arrival → Payload
+payload flow number octets arrival =
+    record { flow = flow; number = number; octets = octets; arrival = arrival }
+
+-- what stands where there is none
+abbrev pub no_payload : Payload
+no_payload = payload 0 0 [] (record { time = None; packet = 0 })
+
+-- a payload without its first octets
+abbrev pub without_first : ℕ → Payload → Payload
+without_first count p = record p { number = onward p.number count; octets = drop count p.octets }
 
 -- the order of what waits, as one number: by flow, then by the number of the first octet, then by
 -- length, which is less than 2^32

@@ -2,8 +2,10 @@
 //! sequence numbers, which wrap around.
 #![tactic(auto)]
 
+mod arrival;
 mod numbers;
 mod pool;
 
+pub use arrival::Arrival;
 pub use numbers::{age, ahead, is_to_come, onward, rank};
 pub use pool::{Pool, WINDOW};

@@ -4,9 +4,10 @@ ghost use Rattle.std.specs.Prelude.{◌≡◌, ℕ, true, false, cond, ◌≤◌
 ghost use Rattle.std.specs.List.{remove};
 ghost use Rattle.std.specs.Vec.{vec_capacity};
 ghost use Rattle.std.specs.VecDeque.{deque_capacity};
-ghost use Rattle.tcp_waiting.specs.Payload.{payload, count_of, first, blocks_of, has_as_much, is_far, put, place_of, key as spec_key, ends_far as spec_ends_far};
+ghost use Rattle.tcp_waiting.specs.Payload.{payload, no_payload, count_of, first, blocks_of, has_as_much, is_far, put, place_of, key as spec_key, ends_far as spec_ends_far};
 ghost use Rattle.tcp_waiting.specs.Layout.{AreWithin, counts, held_in, stands_at, is_far_but};
 
+use crate::arrival::Arrival;
 use crate::numbers::{ahead, is_to_come};
 use std::alloc::{AllocError, Global};
 use std::collections::VecDeque;
@@ -16,9 +17,11 @@ use std::mem::swap;
 /// How far behind the number that is due a payload may end.
 pub const WINDOW: usize = 1_048_576;
 
-/// A payload that waits: where its octets are.
+/// A payload that waits: where its octets are, and the packet that they came in.
 #[derive(Clone, Copy)]
 pub(crate) struct Waiting {
+    time: Option<u128>,
+    packet: u64,
     flow: u32,
     number: u32,
     from: usize,
@@ -147,7 +150,7 @@ impl Pool {
     /// The sequence number of a payload that waits.
     pub fn number(&self, index: usize) -> u32
         requires { index < length self.now.held }
-        ensures { result ≡ (get_or self.now.held index (payload 0 0 [])).number }
+        ensures { result ≡ (get_or self.now.held index no_payload).number }
     {
         self.waiting[index].number
     }
@@ -155,10 +158,22 @@ impl Pool {
     /// The octets of a payload that waits.
     pub fn octets(&self, index: usize) -> &[u8]
         requires { index < length self.now.held }
-        ensures { result.now ≡ (get_or self.now.held index (payload 0 0 [])).octets }
+        ensures { result.now ≡ (get_or self.now.held index no_payload).octets }
     {
         let here = self.waiting[index];
         &self.octets[here.from..here.from + here.count]
+    }
+
+    /// The packet that a payload that waits came in.
+    pub fn arrival(&self, index: usize) -> Arrival
+        requires { index < length self.now.held }
+        ensures { result ≡ (get_or self.now.held index no_payload).arrival }
+    {
+        let held = self.waiting[index];
+        Arrival {
+            time: held.time,
+            packet: held.packet,
+        }
     }
 
     /// Whether one of the payloads that a flow holds has the number and at least the length.
@@ -251,11 +266,12 @@ impl Pool {
 
     /// A payload waits: its octets are copied. What a flow holds is looked through faster behind it,
     /// if `next` is the number that is due there.
-    pub fn hold(&mut self, flow: u32, next: u32, number: u32, octets: &[u8])
+    pub fn hold(&mut self, flow: u32, next: u32, number: u32, octets: &[u8], arrival: Arrival)
         requires some { 0 < length octets.now }
         requires room { blocks_of self.old.held +
             (length octets.now + 1023) / 1024 ≤ self.old.blocks + 256 }
-        ensures held { self.new.held ≡ put (payload flow number octets.now) self.old.held }
+        ensures held { self.new.held ≡ put (payload flow number octets.now arrival)
+            self.old.held }
         ensures blocks { self.new.blocks ≡ self.old.blocks }
     {
         let most = 1024 * (self.blocks + 256);
@@ -290,6 +306,8 @@ impl Pool {
                 number,
                 from,
                 count,
+                time: arrival.time,
+                packet: arrival.packet,
             },
         );
     }
@@ -389,6 +407,8 @@ fn pack(waiting: &mut VecDeque<Waiting>, octets: &mut Vec<u8>, spare: &mut Vec<u
             number: here.number,
             from,
             count: here.count,
+            time: here.time,
+            packet: here.packet,
         };
         index += 1;
     }

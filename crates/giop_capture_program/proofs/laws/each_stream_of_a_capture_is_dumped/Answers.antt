@@ -1,16 +1,18 @@
 -- The events of a capture are without a gap, so no stream of them goes on behind its close; and each
 -- has closed.
-use Rattle.std.proofs.Common.{[], ◌++◌, ◌∙◌, ap, if◌then◌else◌}
+use Rattle.std.proofs.Common.{◌≡◌, ◌<◌, ◌/◌, ℕ, ◌-◌, Some, [], ◌++◌, ◌∙◌, ap, sym, subst, arith, if◌then◌else◌}
+use Rattle.std.specs.List.{AllByRecursion as Each}
+use Rattle.tcp_flow.specs.Flow.{flow_of}
 use Rattle.tcp_connections.specs.Connections.{none_known}
 use Rattle.giop_stream.specs.Stream.{text, closing}
-use Rattle.giop_conversation.specs.Captured.{start, rules_in}
+use Rattle.giop_conversation.specs.Captured.{start, rules_in, number_in}
 use Rattle.giop_conversation.specs.Followed.{reader_faulted}
 use Rattle.giop_conversation.specs.StreamTexts.{no_history, history}
 use Rattle.giop_capture_run.specs.Arrivals.{capture_ended}
 use Rattle.giop_capture_program.proofs.laws.each_stream_of_a_capture_is_dumped.Goals as goal
 
-pub returns : goal.returns
-returns c = λ S written ports blocks most octets d some few leads.
+pub returns-clause-shows : goal.returns-clause-shows
+returns-clause-shows c = λ S written ports blocks most octets d some few leads.
     let events = (capture_ended reader_faulted (none_known ports blocks most []) octets).events in
     let shown = c.each_stream_is_dumped.ensures.shows S written events d leads in
     let gapless = c.no_stream_of_a_capture_has_a_gap.ensures.ended reader_faulted ports blocks most
@@ -36,3 +38,17 @@ returns c = λ S written ports blocks most octets d some few leads.
           ∙ ap (λ b. text R s.octets ++ (if b then closing R s.octets else []))
           (closes number room);
     }
+
+pub returns-clause-rooms : goal.returns-clause-rooms
+returns-clause-rooms c = λ S written ports blocks most octets d some few same leads number is first
+    begun.
+    let events = (capture_ended reader_faulted (none_known ports blocks most []) octets).events in
+    let k : ℕ = number - S.first in
+    let rooms =
+    subst (λ (n : ℕ). Each (λ e. (id : ℕ) → flow_of e ≡ Some id → id / 2 < n) events)
+    (sym same) (c.no_stream_of_a_capture_has_a_gap.ensures.rooms reader_faulted ports blocks
+    most octets some few) in
+    let room = c.each_stream_is_dumped.ensures.rooms S written events d leads rooms k
+    (omega (arith, first, begun)) in
+    let here : number_in S k ≡ number = omega (arith, first, is.1) in
+    rw here at room

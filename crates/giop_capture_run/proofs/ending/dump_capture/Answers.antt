@@ -23,12 +23,22 @@ returns-in-Ok-clause-dumped g c =
     (c.finished.ensures.last ran.1.read _ ran.1.reads ran.1.ended.observed)
     (λ ending ends last. record {
       listener = r.streams.listener;
-      notices = r.notices;
       connections = r.connections;
       live = r.streams.live.items;
       octets = ran.0;
       found = c.in-Ok.fault;
-      whole = ran.1;
+      whole = record {
+        given = ran.1.given;
+        failures = ran.1.failures;
+        read = ran.1.read;
+        rest = ran.1.rest;
+        parts = ran.1.parts;
+        over = ran.1.over;
+        reads = ran.1.reads;
+        fault = ran.1.fault;
+        ended = ran.1.ended;
+        told = rw c.finished.ensures.notices ran.1.told;
+      };
       ends = ends;
       last = last;
     })

@@ -1,5 +1,3 @@
-use Rattle.std.proofs.Common.{refl, length-take, arith}
-use Rattle.giop_conversation.proofs.FailingBelow.{lost}
 use Rattle.giop_conversation.proofs.TaggedLemmas.{put_line_ok, put_line_err}
 use Rattle.giop_conversation.proofs.tagged.put_line.Goals as goal
 
@@ -13,9 +11,3 @@ returns-in-Ok-clause-does g c =
 
 pub returns-in-Err-clause-does : goal.returns-in-Err-clause-does
 returns-in-Err-clause-does g c = put_line_err _ _ _ _ _ _ c.requires.none c.in-Err.ensures.does
-
-pub returns-in-Err-clause-cause : goal.returns-in-Err-clause-cause
-returns-in-Err-clause-cause g c =
-    let l = length-take c.line_size-size.result c.args.octets.now in
-    lost _ _ _ _ _ _ _ refl (omega (arith, l, c.line_size-size.ensures.within))
-    c.in-Err.ensures.cause

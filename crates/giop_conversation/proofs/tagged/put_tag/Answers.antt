@@ -1,6 +1,6 @@
-use Rattle.std.proofs.Common.{◌∙◌, ◌≤◌, ◌-◌, length, arith, length-drop}
+use Rattle.std.proofs.Common.{◌∙◌, ◌≤◌, ◌-◌, length, ap, arith, length-drop}
+use Rattle.giop_print.specs.Output.{counted}
 use Rattle.giop_print.proofs.Writing.{rest_from}
-use Rattle.giop_conversation.proofs.FailingBelow.{lost}
 use Rattle.giop_conversation.proofs.TaggedLemmas.{tag_step_in}
 use Rattle.giop_conversation.proofs.tagged.put_tag.Goals as goal
 
@@ -13,6 +13,7 @@ loop-due-preserved g c =
     omega (arith, l, put.within, c.loop-due.invariant.within) in
     record {
       within = omega (arith, c.loop-due.invariant.within);
+      count = omega (arith, few, put.counted, c.loop-due.invariant.count);
       none = c.in-Ok.ensures.cause ∙ c.loop-due.invariant.none;
       stands = λ before text stands.
           rw put.counted (tag_step_in _ _ before c.args.tag.now c.loop-due.since text c.loop-due.due
@@ -22,7 +23,4 @@ loop-due-preserved g c =
 
 pub returns-in-Err-clause-cause : goal.returns-in-Err-clause-cause
 returns-in-Err-clause-cause g c =
-    let start = length c.args.tag.now - c.loop-due.due in
-    let put = rw (rest_from start c.args.tag.now) at c.in-Err.ensures.cause in
-    let l = length-drop start c.args.tag.now in
-    lost _ _ _ _ _ _ _ c.loop-due.invariant.none (omega (arith, l)) put
+    c.in-Err.ensures.cause ∙ ap counted c.loop-due.invariant.none

@@ -1,4 +1,4 @@
-use Rattle.std.proofs.Common.{◌≡◌, ℕ, List, length, ◌≤◌}
+use Rattle.std.proofs.Common.{◌≡◌, ℕ, List, length, ◌+◌, ◌≤◌}
 use Rattle.giop_conversation.specs.TaggedText.{StandsIn}
 use Rattle.giop_conversation.proofs.tagged.put_tag.Given as goal
 
@@ -6,6 +6,7 @@ abbrev pub invariant-loop-due : goal.invariant-loop-due
 invariant-loop-due g l =
     record {
       within : l.due ≤ length l.tag;
+      count : l.since + l.due ≡ l.initial.since + l.initial.due;
       none : (g.O.Out.log l.out).failures ≡ (g.O.Out.log l.initial.out).failures;
       stands : (before text : List ℕ) →
           StandsIn (g.O.Out.log l.initial.out).written before l.tag l.initial.since text

@@ -1,5 +1,4 @@
-use Rattle.std.proofs.Common.{refl, arith}
-use Rattle.giop_conversation.proofs.FailingBelow.{lost, loses_on}
+use Rattle.giop_conversation.proofs.FailingBelow.{counts_on}
 use Rattle.giop_conversation.proofs.TaggedLemmas.{put_both}
 use Rattle.giop_conversation.proofs.tagged.put_tagged.Goals as goal
 
@@ -10,8 +9,4 @@ returns-in-Ok-clause-does g c =
 
 pub returns-in-Ok-clause-cause : goal.returns-in-Ok-clause-cause
 returns-in-Ok-clause-cause g c =
-    loses_on c.put_line.result _ _ _ _ c.in-Ok.ensures.cause c.put_line.ensures.cause
-
-pub returns-in-Err-clause-cause : goal.returns-in-Err-clause-cause
-returns-in-Err-clause-cause g c =
-    lost _ _ _ _ _ _ _ refl (omega arith) c.in-Err.ensures.cause
+    counts_on c.put_line.result _ _ _ c.in-Ok.ensures.cause c.put_line.ensures.cause

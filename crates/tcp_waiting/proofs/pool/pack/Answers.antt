@@ -1,4 +1,4 @@
-use Rattle.std.proofs.Common.{◌≡◌, ◌<◌, ◌≤◌, ◌+◌, ◌-◌, ◌++◌, ℕ, length, take, arith, refl, ◌∙◌, ap}
+use Rattle.std.proofs.Common.{◌≡◌, ◌<◌, ◌+◌, ◌-◌, ◌++◌, length, take, arith, refl, ◌∙◌, ap}
 use Rattle.tcp_waiting.specs.Layout.{counts, octets_at}
 use Rattle.tcp_waiting.proofs.Held.{ok_items}
 use Rattle.tcp_waiting.proofs.Packing.{IsPacked, pack_start, next_of, pack_step, pack_end, length_places, length_copied, counts_take}

@@ -9,6 +9,6 @@ returns-clause-finished g c =
     record {
       dump = f.dump;
       leads = f.leads;
-      text = still_known _ _ _ c.flush_out.ensures.put f.ready.known;
+      text = still_known _ _ _ c.in-Ok-flush.ensures.put f.ready.known;
       is_faulty = f.faulted;
     }

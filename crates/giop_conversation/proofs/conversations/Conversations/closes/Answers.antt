@@ -1,7 +1,7 @@
 use Rattle.std.proofs.Common.{◌/◌, length, refl, ℕ, Result, Ok}
 use Rattle.std.proofs.lemmas.Option.{slice_get_read, slice_get_past}
 use Rattle.tcp_flow.specs.Flow.{Closes}
-use Rattle.giop_conversation.proofs.FailingLemmas.{counted_more}
+use Rattle.giop_conversation.proofs.FailingBelow.{counted_more}
 use Rattle.giop_conversation.proofs.FollowedLemmas.{none_of_closes, followed_still}
 use Rattle.giop_conversation.proofs.ToldLemmas.{closed_told, closed_front, closed_beyond, still_sound}
 use Rattle.giop_conversation.proofs.conversations.Conversations.closes.Goals as goal

@@ -1,5 +1,5 @@
 use Rattle.std.proofs.Common.{◌/◌, vec_len, refl, ◌∙◌}
-use Rattle.giop_conversation.proofs.FailingLemmas.{counted_more}
+use Rattle.giop_conversation.proofs.FailingBelow.{counted_more}
 use Rattle.giop_conversation.proofs.FollowedLemmas.{element, octets_read, fault_told}
 use Rattle.giop_conversation.proofs.FollowedLemmas.{no_element}
 use Rattle.giop_conversation.proofs.ToldLemmas.{delivered_told, delivered_beyond, still_sound}

@@ -1,6 +1,6 @@
 use Rattle.std.proofs.Common.{◌≡◌, ◌<◌}
 use Rattle.std.proofs.lemmas.Result.{MatchResult-from_err}
-use Rattle.giop_conversation.proofs.FailingLemmas.{counted_more}
+use Rattle.giop_conversation.proofs.FailingBelow.{counted_more}
 use Rattle.std.proofs.Common.{refl, ℕ, Result, Ok, Err, Bool, subst, sym}
 use Rattle.giop_conversation.specs.DumpHeld.{HasFinished}
 use Rattle.giop_conversation.proofs.ToldLemmas.{finished, still_sound}

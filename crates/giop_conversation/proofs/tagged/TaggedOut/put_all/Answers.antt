@@ -15,9 +15,8 @@ returns-in_err-taken-clause-does g c =
 pub returns-in_err-taken-clause-cause : goal.returns-in_err-taken-clause-cause
 returns-in_err-taken-clause-cause g c =
     let p = err_from_is_err_and c.from_residual.result c.from_residual.ensures.1 in
-    let left = c.loop-rest.invariant.left in
-    rw (p.1) (lost _ _ _ _ _ _ _ c.loop-rest.invariant.none (omega (arith, left.within))
-    c.in_err-taken.ensures.cause)
+    rw (p.1) (lost _ _ _ _ _ _ _ _ c.loop-rest.invariant.none
+    (omega (arith, c.loop-rest.invariant.left.within)) c.in_err-taken.ensures.cause)
 
 pub loop-rest-preserved : goal.loop-rest-preserved
 loop-rest-preserved g c =

@@ -1,6 +1,7 @@
-use Rattle.std.proofs.Common.{◌≡◌, ◌+◌, ◌-◌, ◌<◌, ◌++◌, length, length-append, refl, ap, ◌∙◌, arith}
+use Rattle.std.proofs.Common.{◌≡◌, ◌+◌, ◌-◌, ◌<◌, ◌++◌, length, length-append, inl, refl, ap, ◌∙◌, arith}
 use Rattle.std.proofs.lemmas.List.{take_all}
 use Rattle.giop_print.specs.Line.{line_text}
+use Rattle.giop_conversation.proofs.FailingBelow.{some_failed}
 use Rattle.giop_conversation.proofs.WholeLines.{wrote_line, wrote_front}
 use Rattle.giop_conversation.proofs.tagged.TaggedOut.put_line.Goals as goal
 
@@ -64,3 +65,13 @@ returns-then-taken-text-clause-cause g c =
     let size = length-append c.self.inside.tag (line_text c.args.line.now) in
     rw (← c.self.view_is) (c.put_most-taken.ensures.none c.if-taken-text.true
     (omega (arith, text, size, due.some)))
+
+pub invariant_of-self-2 : goal.invariant_of-self-2
+invariant_of-self-2 g c =
+    let taken = c.put_most-taken.result in
+    let few : taken < length c.text-text.result.now =
+    omega (arith, c.put_most-taken.ensures.within, c.if-taken-text.false) in (
+      omega (arith, c.saturating_sub-self-inside.ensures, c.self.invariant.0),
+      λ short. absurd (cc short),
+      λ some. inl (some_failed _ _ (c.put_most-taken.ensures.cause few)),
+    )

@@ -1,5 +1,5 @@
-use Rattle.std.proofs.Common.{◌≡◌, pred, ◌-◌, length, refl, sym, ap, ◌∙◌, arith, append_assoc, ◌∷◌, ◌++◌}
-use Rattle.giop_decode.specs.ReadResult.{Part, Member, Short, with_front}
+use Rattle.std.proofs.Common.{[], ◌≡◌, pred, ◌-◌, length, refl, sym, ap, ◌∙◌, arith, append_assoc, ◌∷◌, ◌++◌}
+use Rattle.giop_decode.specs.ReadResult.{Part, Member, Short, Done, with_front}
 use Rattle.giop_decode.specs.Begins.{start_outer, start_leaf}
 use Rattle.giop_decode.specs.Transitions.{AreKnown, IsKnown, has_ended, is_inside, open_part, open_parts, leaf_of}
 use Rattle.giop_decode.specs.ReadingSteps.{around}
@@ -7,7 +7,7 @@ use Rattle.giop_decode.proofs.Beginning.{all_push, map_push}
 use Rattle.giop_decode.proofs.Around.{around-append, around-fault, fit_room}
 use Rattle.giop_decode.proofs.Going.{place_part, place_case}
 use Rattle.giop_decode.proofs.TransitionsInFrames.{fit_first, fit_selected, fit_inside, around_done}
-use Rattle.giop_decode.proofs.Surrounding.{front_gone, behind_stopped, around_gone, around_unless_ended, ended_push, inside_frame, inside_push, or_false, or_true, unless_ended, stand_push}
+use Rattle.giop_decode.proofs.Surrounding.{heard_open, front_gone, behind_stopped, around_gone, around_unless_ended, ended_push, inside_frame, inside_push, or_false, or_true, unless_ended, stand_push}
 use Rattle.giop_decode.proofs.Noting.{leaf_inside, unless_ended_inside, stopped_silent}
 use Rattle.giop_decode.proofs.Linking.{link_number, link_push}
 use Rattle.giop_decode.proofs.decoder.Decoder.advance_frames.Goals as goal
@@ -85,7 +85,7 @@ pub returns-in-Refused-clause-advances : goal.returns-in-Refused-clause-advances
 returns-in-Refused-clause-advances c coding path at lines =
     let C = c.args.catalogue.now in
     rw c.in-Refused.is (around-fault coding path (open_parts C at c.args.self.now.outer.items) lines
-    at _ (tree C c.args.of.0))
+    at _ (tree C c.args.of.0) (rw c.in-Refused.is at c.requires.transition_fits))
 
 pub returns-in-Opened-clause-advances : goal.returns-in-Opened-clause-advances
 returns-in-Opened-clause-advances c coding path at lines =
@@ -212,7 +212,9 @@ pub returns-in-Ended-clause-advances : goal.returns-in-Ended-clause-advances
 returns-in-Ended-clause-advances c coding path at lines =
     let C = c.args.catalogue.now in
     rw c.in-Ended.is
-    (around_done coding path (open_parts C at c.args.self.now.outer.items) lines at
+    ((around_done coding path (open_parts C at c.args.self.now.outer.items) lines at
+    ∙ ap (λ qs. with_front lines (around coding path qs (Done [] at [])))
+    (heard_open C at lines c.args.self.now.outer.items))
     ∙ (ap (with_front lines) (c.go_on-self.ensures.next coding path at)
     ∙ (front_gone C lines at c.go_on-self.new.outer.items c.go_on-self.result
     ∙ behind_stopped C c.go_on-self.new.outer.items _ _ c.go_on-self.result lines at

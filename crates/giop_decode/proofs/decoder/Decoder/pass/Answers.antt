@@ -1,5 +1,6 @@
 use Rattle.std.proofs.Common.{ℕ, ◌+◌, List, [], ap, sym, ◌∙◌, arith, ◌≡◌}
-use Rattle.giop_decode.proofs.Advancing.{comes_by, moved, unended}
+use Rattle.giop_decode.specs.Reading.{none_left, rooted}
+use Rattle.giop_decode.proofs.Advancing.{fits_allowed, rooted_result, comes_by, moved, unended}
 use Rattle.giop_decode.proofs.Surrounding.{ahead_by, inside_ticked, known_ticked, length_ticked, places_ticked, stand_ticked}
 use Rattle.giop_decode.proofs.Linking.{link_ticked}
 use Rattle.giop_decode.proofs.Whole.{behind_gives}
@@ -73,9 +74,12 @@ returns c d b =
     let pt : open_parts C here d.outer.items ≡ open_parts C (here + 1) now.outer.items =
     sym (places_ticked C here d.outer.items b.around.ahead)
     ∙ ap (open_parts C (here + 1)) (sym b.outer) in
-    ap (λ qs. around (plain d.order) [] qs (after_transition C T transition d.carry held lines
-    (here + 1))) pt
-    ∙ rw (c.let_go.ensures, b.carry, b.piece) at (e.advances (plain d.order) [] (here + 1) lines) in
+    ap (rooted none_left) (ap (λ qs. around (plain d.order) [] qs (after_transition C T transition
+    d.carry held lines (here + 1))) pt
+    ∙ rw (c.let_go.ensures, b.carry, b.piece) at
+    (e.advances (plain d.order) [] (here + 1) lines))
+    ∙ rooted_result C T new transition lines (here + 1)
+    (fits_allowed T of transition _ _ c.requires.transition_fits) in
     record {
       order = e.order ∙ b.order;
       head = e.head ∙ b.head;

@@ -1,7 +1,7 @@
 use Rattle.std.proofs.Common.{◌≡◌, ◌+◌, [], length, sym, subst}
 use Rattle.giop_sig.specs.Trees.{tree}
 use Rattle.giop_decode.specs.ReadResult.{plain}
-use Rattle.giop_decode.specs.Reading.{read}
+use Rattle.giop_decode.specs.Reading.{reading}
 use Rattle.giop_decode.specs.Noted.{nothing_noted}
 use Rattle.giop_message.specs.declared.part.Section.TheVariants as sections
 use Rattle.giop_message.specs.Headers.{order}
@@ -39,7 +39,7 @@ returns-in-Exception-clause-arrives c answers number header s at before e =
     c.begin.ensures.enters answers number header s at before tt
     (subst (λ T. message S header s ≡ with_front before
     (section_and_rest S header sections.Exception nothing_noted
-    (read (plain (order header)) [] T (12 + length s) [])))
+    (reading (plain (order header)) [] T (12 + length s) [])))
     (sym c.fixed-of.ensures.tree) (rw c.in-Exception.is at e))
 
 pub returns-in-SystemException-clause-arrives : goal.returns-in-SystemException-clause-arrives
@@ -49,5 +49,5 @@ returns-in-SystemException-clause-arrives c answers number header s at before e 
     c.begin-in-SystemException.ensures.enters answers number header s at before tt
     (subst (λ T. message S header s ≡ with_front before
     (section_and_rest S header sections.SystemException nothing_noted
-    (read (plain (order header)) [] T (12 + length s) [])))
+    (reading (plain (order header)) [] T (12 + length s) [])))
     (sym c.fixed-of-in-SystemException.ensures.tree) (rw c.in-SystemException.is at e))

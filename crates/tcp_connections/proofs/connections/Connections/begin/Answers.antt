@@ -38,5 +38,5 @@ returns-clause-does g c w h =
     (c.in_ok-flow.ensures.beside es (h0.observed, h0.live))
     fewer (c.in_ok-flow.ensures.settled es (h0.observed, h0.live))
     (apart_taken S c.args.id h0.sound c.requires.taken)
-    (first_turn _ c.args.id _ _ _ es (small_id S c.args.id h0.sound within)) (λ es. refl) refl
+    (first_turn _ c.args.id _ _ _ _ es (small_id S c.args.id h0.sound within)) (λ es. refl) refl
     c.begin.ensures.blocks refl refl)) w h

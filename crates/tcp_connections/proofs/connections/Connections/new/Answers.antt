@@ -1,4 +1,4 @@
-use Rattle.std.proofs.Common.{rules, ◌≡◌, ◌*◌, [], replicate, refl}
+use Rattle.std.proofs.Common.{rules, ◌≡◌, ◌*◌, [], replicate, None, refl}
 use Rattle.tcp_connections.proofs.Start.{start_sound}
 use Rattle.tcp_connections.proofs.Times.{no_flow}
 use Rattle.tcp_connections.proofs.connections.Connections.new.Goals as goal
@@ -9,8 +9,9 @@ returns-clause-sound c =
     start_sound c.args.ports.items c.in_ok-pool.pool.blocks c.args.most 0
     c.in_ok-table.table.keys.items c.in_ok-table.table.rooms.items c.in_ok-free.free.free.items
     c.in_ok-stamps.stamps.last.items c.in_ok-syns.syns.kept.items
-    c.in_ok-flows.flows.items c.in_ok-pool.pool.held [] c.in_ok-table.ensures.keys
+    c.in_ok-flows.flows.items c.in_ok-pool.pool.held [] (record { time = None; packet = 0 })
+    c.in_ok-table.ensures.keys
     c.in_ok-table.ensures.rooms c.in_ok-free.ensures.free c.in_ok-stamps.ensures
     c.in_ok-syns.ensures flows
-    c.in_ok-pool.ensures.empty refl
+    c.in_ok-pool.ensures.empty refl refl
     c.requires.some.0 c.requires.some.1

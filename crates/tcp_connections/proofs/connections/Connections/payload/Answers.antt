@@ -41,9 +41,10 @@ returns-clause-does g c w h =
     moved _ _ _ _ _
     (payload_later g.L.Listener.faulted S c.args.id (segment_view c.args.segment) c.in-Some.flow
     e c.if-segment.false ∙ arrived_some g.L.Listener.faulted S c.args.id
-    (Octets (first_number (segment_view c.args.segment)) c.args.segment.payload.now)
+    (Octets (first_number (segment_view c.args.segment)) c.args.segment.payload.now S.arrival)
     c.in-Some.flow e ∙ ap (λ n. with_flow S c.args.id
-    (flow_step (setting g.L.Listener.faulted S.blocks) f (Octets n c.args.segment.payload.now)))
+    (flow_step (setting g.L.Listener.faulted S.blocks) f
+    (Octets n c.args.segment.payload.now S.arrival)))
     (sym c.first_number.ensures))
     (flow_turned _ _ _ _ c.args.self.now _ es c.args.id c.in-Some.flow c.payload.new.self _ h0 e
     (c.in_ok-payload.ensures.does f start) c.payload.ensures.id

@@ -25,8 +25,9 @@ returns-clause-gapless g c payloads events o t =
     let A = setting g.T.Listener.faulted c.args.pool.now.blocks in
     let e : c.new-flow.result.id ≡ c.args.id =
     ap (λ (d : Flow). d.id) (c.new-flow.ensures c.args.pool.now.held events) in
-    subst (λ id. IsGapless (payloads ++ (payload id c.args.number c.args.octets.now) ∷ [])
-    (payload_came A f (payload c.args.id c.args.number c.args.octets.now))) e
+    subst (λ id. IsGapless (payloads ++ (payload id c.args.number c.args.octets.now
+    c.args.arrival) ∷ [])
+    (payload_came A f (payload c.args.id c.args.number c.args.octets.now c.args.arrival))) e
     (c.in_ok-payload.ensures.gapless payloads f
     (record { observed = o; same = c.new-flow.ensures c.args.pool.now.held events }) t)
 

@@ -6,9 +6,9 @@ use Rattle.tcp_flow.proofs.States.{by_state, delivered_on, delivered_fault}
 use Rattle.tcp_flow.proofs.flow.FlowState.deliver.Goals as goal
 
 pub returns-in_ok-closes-clause-does : goal.returns-in_ok-closes-clause-does
-returns-in_ok-closes-clause-does g c held f h =
+returns-in_ok-closes-clause-does g c held f arrival h =
     let F = g.T.Listener.faulted in
-    let p = payload c.args.self.now.id c.args.number c.args.octets.now in
+    let p = payload c.args.self.now.id c.args.number c.args.octets.now arrival in
     let G = IsState (g.T.Listener.observed c.closes.new.self) _ held in
     by_state (λ f. G (delivered F f p)) _ c.args.self.now held f h (λ events o.
     let d = c.in_ok-delivers.ensures.does events o in
@@ -17,9 +17,9 @@ returns-in_ok-closes-clause-does g c held f h =
     (record { observed = c.in_ok-closes.ensures.does _ d.0; same = rw c.onward-self.ensures refl }))
 
 pub returns-else-branch-clause-does : goal.returns-else-branch-clause-does
-returns-else-branch-clause-does g c held f h =
+returns-else-branch-clause-does g c held f arrival h =
     let F = g.T.Listener.faulted in
-    let p = payload c.args.self.now.id c.args.number c.args.octets.now in
+    let p = payload c.args.self.now.id c.args.number c.args.octets.now arrival in
     let G = IsState (g.T.Listener.observed c.delivers.new.self) _ held in
     by_state (λ f. G (delivered F f p)) _ c.args.self.now held f h (λ events o.
     let d = c.in_ok-delivers.ensures.does events o in

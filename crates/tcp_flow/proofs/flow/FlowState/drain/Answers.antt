@@ -56,6 +56,13 @@ octets-requires g c =
     (first_within c.loop-first.self.id c.loop-first.self.next c.loop-first.pool.held) in
     within
 
+pub arrival-requires : goal.arrival-requires
+arrival-requires g c =
+    let within : c.in-Some.index < length c.loop-first.pool.held =
+    rw (sym c.loop-first.invariant.0 ∙ c.in-Some.is) at
+    (first_within c.loop-first.self.id c.loop-first.self.next c.loop-first.pool.held) in
+    within
+
 pub remove-requires : goal.remove-requires
 remove-requires g c =
     let within : c.in-Some.index < length c.loop-first.pool.held =
@@ -99,11 +106,11 @@ loop-first-preserved g c =
           let t = c.in_ok-take.ensures.does rest (state s rest events)
           (record { observed = o; same = refl }) in
           let n = taken F (state s rest events)
-          (payload s.id c.number-number.result c.octets.result.now) in
+          (payload s.id c.number-number.result c.octets.result.now c.arrival.result) in
           let same : n ≡ taken F (state s rest events)
           (payload s.id (at (state s held events) index).number
-          (at (state s held events) index).octets) =
-          rw (← c.number-number.ensures, ← c.octets.ensures) refl in
+          (at (state s held events) index).octets (at (state s held events) index).arrival) =
+          rw (← c.number-number.ensures, ← c.octets.ensures, ← c.arrival.ensures) refl in
           let e' = drain_takes F (state s held events) n index
           (sym c.loop-first.invariant.0 ∙ c.in-Some.is) (due events) same in
           (n, (rw c.remove.ensures.held t, rw c.remove.ensures.held (sym e' ∙ e)))) i.1.1),

@@ -1,5 +1,5 @@
-use Rattle.std.proofs.Common.{◌≡◌, ◌<◌, ◌≤◌, [], List, length, get_or, is_some, refl, sym, ◌∙◌, ap, subst, arith}
-use Rattle.tcp_waiting.specs.Payload.{Payload, payload, blocks_of}
+use Rattle.std.proofs.Common.{◌≡◌, ◌<◌, ◌≤◌, List, length, get_or, is_some, refl, sym, ◌∙◌, ap, subst, arith}
+use Rattle.tcp_waiting.specs.Payload.{Payload, no_payload, blocks_of}
 use Rattle.tcp_waiting.proofs.Order.{first_within, first_own}
 use Rattle.tcp_flow.specs.Flow.{held_by_others, forgotten}
 use Rattle.tcp_flow.specs.State.{state}
@@ -34,9 +34,9 @@ loop-first-preserved c =
     let held = c.loop-first.pool.held in
     let within : c.in-Some.own < length held =
     rw (sym c.loop-first.invariant.0 ∙ c.in-Some.is) at (first_within s.id s.next held) in
-    let own : (get_or held c.in-Some.own (payload 0 0 [])).flow ≡ s.id =
+    let own : (get_or held c.in-Some.own no_payload).flow ≡ s.id =
     rw (sym c.loop-first.invariant.0 ∙ c.in-Some.is) at
-    (first_own s.id s.next (payload 0 0 []) held) in (
+    (first_own s.id s.next no_payload held) in (
       c.first-first-in-Some.ensures,
       ap (held_by_others s.id) c.remove.ensures.held
           ∙ others_keep s.id held c.in-Some.own within own ∙ c.loop-first.invariant.1,

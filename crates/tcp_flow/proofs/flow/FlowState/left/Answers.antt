@@ -9,14 +9,14 @@ use Rattle.tcp_flow.proofs.flow.FlowState.left.Goals.{else-age-gt-WINDOW-via-the
 
 pub returns-then-not-is_live-clause-left : goal.returns-then-not-is_live-clause-left
 unfolding left
-returns-then-not-is_live-clause-left c =
+returns-then-not-is_live-clause-left c arrival =
     let e : nat_lt window (age c.args.self.now.next c.args.number) ≡ true =
     rw (← c.age-age.ensures) (lt-ltb 1048576 c.age-age.result c.if-age-gt-WINDOW.true) in
     rw (e, sym c.is_live.ensures ∙ c.if-not-is_live.true) refl
 
 pub returns-clause-left : goal.returns-clause-left
 unfolding left
-returns-clause-left c =
+returns-clause-left c arrival =
     let e : (nat_lt window (age c.args.self.now.next c.args.number)
     && not (is_some c.args.self.now.live)) ≡ false =
     elim c.else-age-gt-WINDOW.branch [

@@ -18,7 +18,8 @@ returns-clause-does g c f h =
     let A = setting g.T.Listener.faulted c.args.pool.now.blocks in
     by_state (λ f. IsState (g.T.Listener.observed c.take_payload.new.to) c.take_payload.new.self
     c.take_payload.new.pool.held (payload_came A f
-    (payload f.id c.args.number c.args.octets.now))) _ c.args.self.now c.args.pool.now.held f h
+    (payload f.id c.args.number c.args.octets.now c.args.arrival))) _ c.args.self.now
+    c.args.pool.now.held f h
     (λ events o.
     c.in_ok-take_payload.ensures.does _ (record { observed = o; same = refl }))
 
@@ -28,17 +29,18 @@ returns-clause-gapless g c payloads f h t =
     let A = setting g.T.Listener.faulted c.args.pool.now.blocks in
     let n = c.args.number in
     let octets = c.args.octets.now in
+    let arrival = c.args.arrival in
     by_state (λ f. IsGapless payloads f → IsGapless
-    (payloads ++ (payload c.args.self.now.id n octets) ∷ [])
-    (payload_came A f (payload f.id n octets))) _ c.args.self.now c.args.pool.now.held f h
+    (payloads ++ (payload c.args.self.now.id n octets arrival) ∷ [])
+    (payload_came A f (payload f.id n octets arrival))) _ c.args.self.now c.args.pool.now.held f h
     (λ events o u.
     came_true A payloads (state c.args.self.now c.args.pool.now.held events)
-    (payload c.args.self.now.id n octets) (omega arith) u) t
+    (payload c.args.self.now.id n octets arrival) (omega arith) u) t
 
 pub returns-clause-room : goal.returns-clause-room
 returns-clause-room g c f h =
     let A = setting g.T.Listener.faulted c.args.pool.now.blocks in
-    let p = payload c.args.self.now.id c.args.number c.args.octets.now in
+    let p = payload c.args.self.now.id c.args.number c.args.octets.now c.args.arrival in
     by_state (λ f. blocks_of c.take_payload.new.pool.held ≤ c.take_payload.new.pool.blocks) _
     c.args.self.now c.args.pool.now.held f h (λ events o.
     let S = state c.args.self.now c.args.pool.now.held events in
@@ -53,7 +55,7 @@ returns-clause-room g c f h =
 pub returns-clause-settled : goal.returns-clause-settled
 returns-clause-settled g c f h =
     let A = setting g.T.Listener.faulted c.args.pool.now.blocks in
-    let p = payload c.args.self.now.id c.args.number c.args.octets.now in
+    let p = payload c.args.self.now.id c.args.number c.args.octets.now c.args.arrival in
     let n = c.in_ok-take_payload.ensures.does f h in
     settled_state _ _ _ _ n (came_settled A f p (settled_flow _ _ _ f h c.requires.settled)
     (next_of _ _ _ _ n (omega arith)))
@@ -64,12 +66,13 @@ returns-clause-beside g c f h =
     let A = setting g.T.Listener.faulted c.args.pool.now.blocks in
     let n : IsState (g.T.Listener.observed c.take_payload.new.to) c.take_payload.new.self
     c.take_payload.new.pool.held (payload_came A f
-    (payload f.id c.args.number c.args.octets.now)) =
+    (payload f.id c.args.number c.args.octets.now c.args.arrival)) =
     by_state (λ f. IsState (g.T.Listener.observed c.take_payload.new.to) c.take_payload.new.self
     c.take_payload.new.pool.held (payload_came A f
-    (payload f.id c.args.number c.args.octets.now))) _ c.args.self.now c.args.pool.now.held f h
+    (payload f.id c.args.number c.args.octets.now c.args.arrival))) _ c.args.self.now
+    c.args.pool.now.held f h
     (λ events o.
     c.in_ok-take_payload.ensures.does _ (record { observed = o; same = refl })) in
     others_of _ _ c.args.self.now c.take_payload.new.self c.args.pool.now.held
     c.take_payload.new.pool.held f _ h n
-    (step_others A f (Octets c.args.number c.args.octets.now))
+    (step_others A f (Octets c.args.number c.args.octets.now c.args.arrival))

@@ -1,7 +1,7 @@
 use Rattle.std.proofs.Common.{refl, sym, subst, ◌∙◌}
 use Rattle.std.specs.Prelude.{OnOk}
 use Rattle.tcp_waiting.specs.Payload.{payload}
-use Rattle.tcp_flow.specs.Flow.{with_event, begun, taken}
+use Rattle.tcp_flow.specs.Flow.{with_event, begun, told_from, taken}
 use Rattle.tcp_flow.proofs.Steps.{taken_none, taken_live, taken_dead}
 use Rattle.tcp_flow.proofs.States.{by_state, on_ok_equal}
 use Rattle.tcp_flow.proofs.Lefts.{whole_tail}
@@ -11,37 +11,44 @@ use Rattle.tcp_flow.proofs.flow.FlowState.take.Goals as goal
 pub returns-then-is_empty-clause-does : goal.returns-then-is_empty-clause-does
 returns-then-is_empty-clause-does g c held f h =
     let F = g.T.Listener.faulted in
-    let p = payload c.args.self.now.id c.args.number c.args.octets.now in
-    let q = payload c.args.self.now.id c.left-number.result.0 c.left-number.result.1.now in
+    let p = payload c.args.self.now.id c.args.number c.args.octets.now c.args.arrival in
+    let q = payload c.args.self.now.id c.left-number.result.0 c.left-number.result.1.now
+    c.args.arrival in
     let G = IsState (g.T.Listener.observed c.args.to.now) c.args.self.now held in
     by_state (λ f. G (taken F f p)) _ c.args.self.now held f h (λ events o.
-    subst G (sym (taken_none F (state c.args.self.now held events) p q c.left-number.ensures.left
+    subst G (sym (taken_none F (state c.args.self.now held events) p q
+    (c.left-number.ensures.left c.args.arrival)
     (sym c.is_empty.ensures ∙ c.if-is_empty.true)))
     (record { observed = o; same = refl }))
 
 pub returns-then-is_live-clause-does : goal.returns-then-is_live-clause-does
+unfolding told_from with_event
 returns-then-is_live-clause-does g c held f h =
     let F = g.T.Listener.faulted in
-    let p = payload c.args.self.now.id c.args.number c.args.octets.now in
-    let q = payload c.args.self.now.id c.left-number.result.0 c.left-number.result.1.now in
+    let p = payload c.args.self.now.id c.args.number c.args.octets.now c.args.arrival in
+    let q = payload c.args.self.now.id c.left-number.result.0 c.left-number.result.1.now
+    c.args.arrival in
     by_state (λ f. OnOk c.deliver.result (IsState (g.T.Listener.observed c.deliver.new.to)
     c.deliver.new.self held (taken F f p))) _ c.args.self.now held f h (λ events o.
     on_ok_equal c.deliver.result _ _ held _ _
-    (sym (taken_live F (state c.args.self.now held events) p q c.left-number.ensures.left
+    (sym (taken_live F (state c.args.self.now held events) p q
+    (c.left-number.ensures.left c.args.arrival)
     (sym c.is_empty.ensures ∙ c.if-is_empty.false) (sym c.is_live.ensures ∙ c.if-is_live.true)))
-    (c.deliver.ensures.does held (state c.args.self.now held events)
-    (record { observed = o; same = refl })))
+    (c.deliver.ensures.does held (told_from (state c.args.self.now held events) p) c.args.arrival
+    (record { observed = c.comes_from.ensures events o; same = refl })))
 
 pub returns-in-Some-clause-does : goal.returns-in-Some-clause-does
-unfolding begun with_event
+unfolding begun told_from with_event
 returns-in-Some-clause-does g c held f h =
     let F = g.T.Listener.faulted in
-    let p = payload c.args.self.now.id c.args.number c.args.octets.now in
-    let q = payload c.args.self.now.id c.left-number.result.0 c.left-number.result.1.now in
+    let p = payload c.args.self.now.id c.args.number c.args.octets.now c.args.arrival in
+    let q = payload c.args.self.now.id c.left-number.result.0 c.left-number.result.1.now
+    c.args.arrival in
     by_state (λ f. OnOk c.deliver-in-Some.result
     (IsState (g.T.Listener.observed c.deliver-in-Some.new.to) c.deliver-in-Some.new.self held
     (taken F f p))) _ c.args.self.now held f h (λ events o.
-    let e = taken_dead F (state c.args.self.now held events) p q c.left-number.ensures.left
+    let e = taken_dead F (state c.args.self.now held events) p q
+    (c.left-number.ensures.left c.args.arrival)
     (sym c.is_empty.ensures ∙ c.if-is_empty.false) (sym c.is_live.ensures ∙ c.if-is_live.false)
     in
     on_ok_equal c.deliver-in-Some.result _ _ held _ _
@@ -50,19 +57,24 @@ returns-in-Some-clause-does g c held f h =
       whole_tail c.left-number.result.1.now c.in-Some.at,
       c.onward-number.ensures,
     ) refl))
-    (c.deliver-in-Some.ensures.does held _
-    (record { observed = c.in_ok-begins.ensures.does events o; same = refl })))
+    (c.deliver-in-Some.ensures.does held _ c.args.arrival
+    (record {
+      observed = c.in_ok-begins.ensures.does _ (c.comes_from.ensures events o);
+      same = refl;
+    })))
 
 pub returns-clause-does : goal.returns-clause-does
-unfolding begun
+unfolding begun told_from with_event
 returns-clause-does g c held f h =
     let F = g.T.Listener.faulted in
-    let p = payload c.args.self.now.id c.args.number c.args.octets.now in
-    let q = payload c.args.self.now.id c.left-number.result.0 c.left-number.result.1.now in
-    let G = IsState (g.T.Listener.observed c.args.to.now) c.args.self.now held in
+    let p = payload c.args.self.now.id c.args.number c.args.octets.now c.args.arrival in
+    let q = payload c.args.self.now.id c.left-number.result.0 c.left-number.result.1.now
+    c.args.arrival in
+    let G = IsState (g.T.Listener.observed c.comes_from.new.self) c.args.self.now held in
     by_state (λ f. G (taken F f p)) _ c.args.self.now held f h (λ events o.
-    let e = taken_dead F (state c.args.self.now held events) p q c.left-number.ensures.left
+    let e = taken_dead F (state c.args.self.now held events) p q
+    (c.left-number.ensures.left c.args.arrival)
     (sym c.is_empty.ensures ∙ c.if-is_empty.false) (sym c.is_live.ensures ∙ c.if-is_live.false)
     in
     subst G (sym (e ∙ rw (sym c.stream_at.ensures.at ∙ c.in_default.is) refl))
-    (record { observed = o; same = refl }))
+    (record { observed = c.comes_from.ensures events o; same = refl }))

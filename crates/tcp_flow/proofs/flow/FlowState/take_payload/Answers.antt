@@ -15,11 +15,12 @@ returns-then-is_empty-clause-does g c f h =
     let A = setting g.T.Listener.faulted c.args.pool.now.blocks in
     let s = c.args.self.now in
     let held = c.args.pool.now.held in
-    let p = payload s.id c.args.number c.args.octets.now in
-    let q = payload s.id c.left-number.result.0 c.left-number.result.1.now in
+    let p = payload s.id c.args.number c.args.octets.now c.args.arrival in
+    let q = payload s.id c.left-number.result.0 c.left-number.result.1.now c.args.arrival in
     let G = IsState (g.T.Listener.observed c.args.to.now) s held in
     by_state (λ f. G (payload_came A f p)) _ s held f h (λ events o.
-    subst G (sym (came_nothing A (state s held events) p q c.left-number.ensures.left
+    subst G (sym (came_nothing A (state s held events) p q (c.left-number.ensures.left
+    c.args.arrival)
     (or_left (nat_eq (length q.octets) 0) (has_as_much s.id q.number (length q.octets) held)
     (sym c.is_empty.ensures ∙ c.if-is_empty.true))))
     (record { observed = o; same = refl }))
@@ -29,11 +30,12 @@ returns-then-has_as_much-clause-does g c f h =
     let A = setting g.T.Listener.faulted c.args.pool.now.blocks in
     let s = c.args.self.now in
     let held = c.args.pool.now.held in
-    let p = payload s.id c.args.number c.args.octets.now in
-    let q = payload s.id c.left-number.result.0 c.left-number.result.1.now in
+    let p = payload s.id c.args.number c.args.octets.now c.args.arrival in
+    let q = payload s.id c.left-number.result.0 c.left-number.result.1.now c.args.arrival in
     let G = IsState (g.T.Listener.observed c.args.to.now) s held in
     by_state (λ f. G (payload_came A f p)) _ s held f h (λ events o.
-    subst G (sym (came_nothing A (state s held events) p q c.left-number.ensures.left
+    subst G (sym (came_nothing A (state s held events) p q (c.left-number.ensures.left
+    c.args.arrival)
     (or_right (nat_eq (length q.octets) 0) (has_as_much s.id q.number (length q.octets) held)
     (sym c.has_as_much.ensures ∙ c.if-has_as_much.true))))
     (record { observed = o; same = refl }))
@@ -45,8 +47,8 @@ returns-clause-does g c f h =
     let A = setting F c.args.pool.now.blocks in
     let s = c.args.self.now in
     let held = c.args.pool.now.held in
-    let p = payload s.id c.args.number c.args.octets.now in
-    let q = payload s.id c.left-number.result.0 c.left-number.result.1.now in
+    let p = payload s.id c.args.number c.args.octets.now c.args.arrival in
+    let q = payload s.id c.left-number.result.0 c.left-number.result.1.now c.args.arrival in
     let r = c.keep_within_bounds-2.result in
     by_state (λ f. OnOk r (IsState (g.T.Listener.observed c.keep_within_bounds-2.new.to)
     c.keep_within_bounds-2.new.self c.keep_within_bounds-2.new.pool.held (payload_came A f p)))
@@ -71,7 +73,7 @@ returns-clause-does g c f h =
     ∙ ap (λ (k : ℕ). within_bounds (setting F k) (c.len-count-2.result + 1) n)
     (c.end_at_fin.ensures.blocks ∙ c.hold.ensures.blocks)
     ∙ ap (λ (k : ℕ). within_bounds A (k + 1) n) c.len-count-2.ensures.held
-    ∙ sym (came_held A S p q c.left-number.ensures.left
+    ∙ sym (came_held A S p q (c.left-number.ensures.left c.args.arrival)
     (or_from (nat_eq (length q.octets) 0) (has_as_much s.id q.number (length q.octets) held)
     (sym c.is_empty.ensures ∙ c.if-is_empty.false)
     (sym c.has_as_much.ensures ∙ c.if-has_as_much.false))) in
@@ -86,8 +88,8 @@ returns-then-keeps_nothing-clause-does g c f h =
     let A = setting F c.args.pool.now.blocks in
     let s = c.args.self.now in
     let held = c.args.pool.now.held in
-    let p = payload s.id c.args.number c.args.octets.now in
-    let q = payload s.id c.left-number.result.0 c.left-number.result.1.now in
+    let p = payload s.id c.args.number c.args.octets.now c.args.arrival in
+    let q = payload s.id c.left-number.result.0 c.left-number.result.1.now c.args.arrival in
     let G = IsState (g.T.Listener.observed c.take.new.to) c.take.new.self held in
     let now : (is_some s.live && (is_to_come s.next q.number)) ≡ false =
     not-true (is_some s.live && (is_to_come s.next q.number))
@@ -96,11 +98,11 @@ returns-then-keeps_nothing-clause-does g c f h =
     let S = state s held events in
     let start : IsState _ s held S = record { observed = o; same = refl } in
     let T = c.in_ok-take.ensures.does held S start in
-    let direct = came_direct A S p q c.left-number.ensures.left refl (omega arith)
+    let direct = came_direct A S p q (c.left-number.ensures.left c.args.arrival) refl (omega arith)
     (settled_flow _ s held S start c.requires.settled)
     (sym c.is_empty.ensures ∙ c.if-is_empty.false)
     (λ l. due_number s.next (is_some s.live) p q (omega arith) (omega arith) l
-    c.left-number.ensures.left
+    (c.left-number.ensures.left c.args.arrival)
     (elim (and_cases (is_some s.live) (is_to_come s.next q.number) now)
     [ inl x ↦ absurd (both_ways (is_some s.live) x l) | inr x ↦ x ]))
     now in
@@ -115,8 +117,8 @@ returns-then-is_due-clause-does g c f h =
     let A = setting F c.args.pool.now.blocks in
     let s = c.args.self.now in
     let held = c.args.pool.now.held in
-    let p = payload s.id c.args.number c.args.octets.now in
-    let q = payload s.id c.left-number.result.0 c.left-number.result.1.now in
+    let p = payload s.id c.args.number c.args.octets.now c.args.arrival in
+    let q = payload s.id c.left-number.result.0 c.left-number.result.1.now c.args.arrival in
     let r = c.keep_within_bounds.result in
     let now : (is_some s.live && (is_to_come s.next q.number)) ≡ false =
     not-true (is_some s.live && (is_to_come s.next q.number))
@@ -127,11 +129,11 @@ returns-then-is_due-clause-does g c f h =
     let S = state s held events in
     let start : IsState _ s held S = record { observed = o; same = refl } in
     let n = gone_on F (taken F S q) in
-    let direct = came_direct A S p q c.left-number.ensures.left refl (omega arith)
+    let direct = came_direct A S p q (c.left-number.ensures.left c.args.arrival) refl (omega arith)
     (settled_flow _ s held S start c.requires.settled)
     (sym c.is_empty.ensures ∙ c.if-is_empty.false)
     (λ l. due_number s.next (is_some s.live) p q (omega arith) (omega arith) l
-    c.left-number.ensures.left
+    (c.left-number.ensures.left c.args.arrival)
     (elim (and_cases (is_some s.live) (is_to_come s.next q.number) now)
     [ inl x ↦ absurd (both_ways (is_some s.live) x l) | inr x ↦ x ]))
     now in

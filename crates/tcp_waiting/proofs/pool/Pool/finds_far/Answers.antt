@@ -1,4 +1,4 @@
-use Rattle.std.proofs.Common.{◌≡◌, true, false, ◌&&◌, nat_eq, refl, sym, ◌∙◌, arith}
+use Rattle.std.proofs.Common.{◌≡◌, false, ◌&&◌, nat_eq, refl, sym, ◌∙◌, arith}
 use Rattle.std.proofs.lemmas.Bool.{and_left, and_right, eq-eqb, ne_eqb}
 use Rattle.tcp_waiting.specs.Payload.{ends_far}
 use Rattle.tcp_waiting.proofs.Queries.{here, far_turn, far_end}

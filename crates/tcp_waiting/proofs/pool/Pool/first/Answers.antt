@@ -1,6 +1,5 @@
-use Rattle.std.proofs.Common.{◌≡◌, true, false, ◌∙◌, sym, ap, arith, ℕ}
+use Rattle.std.proofs.Common.{◌∙◌, sym, ap, arith, ℕ}
 use Rattle.tcp_waiting.specs.Payload.{place_of}
-use Rattle.tcp_waiting.specs.Layout.{stands_at}
 use Rattle.tcp_waiting.proofs.Counts.{first_none}
 use Rattle.tcp_waiting.proofs.Order.{first_oldest, first_number, first_nowhere}
 use Rattle.tcp_waiting.proofs.pool.Pool.first.Goals as goal

@@ -1,5 +1,5 @@
-use Rattle.std.proofs.Common.{◌≡◌, ◌<◌, length, true, false, ◌∙◌, sym, ap, arith, ℕ, [], nat_eq}
-use Rattle.tcp_waiting.specs.Payload.{Payload, payload, place_of}
+use Rattle.std.proofs.Common.{◌<◌, length, ◌∙◌, sym, ap, arith, ℕ, nat_eq}
+use Rattle.tcp_waiting.specs.Payload.{Payload, no_payload, place_of}
 use Rattle.tcp_waiting.proofs.Counts.{has_none}
 use Rattle.tcp_waiting.proofs.Held.{get_held, length_held}
 use Rattle.tcp_waiting.proofs.Order.{has_by, has_nowhere, stands_own}
@@ -23,7 +23,7 @@ returns-then-stands_at c =
     let held = c.args.self.now.held in
     let a = c.self.inside in
     let i = c.place-place.result in
-    let d : Payload = payload 0 0 [] in
+    let d : Payload = no_payload in
     let at = sym c.stands_at.ensures ∙ c.if-stands_at.true in
     let within : i < length held = (stands_own i c.args.flow held at).0 in
     let l : i < length a.waiting.items =

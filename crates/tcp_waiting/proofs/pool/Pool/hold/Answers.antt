@@ -1,4 +1,4 @@
-use Rattle.std.proofs.Common.{◌≡◌, ◌<◌, ◌≤◌, ◌+◌, ◌*◌, ◌/◌, ◌^◌, ◌++◌, [], length, length-append, get_or, List, ℕ, Option, None, IfSome, false, arith, refl, sym, subst, ◌∙◌, ap, inl, inr}
+use Rattle.std.proofs.Common.{◌≡◌, ◌<◌, ◌≤◌, ◌+◌, ◌/◌, ◌++◌, length, length-append, get_or, List, ℕ, Option, None, IfSome, false, arith, refl, sym, subst, ◌∙◌, ap, inl, inr}
 use Rattle.std.specs.List.{insert}
 use Rattle.tcp_waiting.specs.declared.pool.Near.{Near}
 use Rattle.tcp_waiting.specs.declared.pool.Waiting.{Waiting}
@@ -56,9 +56,11 @@ record IsHeld (c : goal.After-insert-noted) : Type 0 where
         number = c.args.number;
         from = c.len-from.result;
         count = length c.args.octets.now;
+        time = c.args.arrival.time;
+        packet = c.args.arrival.packet;
       })
   held : held_in c.extend_from_slice-copied.new.self.items c.insert-noted.new.self.items
-      ≡ put (payload c.args.flow c.args.number c.args.octets.now)
+      ≡ put (payload c.args.flow c.args.number c.args.octets.now c.args.arrival)
       (held_in c.self.inside.octets.items c.self.inside.waiting.items)
 
 held_is : (c : goal.After-insert-noted) → IsHeld c
@@ -68,12 +70,14 @@ held_is c =
     let before = held_in a.octets.items a.waiting.items in
     let room : blocks_of before + (length c.args.octets.now + 1023) / 1024 ≤ a.blocks + 256 =
     rw (← c.self.view_is) at c.requires.room in
-    let p = payload c.args.flow c.args.number c.args.octets.now in
+    let p = payload c.args.flow c.args.number c.args.octets.now c.args.arrival in
     let v : Waiting = record {
       flow = c.args.flow;
       number = c.args.number;
       from = c.len-from.result;
       count = length c.args.octets.now;
+      time = c.args.arrival.time;
+      packet = c.args.arrival.packet;
     } in
     let octets : c.extend_from_slice-copied.new.self.items ≡ mr.octets.items ++ c.args.octets.now =
     ok_items c.extend_from_slice-copied.result _ _ _ (c.extend_from_slice-copied.ensures.succeeds
@@ -112,7 +116,7 @@ invariant_of-self c =
     let before = held_in a.octets.items a.waiting.items in
     let room : blocks_of before + (length c.args.octets.now + 1023) / 1024 ≤ a.blocks + 256 =
     rw (← c.self.view_is) at c.requires.room in
-    let p = payload c.args.flow c.args.number c.args.octets.now in
+    let p = payload c.args.flow c.args.number c.args.octets.now c.args.arrival in
     let place = place_of (key_of p) before in
     let h = held_is c in
     let top : length c.extend_from_slice-copied.new.self.items

@@ -1,4 +1,4 @@
-use Rattle.std.proofs.Common.{◌≡◌, true, false, refl, sym, ◌∙◌}
+use Rattle.std.proofs.Common.{refl, sym, ◌∙◌}
 use Rattle.tcp_waiting.proofs.Counts.{far_none}
 use Rattle.tcp_waiting.proofs.Ends.{far_by}
 use Rattle.tcp_waiting.proofs.pool.Pool.is_far.Goals as goal

@@ -1,4 +1,4 @@
-use Rattle.std.proofs.Common.{◌≡◌, ◌<◌, [], arith, refl, replicate, ℕ}
+use Rattle.std.proofs.Common.{◌≡◌, ◌<◌, arith, refl, replicate}
 use Rattle.std.proofs.lemmas.List.{get_or-replicate}
 use Rattle.tcp_waiting.specs.Payload.{blocks_of, count_of}
 use Rattle.tcp_waiting.specs.Layout.{AreOrdered, is_far_but}

@@ -1,5 +1,5 @@
-use Rattle.std.proofs.Common.{◌<◌, [], length, arith, sym, ap}
-use Rattle.tcp_waiting.specs.Payload.{payload, Payload}
+use Rattle.std.proofs.Common.{◌<◌, length, arith, sym, ap}
+use Rattle.tcp_waiting.specs.Payload.{no_payload, Payload}
 use Rattle.tcp_waiting.proofs.Held.{length_held, get_held}
 use Rattle.tcp_waiting.proofs.pool.Pool.number.Goals as goal
 
@@ -20,4 +20,4 @@ returns c =
     ) in
     rw (← c.self.view_is) (sym (ap (λ (p : Payload). p.number)
     (get_held c.self.inside.octets.items c.self.inside.waiting.items c.args.index
-    c.index.result.now (payload 0 0 []) h c.index.ensures)))
+    c.index.result.now no_payload h c.index.ensures)))

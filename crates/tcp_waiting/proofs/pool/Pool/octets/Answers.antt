@@ -1,5 +1,5 @@
-use Rattle.std.proofs.Common.{◌≡◌, ◌<◌, ◌+◌, ◌-◌, [], length, arith, refl, ap}
-use Rattle.tcp_waiting.specs.Payload.{payload}
+use Rattle.std.proofs.Common.{◌≡◌, ◌<◌, ◌+◌, ◌-◌, length, arith, refl, ap}
+use Rattle.tcp_waiting.specs.Payload.{no_payload}
 use Rattle.tcp_waiting.proofs.Held.{length_held, get_held}
 use Rattle.tcp_waiting.proofs.Queries.{here}
 use Rattle.tcp_waiting.proofs.pool.Pool.octets.Goals as goal
@@ -49,7 +49,7 @@ returns c =
     rw (
       ← c.self.view_is,
       get_held c.self.inside.octets.items c.self.inside.waiting.items
-          c.args.index c.index-here.result.now (payload 0 0 []) h c.index-here.ensures,
+          c.args.index c.index-here.result.now no_payload h c.index-here.ensures,
       e,
       c.deref.ensures.value,
     ) refl

@@ -1,7 +1,7 @@
-use Rattle.std.proofs.Common.{◌≡◌, ◌<◌, ◌^◌, IfSome, Option, length, true, sym, ◌∙◌, ap, subst, arith, ℕ, nat_lt}
+use Rattle.std.proofs.Common.{◌<◌, ◌^◌, IfSome, Option, length, sym, ◌∙◌, ap, subst, arith, ℕ, nat_lt}
 use Rattle.std.proofs.lemmas.Bool.{and_parts, ltb-true}
 use Rattle.tcp_waiting.specs.Numbers.{ahead}
-use Rattle.tcp_waiting.specs.Payload.{Payload, first}
+use Rattle.tcp_waiting.specs.Payload.{Payload}
 use Rattle.tcp_waiting.specs.Layout.{held_in}
 use Rattle.tcp_waiting.proofs.Ends.{far_on, all_ahead}
 use Rattle.tcp_waiting.proofs.Held.{get_held, length_held}

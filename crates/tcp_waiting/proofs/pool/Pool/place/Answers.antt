@@ -1,5 +1,5 @@
-use Rattle.std.proofs.Common.{◌≡◌, ◌<◌, ◌≤◌, ◌+◌, ◌-◌, ◌/◌, [], length, get_or, arith}
-use Rattle.tcp_waiting.specs.Payload.{payload, key_of}
+use Rattle.std.proofs.Common.{◌<◌, ◌≤◌, ◌+◌, ◌-◌, ◌/◌, length, get_or, arith}
+use Rattle.tcp_waiting.specs.Payload.{no_payload, key_of}
 use Rattle.tcp_waiting.specs.Layout.{held_in}
 use Rattle.tcp_waiting.proofs.Held.{length_held}
 use Rattle.tcp_waiting.proofs.Order.{place_within, place_above, place_below}
@@ -29,9 +29,9 @@ loop-low-preserved-then-key-wanted c =
     let middle = low + (c.loop-low.high - low) / 2 in
     let l : middle < length a.waiting.items =
     omega (arith, c.loop-low.invariant, c.loop-low-test.true) in
-    let e : key_of (get_or held middle (payload 0 0 [])) < c.args.wanted = omega (
+    let e : key_of (get_or held middle no_payload) < c.args.wanted = omega (
       arith,
-      key_here a.octets.items a.waiting.items middle c.index-here.result.now (payload 0 0 [])
+      key_here a.octets.items a.waiting.items middle c.index-here.result.now no_payload
           c.self.invariant.within l c.index-here.ensures,
       c.key.ensures,
       c.if-key-wanted.true,
@@ -40,7 +40,7 @@ loop-low-preserved-then-key-wanted c =
       c.loop-low.invariant.1,
       omega (
         arith,
-        place_above c.args.wanted held middle (payload 0 0 []) c.self.invariant.ordered
+        place_above c.args.wanted held middle no_payload c.self.invariant.ordered
             (omega (arith, l, length_held a.octets.items a.waiting.items)) e,
       ),
       c.loop-low.invariant.3,
@@ -54,9 +54,9 @@ loop-low-preserved c =
     let middle = low + (c.loop-low.high - low) / 2 in
     let l : middle < length a.waiting.items =
     omega (arith, c.loop-low.invariant, c.loop-low-test.true) in
-    let e : c.args.wanted ≤ key_of (get_or held middle (payload 0 0 [])) = omega (
+    let e : c.args.wanted ≤ key_of (get_or held middle no_payload) = omega (
       arith,
-      key_here a.octets.items a.waiting.items middle c.index-here.result.now (payload 0 0 [])
+      key_here a.octets.items a.waiting.items middle c.index-here.result.now no_payload
           c.self.invariant.within l c.index-here.ensures,
       c.key.ensures,
       c.if-key-wanted.false,
@@ -64,6 +64,6 @@ loop-low-preserved c =
       omega arith,
       omega (arith, l),
       c.loop-low.invariant.2,
-      place_below c.args.wanted held middle (payload 0 0 [])
+      place_below c.args.wanted held middle no_payload
           (omega (arith, l, length_held a.octets.items a.waiting.items)) e,
     )

@@ -1,6 +1,6 @@
 //! When what is read came: the packet that had it.
 
-/// The packet that is read.
+/// A packet of a capture.
 #[derive(Clone, Copy, Debug, PartialEq, Eq)]
 pub struct Arrival {
     /// Its time, in nanoseconds since 1970-01-01 UTC, if it has one.

@@ -1,0 +1,10 @@
+-- That all that was put to an out is to be seen (meaning).
+use Rattle.std.specs.Prelude.{◌≡◌, ℕ, List, [], Option}
+use Rattle.giop_print.specs.Output.{OutLog}
+
+-- There is an out that has what was put, and keeps nothing of it back: that of the last flush.
+pub record IsSeen {O : Type 0} (log : O → OutLog) (kept : O → List ℕ) (put : Option (List ℕ)) :
+    Type 0 where
+  pub out : O
+  pub none : kept out ≡ []
+  pub same : (log out).written ≡ put

@@ -1,0 +1,216 @@
+-- How many rooms there are stays, and each event is in a flow of one of them.
+use Rattle.std.proofs.Common.{◌≡◌, ℕ, ◌+◌, ◌*◌, ◌/◌, ◌≤◌, Bool, true, false, cond, List, [], ◌∷◌, length, set, Option, Some, None, is_some, unwrap_or, refl, sym, ◌∙◌, ap, inl, inr, arith, true≢false, length-set}
+use Rattle.std.specs.List.{AllByRecursion}
+use Rattle.std.proofs.lemmas.Bool.{cases_Bool, cases_lt, eq-eqb}
+use Rattle.tcp_segment.specs.Segments.{Segment}
+use Rattle.tcp_flow.specs.declared.flow.CloseCause.{CloseCause}
+use Rattle.tcp_flow.specs.declared.flow.CloseCause.TheVariants.{Reset, Syn, Room}
+use Rattle.tcp_flow.specs.declared.flow.FlowState.{FlowState}
+use Rattle.tcp_flow.specs.Flow.{Event, Opens, Begins, Delivers, Closes, OfCapture, flow_of, Reader, closed, gap}
+use Rattle.tcp_flow.specs.State.{state}
+use Rattle.tcp_streams.specs.Lives.{lives, elder_side}
+use Rattle.tcp_streams.specs.Pairs.{pair_of, opposite, flow_id}
+use Rattle.tcp_streams.specs.declared.pair.EndpointPair.{EndpointPair}
+use Rattle.tcp_streams.specs.declared.pair.Side.{Side}
+use Rattle.tcp_connections.specs.Connections.{State, flow_at, with_flow, gapped, closed_at, room_at, shown_by_age, ended_by, eldest, with_room, next_room, made_known, place_of, flow_of_side, syn_at, syn_kept, is_kept, is_anew, is_reset, is_first, first_number, began, fin_taken, acknowledgement_taken, payload_taken, reset_taken, unknown_taken, known_taken, step, after, gaps_from, ended}
+use Rattle.tcp_connections.specs.Gapless.{HaveRooms}
+use Rattle.tcp_connections.specs.Owned.{Standing, Unopened, Idle, Live, owner, is_of, behind, MayCome, standing, AllMayCome}
+use Rattle.tcp_connections.proofs.Cases.{room_there, room_made, step_unknown, step_kept, step_anew, step_known}
+use Rattle.tcp_connections.proofs.Kept.{began_kept, acknowledgement_kept, payload_kept, fin_kept}
+use Rattle.tcp_connections.proofs.Owners.{Owns}
+use Rattle.tcp_connections.proofs.Repeated.{gaps_keep, closes_keep}
+use Rattle.tcp_connections.proofs.Shown.{shown_lasts}
+
+-- ---- As many rooms as before.
+
+-- how many rooms there are
+abbrev pub rooms_in : State → ℕ
+rooms_in w = length w.lasts
+
+room_rooms : (F : Reader) (w : State) → rooms_in (with_room F w) ≡ rooms_in w
+room_rooms F w =
+    elim (cases_lt (length w.known) (length w.lasts)) [
+      | inl l ↦ ap rooms_in (room_there F w l)
+      | inr g ↦
+          (let place : ℕ = eldest w (length w.known) in
+          let room : ℕ = room_at w place in
+          let v : State = shown_by_age F w room in
+          ap rooms_in (room_made F w g)
+          ∙ ap length (shown_lasts F w place room (elder_side room (lives w.events))
+          (elder_side room (lives v.events)) Room))
+    ]
+
+made_rooms : (w : State) (p : EndpointPair) → rooms_in (made_known w p) ≡ rooms_in w
+unfolding made_known
+made_rooms w p = length-set w.lasts (next_room w.free) w.segments
+
+either : (n : ℕ) (b : Bool) (v w : State) → rooms_in v ≡ n → rooms_in w ≡ n →
+    rooms_in (cond b v w) ≡ n
+either n true v w h k = h
+either n false v w h k = k
+
+unknown_rooms : (F : Reader) (w : State) (s : Segment) → rooms_in (unknown_taken F w s) ≡ rooms_in w
+unfolding unknown_taken
+unknown_rooms F w s =
+    let v : State = with_room F w in
+    let m : State = made_known v (pair_of s.flow).0 in
+    let id : ℕ = flow_id (next_room v.free) (pair_of s.flow).1 in
+    let b : State = began F m id (first_number s) s.payload in
+    either (rooms_in w) (is_first w.ports s) (fin_taken F b id s) w
+    (ap length (fin_kept F b id s).lasts
+    ∙ ap length (began_kept F m id (first_number s) s.payload).lasts
+    ∙ made_rooms v (pair_of s.flow).0 ∙ room_rooms F w) refl
+
+reset_rooms : (F : Reader) (w : State) (place : ℕ) (side : Side) (s : Segment) →
+    rooms_in (reset_taken F w place side s) ≡ rooms_in w
+unfolding reset_taken
+reset_rooms F w place side s =
+    either (rooms_in w) (is_reset (flow_of_side w place side) s) (ended_by F w place side Reset) w
+    (ap length (shown_lasts F w place (room_at w place) side side Reset)) refl
+
+known_rooms : (F : Reader) (w : State) (place : ℕ) (s : Segment) →
+    rooms_in (known_taken F w place s) ≡ rooms_in w
+unfolding known_taken
+known_rooms F w place s =
+    let side : Side = (pair_of s.flow).1 in
+    let room : ℕ = room_at w place in
+    let id : ℕ = flow_id room side in
+    let seen : State = record w { lasts = set w.lasts room w.segments } in
+    let heard : State = acknowledgement_taken F seen (flow_id room (opposite side)) s in
+    let paid : State = payload_taken F heard id s in
+    reset_rooms F (fin_taken F paid id s) place side s ∙ ap length (fin_kept F paid id s).lasts
+    ∙ ap length (payload_kept F heard id s).lasts
+    ∙ ap length (acknowledgement_kept F seen (flow_id room (opposite side)) s).lasts
+    ∙ length-set w.lasts room w.segments
+
+kept_rooms : (w : State) (room id : ℕ) (s : Segment) →
+    rooms_in (syn_kept w room id s) ≡ rooms_in w
+unfolding syn_kept
+kept_rooms w room id s = length-set w.lasts room w.segments
+
+pub step_rooms : (F : Reader) (w : State) (s : Segment) → rooms_in (step F w s) ≡ rooms_in w
+step_rooms F w s = by (place_of (pair_of s.flow).0 w.known) refl
+  where
+    by : (o : Option ℕ) → place_of (pair_of s.flow).0 w.known ≡ o →
+        rooms_in (step F w s) ≡ rooms_in w
+    by None e = ap rooms_in (step_unknown F w s e)
+        ∙ unknown_rooms F (record w { segments = w.segments + 1 }) s
+    by (Some place) e =
+        let v : State = record w { segments = w.segments + 1 } in
+        let side : Side = (pair_of s.flow).1 in
+        let id : ℕ = flow_id (room_at w place) side in
+        elim (cases_Bool (is_kept (flow_of_side w place side) s)) [
+          | inl k ↦ ap rooms_in (step_kept F w s place e k) ∙ kept_rooms v (room_at w place) id s
+          | inr k ↦
+              elim (cases_Bool (is_anew (syn_at w (room_at w place)) id s)) [
+                | inl a ↦ ap rooms_in (step_anew F w s place e k a)
+                    ∙ unknown_rooms F (ended_by F v place side Syn) s
+                    ∙ ap length (shown_lasts F v place (room_at v place) side side Syn)
+                | inr a ↦ ap rooms_in (step_known F w s place e k a) ∙ known_rooms F v place s
+              ]
+        ]
+
+pub after_rooms : (F : Reader) (w : State) (ss : List Segment) →
+    rooms_in (after F w ss) ≡ rooms_in w
+unfolding after
+after_rooms F w [] = refl
+after_rooms F w (s ∷ ss) = after_rooms F (step F w s) ss ∙ step_rooms F w s
+
+gapped_rooms : (F : Reader) (w : State) (id : ℕ) → rooms_in (gapped F w id) ≡ rooms_in w
+unfolding gapped with_flow
+gapped_rooms F w id =
+    elim (flow_at w id) as (λ (o : Option FlowState). rooms_in (elim o [
+      | None ↦ w
+      | Some s ↦ with_flow w id (gap F (state s w.held w.events))
+    ]) ≡ rooms_in w) [ None ↦ refl | Some s ↦ refl ]
+
+closed_rooms : (w : State) (id : ℕ) (cause : CloseCause) →
+    rooms_in (closed_at w id cause) ≡ rooms_in w
+unfolding closed_at with_flow
+closed_rooms w id cause =
+    elim (flow_at w id) as (λ (o : Option FlowState). rooms_in (elim o [
+      | None ↦ w
+      | Some s ↦ with_flow w id (closed (state s w.held w.events) cause)
+    ]) ≡ rooms_in w) [ None ↦ refl | Some s ↦ refl ]
+
+pub ended_rooms : (F : Reader) (w : State) → rooms_in (ended F w) ≡ rooms_in w
+unfolding ended
+ended_rooms F w =
+    let many : ℕ = length w.held + length (lives w.events) in
+    let v : State = gaps_from F many 0 w in
+    let P : State → Type 0 = λ u. rooms_in u ≡ rooms_in w in
+    closes_keep P (λ u id cause o. closed_rooms u id cause ∙ o) (length (lives v.events)) v
+    (gaps_keep F P (λ u id o. gapped_rooms F u id ∙ o) many 0 w refl)
+
+-- ---- No event is in a flow beyond them.
+
+-- what stands for no flow in the end stood for none before
+unopened_before : (id : ℕ) (s : Standing) (es : List Event) → owner (standing id s es) ≡ None →
+    owner s ≡ None
+unfolding standing
+unopened_before id s [] none = none
+unopened_before id s (e ∷ es) none =
+    back (is_of id e) s e (unopened_before id (cond (is_of id e) (behind s e) s) es none)
+  where
+    back : (b : Bool) (s : Standing) (e : Event) → owner (cond b (behind s e) s) ≡ None →
+        owner s ≡ None
+    back false s e h = h
+    back true Unopened e h = refl
+    back true (Idle o) (Opens k flow) h = absurd (true≢false (ap is_some h))
+    back true (Idle o) (Begins k n) h = absurd (true≢false (ap is_some h))
+    back true (Idle o) (Delivers k xs) h = absurd (true≢false (ap is_some h))
+    back true (Idle o) (Closes k cause) h = absurd (true≢false (ap is_some h))
+    back true (Idle o) (OfCapture event) h = absurd (true≢false (ap is_some h))
+    back true (Live o n) (Opens k flow) h = absurd (true≢false (ap is_some h))
+    back true (Live o n) (Begins k m) h = absurd (true≢false (ap is_some h))
+    back true (Live o n) (Delivers k xs) h = absurd (true≢false (ap is_some h))
+    back true (Live o n) (Closes k cause) h = absurd (true≢false (ap is_some h))
+    back true (Live o n) (OfCapture event) h = absurd (true≢false (ap is_some h))
+
+-- so no event is of it
+none_of : (segments : List Segment) (id : ℕ) (es : List Event) →
+    AllMayCome segments id Unopened es → owner (standing id Unopened es) ≡ None →
+    AllByRecursion (λ e. is_of id e ≡ false) es
+unfolding AllMayCome standing
+none_of segments id [] h none = tt
+none_of segments id (e ∷ es) h none =
+    by (λ rest none. none_of segments id es rest none) e (is_of id e) refl h.0 h.1 none
+  where
+    by : (AllMayCome segments id Unopened es → owner (standing id Unopened es) ≡ None →
+        AllByRecursion (λ e. is_of id e ≡ false) es) →
+        (e : Event) (b : Bool) → is_of id e ≡ b → (b ≡ true → MayCome segments Unopened e) →
+        AllMayCome segments id (cond b (behind Unopened e) Unopened) es →
+        owner (standing id (cond b (behind Unopened e) Unopened) es) ≡ None →
+        (is_of id e ≡ false) × AllByRecursion (λ e. is_of id e ≡ false) es
+    by on e false is may rest none = (is, on rest none)
+    by on (Opens k flow) true is may rest none =
+        absurd (true≢false (ap is_some (unopened_before id (Idle flow) es none)))
+    by on (Begins k n) true is may rest none = absurd (may refl)
+    by on (Delivers k xs) true is may rest none = absurd (may refl)
+    by on (Closes k cause) true is may rest none = absurd (may refl)
+    by on (OfCapture event) true is may rest none = absurd (may refl)
+
+is_there : (e : Event) (id : ℕ) → flow_of e ≡ Some id → is_of id e ≡ true
+is_there (Opens k flow) id of = eq-eqb k id (ap (λ (s : Option ℕ). unwrap_or s k) of)
+is_there (Begins k n) id of = eq-eqb k id (ap (λ (s : Option ℕ). unwrap_or s k) of)
+is_there (Delivers k xs) id of = eq-eqb k id (ap (λ (s : Option ℕ). unwrap_or s k) of)
+is_there (Closes k cause) id of = eq-eqb k id (ap (λ (s : Option ℕ). unwrap_or s k) of)
+is_there (OfCapture event) id of = absurd (true≢false (sym (ap is_some of)))
+
+in_rooms : (most : ℕ) (es : List Event) →
+    ((id : ℕ) → 2 * most ≤ id → AllByRecursion (λ e. is_of id e ≡ false) es) → HaveRooms most es
+in_rooms most [] none = tt
+in_rooms most (e ∷ es) none = (
+  λ id of.
+      elim (cases_lt (id / 2) most) [
+        | inl l ↦ l
+        | inr g ↦ absurd (true≢false (sym (is_there e id of) ∙ (none id (omega (arith, g))).0))
+      ],
+  in_rooms most es (λ id many. (none id many).1),
+)
+
+pub owned_rooms : (segments : List Segment) (most : ℕ) (w : State) → Owns segments w →
+    rooms_in w ≡ most → HaveRooms most w.events
+owned_rooms segments most w h many =
+    in_rooms most w.events (λ id beyond. none_of segments id w.events (h.come id)
+    (h.beyond id (omega (arith, many, beyond))))
