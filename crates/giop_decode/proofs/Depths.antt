@@ -1,5 +1,5 @@
 -- How many parts that are begun and not ended fit in a type, one in the other.
-use Rattle.std.proofs.Common.{ℕ, zero, suc, ◌<◌, ◌≤◌, max, List, [], ◌∷◌, length, arith, ◌⊎◌, inl, inr, ◌++◌, Option, Some, None}
+use Rattle.std.proofs.Common.{ℕ, zero, suc, ◌<◌, ◌≤◌, max, List, [], ◌∷◌, length, arith, ◌⊎◌, inl, inr, Option, Some, None}
 use Rattle.std.proofs.lemmas.Bool.{cases_lt}
 use Rattle.giop_decode.specs.declared.decoder.Decoder.{Decoder}
 use Rattle.giop_decode.specs.Fits.{FitsIn, HasParts, HasCase, IsEncapsulation, IsLed}
@@ -7,11 +7,11 @@ use Rattle.giop_decode.specs.DecoderState.{Fits}
 use Rattle.giop_decode.specs.ReadResult.{OpenPart, Part, Member, Inside, Leaf, Telling}
 use Rattle.giop_decode.proofs.Going.{length_places}
 use Rattle.giop_sig.proofs.PartLaws.{depth_is}
-use Rattle.giop_sig.specs.Table.{Table, Node, Part as Member', part_at}
-use Rattle.giop_sig.specs.Trees.{depth_of, grow, grown_part, octet_type, tree_in, trees_after, type_in, tree}
+use Rattle.giop_sig.specs.Table.{Table, Node, Part as Member', node_at, part_at}
+use Rattle.giop_sig.specs.Trees.{depth_of, grow, grown_part, octet_type, tree_at, tree}
 use Rattle.giop_sig.specs.Types.{Encapsulation, places_of, Ty, Struct, Union, Sequence, Array, part_of, depth, most, Led}
 use Rattle.giop_sig.specs.Table as nodes
-use Rattle.std.specs.Prelude.{slice_get, slice_index_or}
+use Rattle.std.specs.Prelude.{slice_get}
 
 most_at : (n i : ℕ) (f : ℕ → ℕ) → i < n → f i ≤ most n f
 most_at zero i f lt = absurd (omega arith)
@@ -64,24 +64,13 @@ grown_none trees h (nodes.tagged special tag inner other) =
     λ i. part_none trees h (part_at (nodes.tagged special tag inner other) i)
 grown_none trees h node = tt
 
-one_more : (xs : List Ty) (x : Ty) → HasNoLed x →
-    ((i : ℕ) → HasNoLed (slice_index_or xs i octet_type)) → (i : ℕ) →
-    HasNoLed (slice_index_or (xs ++ x ∷ []) i octet_type)
-one_more [] x k h zero = k
-one_more [] x k h (suc i) = tt
-one_more (y ∷ ys) x k h zero = h zero
-one_more (y ∷ ys) x k h (suc i) = one_more ys x k (λ j. h (suc j)) i
-
-after_none : (done : List Ty) (ns : List Node) → ((i : ℕ) → HasNoLed (tree_in done i)) → (i : ℕ) →
-    HasNoLed (tree_in (trees_after done ns) i)
-unfolding trees_after
-after_none done [] h i = h i
-after_none done (n ∷ ns) h i = after_none (done ++ grow (tree_in done) n ∷ []) ns
-    (one_more done (grow (tree_in done) n) (grown_none (tree_in done) h n) h) i
+room_none : (C : Table) (room i : ℕ) → HasNoLed (tree_at C room i)
+unfolding tree_at
+room_none C zero i = grown_none (λ k. octet_type) (λ k. tt) (node_at C i)
+room_none C (suc room) i = grown_none (tree_at C room) (room_none C room) (node_at C i)
 
 pub tree_none : (C : Table) (i : ℕ) → HasNoLed (tree C i)
-unfolding type_in
-tree_none C i = after_none [] C.types (λ j. tt) i
+tree_none C i = room_none C 24 i
 
 case_none : (T : Ty) (i : ℕ) → HasNoLed T → HasNoLed (part_of T i)
 case_none (Struct count names parts) i h = h i

@@ -9,7 +9,7 @@ use Rattle.std.proofs.lemmas.Bool.{false≢true, cases_lt}
 use Rattle.giop_sig.specs.Types.{Ty, Struct, Hearing, Told, Sequel, Then, Ends, Stops, part_of, sequel}
 use Rattle.giop_decode.specs.declared.progress.Kind.TheVariants as kinds
 use Rattle.giop_sig.specs.Fits.{IsFit}
-use Rattle.giop_sig.specs.Trees.{trees_after, type_in}
+use Rattle.giop_sig.specs.Trees.{tree, tree_at}
 use Rattle.giop_sig.specs.Builtin.{builtin_types, builtin_table}
 use Rattle.giop_sig.specs.HeaderTypes.{header_type, header_number}
 use Rattle.giop_sig.proofs.Builtins.{builtin_is, builtin_fit, header_built_in}
@@ -28,14 +28,14 @@ EndsOtherwise T = (n : ℕ) × (names : ℕ → List ℕ) × (parts : ℕ → Ty
     × (T ≡ Struct (suc n) names parts) × (bytes_eq (codes "operation") (names n) ≡ false)
 
 pub request_ends : (minor : ℕ) → IfSome (header_type minor 0) EndsOtherwise
-unfolding type_in trees_after builtin_types
+unfolding tree_at builtin_types
 request_ends (suc (suc (suc minor))) = tt
 request_ends _ = (_, _, _, refl, refl)
 
 -- ---- the headers fit
 
 number_fit : (found : Option ℕ) → IfSome found (λ n. n < length builtin_types)
-    → IfSome (option_map (type_in builtin_types) found) (IsFit 24)
+    → IfSome (option_map (tree builtin_table) found) (IsFit 24)
 unfolding builtin_types
 number_fit None h = tt
 number_fit (Some n) h = builtin_fit builtin_table n builtin_is h

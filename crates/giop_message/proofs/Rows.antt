@@ -9,7 +9,7 @@ use Rattle.giop_sig.specs.Types.{places_of, Enum, Ty, Single, Struct, Union, Seq
 use Rattle.giop_sig.specs.HeaderTypes.{header_type}
 use Rattle.giop_decode.specs.Noted.{is_text}
 use Rattle.giop_sig.specs.Table.{Table, Operation, Exception, members, op_id}
-use Rattle.giop_sig.specs.Trees.{trees_after, type_in}
+use Rattle.giop_sig.specs.Trees.{tree_at}
 use Rattle.giop_sig.specs.Builtin.{builtin_types, member}
 use Rattle.giop_decode.specs.Pieces.{block, number}
 use Rattle.giop_decode.specs.Spelling.{path_text}
@@ -68,8 +68,8 @@ says at text = record { at = at; line_class = Value; text = text }
 
 -- it names the definitions that the rows unfold
 rows : ℕ
-unfolding digits num twos_complement padding block number path_text hex hex_number escaped type_in
-    trees_after builtin_types minor kind order value_line_text call_text rest_text signatures_of
+unfolding digits num twos_complement padding block number path_text hex hex_number escaped tree_at
+    builtin_types minor kind order value_line_text call_text rest_text signatures_of
     line_at is_shown call_of calls section_lines with_front section_then rest_in rest typed
     option_typed members_of after_exception body type_if request_body result_body reply_body
     is_request body_of has_body padded after_header of_header message body_may_be_missing close

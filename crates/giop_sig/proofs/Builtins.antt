@@ -1,26 +1,25 @@
 -- The built-in types are a table, shown by computed tests, and every catalogue begins with them.
-use Rattle.std.proofs.Common.{◌≡◌, ℕ, zero, suc, ◌+◌, ◌^◌, ◌<◌, ◌≤◌, Bool, true, false, ◌&&◌, ltb, leb, List, [], ◌∷◌, ◌++◌, length, get_or, Option, Some, None, refl, ap, ◌∙◌, take, lit<, arith}
+use Rattle.std.proofs.Common.{◌≡◌, ℕ, zero, suc, ◌+◌, ◌^◌, ◌<◌, ◌≤◌, Bool, true, false, ◌&&◌, ltb, leb, List, [], ◌∷◌, ◌++◌, length, get_or, Option, Some, None, refl, sym, ap, ◌∙◌, subst, take, lit<, arith}
 use Rattle.std.specs.Prelude.{slice_get, IfSome}
 use Rattle.std.specs.Option.{option_map}
 use Rattle.std.specs.List.{AllByRecursion}
 use Rattle.std.proofs.lemmas.Bool.{ltb-true, leb-true}
-use Rattle.std.proofs.lemmas.List.{append-nil, length-append, length-take, take_more, get_or-take}
+use Rattle.std.proofs.lemmas.List.{append-nil, get_or_append_left, length-append, length-take, take_more, get_or-take}
 use Rattle.std.proofs.lemmas.List.Elements.{All-from_recursion}
 use Rattle.giop_cdr.specs.declared.prim.Primitive.TheVariants.{Octet}
 use Rattle.giop_sig.specs.declared.types.Selected.TheVariants as selecteds
 use Rattle.giop_sig.specs.declared.types.Fixed.{Fixed}
 use Rattle.giop_sig.specs.declared.types.Fixed.TheVariants as fixeds
-use Rattle.giop_sig.specs.declared.numbers.TheConstants.{REQUEST_1_2, BUILTIN_LEN}
-use Rattle.giop_sig.specs.Types.{depth}
+use Rattle.giop_sig.specs.declared.numbers.TheConstants.{BUILTIN_LEN}
 use Rattle.giop_sig.specs.Fits.{IsFit}
 use Rattle.giop_sig.specs.Table.{Node, Part, Case, Table, node_in, IsFormed, IsInner, IsPart, IsSwitch, TakesOctet, IsScalarNode}
 use Rattle.giop_sig.specs.Table as nodes
-use Rattle.giop_sig.specs.Trees.{trees_after, type_in, tree, depth_of, AreTypes}
+use Rattle.giop_sig.specs.Trees.{tree, depth_at, depth_of, AreTypes}
 use Rattle.giop_sig.specs.Builtin.{builtin_table, builtin_types}
 use Rattle.giop_sig.specs.HeaderTypes.{fixed_number, header_number, cell_of, cell_in, IsTable}
-use Rattle.giop_sig.proofs.TreeLaws.{tree_stays}
-use Rattle.giop_sig.proofs.Formed.{formed_moved}
-use Rattle.giop_sig.proofs.Depths.{depth_within}
+use Rattle.giop_sig.proofs.Rooms.{tree_moved}
+use Rattle.giop_sig.proofs.Formed.{SameNodes, formed_moved}
+use Rattle.giop_sig.proofs.Depths.{FormedBelow, deepest_more}
 use Rattle.giop_sig.proofs.Solid.{fit_at}
 
 both : (a b : Bool) → (a && b) ≡ true → (a ≡ true) × (b ≡ true)
@@ -165,7 +164,7 @@ table_by types n (x ∷ xs) (suc i) k e lt at =
 
 -- the deepest built-in type is the header of a 1.2 request
 pub builtin_depth : depth_of builtin_types ≡ 9
-unfolding depth_of trees_after depth builtin_types
+unfolding depth_of depth_at builtin_types
 builtin_depth = refl
 
 builtin_test : table_test builtin_types 0 builtin_types ≡ true
@@ -235,15 +234,24 @@ pub builtin_known : (t : Table) (i : ℕ) → IsTable t → i < BUILTIN_LEN → 
 unfolding builtin_types
 builtin_known t i laws lt = search (arith, length-append)
 
-pub builtin_tree : (t : Table) (i : ℕ) → IsTable t → i < BUILTIN_LEN
-    → tree t i ≡ type_in builtin_types i
+builtin_same : (t : Table) → IsTable t → SameNodes builtin_types t.types BUILTIN_LEN
 unfolding builtin_types
-builtin_tree t i laws lt = let b = laws.begins in
-    ap (λ types. type_in types i) b.1 ∙ tree_stays builtin_types b.0 i lt
+builtin_same t laws i lt = let b = laws.begins in
+    sym (ap (λ types. node_in types i) b.1
+    ∙ get_or_append_left builtin_types b.0 (nodes.prim Octet) i lt)
+
+pub builtin_tree : (t : Table) (i : ℕ) → IsTable t → i < BUILTIN_LEN
+    → tree t i ≡ tree builtin_table i
+unfolding builtin_types
+builtin_tree t i laws lt =
+    let formed : FormedBelow builtin_types BUILTIN_LEN = builtin_are.placed.formed in
+    sym (tree_moved builtin_table t BUILTIN_LEN 24 i formed (builtin_same t laws) lt)
 
 pub builtin_fit : (t : Table) (i : ℕ) → IsTable t → i < BUILTIN_LEN → IsFit 24 (tree t i)
 unfolding builtin_types
-builtin_fit t i laws lt = search (arith, builtin_tree, fit_at, builtin_are, builtin_takes)
+builtin_fit t i laws lt =
+    subst (IsFit 24) (sym (builtin_tree t i laws lt))
+    (fit_at builtin_table i builtin_are lt (builtin_takes i lt))
 
 -- ---- the header types
 
@@ -284,7 +292,7 @@ unfolding rows_test row_test cell_test
 header_built_in minor kind = search (arith, rows_by)
 
 pub header_tree : (t : Table) (o : Option ℕ) → IsTable t → IfSome o (λ n. n < BUILTIN_LEN)
-    → option_map (tree t) o ≡ option_map (type_in builtin_types) o
+    → option_map (tree t) o ≡ option_map (tree builtin_table) o
 unfolding builtin_types
 header_tree t None laws lt = refl
 header_tree t (Some n) laws lt = search (arith, builtin_tree)
@@ -314,22 +322,16 @@ map_twice f g (Some x) = refl
 pub header_found : {X : Type 0} (t : Table) (f : X → ℕ) (r : Option X) (minor kind : ℕ) → IsTable t
     → option_map f r ≡ header_number minor kind
     → option_map (λ x. tree t (f x)) r
-    ≡ option_map (type_in builtin_types) (header_number minor kind)
+    ≡ option_map (tree builtin_table) (header_number minor kind)
 header_found t f r minor kind laws e =
     map_twice f (tree t) r ∙ ap (option_map (tree t)) e
     ∙ header_tree t (header_number minor kind) laws (header_built_in minor kind)
 
 -- no catalogue is less deep than its built-in types
 pub least_depth : (t : Table) → IsTable t → 9 ≤ depth_of t.types
-unfolding type_in trees_after depth builtin_types
-least_depth t laws =
-    let request : depth (type_in builtin_types REQUEST_1_2) ≡ 9 = refl in
-    omega (
-      arith,
-      request,
-      ap depth (builtin_tree t REQUEST_1_2 laws (lit< tt)),
-      depth_within t.types REQUEST_1_2 (builtin_known t REQUEST_1_2 laws (lit< tt)),
-    )
+least_depth t laws = let b = laws.begins in
+    subst (λ types. 9 ≤ depth_of types) (sym b.1)
+    (omega (arith, builtin_depth, deepest_more builtin_types b.0))
 
 pub fixed_built_in : (f : Fixed) → fixed_number f < BUILTIN_LEN
 fixed_built_in fixeds.ExceptionId = lit< tt

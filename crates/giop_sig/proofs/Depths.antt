@@ -1,28 +1,111 @@
--- The depth of a node's tree, from its shape and the depths of its parts.
-use Rattle.std.proofs.Common.{◌≡◌, ℕ, zero, suc, ◌+◌, ◌<◌, ◌≤◌, max, List, [], ◌∷◌, ◌++◌, length, get_or, refl, sym, ap, ◌∙◌, arith}
+-- The depth of a type, from its shape and the depths of its parts.
+use Rattle.std.proofs.Common.{◌≡◌, ℕ, zero, suc, ◌+◌, ◌<◌, ◌≤◌, max, List, ◌++◌, length, refl, sym, ap, ◌∙◌, ◌⊎◌, inl, inr, arith}
+use Rattle.std.proofs.lemmas.List.{length-append, get_or_append_left, get_or_past}
+use Rattle.std.proofs.lemmas.Bool.{cases_lt}
+use Rattle.giop_cdr.specs.declared.prim.Primitive.TheVariants.{Octet}
 use Rattle.giop_sig.specs.declared.types.Shape.{Shape}
 use Rattle.giop_sig.specs.declared.types.Shape.TheVariants as shapes
-use Rattle.giop_sig.specs.Types.{Ty, depth, most}
-use Rattle.giop_sig.specs.Table.{Node, part_at, type_of, shape_of}
+use Rattle.giop_sig.specs.Types.{Ty, depth, most, HasPlace, IsUnion}
+use Rattle.giop_sig.specs.Table.{Node, Table, node_in, node_at, part_at, type_of, shape_of, IsFormed}
 use Rattle.giop_sig.specs.Table as nodes
-use Rattle.giop_sig.specs.Trees.{grow, tree_in, trees_of, type_in, greatest, depths, depth_of, part_depth}
-use Rattle.giop_sig.proofs.TreeLaws.{length_after, trees_added}
+use Rattle.giop_sig.specs.Trees.{grow, tree_at, tree, octet_type, depth_by, depth_at, depth_in, depth_of, part_depth, node_depth, AreFormed}
 use Rattle.giop_sig.proofs.Nodes.{part_grown}
+use Rattle.giop_sig.proofs.Formed.{SameNodes, part_formed, switch_formed}
+
+-- ---- the greatest of some numbers
 
 pub most_same : (n : ℕ) (f g : ℕ → ℕ) → ((i : ℕ) → i < n → f i ≡ g i) → most n f ≡ most n g
 most_same zero f g same = refl
 most_same (suc n) f g same = ap (λ k. max k (f n)) (most_same n f g (λ i lt. same i (omega arith)))
     ∙ ap (max (most n g)) (same n (omega arith))
 
--- the depth of a shape, of the depths of its parts
-abbrev pub depth_by : Shape → (ℕ → ℕ) → ℕ
-depth_by (shapes.Members count) f = 1 + most count f
-depth_by (shapes.Union count) f = 1 + max 1 (most count f)
-depth_by (shapes.Sequence bound) f = 1 + f 0
-depth_by (shapes.Array count) f = 1 + f 0
-depth_by shapes.Encapsulation f = 1 + f 0
-depth_by shapes.Tagged f = 1 + max 1 (most 3 f)
-depth_by s f = 1
+most_more : (n : ℕ) (f g : ℕ → ℕ) → ((i : ℕ) → i < n → f i ≤ g i) → most n f ≤ most n g
+most_more zero f g less = omega arith
+most_more (suc n) f g less =
+    omega (arith, most_more n f g (λ i lt. less i (omega arith)), less n (omega arith))
+
+most_within : (n : ℕ) (f : ℕ → ℕ) (b : ℕ) → ((i : ℕ) → i < n → f i ≤ b) → most n f ≤ b
+most_within zero f b each = omega arith
+most_within (suc n) f b each =
+    omega (arith, most_within n f b (λ i lt. each i (omega arith)), each n (omega arith))
+
+most_last : (n : ℕ) (f : ℕ → ℕ) (i : ℕ) → (i < n → f i ≤ most n f) → i < suc n → (i < n) ⊎ (n ≤ i)
+    → f i ≤ max (most n f) (f n)
+most_last n f i rest lt (inl h) = omega (arith, rest h)
+most_last n f i rest lt (inr h) = search (arith)
+
+most_above : (n : ℕ) (f : ℕ → ℕ) (i : ℕ) → i < n → f i ≤ most n f
+most_above zero f i lt = absurd (omega arith)
+most_above (suc n) f i lt = most_last n f i (most_above n f i) lt (cases_lt i n)
+
+-- ---- the depth of a shape
+
+pub by_same : (s : Shape) (f g : ℕ → ℕ) → ((k : ℕ) → HasPlace s k → f k ≡ g k)
+    → depth_by s f ≡ depth_by s g
+by_same (shapes.Members count) f g same = ap (λ n. 1 + n) (most_same count f g same)
+by_same (shapes.Union count) f g same = ap (λ n. 1 + max 1 n) (most_same count f g same)
+by_same shapes.Tagged f g same = ap (λ n. 1 + max 1 n) (most_same 3 f g same)
+by_same (shapes.Sequence bound) f g same = ap (λ n. 1 + n) (same 0 tt)
+by_same (shapes.Array count) f g same = ap (λ n. 1 + n) (same 0 tt)
+by_same shapes.Encapsulation f g same = ap (λ n. 1 + n) (same 0 tt)
+by_same _ f g same = refl
+
+by_more : (s : Shape) (f g : ℕ → ℕ) → ((k : ℕ) → HasPlace s k → f k ≤ g k)
+    → depth_by s f ≤ depth_by s g
+by_more (shapes.Members count) f g less = omega (arith, most_more count f g less)
+by_more (shapes.Union count) f g less = omega (arith, most_more count f g less)
+by_more shapes.Tagged f g less = omega (arith, most_more 3 f g less)
+by_more (shapes.Sequence bound) f g less = omega (arith, less 0 tt)
+by_more (shapes.Array count) f g less = omega (arith, less 0 tt)
+by_more shapes.Encapsulation f g less = omega (arith, less 0 tt)
+by_more _ f g less = omega arith
+
+by_within : (s : Shape) (f : ℕ → ℕ) (b : ℕ) → (IsUnion s → 0 < b)
+    → ((k : ℕ) → HasPlace s k → f k ≤ b) → depth_by s f ≤ suc b
+by_within (shapes.Members count) f b some each = omega (arith, most_within count f b each)
+by_within (shapes.Union count) f b some each = omega (arith, some tt, most_within count f b each)
+by_within shapes.Tagged f b some each = omega (arith, some tt, most_within 3 f b each)
+by_within (shapes.Sequence bound) f b some each = omega (arith, each 0 tt)
+by_within (shapes.Array count) f b some each = omega (arith, each 0 tt)
+by_within shapes.Encapsulation f b some each = omega (arith, each 0 tt)
+by_within _ f b some each = omega arith
+
+by_some : (s : Shape) (f : ℕ → ℕ) → 0 < depth_by s f
+by_some (shapes.Members count) f = omega arith
+by_some (shapes.Union count) f = omega arith
+by_some shapes.Tagged f = omega arith
+by_some (shapes.Sequence bound) f = omega arith
+by_some (shapes.Array count) f = omega arith
+by_some shapes.Encapsulation f = omega arith
+by_some _ f = omega arith
+
+-- a part is less deep than its whole
+part_less : (f : ℕ → ℕ) (node : Node) (k : ℕ) → HasPlace (shape_of node) k
+    → f (type_of (part_at node k)) < depth_by (shape_of node) (λ i. f (type_of (part_at node i)))
+part_less f (nodes.members parts) k has =
+    omega (
+      arith,
+      most_above (length parts)
+          (λ i. f (type_of (part_at (nodes.members parts) i))) k has,
+    )
+part_less f (nodes.union switch cases otherwise) k has =
+    omega (
+      arith,
+      most_above (length cases)
+          (λ i. f (type_of (part_at (nodes.union switch cases otherwise) i))) k has,
+    )
+part_less f (nodes.tagged special tag inner other) k has =
+    omega (
+      arith,
+      most_above 3
+          (λ i. f (type_of (part_at (nodes.tagged special tag inner other) i))) k has,
+    )
+part_less f (nodes.sequence bound element) k has = omega arith
+part_less f (nodes.array count element) k has = omega arith
+part_less f (nodes.encapsulation held) k has = omega arith
+part_less f _ k has = absurd has
+
+-- ---- the depth of a tree
 
 pub depth_grown : (tree : ℕ → Ty) (node : Node)
     → depth (grow tree node) ≡ depth_by (shape_of node)
@@ -37,46 +120,145 @@ depth_grown tree (nodes.union switch cases otherwise) =
 depth_grown tree (nodes.tagged special tag inner other) = search (arith, max, most_same, part_grown)
 depth_grown tree _ = refl
 
--- the depth of a node's tree, at its shape
-pub depth_at_shape : (types : List Node) (node : Node) (s : Shape) → s ≡ shape_of node
-    → depth (grow (type_in types) node) ≡ depth_by s (part_depth types node)
-depth_at_shape types node s e = search (arith, depth_grown)
+-- a tree is as deep as its type, reckoned as far down as its room goes
+pub tree_depth : (t : Table) (room i : ℕ) → depth (tree_at t room i) ≡ depth_at t.types (suc room) i
+unfolding tree_at depth_at depth
+tree_depth t zero i = depth_grown (λ k. octet_type) (node_at t i)
+    ∙ by_same (shape_of (node_at t i)) _ _ (λ k has. refl)
+tree_depth t (suc room) i = depth_grown (tree_at t room) (node_at t i)
+    ∙ by_same (shape_of (node_at t i)) _ _
+    (λ k has. tree_depth t room (type_of (part_at (node_at t i) k)))
 
--- ---- the depths of a table
+-- ---- how far down it is reckoned
 
-pub depths_read : (Ts : List Ty) (i : ℕ) → i < length Ts
-    → get_or (depths Ts) i 0 ≡ depth (tree_in Ts i)
-depths_read [] i lt = absurd (omega arith)
-depths_read (T ∷ Ts) zero lt = refl
-depths_read (T ∷ Ts) (suc i) lt = depths_read Ts i (omega arith)
+-- further down it is no less
+deeper : (types : List Node) (a b i : ℕ) → a ≤ b → depth_at types a i ≤ depth_at types b i
+unfolding depth_at
+deeper types zero zero i le = omega arith
+deeper types zero (suc b) i le = omega (
+  arith,
+  by_some (shape_of (node_in types i))
+      (λ k. depth_at types b (type_of (part_at (node_in types i) k))),
+)
+deeper types (suc a) zero i le = absurd (omega arith)
+deeper types (suc a) (suc b) i le = by_more (shape_of (node_in types i)) _ _
+    (λ k has. deeper types a b (type_of (part_at (node_in types i) k)) (omega arith))
 
-pub depth_most : (Ts : List Ty) (i : ℕ) → i < length Ts
-    → depth (tree_in Ts i) ≤ greatest (depths Ts)
-depth_most [] i lt = absurd (omega arith)
-depth_most (T ∷ Ts) zero lt = omega arith
-depth_most (T ∷ Ts) (suc i) lt = omega (arith, depth_most Ts i (omega arith))
+-- no tree is deeper than its type
+pub depth_tree : (t : Table) (i : ℕ) → depth (tree t i) ≤ depth_in t.types i
+depth_tree t i = omega (arith, tree_depth t 24 i, deeper t.types 25 (i + 25) i (omega arith))
 
 -- no type is deeper than the deepest
 pub depth_within : (types : List Node) (i : ℕ) → i < length types
-    → depth (type_in types i) ≤ depth_of types
-unfolding depth_of type_in
-depth_within types i lt = search (arith, depth_most, length_after)
-
-pub depths_append : (Ts Us : List Ty) → depths (Ts ++ Us) ≡ depths Ts ++ depths Us
-depths_append [] Us = refl
-depths_append (T ∷ Ts) Us = search (arith, depths_append Ts Us)
-
-greatest_append : (ms : List ℕ) (n : ℕ) → greatest (ms ++ n ∷ []) ≡ max (greatest ms) n
-greatest_append [] n = omega arith
-greatest_append (m ∷ ms) n = search (arith, max, greatest_append ms n)
-
--- the depths, once a type is added
-pub depths_added : (types : List Node) (node : Node)
-    → depths (trees_of (types ++ node ∷ []))
-    ≡ depths (trees_of types) ++ depth (grow (type_in types) node) ∷ []
-depths_added types node = search (arith, trees_added, depths_append)
-
-pub deepest_added : (types : List Node) (node : Node)
-    → depth_of (types ++ node ∷ []) ≡ max (depth_of types) (depth (grow (type_in types) node))
+    → depth_in types i ≤ depth_of types
 unfolding depth_of
-deepest_added types node = search (arith, depths_added, greatest_append)
+depth_within types i lt = most_above (length types) (depth_in types) i lt
+
+-- ---- types that are formed, so far
+
+abbrev pub FormedBelow : List Node → ℕ → Type 0
+FormedBelow types n = (i : ℕ) → i < n → IsFormed types i (node_in types i)
+
+-- a depth is reckoned of the types up to it alone, and to its end
+pub depth_moved : (types others : List Node) (n a b i : ℕ) → FormedBelow types n
+    → SameNodes types others n → i < n → i < a → i < b → depth_at types a i ≡ depth_at others b i
+unfolding depth_at
+depth_moved types others n zero b i are same lt la lb = absurd (omega arith)
+depth_moved types others n (suc a) zero i are same lt la lb = absurd (omega arith)
+depth_moved types others n (suc a) (suc b) i are same lt la lb =
+    by_same (shape_of (node_in types i)) _ _
+    (λ k has. let below = (part_formed types i (node_in types i) k (are i lt) has).below in
+    depth_moved types others n a b (type_of (part_at (node_in types i) k)) are same (omega arith)
+    (omega arith) (omega arith))
+    ∙ ap (λ node. depth_by (shape_of node) (λ k. depth_at others b (type_of (part_at node k))))
+    (same i lt)
+
+-- the depth of a type is its node's
+pub depth_parts : (types : List Node) (i : ℕ) → AreFormed types → i < length types
+    → depth_in types i ≡ node_depth types (node_in types i)
+unfolding depth_at
+depth_parts types i are lt =
+    let e : i + 25 ≡ suc (i + 24) = omega arith in
+    ap (λ n. depth_at types n i) e ∙ by_same (shape_of (node_in types i)) _ _
+    (λ k has. let below = (part_formed types i (node_in types i) k (are.formed i lt) has).below in
+    depth_moved types types (length types) (i + 24) (type_of (part_at (node_in types i) k) + 25)
+    (type_of (part_at (node_in types i) k)) are.formed (λ j h. refl) (omega arith) (omega arith)
+    (omega arith))
+
+-- a part is less deep than its whole
+pub part_shallower : (types : List Node) (i k : ℕ) → AreFormed types → i < length types
+    → HasPlace (shape_of (node_in types i)) k
+    → part_depth types (node_in types i) k < depth_in types i
+part_shallower types i k are lt has =
+    omega (arith, depth_parts types i are lt, part_less (depth_in types) (node_in types i) k has)
+
+small_below : (types : List Node) (a i : ℕ) → AreFormed types → i < a → i < length types
+    → depth_at types a i ≤ suc i
+unfolding depth_at
+small_below types zero i are la lt = absurd (omega arith)
+small_below types (suc a) i are la lt =
+    by_within (shape_of (node_in types i)) _ i
+    (λ is. let below = (switch_formed types i (node_in types i) (are.formed i lt) is).below in
+    omega arith)
+    (λ k has. let below = (part_formed types i (node_in types i) k (are.formed i lt) has).below in
+    omega (
+      arith,
+      small_below types a (type_of (part_at (node_in types i) k)) are (omega arith)
+          (omega arith),
+    ))
+
+-- no type is deeper than its number allows: each part has a smaller number than its whole
+pub type_small : (types : List Node) (i : ℕ) → AreFormed types → i < length types
+    → depth_in types i ≤ suc i
+type_small types i are lt = small_below types (i + 25) i are (omega arith) lt
+
+pub some_depth : (types : List Node) (i : ℕ) → 0 < depth_in types i
+unfolding depth_at
+some_depth types i =
+    let e : i + 25 ≡ suc (i + 24) = omega arith in
+    rw e (by_some (shape_of (node_in types i))
+    (λ k. depth_at types (i + 24) (type_of (part_at (node_in types i) k))))
+
+-- the depth at a node's shape
+pub depth_at_shape : (types : List Node) (node : Node) (s : Shape) → s ≡ shape_of node
+    → node_depth types node ≡ depth_by s (part_depth types node)
+depth_at_shape types node s e = ap (λ x. depth_by x (part_depth types node)) (sym e)
+
+-- ---- a table that grows
+
+more_by : (types more : List Node) (a i : ℕ) → (i < length types) ⊎ (length types ≤ i)
+    → ((k : ℕ) → depth_at types a k ≤ depth_at (types ++ more) a k)
+    → depth_at types (suc a) i ≤ depth_at (types ++ more) (suc a) i
+unfolding depth_at
+more_by types more a i (inl lt) less =
+    let e = get_or_append_left types more (nodes.prim Octet) i lt in
+    rw e (by_more (shape_of (node_in types i)) _ _
+    (λ k has. less (type_of (part_at (node_in types i) k))))
+more_by types more a i (inr le) less =
+    let e : node_in types i ≡ nodes.prim Octet = get_or_past types i (nodes.prim Octet) le in
+    rw e (by_some (shape_of (node_in (types ++ more) i))
+    (λ k. depth_at (types ++ more) a (type_of (part_at (node_in (types ++ more) i) k))))
+
+depth_more : (types more : List Node) (a i : ℕ)
+    → depth_at types a i ≤ depth_at (types ++ more) a i
+unfolding depth_at
+depth_more types more zero i = omega arith
+depth_more types more (suc a) i =
+    more_by types more a i (cases_lt i (length types)) (depth_more types more a)
+
+most_longer : (m n : ℕ) (f : ℕ → ℕ) → most m f ≤ most (m + n) f
+most_longer m zero f = let e : m + 0 ≡ m = omega arith in rw e (omega arith)
+most_longer m (suc n) f =
+    let e : m + suc n ≡ suc (m + n) = omega arith in rw e (omega (arith, most_longer m n f))
+
+-- no table gets less deep
+pub deepest_more : (types more : List Node) → depth_of types ≤ depth_of (types ++ more)
+unfolding depth_of
+deepest_more types more =
+    omega (
+      arith,
+      most_more (length types) (depth_in types) (depth_in (types ++ more))
+          (λ i lt. depth_more types more (i + 25) i),
+      most_longer (length types) (length more) (depth_in (types ++ more)),
+      ap (λ n. most n (depth_in (types ++ more))) (length-append types more),
+    )

@@ -10,8 +10,18 @@ use Rattle.giop_sig.specs.Types.{HasPlace, HasMember, IsUnion}
 use Rattle.giop_sig.specs.Table.{Node, Part, Case, node_in, part_at, type_of, name_of, name_at, switch_at, shape_of, case_part, IsFormed, IsPart, IsInner, IsSwitch}
 use Rattle.giop_sig.specs.Table as nodes
 use Rattle.giop_sig.specs.Views.{node_view, IsSized}
-use Rattle.giop_sig.proofs.TreeLaws.{OnPart, case_read}
 use Rattle.giop_sig.proofs.Nodes.{part_there}
+
+-- what holds of each part holds of the one that is read
+abbrev OnPart : (Part → Type 0) → Option Part → Type 0
+OnPart P None = Unit {0}
+OnPart P (Some p) = P p
+
+case_read : (P : Part → Type 0) (cs : List Case) (i : ℕ) → AllByRecursion (λ c. P c.part) cs
+    → OnPart P (case_part (slice_get cs i))
+case_read P [] i all = tt
+case_read P (c ∷ cs) zero all = all.0
+case_read P (c ∷ cs) (suc i) all = case_read P cs i all.1
 
 on_some : (P : Part → Type 0) (o : Option Part) (p : Part) → o ≡ Some p → OnPart P o → P p
 on_some P None p e h = absurd cc

@@ -4,20 +4,20 @@ use Rattle.std.specs.Prelude.{IfSome}
 use Rattle.std.specs.Option.{option_map}
 use Rattle.giop_sig.specs.Types.{Ty}
 use Rattle.giop_sig.specs.Table.{Table}
-use Rattle.giop_sig.specs.Trees.{trees_after, type_in, tree}
+use Rattle.giop_sig.specs.Trees.{tree_at, tree}
 use Rattle.giop_sig.specs.Builtin.{builtin_types}
 use Rattle.giop_sig.specs.HeaderTypes.{header_number, header_type, IdStandsFirst, BeginsWithId, IsTable}
 use Rattle.giop_sig.proofs.Builtins.{header_found}
 
 in_last : (kind : ℕ) → IfSome (header_type 2 kind) BeginsWithId
-unfolding type_in trees_after builtin_types
+unfolding tree_at builtin_types
 in_last (suc (suc (suc (suc (suc zero))))) = tt
 in_last (suc (suc (suc (suc (suc (suc zero)))))) = tt
 in_last (suc (suc (suc (suc (suc (suc (suc (suc kind)))))))) = tt
 in_last _ = (_, _, _, refl, refl, refl)
 
 in_cancel : (minor : ℕ) → IfSome (header_type minor 2) BeginsWithId
-unfolding type_in trees_after builtin_types
+unfolding tree_at builtin_types
 in_cancel (suc (suc (suc minor))) = tt
 in_cancel _ = (_, _, _, refl, refl, refl)
 

@@ -1,20 +1,18 @@
 -- The entries of a catalogue's types with their depths: one entry that is looked up, and one that
 -- is added.
-use Rattle.std.proofs.Common.{◌≡◌, ℕ, zero, suc, ◌+◌, ◌^◌, ◌<◌, ◌≤◌, max, List, [], ◌∷◌, ◌++◌, length, get_or, map, sym, subst, ◌⊎◌, inl, inr, lit<, lit≤, arith}
+use Rattle.std.proofs.Common.{◌≡◌, ℕ, zero, suc, ◌+◌, ◌^◌, ◌<◌, ◌≤◌, max, List, [], ◌∷◌, ◌++◌, length, get_or, map, sym, ap, ◌∙◌, subst, ◌⊎◌, inl, inr, lit<, lit≤, arith}
 use Rattle.std.proofs.lemmas.List.{length-append, get_or_append_left, length-map, map-append}
 use Rattle.std.proofs.Math.Seq.{get_or-append_seam}
 use Rattle.std.proofs.lemmas.Bool.{cases_lt}
 use Rattle.giop_cdr.specs.declared.prim.Primitive.TheVariants.{Octet}
 use Rattle.giop_sig.specs.declared.entries.EntryWithDepth.{EntryWithDepth}
-use Rattle.giop_sig.specs.Types.{depth}
-use Rattle.giop_sig.specs.Table.{Node, node_in, IsFormed}
+use Rattle.giop_sig.specs.Types.{most}
+use Rattle.giop_sig.specs.Table.{Node, node_in, part_at, type_of, shape_of, IsFormed}
 use Rattle.giop_sig.specs.Table as nodes
-use Rattle.giop_sig.specs.Trees.{grow, trees_after, type_in, depth_of, AreFormed}
+use Rattle.giop_sig.specs.Trees.{depth_in, depth_of, node_depth, AreFormed}
 use Rattle.giop_sig.specs.Views.{node_view, nodes_view, IsKept, IsSized}
-use Rattle.giop_sig.proofs.TreeLaws.{length_after}
-use Rattle.giop_sig.proofs.Depths.{depths_read, depths_added, deepest_added}
-use Rattle.giop_sig.proofs.Formed.{formed_stays, sized}
-use Rattle.giop_sig.proofs.Small.{type_small}
+use Rattle.giop_sig.proofs.Depths.{by_same, depth_moved, depth_parts, most_same, type_small}
+use Rattle.giop_sig.proofs.Formed.{formed_stays, part_formed, sized}
 
 pub node_read : (ps : List EntryWithDepth) (i : ℕ) (p : EntryWithDepth) → i < length ps →
     p ≡ get_or ps i p
@@ -52,17 +50,10 @@ sized_read ps deepest types i p is view lt h =
 pub depth_read : (ps : List EntryWithDepth) (deepest : ℕ) (types : List Node) (i : ℕ)
     (p : EntryWithDepth)
     → IsKept ps deepest → nodes_view ps ≡ types → i < length types → p ≡ get_or ps i p
-    → p.depth ≡ depth (type_in types i)
-unfolding type_in
-depth_read ps deepest types i p is view lt h = search (
-  arith,
-  inside,
-  depth_kept,
-  get_or,
-  depths_read,
-  length_after,
-  length-map,
-)
+    → p.depth ≡ depth_in types i
+depth_read ps deepest types i p is view lt h =
+    let there = inside ps types i view lt in
+    sym (depth_kept ps i p there h) ∙ is.each i there ∙ ap (λ ts. depth_in ts i) view
 
 pub small_read : (ps : List EntryWithDepth) (deepest : ℕ) (types : List Node) (i : ℕ)
     (p : EntryWithDepth)
@@ -76,7 +67,7 @@ small_read ps deepest types i p is view lt h =
     )
 
 pub kept_none : IsKept [] 0
-unfolding trees_after depth_of
+unfolding depth_of
 kept_none = search (arith, lit<, lit≤)
 
 formed_added : (types : List Node) (node : Node) (i : ℕ) → AreFormed types
@@ -101,31 +92,98 @@ pub types_added : (types : List Node) (node : Node) → AreFormed types → leng
     → IsFormed types (length types) node → AreFormed (types ++ node ∷ [])
 types_added types node are few last = search (arith, length-append, formed_added, cases_lt)
 
+-- the types that were there are as deep as before
+depth_stays : (types : List Node) (node : Node) (i : ℕ) → AreFormed types → i < length types
+    → depth_in types i ≡ depth_in (types ++ node ∷ []) i
+depth_stays types node i are lt =
+    depth_moved types (types ++ node ∷ []) (length types) (i + 25) (i + 25) i are.formed
+    (λ k h. sym (get_or_append_left types (node ∷ []) (nodes.prim Octet) k h)) lt (omega arith)
+    (omega arith)
+
+-- the one that is added is as deep as its node
+depth_added : (types : List Node) (node : Node) → AreFormed types
+    → IsFormed types (length types) node → AreFormed (types ++ node ∷ [])
+    → node_depth types node ≡ depth_in (types ++ node ∷ []) (length types)
+depth_added types node are formed more =
+    let there : length types < length (types ++ node ∷ []) =
+    omega (arith, length-append types (node ∷ [])) in
+    let last = get_or-append_seam types node [] (nodes.prim Octet) in
+    by_same (shape_of node) _ _
+    (λ k has. depth_stays types node (type_of (part_at node k)) are
+    (part_formed types (length types) node k formed has).below)
+    ∙ sym (ap (node_depth (types ++ node ∷ [])) last)
+    ∙ sym (depth_parts (types ++ node ∷ []) (length types) more there)
+
+deepest_added : (types : List Node) (node : Node) → AreFormed types
+    → IsFormed types (length types) node → AreFormed (types ++ node ∷ [])
+    → max (depth_of types) (node_depth types node) ≡ depth_of (types ++ node ∷ [])
+unfolding depth_of
+deepest_added types node are formed more =
+    let all = depth_in (types ++ node ∷ []) in
+    let e : length (types ++ node ∷ []) ≡ suc (length types) =
+    omega (arith, length-append types (node ∷ [])) in
+    omega (
+      arith,
+      most_same (length types) (depth_in types) all (λ i lt. depth_stays types node i are lt),
+      depth_added types node are formed more,
+      ap (λ n. most n all) e,
+    )
+
+each_added : (ps : List EntryWithDepth) (p : EntryWithDepth) (i : ℕ)
+    → AreFormed (nodes_view ps)
+    → ((k : ℕ) → k < length ps → get_or (map (λ q. q.depth) ps) k 0 ≡ depth_in (nodes_view ps) k)
+    → p.depth ≡ depth_in (nodes_view ps ++ node_view p.entry ∷ []) (length (nodes_view ps))
+    → i < length (ps ++ p ∷ []) → (i < length ps) ⊎ (length ps ≤ i)
+    → get_or (map (λ q. q.depth) ps ++ p.depth ∷ []) i 0
+    ≡ depth_in (nodes_view ps ++ node_view p.entry ∷ []) i
+each_added ps p i are each deep lt (inl h) =
+    let len = length-map ps (λ (q : EntryWithDepth). q.depth) in
+    let size = length-map ps (λ (q : EntryWithDepth). node_view q.entry) in
+    get_or_append_left (map (λ q. q.depth) ps) (p.depth ∷ []) 0 i (omega (arith, len))
+    ∙ each i h ∙ depth_stays (nodes_view ps) (node_view p.entry) i are (omega (arith, size))
+each_added ps p i are each deep lt (inr h) =
+    let len = length-map ps (λ (q : EntryWithDepth). q.depth) in
+    let size = length-map ps (λ (q : EntryWithDepth). node_view q.entry) in
+    let more = length-append ps (p ∷ []) in
+    let e : i ≡ length (map (λ (q : EntryWithDepth). q.depth) ps) = omega (arith, len, more) in
+    let f : length (nodes_view ps) ≡ i = omega (arith, size, len) in
+    ap (λ k. get_or (map (λ q. q.depth) ps ++ p.depth ∷ []) k 0) e
+    ∙ get_or-append_seam (map (λ q. q.depth) ps) p.depth [] 0
+    ∙ deep ∙ ap (depth_in (nodes_view ps ++ node_view p.entry ∷ [])) f
+
 pub kept_more : (ps : List EntryWithDepth) (deepest : ℕ) (p : EntryWithDepth) → IsKept ps deepest
     → length (nodes_view ps) + 1 < 2 ^ 32
     → IsFormed (nodes_view ps) (length (nodes_view ps)) (node_view p.entry)
-    → p.depth ≡ depth (grow (type_in (nodes_view ps)) (node_view p.entry))
+    → p.depth ≡ node_depth (nodes_view ps) (node_view p.entry)
     → IsKept (ps ++ p ∷ []) (max deepest p.depth)
-kept_more ps deepest p is few formed deep = search (
-  arith,
-  map-append,
-  types_added,
-  depths_added,
-  max,
-  deepest_added,
-)
+kept_more ps deepest p is few formed deep =
+    let types = nodes_view ps in
+    let node = node_view p.entry in
+    let more = types_added types node is.types few formed in
+    let view : nodes_view (ps ++ p ∷ []) ≡ types ++ node ∷ [] =
+    map-append (λ (q : EntryWithDepth). node_view q.entry) ps (p ∷ []) in
+    let last = deep ∙ depth_added types node is.types formed more in
+    record {
+      types = subst AreFormed (sym view) more;
+      each = λ i lt.
+          ap (λ ds. get_or ds i 0) (map-append (λ (q : EntryWithDepth). q.depth) ps (p ∷ []))
+          ∙ each_added ps p i is.types is.each last lt (cases_lt i (length ps))
+          ∙ ap (λ ts. depth_in ts i) (sym view);
+      greatest = ap (λ n. max n p.depth) is.greatest ∙ ap (max (depth_of types)) deep
+          ∙ deepest_added types node is.types formed more ∙ ap depth_of (sym view);
+    }
 
 record CanStand (types : List Node) (node : Node) (d : ℕ) : Type 0 where
   few : length types + 1 < 2 ^ 32
   formed : IsFormed types (length types) node
-  deep : d ≡ depth (grow (type_in types) node)
+  deep : d ≡ node_depth types node
 
 -- the entries after a push
 pub kept_pushed : (ps new : List EntryWithDepth) (deepest d : ℕ) (p : EntryWithDepth)
     (types : List Node)
     → IsKept ps deepest → nodes_view ps ≡ types
     → length types + 1 < 2 ^ 32 → IsFormed types (length types) (node_view p.entry)
-    → p.depth ≡ depth (grow (type_in types) (node_view p.entry))
+    → p.depth ≡ node_depth types (node_view p.entry)
     → new ≡ ps ++ p ∷ [] → d ≡ max deepest p.depth → IsKept new d
 kept_pushed ps new deepest d p types is view few formed deep added greatest =
     let can : CanStand types (node_view p.entry) p.depth =

@@ -1,7 +1,7 @@
-mod TreeLaws
 mod Nodes
-mod Depths
 mod Formed
+mod Depths
+mod Rooms
 mod Kept
 mod Finds
 mod CaseLabels
@@ -22,7 +22,6 @@ mod ScopeLaws
 mod ReadingLaws
 mod PlaceLaws
 mod SizeTaken
-mod Small
 mod TypeTaken
 mod SizeReads
 mod TypeLaws

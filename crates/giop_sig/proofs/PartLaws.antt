@@ -6,7 +6,7 @@ use Rattle.giop_sig.specs.HeaderTypes.{IsTable}
 use Rattle.giop_sig.specs.Table.{Table, node_at, part_number}
 use Rattle.giop_sig.specs.Trees.{tree, depth_of}
 use Rattle.giop_sig.specs.Types.{HasPlace, depth, part_of, shape_in}
-use Rattle.giop_sig.proofs.Depths.{depth_within}
+use Rattle.giop_sig.proofs.Depths.{depth_tree, depth_within}
 use Rattle.giop_sig.proofs.Tables.{Entered, entered, part_below, part_tree, root_entered}
 
 -- the part at a place has a smaller number, and is the tree's part
@@ -25,4 +25,4 @@ pub root_is : (t : Table) (id : ℕ) → IsTable t → id < length t.types → I
 root_is t id laws known = search (arith, root_entered, at_number)
 
 pub depth_is : (t : Table) (id : ℕ) → id < length t.types → depth (tree t id) ≤ depth_of t.types
-depth_is t id known = depth_within t.types id known
+depth_is t id known = omega (arith, depth_tree t id, depth_within t.types id known)

@@ -6,7 +6,7 @@ use Rattle.giop_sig.specs.Table as nodes
 use Rattle.giop_sig.specs.Trees.{depth_of}
 use Rattle.giop_sig.specs.Grammar.{TypeExpr, Base, Text, Reference, Named, SequenceOf, EncapsulationOf, Item, UnionCase, Param, Declaration, Enumeration, Structure, DeclaredUnion, DeclaredException, Call}
 use Rattle.giop_sig.specs.Scopes.{Scope, AddedType, with_node, place, add_array, add_item, add_items, add_cases, default_from, add_params, add_return, add_struct_type, declare, scope_after}
-use Rattle.giop_sig.proofs.Depths.{deepest_added}
+use Rattle.giop_sig.proofs.Depths.{deepest_more}
 
 -- the greatest depth in a scope, and how many types it has
 abbrev pub deepest : Scope → ℕ
@@ -31,7 +31,7 @@ abbrev pub Grown : Scope → Scope → Type 0
 Grown s t = Within s.table.types t.table.types
 
 pub node_more : (s : Scope) (n : Node) → Grown s (with_node s n).0
-node_more s n = search (arith, length-append, deepest_added)
+node_more s n = search (arith, length-append, deepest_more)
 
 pub place_more : (s : Scope) (e : TypeExpr) → Grown s (place s e).0
 unfolding place

@@ -1,20 +1,18 @@
--- Every type of a table but the empty struct takes at least one octet, and a reader has room for
--- it.
-use Rattle.std.proofs.Common.{◌≡◌, ℕ, zero, suc, ◌<◌, ◌≤◌, max, Bool, true, false, cond, List, [], ◌∷◌, length, Option, Some, None, refl, sym, subst, ◌⊎◌, inl, inr, arith}
+-- Every type of a table but the empty struct takes at least one octet, and fits in each room that
+-- is as great as its depth.
+use Rattle.std.proofs.Common.{◌≡◌, ℕ, zero, suc, ◌<◌, ◌≤◌, Bool, true, false, cond, List, [], ◌∷◌, length, Option, Some, None, refl, sym, subst, ◌⊎◌, inl, inr, arith}
 use Rattle.std.proofs.lemmas.List.Quantifiers.{position-Some}
-use Rattle.std.proofs.lemmas.Bool.{cases_lt}
 use Rattle.giop_cdr.specs.declared.number.Number.{Number}
 use Rattle.giop_sig.specs.declared.types.Selected.{Selected}
 use Rattle.giop_sig.specs.declared.types.Selected.TheVariants as selecteds
-use Rattle.giop_sig.specs.Types.{places_of, interpreted_by, Ty, Single, Text, Octets, Struct, Union, Sequence, Array, depth, most, HasMember, HasPlace, part_of, Encapsulation, Led}
-use Rattle.giop_sig.specs.Fits.{IsSolid, IsFit, IsRoot}
-use Rattle.giop_sig.specs.Table.{Node, Part, Case, node_in, shape_of, selected, case_or, IsFormed, IsInner, IsCaseBelow, TakesOctet}
+use Rattle.giop_sig.specs.Types.{interpreted_by, Ty, HasMember, HasPlace, part_of}
+use Rattle.giop_sig.specs.Fits.{IsFit, IsRoot, IsEmptyStruct}
+use Rattle.giop_sig.specs.Table.{Node, Part, Table, node_at, shape_of, part_at, type_of, switch_at, selected, case_or, IsFormed, IsCaseBelow, TakesOctet}
 use Rattle.giop_sig.specs.Table as nodes
-use Rattle.giop_sig.specs.Trees.{grow, scalar_of, selected_by, type_in, AreFormed, AreTypes}
-use Rattle.giop_sig.proofs.TreeLaws.{tree_of_parts}
+use Rattle.giop_sig.specs.Trees.{grow, scalar_of, selected_by, tree_at, tree, depth_in, AreFormed, AreTypes}
 use Rattle.giop_sig.proofs.Nodes.{part_grown}
 use Rattle.giop_sig.proofs.Formed.{part_formed}
-use Rattle.giop_sig.proofs.Depths.{depth_within}
+use Rattle.giop_sig.proofs.Depths.{depth_within, part_shallower, some_depth}
 
 -- ---- a case that is selected exists
 
@@ -49,102 +47,64 @@ taken_below : (types : List Node) (n : ℕ) (node : Node) (o : Option Number)
 taken_below types n node None i formed e = absurd cc
 taken_below types n node (Some number) i formed e = search (arith, selected_below)
 
--- ---- solid types
+-- ---- room for a type
 
 some_part : (p : Part) (ps : List Part) → 0 < length (p ∷ ps)
 some_part p ps = omega arith
 
--- each type that is a part of another is solid
-abbrev InnerSolid : List Node → ℕ → Type 0
-InnerSolid types n = (i : ℕ) → IsInner types n i → IsSolid (type_in types i)
+abbrev PartsFit : (ℕ → Ty) → Node → ℕ → Type 0
+PartsFit f node d = (k : ℕ) → HasPlace (shape_of node) k → IsFit d (part_of (grow f node) k)
 
-part_solid : (types : List Node) (n : ℕ) (node : Node) (i : ℕ)
-    → IsFormed types n node → InnerSolid types n
-    → HasPlace (shape_of node) i → IsSolid (part_of (grow (type_in types) node) i)
-part_solid types n node i formed inner has = search (arith, part_grown, part_formed)
-
-grown_solid : (types : List Node) (n : ℕ) (node : Node) → IsFormed types n node → TakesOctet node
-    → InnerSolid types n → IsSolid (grow (type_in types) node)
-unfolding IsSolid
-grown_solid types n (nodes.members []) formed takes inner = absurd takes
-grown_solid types n (nodes.members (p ∷ ps)) formed takes inner =
-    (some_part p ps, λ i lt. part_solid types n (nodes.members (p ∷ ps)) i formed inner lt)
-grown_solid types n (nodes.union switch cases otherwise) formed takes inner = (
+grown_fit : (types : List Node) (n : ℕ) (node : Node) (f : ℕ → Ty) (d : ℕ) → IsFormed types n node
+    → TakesOctet node → PartsFit f node d → IsFit (suc d) (grow f node)
+unfolding IsFit
+grown_fit types n (nodes.members []) f d formed takes parts = absurd takes
+grown_fit types n (nodes.members (p ∷ ps)) f d formed takes parts = (some_part p ps, parts)
+grown_fit types n (nodes.union switch cases otherwise) f d formed takes parts = (
   λ k i e. taken_below types n (nodes.union switch cases otherwise)
-      (interpreted_by (scalar_of (type_in types switch)) k) i formed e,
-  λ i lt. part_solid types n (nodes.union switch cases otherwise) i formed inner lt,
+      (interpreted_by (scalar_of (f switch)) k) i formed e,
+  parts,
 )
-grown_solid types n (nodes.sequence bound element) formed takes inner = inner element formed
-grown_solid types n (nodes.array count element) formed takes inner = search (arith)
-grown_solid types n (nodes.encapsulation held) formed takes inner = inner held formed
-grown_solid types n (nodes.tagged special tag one other) formed takes inner = search (
-  arith,
-  taken_below,
-  part_solid,
+grown_fit types n (nodes.sequence bound element) f d formed takes parts = parts 0 tt
+grown_fit types n (nodes.array count element) f d formed takes parts = (formed.0, parts 0 tt)
+grown_fit types n (nodes.encapsulation held) f d formed takes parts = parts 0 tt
+grown_fit types n (nodes.tagged special tag one other) f d formed takes parts = (
+  λ k i e. taken_below types n (nodes.tagged special tag one other)
+      (interpreted_by (scalar_of (f tag.type)) k) i formed e,
+  parts,
 )
-grown_solid types n _ formed takes inner = tt
+grown_fit types n _ f d formed takes parts = tt
 
-solid_below : (types : List Node) (fuel i : ℕ) → AreFormed types → i < fuel → i < length types
-    → TakesOctet (node_in types i) → IsSolid (type_in types i)
-solid_below types zero i are lt known takes = absurd (omega arith)
-solid_below types (suc fuel) i are lt known takes =
-    subst IsSolid (sym (tree_of_parts types i are known))
-    (grown_solid types i (node_in types i) (are.formed i known) takes
-    (λ k is. solid_below types fuel k are (let b = is.below in omega arith)
-    (let b = is.below in omega arith) is.takes))
+-- a type fits where there is as much room as it is deep
+pub fits : (t : Table) (room i : ℕ) → AreFormed t.types → i < length t.types
+    → TakesOctet (node_at t i) → depth_in t.types i ≤ room → IsFit room (tree_at t room i)
+unfolding tree_at
+fits t zero i are lt takes le = absurd (omega (arith, some_depth t.types i))
+fits t (suc room) i are lt takes le =
+    let node = node_at t i in
+    grown_fit t.types i node (tree_at t room) room (are.formed i lt) takes
+    (λ k has. let is = part_formed t.types i node k (are.formed i lt) has in
+    let below = is.below in
+    let less = part_shallower t.types i k are lt has in
+    subst (IsFit room) (part_grown (tree_at t room) node k has)
+    (fits t room (type_of (part_at node k)) are (omega arith) is.takes (omega arith)))
 
-pub solid_at : (types : List Node) (i : ℕ) → AreFormed types → i < length types
-    → TakesOctet (node_in types i) → IsSolid (type_in types i)
-solid_at types i are known takes = search (arith, solid_below)
-
--- ---- room for a type
-
-most_last : (n : ℕ) (f : ℕ → ℕ) (i : ℕ) → (i < n → f i ≤ most n f) → i < suc n → (i < n) ⊎ (n ≤ i)
-    → f i ≤ max (most n f) (f n)
-most_last n f i rest lt (inl h) = omega (arith, rest h)
-most_last n f i rest lt (inr h) = search (arith)
-
-most_above : (n : ℕ) (f : ℕ → ℕ) (i : ℕ) → i < n → f i ≤ most n f
-most_above zero f i lt = absurd (omega arith)
-most_above (suc n) f i lt = most_last n f i (most_above n f i) lt (cases_lt i n)
-
-pub fit_by : (T : Ty) (d : ℕ) → IsSolid T → depth T ≤ d → IsFit d T
-unfolding IsSolid IsFit depth
-fit_by (Single scalar) zero solid le = absurd (omega arith)
-fit_by (Single scalar) (suc d) solid le = tt
-fit_by (Text bound) zero solid le = absurd (omega arith)
-fit_by (Text bound) (suc d) solid le = tt
-fit_by (Octets bound) zero solid le = absurd (omega arith)
-fit_by (Octets bound) (suc d) solid le = tt
-fit_by (Struct count names parts) zero solid le = absurd (omega arith)
-fit_by (Struct count names parts) (suc d) solid le = (
-  solid.0,
-  λ i lt. fit_by (parts i) d (solid.1 i lt)
-      (omega (arith, most_above count (λ k. depth (parts k)) i lt)),
-)
-fit_by (Union choice scalar select names cases) zero solid le = absurd (omega arith)
-fit_by (Union choice scalar select names cases) (suc d) solid le = (
-  solid.0,
-  λ i lt. fit_by (cases i) d (solid.1 i lt)
-      (omega (arith, most_above (places_of choice) (λ k. depth (cases k)) i lt)),
-)
-fit_by (Sequence bound T) zero solid le = absurd (omega arith)
-fit_by (Sequence bound T) (suc d) solid le = fit_by T d solid (omega arith)
-fit_by (Encapsulation T) zero solid le = absurd (omega arith)
-fit_by (Encapsulation T) (suc d) solid le = fit_by T d solid (omega arith)
-fit_by (Array count T) zero solid le = absurd (omega arith)
-fit_by (Array count T) (suc d) solid le = (solid.0, fit_by T d solid.1 (omega arith))
-fit_by (Led h F parts) d solid le = absurd solid
-
-pub fit_at : (types : List Node) (i : ℕ) → AreTypes types → i < length types
-    → TakesOctet (node_in types i) → IsFit 24 (type_in types i)
-fit_at types i are known takes = search (arith, fit_by, solid_at, depth_within)
+pub fit_at : (t : Table) (i : ℕ) → AreTypes t.types → i < length t.types
+    → TakesOctet (node_at t i) → IsFit 24 (tree t i)
+fit_at t i are known takes =
+    fits t 24 i are.placed known takes (omega (arith, depth_within t.types i known, are.shallow))
 
 takes_or_empty : (node : Node) → TakesOctet node ⊎ (node ≡ nodes.members [])
 takes_or_empty (nodes.members []) = inr refl
 takes_or_empty _ = inl tt
 
+root_by : (t : Table) (i : ℕ) → AreTypes t.types → i < length t.types
+    → TakesOctet (node_at t i) ⊎ (node_at t i ≡ nodes.members []) → IsRoot (tree t i)
+unfolding tree_at
+root_by t i are known (inl takes) = inl (fit_at t i are known takes)
+root_by t i are known (inr e) =
+    inr (subst (λ node. IsEmptyStruct (grow (tree_at t 23) node)) (sym e) tt)
+
 -- each type of a table fits at the root of a message
-pub root_at : (types : List Node) (i : ℕ) → AreTypes types → i < length types
-    → IsRoot (type_in types i)
-root_at types i are known = search (arith, takes_or_empty, fit_at, tree_of_parts)
+pub root_at : (t : Table) (i : ℕ) → AreTypes t.types → i < length t.types → IsRoot (tree t i)
+root_at t i are known = root_by t i are known (takes_or_empty (node_at t i))

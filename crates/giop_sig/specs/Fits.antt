@@ -2,22 +2,11 @@
 use Rattle.std.specs.Prelude.{◌≡◌, ℕ, zero, suc, ◌<◌, ◌⊎◌}
 use Rattle.giop_sig.specs.declared.types.Selected.{Selected}
 use Rattle.giop_sig.specs.declared.types.Selected.TheVariants.{Case}
-use Rattle.giop_sig.specs.Types.{Ty, places_of, Struct, Union, Sequence, Array, Encapsulation, Led, Told, Then, Sequel, sequel}
+use Rattle.giop_sig.specs.Types.{Ty, places_of, Struct, Union, Sequence, Array, Encapsulation, Led, Told, Then, sequel}
 
 -- each case that is selected is one of so many
 abbrev pub SelectsBelow : ℕ → (ℕ → Selected) → Type 0
 SelectsBelow count select = (n i : ℕ) → select n ≡ Case i → i < count
-
--- the type takes some octet, and so does each of its parts
-unfoldable pub IsSolid : Ty → Type 0
-IsSolid (Struct count names parts) = (0 < count) × ((i : ℕ) → i < count → IsSolid (parts i))
-IsSolid (Array count T) = (0 < count) × IsSolid T
-IsSolid (Sequence bound T) = IsSolid T
-IsSolid (Encapsulation T) = IsSolid T
-IsSolid (Led h F parts) = ⊥
-IsSolid (Union choice scalar select names cases) =
-    SelectsBelow (places_of choice) select × ((i : ℕ) → i < places_of choice → IsSolid (cases i))
-IsSolid T = Unit {0}
 
 -- no deeper than d, and each part takes some octet
 unfoldable pub IsFit : ℕ → Ty → Type 0

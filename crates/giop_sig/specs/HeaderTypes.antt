@@ -9,8 +9,8 @@ use Rattle.giop_sig.specs.declared.types.Fixed.{Fixed}
 use Rattle.giop_sig.specs.declared.types.Fixed.TheVariants as fixeds
 use Rattle.giop_sig.specs.Types.{Plain, Ty, Single, Struct}
 use Rattle.giop_sig.specs.Table.{Node, Operation, Exception, Table, no_operation, no_exception}
-use Rattle.giop_sig.specs.Trees.{AreTypes, type_in}
-use Rattle.giop_sig.specs.Builtin.{builtin_types}
+use Rattle.giop_sig.specs.Trees.{AreTypes, tree}
+use Rattle.giop_sig.specs.Builtin.{builtin_types, builtin_table}
 
 -- the numbers of the header types of each message type, in 1.0, 1.1 and 1.2
 abbrev pub header_rows : List (List (Option ℕ))
@@ -42,7 +42,7 @@ header_number minor kind = cell_in (slice_get header_rows kind) minor
 
 -- the header type of a minor version and a message type
 abbrev pub header_type : ℕ → ℕ → Option Ty
-header_type minor kind = option_map (type_in builtin_types) (header_number minor kind)
+header_type minor kind = option_map (tree builtin_table) (header_number minor kind)
 
 abbrev pub fixed_number : Fixed → ℕ
 fixed_number fixeds.ExceptionId = STRING
@@ -51,7 +51,7 @@ fixed_number fixeds.Forward = IOR
 fixed_number fixeds.Addressing = SHORT
 
 abbrev pub fixed_type : Fixed → Ty
-fixed_type fixed = type_in builtin_types (fixed_number fixed)
+fixed_type fixed = tree builtin_table (fixed_number fixed)
 
 -- a header that begins with the request id
 abbrev pub BeginsWithId : Ty → Type 0

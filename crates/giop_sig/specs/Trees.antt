@@ -1,11 +1,13 @@
 -- The trees of a table's types, and what holds of a table as a whole (meaning).
-use Rattle.std.specs.Prelude.{ℕ, ◌^◌, ◌<◌, ◌≤◌, max, List, [], ◌∷◌, ◌++◌, length, Option, Some, None, slice_index_or, slice_get}
+use Rattle.std.specs.Prelude.{ℕ, zero, suc, ◌+◌, ◌^◌, ◌<◌, ◌≤◌, max, List, [], length, Option, Some, None, slice_index_or, slice_get}
 use Rattle.giop_cdr.specs.declared.prim.Primitive.TheVariants as prims
 use Rattle.giop_cdr.specs.declared.number.Number.{Number}
+use Rattle.giop_sig.specs.declared.types.Shape.{Shape}
+use Rattle.giop_sig.specs.declared.types.Shape.TheVariants as shapes
 use Rattle.giop_sig.specs.declared.types.Selected.{Selected}
 use Rattle.giop_sig.specs.declared.types.Selected.TheVariants.{Nothing}
-use Rattle.giop_sig.specs.Types.{Choice, Cases, Tag, Scalar, Plain, Enum, interpreted_by, Ty, Single, Text, Octets, Struct, Union, Sequence, Array, Encapsulation, depth}
-use Rattle.giop_sig.specs.Table.{Part, Node, Table, IsFormed, name_of, part_at, switch_at, type_of, selected}
+use Rattle.giop_sig.specs.Types.{Choice, Cases, Tag, Scalar, Plain, Enum, interpreted_by, Ty, Single, Text, Octets, Struct, Union, Sequence, Array, Encapsulation, most}
+use Rattle.giop_sig.specs.Table.{Part, Node, Table, IsFormed, name_of, node_at, node_in, part_at, shape_of, switch_at, type_of, selected}
 use Rattle.giop_sig.specs.Table as nodes
 
 -- ---- a node, with a tree for each number
@@ -58,40 +60,56 @@ grow tree (nodes.encapsulation held) = Encapsulation (tree held)
 grow tree (nodes.tagged special tag inner other) =
     grown_union tree Tag (nodes.tagged special tag inner other)
 
--- ---- the trees, from the front of the table
+-- ---- the trees, in so much room
 
-abbrev pub tree_in : List Ty → ℕ → Ty
-tree_in trees i = slice_index_or trees i octet_type
+-- the tree of the type with a number: so many parts may be in each other beyond the type's own, and
+-- those without room are octets
+unfoldable pub tree_at : Table → ℕ → ℕ → Ty
+tree_at t zero i = grow (λ k. octet_type) (node_at t i)
+tree_at t (suc room) i = grow (tree_at t room) (node_at t i)
 
-unfoldable pub trees_after : List Ty → List Node → List Ty
-trees_after done [] = done
-trees_after done (n ∷ ns) = trees_after (done ++ grow (tree_in done) n ∷ []) ns
+-- the greatest depth of a type
+abbrev pub greatest_depth : ℕ
+greatest_depth = 24
 
-abbrev pub trees_of : List Node → List Ty
-trees_of types = trees_after [] types
-
--- the tree of the type with a number
-unfoldable pub type_in : List Node → ℕ → Ty
-type_in types i = tree_in (trees_of types) i
-
+-- the tree in the room that each type of a table has
 abbrev pub tree : Table → ℕ → Ty
-tree t i = type_in t.types i
+tree t i = tree_at t greatest_depth i
 
-abbrev pub greatest : List ℕ → ℕ
-greatest [] = 0
-greatest (n ∷ ns) = max n (greatest ns)
+-- ---- depth
 
-abbrev pub depths : List Ty → List ℕ
-depths [] = []
-depths (T ∷ Ts) = depth T ∷ depths Ts
+-- the depth of a shape, of the depths of its parts
+abbrev pub depth_by : Shape → (ℕ → ℕ) → ℕ
+depth_by (shapes.Members count) f = 1 + most count f
+depth_by (shapes.Union count) f = 1 + max 1 (most count f)
+depth_by (shapes.Sequence bound) f = 1 + f 0
+depth_by (shapes.Array count) f = 1 + f 0
+depth_by shapes.Encapsulation f = 1 + f 0
+depth_by shapes.Tagged f = 1 + max 1 (most 3 f)
+depth_by s f = 1
 
--- the greatest depth of some types
-unfoldable pub depth_of : List Node → ℕ
-depth_of types = greatest (depths (trees_of types))
+-- the depth of the type with a number, where the parts that are so far down count as leaves
+unfoldable pub depth_at : List Node → ℕ → ℕ → ℕ
+depth_at types zero i = 1
+depth_at types (suc n) i =
+    depth_by (shape_of (node_in types i))
+    (λ k. depth_at types n (type_of (part_at (node_in types i) k)))
+
+-- the depth of a type, whose parts have smaller numbers; of no type less than that of its tree
+abbrev pub depth_in : List Node → ℕ → ℕ
+depth_in types i = depth_at types (i + suc greatest_depth) i
 
 -- the depth of the type that a node names in a place
 abbrev pub part_depth : List Node → Node → ℕ → ℕ
-part_depth types node i = depth (type_in types (type_of (part_at node i)))
+part_depth types node k = depth_in types (type_of (part_at node k))
+
+-- the depth that a node's type would have
+abbrev pub node_depth : List Node → Node → ℕ
+node_depth types node = depth_by (shape_of node) (part_depth types node)
+
+-- the greatest depth of some types
+unfoldable pub depth_of : List Node → ℕ
+depth_of types = most (length types) (depth_in types)
 
 -- ---- tables
 

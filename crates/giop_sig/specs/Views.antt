@@ -1,11 +1,11 @@
 -- The entries of a catalogue's types as contracts see them (state).
-use Rattle.std.specs.Prelude.{◌≡◌, ℕ, ◌≤◌, List, length, map}
+use Rattle.std.specs.Prelude.{◌≡◌, ℕ, ◌<◌, ◌≤◌, List, length, map, slice_index_or}
 use Rattle.giop_sig.specs.declared.entries.TagEntry.{TagEntry}
 use Rattle.giop_sig.specs.declared.entries.Entry.{Entry}
 use Rattle.giop_sig.specs.declared.entries.Entry.TheVariants as entries
 use Rattle.giop_sig.specs.declared.entries.EntryWithDepth.{EntryWithDepth}
 use Rattle.giop_sig.specs.Table.{Node, prim, enumeration, text, octets, members, union, sequence, array, encapsulation, tagged}
-use Rattle.giop_sig.specs.Trees.{AreFormed, trees_of, depths, depth_of}
+use Rattle.giop_sig.specs.Trees.{AreFormed, depth_in, depth_of}
 use Rattle.giop_sig.specs.UnionCases.{part_view}
 
 abbrev pub tag_view : TagEntry → Node
@@ -37,5 +37,6 @@ nodes_view ps = map (λ p. node_view p.entry) ps
 -- entries with the depths of their types, and the greatest of these
 pub record IsKept (ps : List EntryWithDepth) (deepest : ℕ) : Type 0 where
   pub types : AreFormed (nodes_view ps)
-  pub each : map (λ p. p.depth) ps ≡ depths (trees_of (nodes_view ps))
+  pub each : (i : ℕ) → i < length ps
+      → slice_index_or (map (λ p. p.depth) ps) i 0 ≡ depth_in (nodes_view ps) i
   pub greatest : deepest ≡ depth_of (nodes_view ps)

@@ -1,10 +1,10 @@
 //! The catalogue: the types of a signature file with the built-in ones, and its operations and exceptions by name.
-ghost use Rattle.std.specs.Prelude.{◌≡◌, ℕ, ◌+◌, ◌^◌, ◌<◌, ◌≤◌, ◌++◌, ◌↔◌, codes, drop, nat_le, length, IsTrue, IfSome, IfOk, IfErr, OnOk, OnErr, None, MatchOption};
+ghost use Rattle.std.specs.Prelude.{◌≡◌, ℕ, suc, ◌+◌, ◌^◌, ◌<◌, ◌≤◌, ◌++◌, ◌↔◌, codes, drop, nat_le, length, IsTrue, IfSome, IfOk, IfErr, OnOk, OnErr, None, MatchOption};
 ghost use Rattle.std.specs.Option.{option_map};
 ghost use Rattle.giop_sig.specs.Types.{depth, part_of, name_in, enum_name_in, switch_of, select_in, interpreted_in, shape_in, HasShape, HasMember, HasPlace, IsUnion};
 ghost use Rattle.giop_sig.specs.Fits.{IsFit, IsRoot};
 ghost use Rattle.giop_sig.specs.Table.{node_at, shape_of, part_number, part_at, name_of, name_at, switch_at, selected, operation_in, operation_at, exception_in, IsFormed, with_type, with_declared, with_operation, with_exception};
-ghost use Rattle.giop_sig.specs.Trees.{tree, grow, depth_of};
+ghost use Rattle.giop_sig.specs.Trees.{tree, tree_at, grow, depth_of};
 ghost use Rattle.giop_sig.specs.HeaderTypes.{header_number, header_type, fixed_number, fixed_type, IdStandsFirst, BeginsWithId, IsTable};
 
 use crate::builtin::{builtin_list, fixed_id, header_id};
@@ -133,6 +133,9 @@ impl Catalogue {
         ensures is { result ≡ shape_of (node_at self.now t.0) }
         ensures tree { result ≡ shape_in (tree self.now t.0) }
         ensures shape { HasShape (tree self.now t.0) result }
+        // The same in each room.
+        ensures rooms { (n : ℕ) → result ≡ shape_in (tree_at self.now n t.0) }
+        ensures shapes { (n : ℕ) → HasShape (tree_at self.now n t.0) result }
         ensures root { IsRoot (tree self.now t.0) }
     {
         self.types.entry(t).shape()
@@ -147,6 +150,9 @@ impl Catalogue {
         ensures number { result.0 ≡ part_number self.now t.0 place }
         ensures below { result.0 < t.0 }
         ensures tree { tree self.now result.0 ≡ part_of (tree self.now t.0) place }
+        // A part has one level less room than its whole.
+        ensures rooms { (n : ℕ) →
+            tree_at self.now n result.0 ≡ part_of (tree_at self.now (suc n) t.0) place }
     {
         self.types.entry(t).part(place)
     }
@@ -157,6 +163,7 @@ impl Catalogue {
         requires place { HasMember (shape_in (tree self.now t.0)) place }
         ensures name { result.now ≡ name_of (part_at (node_at self.now t.0) place) }
         ensures tree { result.now ≡ name_in (tree self.now t.0) place }
+        ensures rooms { (n : ℕ) → result.now ≡ name_in (tree_at self.now n t.0) place }
         ensures short { length result.now ≤ 64 }
     {
         self.kept_name(t, place).octets()
@@ -169,6 +176,8 @@ impl Catalogue {
         requires known { t.0 < length self.now.types }
         requires place { HasMember (shape_in (tree self.now t.0)) place }
         ensures tree { drop 15 result.now ≡ codes "." ++ name_in (tree self.now t.0) place }
+        ensures rooms { (n : ℕ) →
+            drop 15 result.now ≡ codes "." ++ name_in (tree_at self.now n t.0) place }
         ensures size { 16 ≤ length result.now }
         ensures short { length result.now ≤ 80 }
     {
@@ -182,6 +191,7 @@ impl Catalogue {
         requires place { HasMember (shape_in (tree self.now t.0)) place }
         ensures name { result.now ≡ name_of (part_at (node_at self.now t.0) place) }
         ensures tree { result.now ≡ name_in (tree self.now t.0) place }
+        ensures rooms { (n : ℕ) → result.now ≡ name_in (tree_at self.now n t.0) place }
         ensures short { length result.now ≤ 64 }
     {
         self.types.entry(t).part_name(place)
@@ -192,6 +202,8 @@ impl Catalogue {
         requires { t.0 < length self.now.types }
         ensures name { option_map (λ x. x.now) result ≡ name_at (node_at self.now t.0) number }
         ensures tree { option_map (λ x. x.now) result ≡ enum_name_in (tree self.now t.0) number }
+        ensures rooms { (n : ℕ) →
+            option_map (λ x. x.now) result ≡ enum_name_in (tree_at self.now n t.0) number }
         ensures short { IfSome result (λ x. length x.now ≤ 64) }
     {
         self.types.entry(t).enum_name(number)
@@ -204,6 +216,9 @@ impl Catalogue {
         ensures number { result.0 ≡ switch_at (node_at self.now t.0) }
         ensures below { result.0 < t.0 }
         ensures tree { tree self.now result.0 ≡ switch_of (tree self.now t.0) }
+        // A number takes no room.
+        ensures rooms { (m n : ℕ) →
+            tree_at self.now m result.0 ≡ switch_of (tree_at self.now (suc n) t.0) }
     {
         self.types.entry(t).switch_type()
     }
@@ -216,6 +231,8 @@ impl Catalogue {
         // By the whole number that the discriminator's octets spell.
         ensures tree { (n : ℕ) → interpreted_in (switch_of (tree self.now t.0)) n ≡ Some number
             → result ≡ select_in (tree self.now t.0) n }
+        ensures rooms { (m n : ℕ) → interpreted_in (switch_of (tree_at self.now m t.0)) n
+            ≡ Some number → result ≡ select_in (tree_at self.now m t.0) n }
         ensures place { (i : ℕ) → result ≡ Selected.Case i
             → HasMember (shape_in (tree self.now t.0)) i }
     {

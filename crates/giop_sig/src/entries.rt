@@ -1,9 +1,9 @@
 //! The types of a catalogue as they are kept: an entry for each, with its depth.
 ghost use Rattle.std.specs.Prelude.{◌≡◌, ℕ, ◌+◌, ◌^◌, ◌<◌, ◌≤◌, ◌++◌, ◌∷◌, [], length, Some, IfOk, OnOk, OnErr, max};
 ghost use Rattle.std.specs.Option.{option_map};
-ghost use Rattle.giop_sig.specs.Types.{depth, most, HasPlace, HasMember, IsUnion};
+ghost use Rattle.giop_sig.specs.Types.{most, HasPlace, HasMember, IsUnion};
 ghost use Rattle.giop_sig.specs.Table.{node_in, IsFormed, shape_of, part_at, type_of, name_of, name_at, switch_at, selected};
-ghost use Rattle.giop_sig.specs.Trees.{grow, type_in, depth_of, part_depth, AreFormed};
+ghost use Rattle.giop_sig.specs.Trees.{depth_in, depth_of, node_depth, part_depth, AreFormed};
 ghost use Rattle.giop_sig.specs.UnionCases.{part_view};
 
 use crate::cases::UnionCases;
@@ -255,7 +255,7 @@ impl Types {
     /// The depth of a type.
     fn depth_at(&self, t: TypeId) -> u32
         requires { t.0 < length self.now }
-        ensures depth { result ≡ depth (type_in self.now t.0) }
+        ensures depth { result ≡ depth_in self.now t.0 }
         ensures small { result ≤ length self.now }
     {
         self.placed[t.0 as usize].depth
@@ -272,7 +272,7 @@ impl Types {
     fn depth_above(&self, entry: &Entry) -> u32
         requires formed { IsFormed self.now (length self.now) (node_view entry.now) }
         requires few { length self.now + 1 < 2 ^ 32 }
-        ensures { result ≡ depth (grow (type_in self.now) (node_view entry.now)) }
+        ensures { result ≡ node_depth self.now (node_view entry.now) }
     {
         match entry.shape() {
             Shape::Prim(_) => 1,

@@ -11,7 +11,7 @@ use Rattle.giop_checkpoint.specs.Fixed.{magic, counts_octets, state_octets, fixe
 use Rattle.giop_print.specs.Text.{hex, hex_number, escaped}
 use Rattle.giop_print.specs.Lines.{type_word, continues_line, cancelled_line, fault_line, stream_fault_line, unfinished_line, total_line}
 use Rattle.giop_print.specs.Lines as print
-use Rattle.giop_sig.specs.Trees.{trees_after, type_in}
+use Rattle.giop_sig.specs.Trees.{tree_at}
 use Rattle.giop_sig.specs.Builtin.{builtin_types}
 use Rattle.giop_decode.specs.Pieces.{block, number}
 use Rattle.giop_decode.specs.Spelling.{path_text}
@@ -43,8 +43,8 @@ use Rattle.giop_stream_rows.specs.Checkpoints.{five_octets, one_in_payload, bad_
 
 -- the definitions that are unfolded to read one message
 unfoldable pub one_message : ℕ
-unfolding digits num twos_complement padding block number path_text hex hex_number escaped type_in
-    trees_after builtin_types minor kind order value_line_text call_text rest_text signatures_of
+unfolding digits num twos_complement padding block number path_text hex hex_number escaped tree_at
+    builtin_types minor kind order value_line_text call_text rest_text signatures_of
     line_at is_shown call_of calls one.section_lines with_front section_then rest_in rest typed
     option_typed members_of after_exception body type_if request_body result_body reply_body
     is_request body_of has_body padded after_header of_header message body_may_be_missing close

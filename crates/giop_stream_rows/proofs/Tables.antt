@@ -7,7 +7,7 @@ use Rattle.giop_tokens.specs.Names.{is_reserved}
 use Rattle.giop_tokens.specs.Marks.{mark_of}
 use Rattle.giop_sig.specs.CallReading.{direction_of}
 use Rattle.giop_sig.specs.Types.{depth}
-use Rattle.giop_sig.specs.Trees.{trees_after, type_in, depth_of}
+use Rattle.giop_sig.specs.Trees.{tree_at, depth_at, depth_of}
 use Rattle.giop_sig.specs.Builtin.{builtin_types}
 use Rattle.giop_sig.specs.Grammar.{TypeExpr, Base, Item, Param, Declaration, DeclaredException, Call, SignatureFile, spell_file}
 use Rattle.giop_sig.specs.Scopes.{place, add_items, add_params, declare}
@@ -43,7 +43,7 @@ put_file = file_of (Call None (codes "put") (param (codes "in") (Base prims.Doub
 
 -- the definitions that are unfolded to read a text, and to declare what it says
 unfoldable told_with : ℕ
-unfolding tokens_in gap is_number first next is_reserved mark_of depth trees_after type_in depth_of
+unfolding tokens_in gap is_number first next is_reserved mark_of depth_at tree_at depth_of
     builtin_types place add_items add_params declare OfType OfItems OfDeclaration Each called
     table_of builtin puts bigs late asks put_text bigs_text asks_text
 told_with = 0

@@ -9,7 +9,7 @@ pub returns-clause-tree : goal.returns-clause-tree
 returns-clause-tree c =
     let e = entered _ c.args.self.now c.args.t.0 (node_view c.entry.result.now) c.self.invariant
     c.self.view_is c.requires c.entry.ensures.node in
-    c.enum_name.ensures ∙ enum_name_tree c.args.self.now c.args.t.0 c.args.number
+    c.enum_name.ensures ∙ enum_name_tree c.args.self.now c.args.t.0 c.args.number 24
     (node_view c.entry.result.now) e
 
 pub returns-clause-short : goal.returns-clause-short
@@ -19,3 +19,10 @@ returns-clause-short c =
     some_numbered (λ (xs : List ℕ). length xs ≤ 64) (λ x. x.now) c.enum_name.result
     (name_at (node_view c.entry.result.now) c.args.number) c.enum_name.ensures
     (enum_name_within c.args.self.now c.args.t.0 c.args.number (node_view c.entry.result.now) e)
+
+pub returns-clause-rooms : goal.returns-clause-rooms
+returns-clause-rooms c = λ n.
+    let e = entered _ c.args.self.now c.args.t.0 (node_view c.entry.result.now) c.self.invariant
+    c.self.view_is c.requires c.entry.ensures.node in
+    c.enum_name.ensures ∙ enum_name_tree c.args.self.now c.args.t.0 c.args.number n
+    (node_view c.entry.result.now) e

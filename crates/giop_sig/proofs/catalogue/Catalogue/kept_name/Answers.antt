@@ -13,7 +13,7 @@ pub returns-clause-tree : goal.returns-clause-tree
 returns-clause-tree c =
     let e = entered _ c.args.self.now c.args.t.0 (node_view c.entry.result.now) c.self.invariant
     c.self.view_is c.requires.known c.entry.ensures.node in
-    name_tree c.args.self.now c.args.t.0 c.args.place (node_view c.entry.result.now)
+    name_tree c.args.self.now c.args.t.0 c.args.place 24 (node_view c.entry.result.now)
     c.part_name.result.now e c.requires.place c.part_name.ensures
 
 pub returns-clause-short : goal.returns-clause-short
@@ -21,4 +21,11 @@ returns-clause-short c =
     let e = entered _ c.args.self.now c.args.t.0 (node_view c.entry.result.now) c.self.invariant
     c.self.view_is c.requires.known c.entry.ensures.node in
     name_within c.args.self.now c.args.t.0 c.args.place (node_view c.entry.result.now)
+    c.part_name.result.now e c.requires.place c.part_name.ensures
+
+pub returns-clause-rooms : goal.returns-clause-rooms
+returns-clause-rooms c = λ n.
+    let e = entered _ c.args.self.now c.args.t.0 (node_view c.entry.result.now) c.self.invariant
+    c.self.view_is c.requires.known c.entry.ensures.node in
+    name_tree c.args.self.now c.args.t.0 c.args.place n (node_view c.entry.result.now)
     c.part_name.result.now e c.requires.place c.part_name.ensures

@@ -6,7 +6,7 @@ pub returns-clause-tree : goal.returns-clause-tree
 returns-clause-tree c =
     let e = entered _ c.args.self.now c.args.t.0 (node_view c.entry.result.now) c.self.invariant
     c.self.view_is c.requires c.entry.ensures.node in
-    select_tree c.args.self.now c.args.t.0 (node_view c.entry.result.now) c.args.number
+    select_tree c.args.self.now c.args.t.0 24 (node_view c.entry.result.now) c.args.number
     c.select.result e c.select.ensures
 
 pub returns-clause-place : goal.returns-clause-place
@@ -14,4 +14,11 @@ returns-clause-place c =
     let e = entered _ c.args.self.now c.args.t.0 (node_view c.entry.result.now) c.self.invariant
     c.self.view_is c.requires c.entry.ensures.node in
     select_place c.args.self.now c.args.t.0 (node_view c.entry.result.now) c.args.number
+    c.select.result e c.select.ensures
+
+pub returns-clause-rooms : goal.returns-clause-rooms
+returns-clause-rooms c = λ m.
+    let e = entered _ c.args.self.now c.args.t.0 (node_view c.entry.result.now) c.self.invariant
+    c.self.view_is c.requires c.entry.ensures.node in
+    select_tree c.args.self.now c.args.t.0 m (node_view c.entry.result.now) c.args.number
     c.select.result e c.select.ensures

@@ -7,13 +7,13 @@ pub returns-clause-tree : goal.returns-clause-tree
 returns-clause-tree c =
     let e = entered _ c.args.self.now c.args.t.0 (node_view c.entry.result.now) c.self.invariant
     c.self.view_is c.requires c.entry.ensures.node in
-    c.shape.ensures ∙ shape_entered c.args.self.now c.args.t.0 (node_view c.entry.result.now) e
+    c.shape.ensures ∙ shape_entered c.args.self.now c.args.t.0 24 (node_view c.entry.result.now) e
 
 pub returns-clause-shape : goal.returns-clause-shape
 returns-clause-shape c =
     let e = entered _ c.args.self.now c.args.t.0 (node_view c.entry.result.now) c.self.invariant
     c.self.view_is c.requires c.entry.ensures.node in
-    has_shape_entered c.args.self.now c.args.t.0 (node_view c.entry.result.now) c.shape.result e
+    has_shape_entered c.args.self.now c.args.t.0 24 (node_view c.entry.result.now) c.shape.result e
     c.shape.ensures
 
 pub returns-clause-root : goal.returns-clause-root
@@ -21,3 +21,16 @@ returns-clause-root c =
     let e = entered _ c.args.self.now c.args.t.0 (node_view c.entry.result.now) c.self.invariant
     c.self.view_is c.requires c.entry.ensures.node in
     root_entered c.args.self.now c.args.t.0 (node_view c.entry.result.now) e
+
+pub returns-clause-rooms : goal.returns-clause-rooms
+returns-clause-rooms c = λ n.
+    let e = entered _ c.args.self.now c.args.t.0 (node_view c.entry.result.now) c.self.invariant
+    c.self.view_is c.requires c.entry.ensures.node in
+    c.shape.ensures ∙ shape_entered c.args.self.now c.args.t.0 n (node_view c.entry.result.now) e
+
+pub returns-clause-shapes : goal.returns-clause-shapes
+returns-clause-shapes c = λ n.
+    let e = entered _ c.args.self.now c.args.t.0 (node_view c.entry.result.now) c.self.invariant
+    c.self.view_is c.requires c.entry.ensures.node in
+    has_shape_entered c.args.self.now c.args.t.0 n (node_view c.entry.result.now) c.shape.result e
+    c.shape.ensures

@@ -1,5 +1,5 @@
 use Rattle.giop_sig.specs.Views.{node_view}
-use Rattle.giop_sig.proofs.Tables.{entered, union_entered, switch_below, switch_tree}
+use Rattle.giop_sig.proofs.Tables.{entered, union_entered, switch_below, switch_room}
 use Rattle.giop_sig.proofs.catalogue.Catalogue.switch_type.Goals as goal
 
 pub switch_type-requires : goal.switch_type-requires
@@ -19,5 +19,13 @@ pub returns-clause-tree : goal.returns-clause-tree
 returns-clause-tree c =
     let e = entered _ c.args.self.now c.args.t.0 (node_view c.entry.result.now) c.self.invariant
     c.self.view_is c.requires.known c.entry.ensures.node in
-    switch_tree c.args.self.now c.args.t.0 c.switch_type.result.0 (node_view c.entry.result.now) e
+    switch_room c.args.self.now c.args.t.0 c.switch_type.result.0 24 23
+    (node_view c.entry.result.now) e
     c.requires.union c.switch_type.ensures
+
+pub returns-clause-rooms : goal.returns-clause-rooms
+returns-clause-rooms c = λ m n.
+    let e = entered _ c.args.self.now c.args.t.0 (node_view c.entry.result.now) c.self.invariant
+    c.self.view_is c.requires.known c.entry.ensures.node in
+    switch_room c.args.self.now c.args.t.0 c.switch_type.result.0 m n
+    (node_view c.entry.result.now) e c.requires.union c.switch_type.ensures

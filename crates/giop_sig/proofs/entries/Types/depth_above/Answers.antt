@@ -1,6 +1,5 @@
 use Rattle.std.proofs.Common.{◌+◌, sym, ap, ◌∙◌, arith}
-use Rattle.giop_sig.specs.Types.{depth}
-use Rattle.giop_sig.specs.Trees.{type_in}
+use Rattle.giop_sig.specs.Trees.{depth_in}
 use Rattle.giop_sig.specs.Views.{node_view}
 use Rattle.giop_sig.proofs.Depths.{depth_at_shape}
 use Rattle.giop_sig.proofs.entries.Types.depth_above.Goals as goal
@@ -34,19 +33,19 @@ returns-in-Union c =
 pub returns-in-Sequence : goal.returns-in-Sequence
 returns-in-Sequence c =
     ap (λ n. 1 + n) (c.depth_at.ensures.depth
-    ∙ ap (λ i. depth (type_in c.args.self.now i)) c.part.ensures)
+    ∙ ap (depth_in c.args.self.now) c.part.ensures)
     ∙ sym (depth_at_shape c.args.self.now (node_view c.args.entry.now) _ c.in-Sequence.ensures)
 
 pub returns-in-Array : goal.returns-in-Array
 returns-in-Array c =
     ap (λ n. 1 + n) (c.depth_at-in-Array.ensures.depth
-    ∙ ap (λ i. depth (type_in c.args.self.now i)) c.part-in-Array.ensures)
+    ∙ ap (depth_in c.args.self.now) c.part-in-Array.ensures)
     ∙ sym (depth_at_shape c.args.self.now (node_view c.args.entry.now) _ c.in-Array.ensures)
 
 pub returns-in-Encapsulation : goal.returns-in-Encapsulation
 returns-in-Encapsulation c =
     ap (λ n. 1 + n) (c.depth_at-in-Encapsulation.ensures.depth
-    ∙ ap (λ i. depth (type_in c.args.self.now i)) c.part-in-Encapsulation.ensures)
+    ∙ ap (depth_in c.args.self.now) c.part-in-Encapsulation.ensures)
     ∙ sym (depth_at_shape c.args.self.now (node_view c.args.entry.now) _ c.in-Encapsulation.ensures)
 
 pub returns-in-Tagged : goal.returns-in-Tagged
