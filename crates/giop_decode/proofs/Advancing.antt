@@ -154,7 +154,7 @@ lines_turned_at : (C : Table) (coding : Coding) (path : List PathSegment) (frame
     (T : Ty) (transition : Transition) (carry piece : List ℕ) (lines : List Line) (at : ℕ) →
     AreKnown C frames → IsAllowed transition →
     lines_of (around coding path (open_parts C at frames)
-    (after_transition C T transition carry piece lines at)) ≡ lines
+    (after_transition T transition carry piece lines at)) ≡ lines
 lines_turned_at C coding path frames T (transitions.Refused kind) carry piece lines at k rule =
     search (arith, around-fault)
 lines_turned_at C coding path frames T (transitions.More leaf) carry piece lines at k rule =
@@ -214,6 +214,6 @@ pub lines_after_transition : (C : Table) (here : ℕ) (coding : Coding) (path : 
     (frames : List Frame) (T : Ty) (transition : Transition) (carry piece : List ℕ)
     (lines : List Line) → HaveOctetsLeft frames → AreKnown C frames → IsAllowed transition →
     lines_of (rooted none_left (around coding path (open_parts C here frames)
-    (after_transition C T transition carry piece lines (here + 1)))) ≡ lines
+    (after_transition T transition carry piece lines (here + 1)))) ≡ lines
 lines_after_transition C here coding path frames T transition carry piece lines ahead known rule =
     search (arith, rooted_lines, places_ticked, lines_turned_at, known_ticked)

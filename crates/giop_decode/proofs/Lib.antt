@@ -20,6 +20,8 @@ mod Going
 mod Surrounding
 mod Counting
 mod TransitionLaws
+mod Rooms
+mod StepLaws
 mod PieceLaws
 mod Segments
 mod FieldsRead

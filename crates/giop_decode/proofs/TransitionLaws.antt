@@ -28,7 +28,6 @@ use Rattle.giop_decode.proofs.Around.{block_none, first_part, read_none}
 use Rattle.giop_sig.specs.Types.{Cases, Scalar, Plain, Enum, Marked, Led, Ty, Single, Text, Octets, Struct, Union, Sequence, Array, part_of, switch_of, shape_in, select_in, interpreted_in, IsUnion, HasMember, Tag, tag_of, Encapsulation}
 use Rattle.giop_sig.specs.declared.types.Selected.TheVariants.{Case, Nothing, Refused}
 use Rattle.giop_sig.specs.Fits.{IsFit}
-use Rattle.giop_sig.specs.Table.{Table}
 
 -- a content of which something is to come, before its first octet
 pub content_none : (path : List PathSegment) (U : Ty) (total full offset at : ℕ) →
@@ -109,9 +108,9 @@ number_enum T count names n is below within =
       within = within;
     }
 
-module _ (C : Table) (coding : Coding) (path : List PathSegment) (T : Ty) (at : ℕ) where
+module _ (coding : Coding) (path : List PathSegment) (T : Ty) (at : ℕ) where
   pub turns_number : (number : Taken) (is : IsNumberOf T number) →
-      TransitionGives C T transitions.Ended (outputs.Number number) [] [] path at
+      TransitionGives T transitions.Ended (outputs.Number number) [] [] path at
       (after coding path T is.n at [])
   turns_number number is = record {
     lines = line at path (ReadResult.Number is.scalar is.n) ∷ [];
@@ -160,10 +159,10 @@ member_case (Single (Marked mark)) i u h = absurd u
 member_case (Led k F rest) i u h = absurd u
 
 -- a union after a discriminator that is a value
-module _ (C : Table) (coding : Coding) (path : List PathSegment) (at : ℕ) (number : Taken) where
+module _ (coding : Coding) (path : List PathSegment) (at : ℕ) (number : Taken) where
   pub case_transition : (d : ℕ) (T : Ty) (i : ℕ) (is : IsNumberOf (switch_of T) number) →
       IsFit d T → IsUnion (shape_in T) → select_in T is.n ≡ Case i → HasCase T i →
-      TransitionGives C T (transitions.Selected i) (outputs.Switch number) [] [] path at
+      TransitionGives T (transitions.Selected i) (outputs.Switch number) [] [] path at
       (after coding path T is.n at [])
   unfolding IsFit
   case_transition zero T i is fit u e h = absurd fit
@@ -198,7 +197,7 @@ module _ (C : Table) (coding : Coding) (path : List PathSegment) (at : ℕ) (num
 
   pub turns_nothing : (T : Ty) (is : IsNumberOf (switch_of T) number) → IsUnion (shape_in T) →
       select_in T is.n ≡ Nothing →
-      TransitionGives C T transitions.Ended (outputs.Switch number) [] [] path at
+      TransitionGives T transitions.Ended (outputs.Switch number) [] [] path at
       (after coding path T is.n at [])
   turns_nothing (Union choice scalar select names cases) is u e =
       let s : scalar ≡ is.scalar = same_scalar scalar is.scalar is.is in
@@ -223,7 +222,7 @@ module _ (C : Table) (coding : Coding) (path : List PathSegment) (at : ℕ) (num
 
   pub turns_refused : (T : Ty) (is : IsNumberOf (switch_of T) number) → IsUnion (shape_in T) →
       select_in T is.n ≡ Refused →
-      TransitionGives C T (transitions.Refused kinds.Disposition) outputs.Nothing [] [] path at
+      TransitionGives T (transitions.Refused kinds.Disposition) outputs.Nothing [] [] path at
       (after coding path T is.n at [])
   turns_refused (Union choice scalar select names cases) is u e = search (arith, same_scalar)
   turns_refused (Struct n names parts) is u e = absurd u
@@ -249,7 +248,7 @@ no_order zero h k = absurd (h refl)
 no_order (suc zero) h k = absurd (k refl)
 no_order (suc (suc b)) h k = refl
 
-module _ (C : Table) (coding : Coding) (path : List PathSegment) (at : ℕ) where
+module _ (coding : Coding) (path : List PathSegment) (at : ℕ) where
   pub size_none : (T : Ty) → IsEncapsulation T →
       after coding path T 0 at [] ≡ Fault (line at path (Size 0) ∷ []) at kinds.EncapShort T
   size_none (Encapsulation T) h = refl
@@ -261,7 +260,7 @@ module _ (C : Table) (coding : Coding) (path : List PathSegment) (at : ℕ) wher
   size_some (Encapsulation T) left h = search (arith, block_none, lit<)
   size_some _ left h = absurd h
 
-module _ (C : Table) (coding : Coding) (path : List PathSegment) (T : Ty) (count here b : ℕ) where
+module _ (coding : Coding) (path : List PathSegment) (T : Ty) (count here b : ℕ) where
   pub order_bad : order_of b ≡ None → leaf_step coding path (Opening T (count - 1)) here b
       ≡ Fault [] (here + 1) kinds.EncapOrder T
   order_bad e = search (arith, block_step_got)
@@ -269,7 +268,7 @@ module _ (C : Table) (coding : Coding) (path : List PathSegment) (T : Ty) (count
   -- what follows the octet that gives a byte order
   pub order_transition : (d : ℕ) (order : Order) → IsFit d T → IsEncapsulation T →
       order_of b ≡ Some order →
-      TransitionGives C T (transitions.Entered order count) (outputs.Ordered order) [] [] path
+      TransitionGives T (transitions.Entered order count) (outputs.Ordered order) [] [] path
       (here + 1) (leaf_step coding path (Opening T (count - 1)) here b)
   unfolding IsFit
   order_transition zero order fit kind e = absurd fit

@@ -30,7 +30,7 @@ use Rattle.giop_decode.proofs.NameBuffer.{name_kept, none_either}
 use Rattle.giop_decode.specs.NameBuffer.{FitsName, string_offset}
 use Rattle.giop_decode.specs.declared.notes.Notes.{Notes}
 use Rattle.giop_decode.specs.NotingSteps.{transition_offset, StringGoesOn, OutputFitsString, clears_name, transition_in_string}
-use Rattle.giop_decode.specs.Runs.{Adds, AllGathered, IsHeldOf, IsParted, IsStep, IsStepOf, TakenTogether}
+use Rattle.giop_decode.specs.Runs.{Adds, AllGathered, IsHeldOf, IsParted, IsStep, IsStepBy, IsStepOf, TakenTogether}
 use Rattle.giop_decode.specs.ReadResult.{plain, line, Coding, Done, Line, Opening, PathSegment, Piece, lines_of, with_front}
 use Rattle.giop_decode.specs.ReadingSteps.{after, coding_in, content_step, leading_width, leaf_step, path_in, IsRule}
 use Rattle.giop_decode.specs.Transitions.{HasOutput, HaveOctetsLeft, IsOutput, IsWholeLong, IsWholeNumber, NumberStands, TransitionGives, TransitionFits, after_transition, block_of, coding_by, leaf_type, open_parts, still_held, ticked, ticked_by, IsClean}
@@ -46,7 +46,7 @@ use Rattle.giop_decode.specs.Passes.{Gives, IsBehind}
 use Rattle.giop_decode.proofs.PartialBlocks.{held_in}
 use Rattle.giop_sig.specs.declared.types.TypeId.{TypeId}
 use Rattle.giop_sig.specs.Table.{Table, type_id}
-use Rattle.giop_sig.specs.Trees.{tree}
+use Rattle.giop_sig.specs.Trees.{tree, tree_at}
 use Rattle.giop_decode.proofs.Runs.{take_more}
 use Rattle.giop_decode.proofs.TransitionLaws.{number_prim, turns_number}
 use Rattle.giop_sig.specs.Types.{Plain, Single, Text, Ty}
@@ -86,7 +86,7 @@ module _ (C : Table) (d : Decoder) (of : TypeId) (octets : List ℕ) (count : �
       OutputFitsString (tree C of.0) false s.transition s.output →
       ((n : ℕ) → StringGoesOn (tree C of.0) None s.transition s.output n) →
       ((coding : Coding) (path : List PathSegment) (here : ℕ) →
-      TransitionGives C (tree C of.0) s.transition s.output kept [] path here
+      TransitionGives (tree C of.0) s.transition s.output kept [] path here
       (after_leading_number (tree C of.0) (λ xs at rest.
       after coding path (tree C of.0) (num order xs) at rest)
       (block_of whole all here))) →
@@ -127,15 +127,27 @@ module _ (C : Table) (d : Decoder) (of : TypeId) (octets : List ℕ) (count : �
       }
 
   -- its last octet has come, and nothing is kept of it
+  comes_here : (order : Order) (at : ℕ) → coding_by d.order d.at d.outer.items ≡ (order, at) →
+      (kept all : List ℕ) (s : Step) → kept ≡ [] →
+      NumberStands (leading_width (tree C of.0)) at d.carry octets count true all →
+      HaveOctetsLeft (ticked_by (length octets - 1) d.outer.items) →
+      IsStepBy (tree C of.0) of.0 s →
+      ((coding : Coding) (path : List PathSegment) (here : ℕ) →
+      TransitionGives (tree C of.0) s.transition s.output [] [] path here
+      (after coding path (tree C of.0) (num order all) here [])) →
+      TakenTogether C d octets of count s [] kept d.piece.items
+  comes_here order at coded kept all s empty stands ahead fits gives =
+      of_number order at coded true kept all s stands ahead (rw empty fits.transition_fits)
+      fits.has_output fits.output_fits_string fits.string_goes_on
+      (λ coding path here. rw empty (gives coding path here))
+
   pub comes_head : (order : Order) (at : ℕ) → coding_by d.order d.at d.outer.items ≡ (order, at) →
       (kept all : List ℕ) (s : Step) → kept ≡ [] →
       NumberStands (leading_width (tree C of.0)) at d.carry octets count true all →
       HaveOctetsLeft (ticked_by (length octets - 1) d.outer.items) → IsStep C of.0 s →
       IsStepOf C of.0 (num order all) s → TakenTogether C d octets of count s [] kept d.piece.items
   comes_head order at coded kept all s empty stands ahead fits gives =
-      of_number order at coded true kept all s stands ahead (rw empty fits.transition_fits)
-      fits.has_output fits.output_fits_string fits.string_goes_on
-      (λ coding path here. rw empty (gives coding path here))
+      comes_here order at coded kept all s empty stands ahead (fits 23) (gives 23)
 
   -- a number of which nothing was held
   pub comes_number : (order : Order) (at : ℕ) → coding_by d.order d.at d.outer.items ≡ (order, at) →
@@ -147,7 +159,7 @@ module _ (C : Table) (d : Decoder) (of : TypeId) (octets : List ℕ) (count : �
             outputs.Number number;
       }) [] d.carry d.piece.items
   comes_number order at coded number empty h ahead =
-      comes_head order at coded d.carry h.all (record {
+      comes_here order at coded d.carry h.all (record {
         transition = transitions.Ended;
         output =
             outputs.Number number;
@@ -157,9 +169,9 @@ module _ (C : Table) (d : Decoder) (of : TypeId) (octets : List ℕ) (count : �
         output_fits_string = (refl, refl);
         string_goes_on = λ n. (refl, refl);
       })
-      (λ coding path at. subst (λ n. TransitionGives C (tree C of.0) transitions.Ended
+      (λ coding path at. subst (λ n. TransitionGives (tree C of.0) transitions.Ended
       (outputs.Number number) [] [] path at (after coding path (tree C of.0) n at []))
-      h.spelled (turns_number C coding path (tree C of.0) at number h.is))
+      h.spelled (turns_number coding path (tree C of.0) at number h.is))
 
   -- four octets of which none was held
   pub comes_long : (order : Order) (at : ℕ) → coding_by d.order d.at d.outer.items ≡ (order, at) →
@@ -188,9 +200,10 @@ module _ (C : Table) (d : Decoder) (of : TypeId) (octets : List ℕ) (count : �
 
 pub comes_order : (C : Table) (d : Decoder) (of : TypeId) (n : ℕ) (octets : List ℕ) (s : Step)
     (f : Fits C d) → d.leaf ≡ Some (innermost.Opening of n) → 0 < length octets →
-    IsStep C of.0 s → ((coding : Coding) (path : List PathSegment) (here : ℕ) →
-    TransitionGives C (tree C of.0) s.transition s.output [] [] path (here + 1)
-    (leaf_step coding path (Opening (tree C of.0) (n - 1)) here (get_or octets 0 0))) →
+    IsStep C of.0 s → ((room : ℕ) (coding : Coding) (path : List PathSegment) (here : ℕ) →
+    TransitionGives (tree_at C (suc room) of.0) s.transition s.output [] [] path (here + 1)
+    (leaf_step coding path (Opening (tree_at C (suc room) of.0) (n - 1)) here
+    (get_or octets 0 0))) →
     TakenTogether C d octets of 1 s [] d.carry d.piece.items
 comes_order C d of n octets s f e some fits transitions =
     let leaf = innermost.Opening of n in
@@ -210,14 +223,15 @@ comes_order C d of n octets s f e some fits transitions =
       carry = d.carry;
       piece = d.piece.items;
       adds = (refl, refl, refl);
-      transition_fits = rw (clean.0, kept) fits.transition_fits;
-      has_output = fits.has_output;
-      output_fits_string = fits.output_fits_string;
-      string_goes_on = fits.string_goes_on (length (d.piece.items ++ []));
-      lines = λ coding path here. (transitions coding path here).lines;
+      transition_fits = rw (clean.0, kept) (fits 23).transition_fits;
+      has_output = (fits 23).has_output;
+      output_fits_string = (fits 23).output_fits_string;
+      string_goes_on = (fits 23).string_goes_on (length (d.piece.items ++ []));
+      lines = λ coding path here. (transitions 23 coding path here).lines;
       comes = λ coding path here ordered there.
-          rw (clean.0, kept) (rw (still_nothing s.output) at (transitions coding path here).comes);
-      says = λ coding path here. rw clean.1 (transitions coding path here).says;
+          rw (clean.0, kept)
+          (rw (still_nothing s.output) at (transitions 23 coding path here).comes);
+      says = λ coding path here. rw clean.1 (transitions 23 coding path here).says;
     }
 
 -- ---- the rest of a piece ahead
@@ -279,7 +293,7 @@ module _ (C : Table) (d : Decoder) (of : TypeId) (total offset : ℕ) (octets : 
       (lines : List PathSegment → ℕ → List Line) →
       ((path : List PathSegment) (here : ℕ) →
       content_step T path total offset here held_before last_octet
-      ≡ after_transition C T s.transition d.carry (still_held s.output kept) (lines path here)
+      ≡ after_transition T s.transition d.carry (still_held s.output kept) (lines path here)
       (here + 1)) →
       ((path : List PathSegment) (here : ℕ) →
       IsOutput T path (here + 1) s.output (kept ++ rest) (lines path here)) →

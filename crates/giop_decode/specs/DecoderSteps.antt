@@ -99,7 +99,7 @@ pub record IsAround (C : Table) (d : Decoder) (of : ℕ) : Type 0 where
 abbrev pub emitted : Table → Decoder → ℕ → Transition → Output → List Line → ℕ → Read
 emitted C d of transition output lines here =
     rooted none_left (around (plain d.order) [] (open_parts C here d.outer.items)
-    (after_transition C (tree C of) transition d.carry (still_held output d.piece.items) lines
+    (after_transition (tree C of) transition d.carry (still_held output d.piece.items) lines
     (here + 1)))
 
 -- the decoder after that transition: the innermost part that comes next, and the parts around it

@@ -1,5 +1,5 @@
 -- What a decoder that reads a list does with more octets, taken as a run (state).
-use Rattle.std.specs.Prelude.{◌≡◌, ℕ, ◌+◌, ◌-◌, ◌%◌, ◌<◌, ◌≤◌, false, List, [], ◌∷◌, ◌++◌, length, take, drop, get_or, Some, None, Result, IfOk, MatchResult}
+use Rattle.std.specs.Prelude.{◌≡◌, ℕ, suc, ◌+◌, ◌-◌, ◌%◌, ◌<◌, ◌≤◌, false, List, [], ◌∷◌, ◌++◌, length, take, drop, get_or, Some, None, Result, IfOk, MatchResult}
 use Rattle.giop_cdr.specs.declared.order.Order.{Order}
 use Rattle.giop_decode.specs.declared.decoder.Decoder.{Decoder}
 use Rattle.giop_decode.specs.declared.progress.Progress.{Progress}
@@ -13,7 +13,7 @@ use Rattle.giop_print.specs.Output.{OutLog, Wrote, WroteFront}
 use Rattle.giop_print.specs.declared.path.Root.{Root}
 use Rattle.giop_sig.specs.Types.{Ty}
 use Rattle.giop_sig.specs.Table.{Table}
-use Rattle.giop_sig.specs.Trees.{tree}
+use Rattle.giop_sig.specs.Trees.{tree, tree_at}
 use Rattle.giop_sig.specs.declared.types.TypeId.{TypeId}
 use Rattle.giop_decode.specs.declared.leaf.Leaf.{Leaf as Innermost}
 use Rattle.giop_decode.specs.declared.leaf.Leaf.TheVariants as innermost
@@ -112,18 +112,22 @@ AllGathered C d new octets = (T : Ty) (order : Order) (at message : ℕ) (root :
 
 -- A step that such octets of a part of this type may do, of which nothing is held: what it leads to
 -- and puts out are of the type, and it goes into no string but by its length.
-pub record IsStep (C : Table) (of : ℕ) (step : Step) : Type 0 where
-  pub transition_fits : TransitionFits (tree C of) of step.transition [] []
-  pub has_output : HasOutput (tree C of) step.output
-  pub output_fits_string : OutputFitsString (tree C of) false step.transition step.output
-  pub string_goes_on : (n : ℕ) → StringGoesOn (tree C of) None step.transition step.output n
+pub record IsStepBy (T : Ty) (of : ℕ) (step : Step) : Type 0 where
+  pub transition_fits : TransitionFits T of step.transition [] []
+  pub has_output : HasOutput T step.output
+  pub output_fits_string : OutputFitsString T false step.transition step.output
+  pub string_goes_on : (n : ℕ) → StringGoesOn T None step.transition step.output n
 
--- the step that this number does
+-- the same in each room
+abbrev pub IsStep : Table → ℕ → Step → Type 0
+IsStep C of step = (room : ℕ) → IsStepBy (tree_at C (suc room) of) of step
+
+-- the step that this number does, in each room
 abbrev pub IsStepOf : Table → ℕ → ℕ → Step → Type 0
 IsStepOf C of n step =
-    (coding : Coding) (path : List PathSegment) (at : ℕ) →
-    TransitionGives C (tree C of) step.transition step.output [] [] path at
-    (after coding path (tree C of) n at [])
+    (room : ℕ) (coding : Coding) (path : List PathSegment) (at : ℕ) →
+    TransitionGives (tree_at C (suc room) of) step.transition step.output [] [] path at
+    (after coding path (tree_at C (suc room) of) n at [])
 
 -- ---- octets that are taken together
 
@@ -170,7 +174,7 @@ pub record TakenTogether (C : Table) (d : Decoder) (octets : List ℕ) (of : Typ
       coding.order ≡ (coding_by d.order d.at d.outer.items).0 →
       (here - coding.origin) % 8 ≡ ((coding_by d.order d.at d.outer.items).1 + (count - 1)) % 8 →
       leaf_step coding path (leaf_of C leaf carry piece) here (get_or octets (count - 1) 0)
-      ≡ after_transition C (tree C of.0) step.transition kept_carry
+      ≡ after_transition (tree C of.0) step.transition kept_carry
       (still_held step.output kept_piece)
       (lines coding path here) (here + 1)
   pub says : (coding : Coding) (path : List PathSegment) (here : ℕ) →

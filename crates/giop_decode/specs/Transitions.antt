@@ -104,17 +104,21 @@ IsWhole T count = ⊥
 
 -- ---- the innermost part
 
--- the leaf that an innermost part stands for, with the octets that are held
-abbrev pub leaf_of : Table → Innermost → List ℕ → List ℕ → Leaf
-leaf_of C (innermost.Number of) carry piece = LeadingNumber (tree C of.0) carry
-leaf_of C (innermost.Opening of count) carry piece = Opening (tree C of.0) (count - 1)
-leaf_of C (innermost.Content of total offset) carry piece = Content (tree C of.0) total offset piece
+-- the leaf that an innermost part of a type stands for, with the octets that are held
+abbrev pub leaf_by : Ty → Innermost → List ℕ → List ℕ → Leaf
+leaf_by T (innermost.Number of) carry piece = LeadingNumber T carry
+leaf_by T (innermost.Opening of count) carry piece = Opening T (count - 1)
+leaf_by T (innermost.Content of total offset) carry piece = Content T total offset piece
 
 -- the number of the type of an innermost part
 abbrev pub leaf_type : Innermost → ℕ
 leaf_type (innermost.Number of) = of.0
 leaf_type (innermost.Opening of left) = of.0
 leaf_type (innermost.Content of total offset) = of.0
+
+-- the same, by the table
+abbrev pub leaf_of : Table → Innermost → List ℕ → List ℕ → Leaf
+leaf_of C leaf carry piece = leaf_by (tree C (leaf_type leaf)) leaf carry piece
 
 -- what is held for neither a number nor a content is cleared
 abbrev pub IsClean : Innermost → List ℕ → List ℕ → Type 0
@@ -197,18 +201,18 @@ gone_on C at outer (Some leaf) = gone_to C [] at outer (leaf_of C leaf [] [])
 -- ---- transitions
 
 -- the reading of an innermost part after a transition, with these lines at this offset
-abbrev pub after_transition : Table → Ty → Transition → List ℕ → List ℕ → List Line → ℕ → Read
-after_transition C T (transitions.More leaf) carry piece lines at =
-    Short lines at [] (leaf_of C leaf carry piece)
-after_transition C T transitions.Ended carry piece lines at = Done lines at []
-after_transition C T (transitions.Opened count) carry piece lines at =
+abbrev pub after_transition : Ty → Transition → List ℕ → List ℕ → List Line → ℕ → Read
+after_transition T (transitions.More leaf) carry piece lines at =
+    Short lines at [] (leaf_by T leaf carry piece)
+after_transition T transitions.Ended carry piece lines at = Done lines at []
+after_transition T (transitions.Opened count) carry piece lines at =
     Short lines at (Part T 0 count ∷ start_outer (part_of T 0)) (start_leaf (part_of T 0))
-after_transition C T (transitions.Selected i) carry piece lines at =
+after_transition T (transitions.Selected i) carry piece lines at =
     Short lines at (Member T i ∷ start_outer (part_of T i)) (start_leaf (part_of T i))
-after_transition C T (transitions.Entered order count) carry piece lines at =
+after_transition T (transitions.Entered order count) carry piece lines at =
     enclosed [] T (coded order (at - 1)) (at + (count - 1)) none_left
     (Short lines at (start_outer (part_of T 0)) (start_leaf (part_of T 0))) []
-after_transition C T (transitions.Refused kind) carry piece lines at = Fault lines at kind T
+after_transition T (transitions.Refused kind) carry piece lines at = Fault lines at kind T
 
 -- parts follow only where there are some, and an innermost part that goes on is of the same type
 abbrev pub TransitionFits : Ty → ℕ → Transition → List ℕ → List ℕ → Type 0
@@ -266,11 +270,11 @@ HasOutput T output = Unit {0}
 
 -- the reading is that after this transition, with the line of this output, where these octets are
 -- held until it is written
-pub record TransitionGives (C : Table) (T : Ty) (transition : Transition) (output : Output)
+pub record TransitionGives (T : Ty) (transition : Transition) (output : Output)
     (carry piece : List ℕ)
     (path : List PathSegment) (at : ℕ) (read : Read) : Type 0 where
   pub lines : List Line
-  pub comes : read ≡ after_transition C T transition carry (still_held output piece) lines at
+  pub comes : read ≡ after_transition T transition carry (still_held output piece) lines at
   pub says : IsOutput T path at output piece lines
 
 -- too great, where there is a bound

@@ -232,7 +232,7 @@ impl Decoder {
         ensures advances { (coding : Coding) (path : List PathSegment) (at : ℕ)
             (lines : List Line) →
             around coding path (open_parts catalogue.now at self.old.outer.items)
-            (after_transition catalogue.now (tree catalogue.now of.0) transition
+            (after_transition (tree catalogue.now of.0) transition
             self.old.carry self.old.piece.items lines at)
             ≡ transition_result catalogue.now (tree catalogue.now of.0)
             self.new transition lines at }

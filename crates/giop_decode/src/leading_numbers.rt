@@ -181,6 +181,7 @@ fn take_selected(catalogue: &Catalogue, of: TypeId, number: Number) -> Step
     ensures transitions { (is : IsNumberOf (switch_of (tree catalogue.now of.0)) number) →
         IsStepOf catalogue.now of.0 is.n result }
 {
+    catalogue.laws();
     match catalogue.select(of, number) {
         Selected::Case(i) => Step {
             transition: Transition::Selected(i),
@@ -257,6 +258,7 @@ pub(crate) fn take_count(catalogue: &Catalogue, of: TypeId, bound: Option<u32>, 
     ensures fits { IsStep catalogue.now of.0 result }
     ensures transitions { IsStepOf catalogue.now of.0 n result }
 {
+    catalogue.laws();
     if exceeds(bound, n) {
         return refused(Kind::Bound);
     }

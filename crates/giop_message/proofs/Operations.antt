@@ -1,11 +1,11 @@
 -- Where a line ends a string, as that of an operation does, no other string has begun.
 use Rattle.std.proofs.Common.{◌≡◌, ℕ, zero, suc, ◌+◌, ◌-◌, ◌⊎◌, inl, inr, false, List, [], ◌∷◌, ◌++◌, refl, sym, subst, ◌∙◌, arith, lit<}
 use Rattle.std.specs.List.{AllByRecursion as Each}
-use Rattle.giop_sig.specs.Types.{Encapsulation, Ty, Single, Struct, Union, Array, part_of, Led, Hearing, Told, Untold, Sequel, Then, sequel}
+use Rattle.giop_sig.specs.Types.{Encapsulation, Ty, Single, Struct, Union, Array, part_of, Led, Hearing, Told, Untold, Sequel, Then}
 use Rattle.giop_decode.specs.declared.progress.Kind.TheVariants as kinds
 use Rattle.giop_decode.specs.ReadResult.{Coding, PathSegment, Name, Index, Held, OpenPart, Part, Member, Inside, Leaf, Read, Done, Short, Fault, followed, within, Telling}
 use Rattle.giop_decode.specs.Pieces.{content, full_pieces}
-use Rattle.giop_decode.specs.Reading.{read, parts_from, enclosed, rest_of, following, led, led_segment, none_left, rooted, told_after}
+use Rattle.giop_decode.specs.Reading.{read, parts_from, enclosed, rest_of, following, led, led_segment, none_left, rooted}
 use Rattle.giop_decode.specs.ReadingSteps.{IsEmptyResult, IsOctetResult, part_at, segment_of, step, after_told, hearing_in}
 use Rattle.giop_decode.specs.Fits.{FitsIn, IsEncapsulation}
 use Rattle.giop_decode.specs.Noted.{ends_in_string}

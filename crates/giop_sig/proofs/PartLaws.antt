@@ -1,13 +1,18 @@
--- What other crates may use of a table's types: their parts, their depth, and that each fits at the
--- root of a message.
-use Rattle.std.proofs.Common.{arith, ◌≡◌, ℕ, ◌<◌, ◌≤◌, length}
-use Rattle.giop_sig.specs.Fits.{IsRoot}
+-- What other crates may use of a table's types: their parts, their depth, that each fits at the
+-- root of a message, and what is the same in each room.
+use Rattle.std.proofs.Common.{arith, ◌≡◌, ℕ, suc, ◌<◌, ◌≤◌, length, refl, sym, ap, subst, ◌∙◌}
+use Rattle.std.proofs.lemmas.Bool.{cases_lt}
+use Rattle.giop_sig.specs.Fits.{IsFit, IsRoot}
 use Rattle.giop_sig.specs.HeaderTypes.{IsTable}
-use Rattle.giop_sig.specs.Table.{Table, node_at, part_number}
-use Rattle.giop_sig.specs.Trees.{tree, depth_of}
-use Rattle.giop_sig.specs.Types.{HasPlace, depth, part_of, shape_in}
+use Rattle.giop_sig.specs.Table.{Table, node_at, part_number, switch_at}
+use Rattle.giop_sig.specs.Trees.{tree, tree_at, depth_of}
+use Rattle.giop_sig.specs.Types.{Ty, HasPlace, HasShape, IsUnion, depth, part_of, shape_in, switch_of}
+use Rattle.giop_sig.specs.declared.types.Shape.{Shape}
+use Rattle.giop_sig.specs.declared.types.Shape.TheVariants as shapes
 use Rattle.giop_sig.proofs.Depths.{depth_tree, depth_within}
-use Rattle.giop_sig.proofs.Tables.{Entered, entered, part_below, part_tree, root_entered}
+use Rattle.giop_sig.proofs.Nodes.{has_shape}
+use Rattle.giop_sig.proofs.Solid.{fit_in_room}
+use Rattle.giop_sig.proofs.Tables.{Entered, entered, part_below, part_tree, root_entered, shape_at, switch_room}
 
 -- the part at a place has a smaller number, and is the tree's part
 pub record PartIs (t : Table) (id i part : ℕ) : Type 0 where
@@ -26,3 +31,44 @@ root_is t id laws known = search (arith, root_entered, at_number)
 
 pub depth_is : (t : Table) (id : ℕ) → id < length t.types → depth (tree t id) ≤ depth_of t.types
 depth_is t id known = omega (arith, depth_tree t id, depth_within t.types id known)
+
+-- ---- the same in each room
+
+pub shape_room : (t : Table) (a b id : ℕ) → shape_in (tree_at t a id) ≡ shape_in (tree_at t b id)
+shape_room t a b id = shape_at t a id ∙ sym (shape_at t b id)
+
+shape_is : (T : Ty) (s : Shape) → HasShape T s → s ≡ shape_in T
+shape_is T (shapes.Prim p) has = sym (ap shape_in has)
+shape_is T (shapes.Enumeration count) has = sym (ap shape_in has.1)
+shape_is T (shapes.Marked mark) has = sym (ap shape_in has)
+shape_is T shapes.Led has = sym (ap shape_in has.3)
+shape_is T (shapes.Text bound) has = sym (ap shape_in has)
+shape_is T (shapes.Octets bound) has = sym (ap shape_in has)
+shape_is T (shapes.Members count) has = sym (ap shape_in has.2)
+shape_is T (shapes.Union count) has = sym (ap shape_in has.4)
+shape_is T (shapes.Sequence bound) has = sym (ap shape_in has.1)
+shape_is T (shapes.Array count) has = sym (ap shape_in has.1)
+shape_is T shapes.Encapsulation has = sym (ap shape_in has.1)
+shape_is T shapes.Tagged has = sym (ap shape_in has.4)
+
+pub has_shape_room : (t : Table) (a b id : ℕ) (s : Shape) → HasShape (tree_at t a id) s
+    → HasShape (tree_at t b id) s
+has_shape_room t a b id s has =
+    subst (HasShape (tree_at t b id))
+    (sym (shape_is (tree_at t a id) s has ∙ shape_room t a b id)) (has_shape (tree_at t b id))
+
+-- a type that fits does so in each room
+pub fit_room : (t : Table) (id d room : ℕ) → IsTable t → IsFit d (tree t id)
+    → IsFit (suc (suc room)) (tree_at t room id)
+fit_room t id d room laws fit =
+    fit_in_room t id d room laws.types.placed fit (cases_lt id (length t.types))
+
+-- a discriminator takes no room
+pub switch_same : (t : Table) (a b id : ℕ) → IsTable t → id < length t.types
+    → IsUnion (shape_in (tree t id))
+    → switch_of (tree_at t (suc a) id) ≡ switch_of (tree_at t (suc b) id)
+switch_same t a b id laws known is =
+    let node = node_at t id in
+    let e = at_number t id laws known in
+    sym (switch_room t id (switch_at node) a a node e is refl)
+    ∙ switch_room t id (switch_at node) a b node e is refl

@@ -2,14 +2,16 @@
 -- is as great as its depth.
 use Rattle.std.proofs.Common.{◌≡◌, ℕ, zero, suc, ◌<◌, ◌≤◌, Bool, true, false, cond, List, [], ◌∷◌, length, Option, Some, None, refl, sym, subst, ◌⊎◌, inl, inr, arith}
 use Rattle.std.proofs.lemmas.List.Quantifiers.{position-Some}
+use Rattle.std.proofs.lemmas.List.{get_or_past}
 use Rattle.giop_cdr.specs.declared.number.Number.{Number}
+use Rattle.giop_cdr.specs.declared.prim.Primitive.TheVariants.{Octet}
 use Rattle.giop_sig.specs.declared.types.Selected.{Selected}
 use Rattle.giop_sig.specs.declared.types.Selected.TheVariants as selecteds
 use Rattle.giop_sig.specs.Types.{interpreted_by, Ty, HasMember, HasPlace, part_of}
 use Rattle.giop_sig.specs.Fits.{IsFit, IsRoot, IsEmptyStruct}
 use Rattle.giop_sig.specs.Table.{Node, Part, Table, node_at, shape_of, part_at, type_of, switch_at, selected, case_or, IsFormed, IsCaseBelow, TakesOctet}
 use Rattle.giop_sig.specs.Table as nodes
-use Rattle.giop_sig.specs.Trees.{grow, scalar_of, selected_by, tree_at, tree, depth_in, AreFormed, AreTypes}
+use Rattle.giop_sig.specs.Trees.{grow, octet_type, scalar_of, selected_by, tree_at, tree, depth_in, AreFormed, AreTypes}
 use Rattle.giop_sig.proofs.Nodes.{part_grown}
 use Rattle.giop_sig.proofs.Formed.{part_formed}
 use Rattle.giop_sig.proofs.Depths.{depth_within, part_shallower, some_depth}
@@ -88,6 +90,48 @@ fits t (suc room) i are lt takes le =
     let less = part_shallower t.types i k are lt has in
     subst (IsFit room) (part_grown (tree_at t room) node k has)
     (fits t room (type_of (part_at node k)) are (omega arith) is.takes (omega arith)))
+
+octet_fits : IsFit 1 octet_type
+unfolding IsFit
+octet_fits = tt
+
+-- a tree that ends where its room does fits too
+pub fit_each : (t : Table) (room i : ℕ) → AreFormed t.types → i < length t.types
+    → TakesOctet (node_at t i) → IsFit (suc (suc room)) (tree_at t room i)
+unfolding tree_at
+fit_each t zero i are lt takes =
+    grown_fit t.types i (node_at t i) (λ k. octet_type) 1 (are.formed i lt) takes
+    (λ k has. subst (IsFit 1) (part_grown (λ k. octet_type) (node_at t i) k has) octet_fits)
+fit_each t (suc room) i are lt takes =
+    let node = node_at t i in
+    grown_fit t.types i node (tree_at t room) (suc (suc room)) (are.formed i lt) takes
+    (λ k has. let is = part_formed t.types i node k (are.formed i lt) has in
+    let below = is.below in
+    subst (IsFit (suc (suc room))) (part_grown (tree_at t room) node k has)
+    (fit_each t room (type_of (part_at node k)) are (omega arith) is.takes))
+
+-- a type that fits takes some octet
+takes_fit : (f : ℕ → Ty) (node : Node) (d : ℕ) → IsFit d (grow f node) → TakesOctet node
+unfolding IsFit
+takes_fit f (nodes.members []) zero fit = absurd fit
+takes_fit f (nodes.members []) (suc d) fit = absurd (omega (arith, fit.0))
+takes_fit f _ d fit = tt
+
+-- what has no number is an octet
+past_fits : (t : Table) (room i : ℕ) → node_at t i ≡ nodes.prim Octet
+    → IsFit (suc (suc room)) (tree_at t room i)
+unfolding tree_at IsFit
+past_fits t zero i e = subst (λ node. IsFit 2 (grow (λ k. octet_type) node)) (sym e) tt
+past_fits t (suc room) i e =
+    subst (λ node. IsFit (suc (suc (suc room))) (grow (tree_at t room) node)) (sym e) tt
+
+pub fit_in_room : (t : Table) (i d room : ℕ) → AreFormed t.types → IsFit d (tree t i)
+    → (i < length t.types) ⊎ (length t.types ≤ i) → IsFit (suc (suc room)) (tree_at t room i)
+unfolding tree_at
+fit_in_room t i d room are fit (inl lt) =
+    fit_each t room i are lt (takes_fit (tree_at t 23) (node_at t i) d fit)
+fit_in_room t i d room are fit (inr le) =
+    past_fits t room i (get_or_past t.types i (nodes.prim Octet) le)
 
 pub fit_at : (t : Table) (i : ℕ) → AreTypes t.types → i < length t.types
     → TakesOctet (node_at t i) → IsFit 24 (tree t i)

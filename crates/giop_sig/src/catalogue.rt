@@ -90,6 +90,7 @@ impl Catalogue {
     }
 
     /// What holds of every catalogue: it has no body, and is called for its contract.
+    #[inline(always)]
     pub fn laws(&self)
         ensures { IsTable self.now }
     {

@@ -1,6 +1,10 @@
-use Rattle.std.proofs.Common.{◌∙◌, arith}
-use Rattle.giop_sig.specs.Trees.{tree}
-use Rattle.giop_sig.specs.Types.{switch_of}
+use Rattle.std.proofs.Common.{suc, ◌≤◌, refl, sym, ◌∙◌, arith}
+use Rattle.giop_sig.specs.Trees.{tree, tree_at}
+use Rattle.giop_sig.specs.Types.{Plain, Enum, switch_of}
+use Rattle.giop_cdr.specs.Numbers.{num}
+use Rattle.giop_decode.specs.declared.progress.Kind.TheVariants as kinds
+use Rattle.giop_decode.proofs.Rooms.{union_of_room}
+use Rattle.giop_decode.proofs.StepLaws.{refused_fits, refused_gives, switch_wrong, union_silent, wrong_boolean, wrong_enum}
 use Rattle.giop_decode.proofs.TransitionLaws.{number_switch, number_enum}
 use Rattle.giop_decode.proofs.leading_numbers.take_switch.Goals as goal
 
@@ -12,19 +16,61 @@ take_selected-requires-clause-number c =
     c.number_of.ensures.octets
 
 pub returns-in-Ok-clause-transitions : goal.returns-in-Ok-clause-transitions
-returns-in-Ok-clause-transitions c coding path at =
+returns-in-Ok-clause-transitions c room coding path at =
     c.take_selected.ensures.transitions
     (number_switch (tree c.args.catalogue.now c.args.of.0) c.in-Prim.prim c.args.order
     c.args.octets.now c.in-Ok.number c.requires.union
     (rw c.switch_type.ensures.tree at c.in-Prim.ensures.shape) c.in-Ok.ensures.ok c.requires.whole
     c.number_of.ensures.octets)
-    coding path at
+    room coding path at
 
 pub returns-else-label-count-clause-transitions : goal.returns-else-label-count-clause-transitions
-returns-else-label-count-clause-transitions c coding path at =
+returns-else-label-count-clause-transitions c room coding path at =
     let S = switch_of (tree c.args.catalogue.now c.args.of.0) in
     let s = rw c.switch_type.ensures.tree at c.in-Enumeration.ensures.shape in
     let e = c.from.ensures ∙ c.long_of-label.ensures in
     rw (← e) (c.take_selected-in-Enumeration.ensures.transitions
     (number_enum S c.in-Enumeration.count s.0 c.from.result s.1 (omega arith) (omega arith))
-    coding path at)
+    room coding path at)
+
+pub returns-then-label-count-clause-fits : goal.returns-then-label-count-clause-fits
+returns-then-label-count-clause-fits c room =
+    let C = c.args.catalogue.now in
+    let T = tree_at C (suc room) c.args.of.0 in
+    let r = c.refused-then-label-count in
+    refused_fits T c.args.of.0 r.result kinds.Enum r.ensures.transition r.ensures.output tt
+    (union_silent T (union_of_room C c.args.of.0 room c.requires.union))
+
+pub returns-then-label-count-clause-transitions : goal.returns-then-label-count-clause-transitions
+returns-then-label-count-clause-transitions c room coding path at =
+    let C = c.args.catalogue.now in
+    let T = tree_at C (suc room) c.args.of.0 in
+    let r = c.refused-then-label-count in
+    let s = c.in-Enumeration.ensures.shape in
+    let great : c.in-Enumeration.count ≤ num c.args.order c.args.octets.now =
+    omega (arith, c.if-label-count.true, c.long_of-label.ensures) in
+    refused_gives T r.result kinds.Enum path at _ r.ensures.transition r.ensures.output
+    (switch_wrong coding path T at (Enum c.in-Enumeration.count s.0) _ kinds.Enum
+    (union_of_room C c.args.of.0 room c.requires.union)
+    (sym (c.switch_type.ensures.rooms 24 room) ∙ s.1)
+    (wrong_enum c.in-Enumeration.count s.0 _ great))
+
+pub returns-in-Err-clause-fits : goal.returns-in-Err-clause-fits
+returns-in-Err-clause-fits c room =
+    let C = c.args.catalogue.now in
+    let T = tree_at C (suc room) c.args.of.0 in
+    refused_fits T c.args.of.0 c.refused.result kinds.Boolean c.refused.ensures.transition
+    c.refused.ensures.output tt
+    (union_silent T (union_of_room C c.args.of.0 room c.requires.union))
+
+pub returns-in-Err-clause-transitions : goal.returns-in-Err-clause-transitions
+returns-in-Err-clause-transitions c room coding path at =
+    let C = c.args.catalogue.now in
+    let T = tree_at C (suc room) c.args.of.0 in
+    let bad = c.in-Err.ensures.err.0 refl in
+    refused_gives T c.refused.result kinds.Boolean path at _ c.refused.ensures.transition
+    c.refused.ensures.output
+    (switch_wrong coding path T at (Plain c.in-Prim.prim) _ kinds.Boolean
+    (union_of_room C c.args.of.0 room c.requires.union)
+    (sym (c.switch_type.ensures.rooms 24 room) ∙ c.in-Prim.ensures.shape)
+    (wrong_boolean c.in-Prim.prim _ bad.0 bad.1))

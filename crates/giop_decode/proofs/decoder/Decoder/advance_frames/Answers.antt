@@ -1,7 +1,7 @@
 use Rattle.std.proofs.Common.{[], ◌≡◌, pred, ◌-◌, length, refl, sym, ap, ◌∙◌, arith, append_assoc, ◌∷◌, ◌++◌}
 use Rattle.giop_decode.specs.ReadResult.{Part, Member, Short, Done, with_front}
 use Rattle.giop_decode.specs.Begins.{start_outer, start_leaf}
-use Rattle.giop_decode.specs.Transitions.{AreKnown, IsKnown, has_ended, is_inside, open_part, open_parts, leaf_of}
+use Rattle.giop_decode.specs.Transitions.{AreKnown, IsKnown, has_ended, is_inside, open_part, open_parts, leaf_by, leaf_of}
 use Rattle.giop_decode.specs.ReadingSteps.{around}
 use Rattle.giop_decode.proofs.Beginning.{all_push, map_push}
 use Rattle.giop_decode.proofs.Around.{around-append, around-fault, fit_room}
@@ -77,9 +77,14 @@ begin-requires-in-Entered-clause-fit c =
 pub returns-in-More-clause-advances : goal.returns-in-More-clause-advances
 returns-in-More-clause-advances c coding path at lines =
     let C = c.args.catalogue.now in
-    rw c.in-More.is (around_gone C coding path at c.args.self.now.outer.items lines
-    (leaf_of C c.in-More.leaf c.args.self.now.carry c.args.self.now.piece.items)
-    c.requires.known_outer)
+    let d = c.args.self.now in
+    let leaf = c.in-More.leaf in
+    let fits = rw c.in-More.is at c.requires.transition_fits in
+    rw c.in-More.is
+    (ap (λ i. around coding path (open_parts C at d.outer.items)
+    (Short lines at [] (leaf_by (tree C i) leaf d.carry d.piece.items))) (sym fits.0)
+    ∙ around_gone C coding path at d.outer.items lines
+    (leaf_of C leaf d.carry d.piece.items) c.requires.known_outer)
 
 pub returns-in-Refused-clause-advances : goal.returns-in-Refused-clause-advances
 returns-in-Refused-clause-advances c coding path at lines =

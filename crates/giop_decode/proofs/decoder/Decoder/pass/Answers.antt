@@ -74,7 +74,7 @@ returns c d b =
     let pt : open_parts C here d.outer.items ≡ open_parts C (here + 1) now.outer.items =
     sym (places_ticked C here d.outer.items b.around.ahead)
     ∙ ap (open_parts C (here + 1)) (sym b.outer) in
-    ap (rooted none_left) (ap (λ qs. around (plain d.order) [] qs (after_transition C T transition
+    ap (rooted none_left) (ap (λ qs. around (plain d.order) [] qs (after_transition T transition
     d.carry held lines (here + 1))) pt
     ∙ rw (c.let_go.ensures, b.carry, b.piece) at
     (e.advances (plain d.order) [] (here + 1) lines))
