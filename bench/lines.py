@@ -1,61 +1,53 @@
-"""Octets of lines a second of processor time, and peak memory, of giop-json, giop-stat and giop-chart, and of `wc -l`.
+"""Octets of lines a second of processor time, and peak memory, of giopcap, which writes them, of the programs that read them,
+and of `wc -l`; then the seconds in which a capture becomes a report.
 
     python3 bench/lines.py [OCTETS]
 
-The lines are those of scripts/tests/session.lines again and again, 100 MB where OCTETS is missing, each time of further
-streams; giop-chart reads a tenth. It looks through all of them for a time that none has, over a giop-json of its own.
+The capture has 100 MB, or OCTETS, of calls over one connection; giop-chart reads the lines of a tenth. It looks through all of
+them for a time that none has, over a giop-json of its own.
 """
 
 from __future__ import annotations
 
 import os
-import re
+import subprocess
 import sys
 import tempfile
+import time
 from pathlib import Path
-from typing import BinaryIO, List
+from typing import List
 
 TOP = Path(__file__).resolve().parent.parent
-JSON, STAT = (str(TOP / f"crates/{name}/out/{name}") for name in ("giop_json", "giop_stat"))
-STREAMS = 8  # of session.lines
+CAP, JSON, STAT = (str(TOP / f"crates/{name}/out/{name}") for name in ("giopcap", "giop_json", "giop_stat"))
+TYPES = str(TOP / "examples/naming.sig")
 MOST = 100_000_000
 
 
-def write_lines(file: BinaryIO, octets: int) -> None:
-    """Writes at least so many octets of lines."""
-    lines = (TOP / "scripts/tests/session.lines").read_bytes()
-    parts = re.split(rb"(?m)(?:(?<=^s)|(?<=answers s))(\d+)", lines.rsplit(b"total streams", 1)[0])
-    first = 0
-    while file.tell() < octets:
-        parts_of = [b"%d" % (int(part) + first) if place % 2 else part for place, part in enumerate(parts)]
-        file.write(b"".join(parts_of))
-        first += STREAMS
-    file.write(b"total streams %d messages 0 faults 0 packets 0 octets 0\n" % first)
-
-
-def measure(words: List[str], octets: int) -> None:
-    """Runs a program, and prints its figures."""
-    process = os.spawnv(os.P_NOWAIT, "/bin/sh", ["sh", "-c", 'exec "$@" > /dev/null', "sh", *words])
+def measure(words: List[str], into: str, lines: str) -> None:
+    """Runs a program, and prints its figures, by the octets of a file of lines."""
+    process = os.spawnv(os.P_NOWAIT, "/bin/sh", ["sh", "-c", f'exec "$@" > {into}', "sh", *words])
     _, status, used = os.wait4(process, 0)
     assert status == 0, words
     spent = used.ru_utime + used.ru_stime
-    print(
-        f"{' '.join([Path(words[0]).name, *words[1:-1]])}: {octets / spent / 1e6:.1f} MB/s, {used.ru_maxrss / 1024:.0f} MB of memory"
-    )
+    name = " ".join([Path(words[0]).name, *words[1:-1]])
+    print(f"{name}: {os.stat(lines).st_size / spent / 1e6:.1f} MB/s, {used.ru_maxrss / 1024:.0f} MB of memory")
 
 
 def main() -> int:
     octets = int(sys.argv[1]) if sys.argv[1:] else MOST
-    with tempfile.NamedTemporaryFile() as file:
-        write_lines(file, octets)  # type: ignore[arg-type]
-        file.flush()
-        measure(["wc", "-l", file.name], file.tell())
-        for words in ([JSON], [JSON, "--calls"], [STAT]):
-            measure([*words, file.name], file.tell())
-    with tempfile.NamedTemporaryFile() as file:
-        write_lines(file, octets // 10)  # type: ignore[arg-type]
-        file.flush()
-        measure([str(TOP / "scripts/giop-chart"), "--from", "23:59:59", file.name], file.tell())
+    with tempfile.TemporaryDirectory() as folder:
+        capture, lines, fewer = (f"{folder}/{name}" for name in ("capture", "lines", "fewer"))
+        for size, into in ((octets // 10, fewer), (octets, lines)):
+            with open(capture, "wb") as file:
+                subprocess.run([sys.executable, TOP / "bench/exchanges.py", "long", str(size)], stdout=file, check=True)
+            measure([CAP, "--signatures", TYPES, capture], into, into)
+        for words in (["wc", "-l"], [JSON], [JSON, "--calls"], [STAT]):
+            measure([*words, lines], os.devnull, lines)
+        measure([str(TOP / "scripts/giop-chart"), "--from", "23:59:59", fewer], os.devnull, fewer)
+        begun = time.monotonic()
+        report = f"{CAP} --signatures {TYPES} {capture} | {TOP}/scripts/giop-report > {os.devnull}"
+        subprocess.run(["bash", "-o", "pipefail", "-c", report], check=True)
+        print(f"a report of {octets:,} octets of capture: {time.monotonic() - begun:.1f} s")
     return 0
 
 

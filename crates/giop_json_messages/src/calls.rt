@@ -1,15 +1,26 @@
 //! An object for each call, once its Request and the Reply that answers it are over.
 
+ghost use Rattle.std.specs.Prelude.{◌≡◌, Some, IfSome};
+
 use crate::half::Half;
 use crate::objects::{Room, Settings, put_ascii};
 use crate::rows::Call;
 use giop_lines::{Said, Value};
 use giop_print::Out;
 use giop_view_parts::{
-    Ending, Key, Kind, Maker, Message, Notice, Of, Open, Pool, Stream, Streams, ViewFault, greater,
+    Ending, Key, Kind, Maker, Message, Notice, Of, Open, OwnKey, Place, Pool, Stream, Streams,
+    ViewFault, greater,
 };
 use std::alloc::{AllocError, Global};
 use std::collections::BTreeMap;
+
+/// Under the key of the call that it answers.
+#[derive(Drop)]
+struct CallKey;
+
+impl Place for CallKey {
+    ghost place = { λ _ answered. answered };
+}
 
 /// Writes an object for each call.
 #[derive(Drop)]
@@ -20,10 +31,10 @@ pub struct Calls {
     // For the members after those of the bodies.
     back: Room,
     // The Requests that wait for their replies; by their connections and by when they began too.
-    waiting: Pool<Half>,
+    waiting: Pool<Half, OwnKey>,
     by_connection: BTreeMap<(u64, u64), Key>,
     // The Replies that were over before their calls, by these.
-    early: Pool<Half>,
+    early: Pool<Half, CallKey>,
     cut: u64,
 }
 
@@ -49,7 +60,10 @@ impl Calls {
         open: &mut Open<Half>,
         request: Option<Box<Message<Half>>>,
         reply: Option<Box<Message<Half>>>,
-    ) -> Result<(), ViewFault> {
+    ) -> Result<(), ViewFault>
+        // The Reply answers the Request.
+        requires { IfSome request (λ q. IfSome reply (λ r. r.value.facts.answers ≡ Some q.value.key)) }
+    {
         let call = Call {
             request: half_of(&request),
             reply: half_of(&reply),
@@ -138,7 +152,9 @@ impl Calls {
     }
 
     /// Takes a Request that waits.
-    fn take_call(&mut self, key: Key) -> Option<Box<Message<Half>>> {
+    fn take_call(&mut self, key: Key) -> Option<Box<Message<Half>>>
+        ensures { IfSome result (λ q. q.value.key ≡ key) }
+    {
         let request = self.waiting.remove(key)?;
         if let Some(of) = request.own.connection {
             let _ = self.by_connection.remove(&(of.id, request.order));
@@ -184,14 +200,10 @@ impl Calls {
             }
             return Ok(true);
         }
-        let pool = if most == of_waiting {
-            &mut self.waiting
+        if most == of_waiting {
+            drop_text_of(&mut self.waiting, key)?;
         } else {
-            &mut self.early
-        };
-        if let Some(mut message) = pool.remove(key) {
-            message.own.drop_text();
-            pool.insert(key, message)?;
+            drop_text_of(&mut self.early, key)?;
         }
         Ok(true)
     }
@@ -320,6 +332,15 @@ impl Maker for Calls {
             is_loss: true,
         })
     }
+}
+
+/// Drops the text of the message under a key.
+fn drop_text_of<P: Place>(pool: &mut Pool<Half, P>, key: Key) -> Result<(), AllocError> {
+    let Some(mut message) = pool.remove(key) else {
+        return Ok(());
+    };
+    message.own.drop_text();
+    pool.insert(key, message)
 }
 
 /// A message, if it is known.

@@ -268,7 +268,7 @@ impl<V: Maker + Drop> Dump<V> {
             stream.remove(key.number);
         }
         if let Said::Continues(number) = said {
-            self.open.join(number);
+            self.open.join(number)?;
         }
         if let Some(message) = self.open.current()
             && key.stream > 0

@@ -1,5 +1,7 @@
 //! A message that isn't over.
 
+ghost use Rattle.std.specs.Prelude.{◌≡◌};
+
 use crate::facts::Facts;
 use crate::view::is_last;
 use giop_lines::Said;
@@ -92,7 +94,9 @@ impl<M: Own> Message<M> {
     }
 
     /// Counts a Fragment of so many octets that goes on with it.
-    pub(crate) fn join(&mut self, octets: u64) {
+    pub(crate) fn join(&mut self, octets: u64)
+        ensures { self.new.key ≡ self.old.key }
+    {
         self.fragments = self.fragments.saturating_add(1);
         self.octets = self.octets.saturating_add(octets);
     }

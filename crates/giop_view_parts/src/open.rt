@@ -1,7 +1,9 @@
 //! The open messages, and the one that the last line was of.
 
+ghost use Rattle.std.specs.Prelude.{◌≡◌, Some, IfSome, option_map};
+
 use crate::message::{Key, Message, Own};
-use crate::pool::{OF_A_MESSAGE, Pool, Rank, rank};
+use crate::pool::{OF_A_MESSAGE, Place, Pool, Rank, rank};
 use std::alloc::{AllocError, Global};
 
 /// How many messages may be open; the one that began first ends where there is one more.
@@ -10,11 +12,19 @@ pub const OPEN_MAX: usize = 65_536;
 /// How many messages that are over are kept for the room of their texts.
 const SPARE_MAX: usize = 16;
 
+/// Under its own key.
+#[derive(Drop)]
+pub struct OwnKey;
+
+impl Place for OwnKey {
+    ghost place = { λ own _. Some own };
+}
+
 /// The open messages. The one that the last line was of stands apart, since most lines are of the same one as the line before.
 #[derive(Drop)]
 pub struct Open<M: Own> {
     current: Option<Box<Message<M>>>,
-    others: Pool<M>,
+    others: Pool<M, OwnKey>,
     begun: u64,
     spare: Vec<Box<Message<M>>>,
 }
@@ -41,7 +51,9 @@ impl<M: Own> Open<M> {
 
     /// Which message the last line was of.
     #[inline]
-    pub fn current_key(&self) -> Option<Key> {
+    pub fn current_key(&self) -> Option<Key>
+        ensures { result ≡ option_map (λ m. m.value.key) self.now.current }
+    {
         match &self.current {
             None => None,
             Some(message) => Some(message.key),
@@ -73,7 +85,9 @@ impl<M: Own> Open<M> {
     }
 
     /// Takes a message from among the open ones.
-    pub fn remove(&mut self, key: Key) -> Option<Box<Message<M>>> {
+    pub fn remove(&mut self, key: Key) -> Option<Box<Message<M>>>
+        ensures { IfSome result (λ m. m.value.key ≡ key) }
+    {
         if self.current_key() == Some(key) {
             return self.current.take();
         }
@@ -145,18 +159,20 @@ impl<M: Own> Open<M> {
     }
 
     /// Counts the current message, a Fragment, for the one that it continues, if that is open.
-    pub(crate) fn join(&mut self, number: u64) {
+    pub(crate) fn join(&mut self, number: u64) -> Result<(), AllocError> {
         let Some(fragment) = &mut self.current else {
-            return;
+            return Ok(());
         };
         let key = Key {
             stream: fragment.key.stream,
             number,
         };
-        if let Some(initial) = self.others.get_mut(key) {
+        if let Some(mut initial) = self.others.remove(key) {
             initial.join(fragment.octets);
             fragment.octets = 0;
+            self.others.insert(key, initial)?;
         }
+        Ok(())
     }
 
     /// The message that holds the most text, of several the one that began first; None where none holds text.

@@ -1,8 +1,11 @@
 //! Messages by their keys, by when they began, and by how much text is held of them.
 
+ghost use Rattle.std.specs.Prelude.{◌≡◌, Some, IfSome};
+
 use crate::message::{Key, Message, Own};
 use std::alloc::{AllocError, Global};
 use std::collections::{BTreeMap, HashMap};
+use std::marker::{Model, PhantomData};
 
 /// What is held of a message beside its text counts as so many octets.
 pub(crate) const OF_A_MESSAGE: u64 = 1_024;
@@ -15,9 +18,19 @@ pub(crate) fn rank<M: Own>(message: &Message<M>) -> Rank {
     (message.own.size(), u64::MAX - message.order)
 }
 
-/// Messages that wait.
+/// Under which key a message waits.
+pub trait Place {
+    ghost use Rattle.std.specs.Prelude.{Option};
+    ghost use Rattle.giop_view_parts.specs.declared.message.Key.{Key};
+
+    /// By its own key, and by that of the call that it answers.
+    ghost place: { Key → Option Key → Option Key };
+}
+
+/// Messages that wait, each under the key of its place.
 #[derive(Drop)]
-pub struct Pool<M: Own> {
+pub struct Pool<M: Own, P: Place> {
+    place: PhantomData<P>,
     messages: HashMap<Key, Box<Message<M>>>,
     by_order: BTreeMap<u64, Key>,
     // Those that hold text.
@@ -25,10 +38,25 @@ pub struct Pool<M: Own> {
     text: u64,
 }
 
-impl<M: Own> Pool<M> {
+impl<M: Own, P: Place> Model for Pool<M, P> {
+    ghost use Rattle.std.specs.Prelude.{◌≡◌, Some};
+    ghost use Rattle.std.specs.HashMap.{get};
+    ghost use Rattle.std.specs.Option.{ForSome};
+    ghost use Rattle.giop_view_parts.specs.declared.message.Key.{Key};
+
+    ghost Value = { Unit {0} };
+
+    ghost view = { λ _. tt };
+
+    ghost invariant = { λ p. (key : Key) → ForSome (get ⟦<Key as PartialEq>⟧.eq p.messages key)
+        (λ m. P.place m.value.key m.value.facts.answers ≡ Some key) };
+}
+
+impl<M: Own, P: Place> Pool<M, P> {
     /// None waits.
-    pub fn new(alloc: Global) -> Pool<M> {
+    pub fn new(alloc: Global) -> Pool<M, P> {
         Pool {
+            place: PhantomData,
             messages: HashMap::new(alloc),
             by_order: BTreeMap::new(alloc),
             by_text: BTreeMap::new(alloc),
@@ -46,14 +74,6 @@ impl<M: Own> Pool<M> {
         self.messages.contains_key(&key)
     }
 
-    /// The one that waits under a key, of which no text is to be added or taken.
-    pub(crate) fn get_mut(&mut self, key: Key) -> Option<&mut Message<M>> {
-        match self.messages.get_mut(&key) {
-            None => None,
-            Some(message) => Some(message),
-        }
-    }
-
     /// How many octets are held.
     #[inline]
     pub fn held(&self) -> u64 {
@@ -63,7 +83,9 @@ impl<M: Own> Pool<M> {
     }
 
     /// Puts a message under a key.
-    pub fn insert(&mut self, key: Key, message: Box<Message<M>>) -> Result<(), AllocError> {
+    pub fn insert(&mut self, key: Key, message: Box<Message<M>>) -> Result<(), AllocError>
+        requires { P.place message.value.key message.value.facts.answers ≡ Some key }
+    {
         let (size, place) = rank(&message);
         self.by_order.insert(message.order, key)?;
         if size > 0 {
@@ -75,7 +97,9 @@ impl<M: Own> Pool<M> {
     }
 
     /// Takes the message under a key.
-    pub fn remove(&mut self, key: Key) -> Option<Box<Message<M>>> {
+    pub fn remove(&mut self, key: Key) -> Option<Box<Message<M>>>
+        ensures { IfSome result (λ m. P.place m.value.key m.value.facts.answers ≡ Some key) }
+    {
         let message = self.messages.remove(&key)?;
         let (size, place) = rank(&message);
         let _ = self.by_order.remove(&message.order);
