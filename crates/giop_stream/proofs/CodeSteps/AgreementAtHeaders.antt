@@ -1,6 +1,6 @@
 -- A stream has the same lines and the same state by answers that agree at each header that ends in
 -- it before its message is over.
-use Rattle.std.proofs.Common.{inl, inr, ◌⊎◌, ◌≡◌, ℕ, zero, suc, ◌+◌, ◌<◌, ◌≤◌, Bool, true, false, List, [], ◌∷◌, ◌++◌, length, Option, Some, None, refl, sym, ap, subst, ◌∙◌, append-nil, append_assoc, arith}
+use Rattle.std.proofs.Common.{inl, inr, ◌⊎◌, ◌≡◌, ℕ, zero, suc, ◌<◌, Bool, true, false, List, [], ◌∷◌, ◌++◌, length, Option, Some, None, refl, sym, ap, subst, ◌∙◌, append-nil, append_assoc, arith}
 use Rattle.std.specs.Prelude.{◌==◌, ◌&&◌, is_none, nat_lt, option_map, option_to_list, if◌then◌else◌}
 use Rattle.std.specs.List.{list_any, AllByRecursion as Each}
 use Rattle.std.proofs.lemmas.Bool.{eqb-true, ltb-false}
@@ -38,7 +38,7 @@ use Rattle.giop_stream.proofs.Lists.{each_append, each_weaker, all_by}
 use Rattle.giop_stream.proofs.Cuts.Cutting.{of_parts, stopped_at}
 use Rattle.giop_stream.proofs.Cuts.CutFrom.{end_message}
 use Rattle.giop_stream.proofs.Cuts.Numbers.{header_of_number}
-use Rattle.giop_stream.proofs.Cuts.Start.{events_nothing, lines_nothing, octets_nothing, open_nothing}
+use Rattle.giop_stream.proofs.Cuts.Start.{events_nothing, lines_nothing, octets_nothing}
 use Rattle.giop_stream.proofs.Events.EventsOfOctet.{events_of_octet_each, opened_each}
 use Rattle.giop_stream.proofs.Events.Sharing.{more_of, header_joined, octet_joined}
 use Rattle.giop_stream.proofs.StreamLines.LinesOfOctet.{joined_append}
