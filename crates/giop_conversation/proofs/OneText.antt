@@ -1,12 +1,10 @@
 -- Events lead to one text: two dumps to which they lead are one but for the answers of their streams,
 -- and those agree at each header that ends in a stream.
-use Rattle.std.proofs.Common.{inl, inr, ◌⊎◌, ◌≡◌, ℕ, zero, suc, ◌/◌, Bool, ◌||◌, List, [], ◌∷◌, ◌++◌, map, Option, Some, None, refl, sym, ap, subst, ◌∙◌, append_assoc, slice_get, set}
+use Rattle.std.proofs.Common.{inl, inr, ◌⊎◌, ◌≡◌, ℕ, zero, suc, ◌/◌, ◌||◌, List, [], ◌∷◌, ◌++◌, map, Option, Some, None, refl, sym, ap, subst, ◌∙◌, append_assoc, slice_get, set}
 use Rattle.giop_print.specs.Output.{counted}
 use Rattle.giop_message.specs.Signatures.{Answers}
 use Rattle.giop_message.specs.HeaderEnds.{after_ends, AgreesAtEnds}
-use Rattle.giop_stream.specs.declared.status.Totals.{Totals}
 use Rattle.giop_stream.specs.AnswersAgree.{AnswersAgree, AgreeAtHeaders}
-use Rattle.giop_stream.specs.EngineHolds.{added}
 use Rattle.giop_stream.specs.HeaderEndsOfStream.{header_ends_from}
 use Rattle.giop_stream.specs.Stream.{closing, final}
 use Rattle.giop_stream.proofs.StreamLaws.{closing_alike, final_alike, added_alike, ends_alike, alike_front, leads_on, back, both, itself, at_headers}
@@ -21,7 +19,7 @@ use Rattle.giop_conversation.specs.Lines.{closed_line}
 use Rattle.giop_conversation.specs.Followed.{side_of}
 use Rattle.giop_conversation.specs.Exchanges.{Exchanged, answer_of, notified}
 use Rattle.giop_conversation.specs.Stamped.{begin_lines, told, taken, lines_due, exchanged, stamped}
-use Rattle.giop_conversation.specs.Captured.{Setup, Half, Connection, Dump, Step, Leads, Answered, IsAnswered, half, rules_in, number_in, calls_in, opened, begun, delivered, delivered_lines, opened_in, begun_in, delivered_in, closed_in, closed_lines, connection_of, sum_within, cuts, stepped, unanswered, without_answers}
+use Rattle.giop_conversation.specs.Captured.{Setup, Half, Connection, Dump, Step, Leads, Answered, IsAnswered, half, rules_in, number_in, calls_in, opened, begun, delivered, delivered_lines, opened_in, begun_in, delivered_in, closed_in, connection_of, sum_within, cuts, stepped, unanswered, without_answers}
 
 -- ---- octets that are read by answers that agree
 
@@ -274,12 +272,12 @@ record IsSame (S : Setup) (d d' : Dump) : Type 0 where
 
 module _ (S : Setup) (a b : Answers) (d : Dump) (cs' : List Connection)
     (h : AreAlike S d.connections cs') where
-  abbrev d' : Dump
-  d' = record d { connections = cs' }
+  abbrev twin : Dump
+  twin = record d { connections = cs' }
 
   on_opened : (id : ℕ) (flow : Flow) → At S d.connections cs' (id / 2) →
       IsSame S (opened_in d id flow (connection_of d id))
-      (opened_in d' id flow (connection_of d' id))
+      (opened_in twin id flow (connection_of twin id))
   on_opened id flow (inl k) = rw (k.0, k.1) (record { connections = cs'; is = refl; alike = h })
   on_opened id flow (inr k) =
       rw (k.is, k.is') (record {
@@ -291,7 +289,7 @@ module _ (S : Setup) (a b : Answers) (d : Dump) (cs' : List Connection)
       })
 
   on_begun : (id : ℕ) → At S d.connections cs' (id / 2) →
-      IsSame S (begun_in S d id (connection_of d id)) (begun_in S d' id (connection_of d' id))
+      IsSame S (begun_in S d id (connection_of d id)) (begun_in S twin id (connection_of twin id))
   on_begun id (inl k) = rw (k.0, k.1) (record { connections = cs'; is = refl; alike = h })
   on_begun id (inr k) =
       let number = number_in S d.streams in
@@ -310,9 +308,9 @@ module _ (S : Setup) (a b : Answers) (d : Dump) (cs' : List Connection)
       })
 
   on_delivered : (id : ℕ) (q : List ℕ) → At S d.connections cs' (id / 2) →
-      Answered S a d (Delivers id q) → Answered S b d' (Delivers id q) →
+      Answered S a d (Delivers id q) → Answered S b twin (Delivers id q) →
       IsSame S (delivered_in S a d id q (connection_of d id))
-      (delivered_in S b d' id q (connection_of d' id))
+      (delivered_in S b twin id q (connection_of twin id))
   on_delivered id q (inl k) f g = rw (k.0, k.1) (record { connections = cs'; is = refl; alike = h })
   on_delivered id q (inr k) f g =
       let side = side_of id in
@@ -332,7 +330,7 @@ module _ (S : Setup) (a b : Answers) (d : Dump) (cs' : List Connection)
 
   on_closed : (id : ℕ) (cause : CloseCause) → At S d.connections cs' (id / 2) →
       IsSame S (closed_in S d id cause (connection_of d id))
-      (closed_in S d' id cause (connection_of d' id))
+      (closed_in S twin id cause (connection_of twin id))
   on_closed id cause (inl k) = rw (k.0, k.1) (record { connections = cs'; is = refl; alike = h })
   on_closed id cause (inr k) =
       let w = writes_alike S (side_of id) k.c k.c' k.alike in
@@ -349,8 +347,8 @@ module _ (S : Setup) (a b : Answers) (d : Dump) (cs' : List Connection)
         alike = h;
       })
 
-  step_alike : (e : Event) → Answered S a d e → Answered S b d' e →
-      IsSame S (stepped S a d e) (stepped S b d' e)
+  step_alike : (e : Event) → Answered S a d e → Answered S b twin e →
+      IsSame S (stepped S a d e) (stepped S b twin e)
   step_alike (Opens id flow) f g = on_opened id flow (alike_at S d.connections cs' (id / 2) h)
   step_alike (Begins id number) f g = on_begun id (alike_at S d.connections cs' (id / 2) h)
   step_alike (Delivers id q) f g =
