@@ -20,3 +20,4 @@ mod StreamTextLemmas
 mod StreamEnds
 mod StreamCloses
 mod StreamRooms
+mod OneText

@@ -1,7 +1,7 @@
 -- The text of a capture, by what happens in it (docs/FORMATS.md, Conversations of a capture;
 -- meaning). A flow is named by its id: half of it is the place of its connection, and the flow is
 -- the connection's one with an even id or the other one.
-use Rattle.std.specs.Prelude.{◌≡◌, ℕ, ◌+◌, ◌-◌, ◌^◌, ◌/◌, min, Bool, true, false, ◌||◌, List, [], ◌∷◌, ◌++◌, Option, Some, None, IfSome, slice_get, set, replicate}
+use Rattle.std.specs.Prelude.{◌≡◌, ℕ, ◌+◌, ◌-◌, ◌^◌, ◌/◌, min, Bool, true, false, ◌||◌, List, [], ◌∷◌, ◌++◌, map, Option, Some, None, IfSome, slice_get, set, replicate}
 use Rattle.giop_print.specs.Output.{counted}
 use Rattle.giop_sig.specs.Table.{Table}
 use Rattle.giop_entry_table.specs.EntryTable.{Entries}
@@ -254,6 +254,16 @@ pub record Step (S : Setup) (d : Dump) (e : Event) (behind : Dump) : Type 0 wher
   pub answers : Answers
   pub answered : Answered S answers d e
   pub is : behind ≡ stepped S answers d e
+
+-- a dump but for the answers of its streams
+abbrev pub unanswered : Connection → Connection
+unanswered c = record {
+  even = record c.even { answers = λ number id. None };
+  odd = record c.odd { answers = λ number id. None };
+}
+
+abbrev pub without_answers : Dump → Dump
+without_answers d = record d { connections = map unanswered d.connections }
 
 -- Events lead from one dump to another.
 abbrev pub Leads : Setup → Dump → List Event → Dump → Type 0

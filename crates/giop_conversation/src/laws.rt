@@ -4,7 +4,7 @@ ghost use Rattle.std.specs.Prelude.{◌≡◌, ◌<◌, ◌/◌, ◌++◌, List,
 ghost use Rattle.std.specs.List.{AllByRecursion as Each};
 ghost use Rattle.giop_print.specs.Output.{Wrote, WroteFront};
 ghost use Rattle.tcp_flow.specs.Flow.{Event, flow_of};
-ghost use Rattle.giop_conversation.specs.Captured.{Setup, Dump, Leads, start, number_in};
+ghost use Rattle.giop_conversation.specs.Captured.{Setup, Dump, Leads, start, number_in, without_answers};
 ghost use Rattle.giop_conversation.specs.StreamTexts.{no_history, history, AreGapless, AreWhole, IsUnique, ShowsStreams};
 ghost use Rattle.giop_conversation.specs.Tags.{with_tags, without_tags};
 ghost use Rattle.giop_conversation.specs.TaggedText.{is_due};
@@ -72,3 +72,14 @@ pub fn each_stream_is_dumped()
 {
     answers_agree();
 }
+
+/// Events lead to one text. `Leads` says which operation the ids of a message answer only at the end of its header, and the rest
+/// makes no difference: two dumps to which the same events lead are one but for the answers of their streams.
+pub fn events_lead_to_one_text()
+    ensures text { (S : Setup) (d : Dump) (events : List Event) (a b : Dump) →
+        Leads S d events a → Leads S d events b →
+        a.text ≡ b.text }
+    ensures rest { (S : Setup) (d : Dump) (events : List Event) (a b : Dump) →
+        Leads S d events a → Leads S d events b →
+        without_answers a ≡ without_answers b }
+{}

@@ -17,7 +17,9 @@ mod times;
 pub use conversations::Conversations;
 pub use exchange::{Answering, Exchange, Raising, answers_are_known};
 pub use kept_second::put_time;
-pub use laws::{each_stream_is_dumped, lines_stand_below, lines_with_tags};
+pub use laws::{
+    each_stream_is_dumped, events_lead_to_one_text, lines_stand_below, lines_with_tags,
+};
 pub use limits::{Limits, NoMemory};
 pub use lines::{
     CaptureTotals, answers_line, capture_fault_line, capture_total_line, closed_line, raises_line,

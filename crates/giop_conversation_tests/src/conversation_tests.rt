@@ -1,6 +1,6 @@
 //! All connections of a capture, told what happens in their flows.
 
-use giop_conversation::{Conversations, Limits};
+use giop_conversation::{Conversations, Limits, events_lead_to_one_text};
 use giop_print::{OutFault, Sheet};
 use giop_sig::{Catalogue, Requests};
 use std::test::Fail;
@@ -108,4 +108,9 @@ fn a_call_and_its_reply(rt: HostRuntime) -> Result<(), Fail> {
         }
     }
     Ok(())
+}
+
+#[test]
+fn laws_can_be_called(_rt: HostRuntime) {
+    events_lead_to_one_text();
 }

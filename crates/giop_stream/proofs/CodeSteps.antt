@@ -18,3 +18,4 @@ pub mod FragmentSteps
 pub mod DueSteps
 pub mod StreamAgreement
 pub mod AnswersGoOn
+pub mod AgreementAtHeaders

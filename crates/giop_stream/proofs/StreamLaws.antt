@@ -12,6 +12,9 @@ use Rattle.giop_stream.proofs.SlotSteps.Parts.{in_turn}
 use Rattle.giop_stream.proofs.StreamLines.MoreOctets as further
 use Rattle.giop_stream.proofs.CodeSteps.HeaderEndSteps.{from_append}
 use Rattle.giop_stream.proofs.Cuts.MessagesGrow as cuts
+-- answers that agree at each header that ends in a stream
+pub use Rattle.giop_stream.proofs.CodeSteps.AgreementAtHeaders.{closing_alike, final_alike, added_alike, ends_alike, alike_front, leads_on, back, both, itself}
+pub use Rattle.giop_stream.proofs.CodeSteps.AnswersGoOn.{at_headers}
 
 -- what q and then r add to the text of the stream p
 pub added_both : (C : Table) (kept : RequestTable) (most : ℕ) (p q r : List ℕ) →

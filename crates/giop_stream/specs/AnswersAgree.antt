@@ -1,9 +1,11 @@
--- Which answers make no difference to a stream: those for messages whose header has not ended; and
--- which agree with a correspondent (meaning).
-use Rattle.std.specs.Prelude.{◌≡◌, ◌⊎◌, ℕ, List, None}
+-- Which answers make no difference to a stream: those for messages whose header has not ended, or
+-- ends once they are over; and which agree with a correspondent (meaning).
+use Rattle.std.specs.Prelude.{◌≡◌, ◌⊎◌, ℕ, List, [], None}
 use Rattle.std.specs.List.{AllByRecursion as Each}
 use Rattle.giop_message.specs.Signatures.{Answer, Answers}
-use Rattle.giop_message.specs.HeaderEnds.{CallEvent, AgreesAtEnds, header_noted}
+use Rattle.giop_message.specs.HeaderEnds.{CallEvent, HeaderEnd, Header_end, Exception_end, AgreesAtEnds, header_noted}
+use Rattle.giop_sig.specs.Table.{Table}
+use Rattle.giop_stream.specs.Rules.{rules_by}
 use Rattle.giop_stream.specs.EngineHolds.{rules_with}
 use Rattle.giop_stream.specs.EngineView.{EngineView}
 use Rattle.giop_stream.specs.Events.{events, joined}
@@ -15,6 +17,16 @@ AnswersAgree most p a b =
     Each (λ e. (a e.subject.number ≡ b e.subject.number)
     ⊎ (header_noted e.subject.header (joined e.subject.number (events most p)) ≡ None))
     (events most p)
+
+-- a and b answer alike at the end of a header
+abbrev pub AnswersAlike : Answers → Answers → HeaderEnd → Type 0
+AnswersAlike a b (Header_end number header n) = a number ≡ b number
+AnswersAlike a b (Exception_end number name) = Unit {0}
+
+-- a and b answer alike for each message whose header ends in the stream p before the message is over
+abbrev pub AgreeAtHeaders : Table → ℕ → List ℕ → Answers → Answers → Type 0
+AgreeAtHeaders C most p a b =
+    Each (AnswersAlike a b) (header_ends_from (rules_by C a most) [] p)
 
 -- These answers agree with a correspondent in this state over these octets after the stream p that
 -- an engine holds: each message whose header ends in them is answered as the correspondent answers

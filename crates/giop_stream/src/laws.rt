@@ -7,7 +7,7 @@ ghost use Rattle.giop_message.specs.MessageReader.{MessageReader, IsCausal, IsEn
 ghost use Rattle.giop_sig.specs.Table.{Table};
 ghost use Rattle.giop_message.specs.Signatures.{Answers};
 ghost use Rattle.giop_message.specs.HeaderEnds.{AgreesAtEnds};
-ghost use Rattle.giop_stream.specs.AnswersAgree.{AnswersAgree};
+ghost use Rattle.giop_stream.specs.AnswersAgree.{AnswersAgree, AgreeAtHeaders};
 ghost use Rattle.giop_stream.specs.HeaderEndsOfStream.{header_ends_from};
 ghost use Rattle.giop_stream.specs.Rules.{Rules, rules_by};
 ghost use Rattle.giop_stream.specs.Framing.{cut, limit, messages};
@@ -153,4 +153,23 @@ pub fn answers_go_on<Q: Correspondent>()
     ensures { (C : Table) (a : Answers) (n : ℕ) (p q : List ℕ) (st : Q.State) → (b : Answers)
         × AnswersAgree n p a b
         × AgreesAtEnds Q.answer Q.notified C st b (header_ends_from (rules_by C b n) p q) }
+{}
+
+/// What the ids of a message answer makes a difference only if its header ends before the message is over. So whatever a
+/// correspondent answers, two readings of a stream whose answers agree with it have one text: each goes on from answers
+/// by which the octets before were read, and both agree at each header that ends.
+pub fn answers_at_headers<Q: Correspondent>()
+    ensures text { (C : Table) (a b : Answers) (n : ℕ) (p : List ℕ) → AgreeAtHeaders C n p a b →
+        text (rules_by C a n) p ≡ text (rules_by C b n) p }
+    ensures state { (C : Table) (a b : Answers) (n : ℕ) (p : List ℕ) → AgreeAtHeaders C n p a b →
+        state_of (rules_by C a n) p ≡ state_of (rules_by C b n) p }
+    // Answers that agree for each message whose header has ended agree there,
+    ensures agree { (C : Table) (a b : Answers) (n : ℕ) (p : List ℕ) → AnswersAgree n p a b →
+        AgreeAtHeaders C n p a b }
+    // and so do those that agree with one correspondent, once more octets have come.
+    ensures one { (C : Table) (a b : Answers) (n : ℕ) (p q : List ℕ) (st : Q.State) →
+        AgreeAtHeaders C n p a b →
+        AgreesAtEnds Q.answer Q.notified C st a (header_ends_from (rules_by C a n) p q) →
+        AgreesAtEnds Q.answer Q.notified C st b (header_ends_from (rules_by C b n) p q) →
+        AgreeAtHeaders C n (p ++ q) a b }
 {}

@@ -24,8 +24,8 @@ pub use engine::{Engine, any_pieces, remaining, text_begins};
 pub use fault::{FramingFault, LoadFault, NewFault, Stop, StreamFault};
 pub use going_on::{go_on, has_checkpoint};
 pub use laws::{
-    after_a_stop, answers_agree, answers_go_on, counts_are_bounded, each_joined, each_slot,
-    each_step, one_of_each, open_messages,
+    after_a_stop, answers_agree, answers_at_headers, answers_go_on, counts_are_bounded,
+    each_joined, each_slot, each_step, one_of_each, open_messages,
 };
 pub use slots::MOST_OPEN;
 pub use status::{Fed, Status, Totals};

@@ -7,7 +7,7 @@ use super::waiting::Timer;
 use giop_message_tests::waiter::Waiter;
 use giop_print::Sheet;
 use giop_sig::{Catalogue, Requests};
-use giop_stream::{Engine, Fed, Stop};
+use giop_stream::{Engine, Fed, Stop, answers_at_headers, answers_go_on};
 use giop_testing::spelled;
 use std::alloc::Global;
 use std::test::Fail;
@@ -152,4 +152,10 @@ fn a_stream_stops_where_its_correspondent_is_due(rt: HostRuntime) -> Result<(), 
         }
     }
     Ok(())
+}
+
+#[test]
+fn laws_can_be_called(_rt: HostRuntime) {
+    answers_go_on::<Timer>();
+    answers_at_headers::<Timer>();
 }

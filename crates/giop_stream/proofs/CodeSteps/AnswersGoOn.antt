@@ -19,8 +19,8 @@ use Rattle.giop_stream.specs.PayloadOwner.{owner_of_octet}
 use Rattle.giop_stream.specs.EngineState.{owner_of_next}
 use Rattle.giop_stream.specs.Shares.{continued}
 use Rattle.giop_stream.specs.HeaderEndsOfStream.{header_ends_at, header_ends_from}
-use Rattle.giop_stream.specs.AnswersAgree.{AnswersAgree}
-use Rattle.giop_stream.proofs.Lists.{each_append, each_weaker, all_by}
+use Rattle.giop_stream.specs.AnswersAgree.{AnswersAgree, AnswersAlike, AgreeAtHeaders}
+use Rattle.giop_stream.proofs.Lists.{by_growth, each_append, each_weaker, all_by}
 use Rattle.giop_stream.proofs.Cuts.Cutting.{of_parts, parts_by, stopped_at}
 use Rattle.giop_stream.proofs.Cuts.Numbers.{header_of_number, own_header}
 use Rattle.giop_stream.proofs.Events.EventsOfOctet.{events_of_octet_each, opened_each}
@@ -32,7 +32,7 @@ use Rattle.giop_stream.proofs.CodeSteps.OneOctet.{Then, then_is, paid_events}
 use Rattle.giop_stream.proofs.CodeSteps.EngineAlive.{sound}
 use Rattle.giop_stream.proofs.CodeSteps.OutsideMessages.{within_limit}
 use Rattle.giop_stream.proofs.CodeSteps.StreamAgreement.{known_agree, each_parts, of_owner}
-use Rattle.giop_stream.proofs.CodeSteps.HeaderEndSteps.{at_free, at_none, at_stop, at_limit}
+use Rattle.giop_stream.proofs.CodeSteps.HeaderEndSteps.{at_free, at_none, at_stop, at_limit, from_append, from_one}
 
 -- ---- What holds of each message holds of each event's.
 
@@ -60,7 +60,7 @@ module _ (P : MessageKey → Type 0) (most : ℕ) where
       (of_messages (opened still_open es) ms (opened_each P still_open es openers first) own.1)
 
 -- the events of a number have one header
-one_header : (most : ℕ) (p : List ℕ) → Each
+pub one_header : (most : ℕ) (p : List ℕ) → Each
     (λ e. header_of_number (messages (cut p)) e.subject.number ≡ Some e.subject.header)
     (events most p)
 unfolding events
@@ -233,6 +233,24 @@ module _ (C : Table) (most : ℕ) where
             ⊎ (header_noted e.subject.header (joined e.subject.number (events most p)) ≡ None)
         go e k false is = inl (rw is refl)
         go e k true is = search (arith, eqb-true, header_of_number, of_w, octets_are)
+
+  -- answers that agree for each message whose header has ended agree at each header that ends
+  pub at_headers : (a b : Answers) (p : List ℕ) → AnswersAgree most p a b →
+      AgreeAtHeaders C most p a b
+  unfolding header_ends_from
+  at_headers a b = by_growth (λ p. AnswersAgree most p a b → AgreeAtHeaders C most p a b)
+      (λ h. tt)
+      (λ p x ih h. subst (Each (AnswersAlike a b))
+      (sym (from_append (R a) p [] (x ∷ []) ∙ ap (λ (z : List HeaderEnd).
+      header_ends_from (R a) [] p ++ z) (from_one (R a) p x)))
+      (each_append (AnswersAlike a b) (header_ends_from (R a) [] p) (header_ends_at (R a) p x)
+      (ih (agree_back p x a b h)) (here p x h (ends_case a p x))))
+    where
+      here : (p : List ℕ) (x : ℕ) → AnswersAgree most (p ++ x ∷ []) a b → Here a p x →
+          Each (AnswersAlike a b) (header_ends_at (R a) p x)
+      here p x h (inl none) = rw none tt
+      here p x h (inr (inl k)) = rw k.ends (agree_for a p x k a b h, tt)
+      here p x h (inr (inr k)) = rw k.ends (tt, tt)
 
   -- ---- the answers
 

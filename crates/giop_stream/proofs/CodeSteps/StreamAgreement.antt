@@ -25,28 +25,30 @@ use Rattle.giop_stream.proofs.StreamLines.LinesOfOctet.{joined_append}
 use Rattle.giop_stream.proofs.Events.EventsOfOctet.{opened_each}
 use Rattle.giop_stream.proofs.Events.EventsByEngine.{found_in}
 
+-- one event, whose message has these octets in all
+pub tells_agree : (C : Table) (a b : Answers) (e : Event) (so_far later all : List ℕ)
+    (what : EventKind) → all ≡ so_far ++ later
+    → (a e.subject.number ≡ b e.subject.number) ⊎ (header_noted e.subject.header all ≡ None)
+    → lines_of_event (message_reader C a) e so_far all what
+    ≡ lines_of_event (message_reader C b) e so_far all what
+unfolding lines_of_event
+tells_agree C a b e so_far later all Begins split same = refl
+tells_agree C a b e so_far later all (Takes x) split same = search (arith, map, alike_remarks)
+tells_agree C a b e so_far later all (Opens id) split same = refl
+tells_agree C a b e so_far later all (Continues i) split same = refl
+tells_agree C a b e so_far later all (Cancelled j) split same = refl
+tells_agree C a b e so_far later all (Faults fault) split same = refl
+tells_agree C a b e so_far later all Closes split same = search (
+  arith,
+  map,
+  alike_closes,
+  header_noted_before,
+)
+
 module _ (C : Table) (a b : Answers) (all : List Event) where
   abbrev Same : Event → Type 0
   Same e = (a e.subject.number ≡ b e.subject.number)
       ⊎ (header_noted e.subject.header (joined e.subject.number all) ≡ None)
-
-  tells_agree : (e : Event) (so_far later : List ℕ) (what : EventKind) →
-      joined e.subject.number all ≡ so_far ++ later → Same e
-      → lines_of_event (message_reader C a) e so_far (joined e.subject.number all) what
-      ≡ lines_of_event (message_reader C b) e so_far (joined e.subject.number all) what
-  unfolding lines_of_event
-  tells_agree e so_far later Begins split same = refl
-  tells_agree e so_far later (Takes x) split same = search (arith, map, alike_remarks)
-  tells_agree e so_far later (Opens id) split same = refl
-  tells_agree e so_far later (Continues i) split same = refl
-  tells_agree e so_far later (Cancelled j) split same = refl
-  tells_agree e so_far later (Faults fault) split same = refl
-  tells_agree e so_far later Closes split same = search (
-    arith,
-    map,
-    alike_closes,
-    header_noted_before,
-  )
 
   told_agree : (past es : List Event) → past ++ es ≡ all → Each Same es
       → lines_of_events (message_reader C a) all past es

@@ -1,0 +1,405 @@
+-- Events lead to one text: two dumps to which they lead are one but for the answers of their streams,
+-- and those agree at each header that ends in a stream.
+use Rattle.std.proofs.Common.{inl, inr, ◌⊎◌, ◌≡◌, ℕ, zero, suc, ◌/◌, ◌||◌, List, [], ◌∷◌, ◌++◌, map, Option, Some, None, refl, sym, ap, subst, ◌∙◌, append_assoc, slice_get, set}
+use Rattle.giop_print.specs.Output.{counted}
+use Rattle.giop_message.specs.Signatures.{Answers}
+use Rattle.giop_message.specs.HeaderEnds.{after_ends, AgreesAtEnds}
+use Rattle.giop_stream.specs.AnswersAgree.{AnswersAgree, AgreeAtHeaders}
+use Rattle.giop_stream.specs.HeaderEndsOfStream.{header_ends_from}
+use Rattle.giop_stream.specs.Stream.{closing, final}
+use Rattle.giop_stream.proofs.StreamLaws.{closing_alike, final_alike, added_alike, ends_alike, alike_front, leads_on, back, both, itself, at_headers}
+use Rattle.tcp_flow.specs.Flow.{Event, Opens, Begins, Delivers, Closes, OfCapture, ComesFrom, HasFault}
+use Rattle.tcp_flow.specs.declared.flow.CloseCause.{CloseCause}
+use Rattle.tcp_segment.specs.declared.endpoint.Flow.{Flow}
+use Rattle.tcp_waiting.specs.declared.arrival.Arrival.{Arrival}
+use Rattle.giop_conversation.specs.declared.conversation.Side.{Side}
+use Rattle.giop_conversation.specs.declared.conversation.Side.TheVariants.{Even, Odd}
+use Rattle.giop_conversation.specs.Tags.{stream_tag, with_tags}
+use Rattle.giop_conversation.specs.Lines.{closed_line}
+use Rattle.giop_conversation.specs.Followed.{side_of}
+use Rattle.giop_conversation.specs.Exchanges.{Exchanged, answer_of, notified}
+use Rattle.giop_conversation.specs.Stamped.{begin_lines, told, taken, lines_due, exchanged, stamped}
+use Rattle.giop_conversation.specs.Captured.{Setup, Half, Connection, Dump, Step, Leads, Answered, IsAnswered, half, rules_in, number_in, calls_in, opened, begun, delivered, delivered_lines, opened_in, begun_in, delivered_in, closed_in, connection_of, sum_within, cuts, stepped, unanswered, without_answers}
+
+-- ---- octets that are read by answers that agree
+
+module _ (S : Setup) (a b : Answers) where
+  abbrev Agree : List ℕ → Type 0
+  Agree p = AgreeAtHeaders S.table S.messages p a b
+
+  next : (p : List ℕ) (x : ℕ) (q : List ℕ) → Agree (p ++ x ∷ q) → Agree ((p ++ x ∷ []) ++ q)
+  next p x q h = subst Agree (sym (append_assoc p (x ∷ []) q)) h
+
+  first : (p : List ℕ) (x : ℕ) (q : List ℕ) → Agree (p ++ x ∷ q) → Agree (p ++ x ∷ [])
+  first p x q h = alike_front S.table a b S.messages (p ++ x ∷ []) q (next p x q h)
+
+  told_alike : (p : List ℕ) (x : ℕ) (s : Exchanged) → Agree (p ++ x ∷ []) →
+      told (rules_in S a) s p (x ∷ []) ≡ told (rules_in S b) s p (x ∷ [])
+  told_alike p x s h = ap (after_ends notified s.table s)
+      (ends_alike S.table a b S.messages p (x ∷ []) h)
+
+  exchanged_alike : (q p : List ℕ) (s : Exchanged) → Agree (p ++ q) →
+      exchanged (rules_in S a) s p q ≡ exchanged (rules_in S b) s p q
+  unfolding exchanged
+  exchanged_alike [] p s h = refl
+  exchanged_alike (x ∷ q) p s h =
+      exchanged_alike q (p ++ x ∷ []) (taken (told (rules_in S a) s p (x ∷ []))) (next p x q h)
+      ∙ ap (λ (t : Exchanged). exchanged (rules_in S b) (taken t) (p ++ x ∷ []) q)
+      (told_alike p x s (first p x q h))
+
+  due_alike : (p : List ℕ) (x : ℕ) (s : Exchanged) → Agree (p ++ x ∷ []) →
+      lines_due (rules_in S a) s p (x ∷ []) ≡ lines_due (rules_in S b) s p (x ∷ [])
+  unfolding lines_due
+  due_alike p x s h = rw (ends_alike S.table a b S.messages p (x ∷ []) h) refl
+
+  stamped_alike : (q p : List ℕ) (s : Exchanged) → Agree (p ++ q) →
+      stamped (rules_in S a) s p q ≡ stamped (rules_in S b) s p q
+  unfolding stamped
+  stamped_alike [] p s h = refl
+  stamped_alike (x ∷ q) p s h =
+      let one = first p x q h in
+      let add = added_alike S.table a b S.messages p (x ∷ []) one in
+      let due = due_alike p x s one in
+      let more = stamped_alike q (p ++ x ∷ []) (taken (told (rules_in S a) s p (x ∷ [])))
+      (next p x q h)
+      ∙ ap (λ (t : Exchanged). stamped (rules_in S b) (taken t) (p ++ x ∷ []) q)
+      (told_alike p x s one) in
+      λ j. (add j ++ due j) ++ more j
+
+-- ---- one connection is another, but for the answers
+
+abbrev answered_by : Answers → Answers → Connection → Connection
+answered_by x y c = record {
+  even = record c.even { answers = x };
+  odd = record c.odd { answers = y };
+}
+
+abbrev AgreeIn : Setup → Half → Answers → Type 0
+AgreeIn S h x = AgreeAtHeaders S.table S.messages h.octets h.answers x
+
+record IsAlike (S : Setup) (c c' : Connection) : Type 0 where
+  x : Answers
+  y : Answers
+  is : c' ≡ answered_by x y c
+  even : AgreeIn S c.even x
+  odd : AgreeIn S c.odd y
+
+abbrev AreAlike : Setup → List Connection → List Connection → Type 0
+AreAlike S [] [] = Unit {0}
+AreAlike S [] (c' ∷ cs') = ⊥
+AreAlike S (c ∷ cs) [] = ⊥
+AreAlike S (c ∷ cs) (c' ∷ cs') = IsAlike S c c' × AreAlike S cs cs'
+
+alike_all : (S : Setup) (cs : List Connection) → AreAlike S cs cs
+alike_all S [] = tt
+alike_all S (c ∷ cs) = (
+  record {
+    x = c.even.answers;
+    y = c.odd.answers;
+    is = refl;
+    even = itself S.table S.messages c.even.octets c.even.answers;
+    odd = itself S.table S.messages c.odd.octets c.odd.answers;
+  },
+  alike_all S cs,
+)
+
+-- those at one place
+record Places (S : Setup) (cs cs' : List Connection) (i : ℕ) : Type 0 where
+  c : Connection
+  c' : Connection
+  is : slice_get cs i ≡ Some c
+  is' : slice_get cs' i ≡ Some c'
+  alike : IsAlike S c c'
+
+abbrev At : Setup → List Connection → List Connection → ℕ → Type 0
+At S cs cs' i = ((slice_get cs i ≡ None) × (slice_get cs' i ≡ None)) ⊎ Places S cs cs' i
+
+alike_at : (S : Setup) (cs cs' : List Connection) (i : ℕ) → AreAlike S cs cs' → At S cs cs' i
+alike_at S [] [] i h = inl (refl, refl)
+alike_at S [] (c' ∷ cs') i h = absurd h
+alike_at S (c ∷ cs) [] i h = absurd h
+alike_at S (c ∷ cs) (c' ∷ cs') zero h =
+    inr (record { c = c; c' = c'; is = refl; is' = refl; alike = h.0 })
+alike_at S (c ∷ cs) (c' ∷ cs') (suc i) h = go (alike_at S cs cs' i h.1)
+  where
+    go : At S cs cs' i → At S (c ∷ cs) (c' ∷ cs') (suc i)
+    go (inl k) = inl k
+    go (inr k) = inr (record { c = k.c; c' = k.c'; is = k.is; is' = k.is'; alike = k.alike })
+
+alike_set : (S : Setup) (cs cs' : List Connection) (i : ℕ) (c c' : Connection) →
+    AreAlike S cs cs' → IsAlike S c c' → AreAlike S (set cs i c) (set cs' i c')
+alike_set S [] [] i c c' h k = tt
+alike_set S [] (o' ∷ cs') i c c' h k = absurd h
+alike_set S (o ∷ cs) [] i c c' h k = absurd h
+alike_set S (o ∷ cs) (o' ∷ cs') zero c c' h k = (k, h.1)
+alike_set S (o ∷ cs) (o' ∷ cs') (suc i) c c' h k = (h.0, alike_set S cs cs' i c c' h.1 k)
+
+-- ---- what events do to it
+
+opened_alike : (S : Setup) (side : Side) (flow : Flow) (c c' : Connection) → IsAlike S c c' →
+    IsAlike S (opened side flow c) (opened side flow c')
+opened_alike S Even flow c c' k = record {
+  x = k.x;
+  y = k.y;
+  is = ap (opened Even flow) k.is;
+  even = k.even;
+  odd = k.odd;
+}
+opened_alike S Odd flow c c' k = record {
+  x = k.x;
+  y = k.y;
+  is = ap (opened Odd flow) k.is;
+  even = k.even;
+  odd = k.odd;
+}
+
+begun_alike : (S : Setup) (side : Side) (stream : ℕ) (c c' : Connection) → IsAlike S c c' →
+    IsAlike S (begun side stream c) (begun side stream c')
+unfolding header_ends_from
+begun_alike S Even stream c c' k = record {
+  x = k.x;
+  y = k.y;
+  is = ap (begun Even stream) k.is;
+  even = tt;
+  odd = k.odd;
+}
+begun_alike S Odd stream c c' k = record {
+  x = k.x;
+  y = k.y;
+  is = ap (begun Odd stream) k.is;
+  even = k.even;
+  odd = tt;
+}
+
+-- what is written of a flow
+record Writes (S : Setup) (s s' : Half) : Type 0 where
+  flow : s.flow ≡ s'.flow
+  stream : s.stream ≡ s'.stream
+  closing_is : closing (rules_in S s.answers) s.octets ≡ closing (rules_in S s'.answers) s'.octets
+  final_is : final (rules_in S s.answers) s.octets ≡ final (rules_in S s'.answers) s'.octets
+
+writes_by : (S : Setup) (s : Half) (x : Answers) → AgreeIn S s x →
+    Writes S s (record s { answers = x })
+writes_by S s x h = record {
+  flow = refl;
+  stream = refl;
+  closing_is = closing_alike S.table s.answers x S.messages s.octets h;
+  final_is = final_alike S.table s.answers x S.messages s.octets h;
+}
+
+writes_alike : (S : Setup) (side : Side) (c c' : Connection) → IsAlike S c c' →
+    Writes S (half side c) (half side c')
+writes_alike S Even c c' k = subst (λ (z : Connection). Writes S c.even z.even) (sym k.is)
+    (writes_by S c.even k.x k.even)
+writes_alike S Odd c c' k = subst (λ (z : Connection). Writes S c.odd z.odd) (sym k.is)
+    (writes_by S c.odd k.y k.odd)
+
+-- octets of a stream, which was read by answers that agree, and then by these
+agree_now : (S : Setup) (p q : List ℕ) (s x a b : Answers) (e : Exchanged) →
+    AgreeAtHeaders S.table S.messages p s x → AnswersAgree S.messages p s a →
+    AnswersAgree S.messages p x b →
+    AgreesAtEnds answer_of notified S.table e a (header_ends_from (rules_in S a) p q) →
+    AgreesAtEnds answer_of notified S.table e b (header_ends_from (rules_in S b) p q) →
+    AgreeAtHeaders S.table S.messages (p ++ q) a b
+agree_now S p q s x a b e h k l f g =
+    let C = S.table in
+    let n = S.messages in
+    leads_on C a b n answer_of notified p q e
+    (both C n p a s b (back C n p s a (at_headers C n s a p k))
+    (both C n p s x b h (at_headers C n x b p l))) f g
+
+-- behind octets, and their lines
+record BehindAlike (S : Setup) (a b : Answers) (side : Side) (q : List ℕ) (arrival : Arrival)
+    (c c' : Connection) : Type 0 where
+  connection : IsAlike S (delivered S a side q arrival c) (delivered S b side q arrival c')
+  lines : delivered_lines S a side q arrival c ≡ delivered_lines S b side q arrival c'
+
+behind_by : (S : Setup) (a b : Answers) (side : Side) (q : List ℕ) (arrival : Arrival)
+    (c : Connection) (x y : Answers) → AgreeIn S c.even x → AgreeIn S c.odd y →
+    IsAnswered S a side q arrival c → IsAnswered S b side q arrival (answered_by x y c) →
+    BehindAlike S a b side q arrival c (answered_by x y c)
+behind_by S a b Even q arrival c x y even odd f g =
+    let e = calls_in S Even arrival c in
+    let p = c.even.octets in
+    let now = agree_now S p q c.even.answers x a b e even f.before g.before f.now g.now in
+    let calls = exchanged_alike S a b q p e now in
+    record {
+      connection = record {
+        x = b;
+        y = y;
+        is = ap (λ (t : Exchanged). record {
+          even = record c.even { octets = p ++ q; answers = b; calls = t.own };
+          odd = record c.odd { answers = y; calls = t.opposite };
+        }) (sym calls);
+        even = now;
+        odd = odd;
+      };
+      lines = stamped_alike S a b q p e now;
+    }
+behind_by S a b Odd q arrival c x y even odd f g =
+    let e = calls_in S Odd arrival c in
+    let p = c.odd.octets in
+    let now = agree_now S p q c.odd.answers y a b e odd f.before g.before f.now g.now in
+    let calls = exchanged_alike S a b q p e now in
+    record {
+      connection = record {
+        x = x;
+        y = b;
+        is = ap (λ (t : Exchanged). record {
+          even = record c.even { answers = x; calls = t.opposite };
+          odd = record c.odd { octets = p ++ q; answers = b; calls = t.own };
+        }) (sym calls);
+        even = even;
+        odd = now;
+      };
+      lines = stamped_alike S a b q p e now;
+    }
+
+behind_alike : (S : Setup) (a b : Answers) (side : Side) (q : List ℕ) (arrival : Arrival)
+    (c c' : Connection) → IsAlike S c c' → IsAnswered S a side q arrival c →
+    IsAnswered S b side q arrival c' → BehindAlike S a b side q arrival c c'
+behind_alike S a b side q arrival c c' k f g =
+    subst (λ (z : Connection). BehindAlike S a b side q arrival c z) (sym k.is)
+    (behind_by S a b side q arrival c k.x k.y k.even k.odd f
+    (subst (λ (z : Connection). IsAnswered S b side q arrival z) k.is g))
+
+-- ---- one dump is another, but for the answers
+
+record IsSame (S : Setup) (d d' : Dump) : Type 0 where
+  connections : List Connection
+  is : d' ≡ record d { connections = connections }
+  alike : AreAlike S d.connections connections
+
+module _ (S : Setup) (a b : Answers) (d : Dump) (cs' : List Connection)
+    (h : AreAlike S d.connections cs') where
+  abbrev twin : Dump
+  twin = record d { connections = cs' }
+
+  on_opened : (id : ℕ) (flow : Flow) → At S d.connections cs' (id / 2) →
+      IsSame S (opened_in d id flow (connection_of d id))
+      (opened_in twin id flow (connection_of twin id))
+  on_opened id flow (inl k) = rw (k.0, k.1) (record { connections = cs'; is = refl; alike = h })
+  on_opened id flow (inr k) =
+      rw (k.is, k.is') (record {
+        connections = set cs' (id / 2) (opened (side_of id) flow k.c');
+        is = refl;
+        alike = alike_set S d.connections cs' (id / 2) (opened (side_of id) flow k.c)
+            (opened (side_of id) flow k.c') h
+            (opened_alike S (side_of id) flow k.c k.c' k.alike);
+      })
+
+  on_begun : (id : ℕ) → At S d.connections cs' (id / 2) →
+      IsSame S (begun_in S d id (connection_of d id)) (begun_in S twin id (connection_of twin id))
+  on_begun id (inl k) = rw (k.0, k.1) (record { connections = cs'; is = refl; alike = h })
+  on_begun id (inr k) =
+      let number = number_in S d.streams in
+      let side = side_of id in
+      let behind = set cs' (id / 2) (begun side number k.c') in
+      rw (k.is, k.is') (record {
+        connections = behind;
+        is = ap (λ (flow : Option Flow). record d {
+          connections = behind;
+          streams = counted d.streams;
+          text = d.text ++ with_tags (stream_tag number) (begin_lines flow d.arrival.time);
+        }) (sym (writes_alike S side k.c k.c' k.alike).flow);
+        alike = alike_set S d.connections cs' (id / 2) (begun side number k.c)
+            (begun side number k.c') h
+            (begun_alike S side number k.c k.c' k.alike);
+      })
+
+  on_delivered : (id : ℕ) (q : List ℕ) → At S d.connections cs' (id / 2) →
+      Answered S a d (Delivers id q) → Answered S b twin (Delivers id q) →
+      IsSame S (delivered_in S a d id q (connection_of d id))
+      (delivered_in S b twin id q (connection_of twin id))
+  on_delivered id q (inl k) f g = rw (k.0, k.1) (record { connections = cs'; is = refl; alike = h })
+  on_delivered id q (inr k) f g =
+      let side = side_of id in
+      let now = behind_alike S a b side q d.arrival k.c k.c' k.alike (rw k.is at f)
+      (rw k.is' at g) in
+      let behind = set cs' (id / 2) (delivered S b side q d.arrival k.c') in
+      let stream = (writes_alike S side k.c k.c' k.alike).stream in
+      rw (k.is, k.is') (record {
+        connections = behind;
+        is = λ j. record d {
+          connections = behind;
+          text = d.text ++ with_tags (stream_tag (sym stream j)) (sym now.lines j);
+        };
+        alike = alike_set S d.connections cs' (id / 2) (delivered S a side q d.arrival k.c)
+            (delivered S b side q d.arrival k.c') h now.connection;
+      })
+
+  on_closed : (id : ℕ) (cause : CloseCause) → At S d.connections cs' (id / 2) →
+      IsSame S (closed_in S d id cause (connection_of d id))
+      (closed_in S twin id cause (connection_of twin id))
+  on_closed id cause (inl k) = rw (k.0, k.1) (record { connections = cs'; is = refl; alike = h })
+  on_closed id cause (inr k) =
+      let w = writes_alike S (side_of id) k.c k.c' k.alike in
+      rw (k.is, k.is') (record {
+        connections = cs';
+        is = λ j. record d {
+          connections = cs';
+          messages = sum_within d.messages (sym w.final_is j).messages;
+          faults = sum_within d.faults (sym w.final_is j).faults;
+          is_cut = d.is_cut || cuts cause;
+          text = d.text ++ with_tags (stream_tag (sym w.stream j))
+              (closed_line cause ++ sym w.closing_is j);
+        };
+        alike = h;
+      })
+
+  step_alike : (e : Event) → Answered S a d e → Answered S b twin e →
+      IsSame S (stepped S a d e) (stepped S b twin e)
+  step_alike (Opens id flow) f g = on_opened id flow (alike_at S d.connections cs' (id / 2) h)
+  step_alike (Begins id number) f g = on_begun id (alike_at S d.connections cs' (id / 2) h)
+  step_alike (Delivers id q) f g =
+      on_delivered id q (alike_at S d.connections cs' (id / 2) h) f g
+  step_alike (Closes id cause) f g = on_closed id cause (alike_at S d.connections cs' (id / 2) h)
+  step_alike (OfCapture (ComesFrom arrival)) f g =
+      record { connections = cs'; is = refl; alike = h }
+  step_alike (OfCapture (HasFault word at)) f g =
+      record { connections = cs'; is = refl; alike = h }
+
+same_step : (S : Setup) (d d' : Dump) (e : Event) (m m' : Dump) → IsSame S d d' →
+    Step S d e m → Step S d' e m' → IsSame S m m'
+same_step S d d' e m m' same one two =
+    subst (λ (z : Dump). IsSame S z m') (sym one.is)
+    (subst (λ (z : Dump). IsSame S (stepped S one.answers d e) z) (sym two.is)
+    (subst (λ (z : Dump). Answered S two.answers z e →
+    IsSame S (stepped S one.answers d e) (stepped S two.answers z e)) (sym same.is)
+    (λ g. step_alike S one.answers two.answers d same.connections same.alike e one.answered g)
+    two.answered))
+
+same_leads : (S : Setup) (events : List Event) (d d' a b : Dump) → IsSame S d d' →
+    Leads S d events a → Leads S d' events b → IsSame S a b
+same_leads S [] d d' a b same f g =
+    subst (λ (z : Dump). IsSame S z b) (sym f) (subst (λ (z : Dump). IsSame S d z) (sym g) same)
+same_leads S (e ∷ es) d d' a b same f g =
+    same_leads S es f.0 g.0 a b (same_step S d d' e f.0 g.0 same f.1 g.1) f.2 g.2
+
+same : (S : Setup) (d : Dump) (events : List Event) (a b : Dump) → Leads S d events a →
+    Leads S d events b → IsSame S a b
+same S d events a b f g =
+    same_leads S events d d a b
+    (record { connections = d.connections; is = refl; alike = alike_all S d.connections }) f g
+
+pub one_text : (S : Setup) (d : Dump) (events : List Event) (a b : Dump) → Leads S d events a →
+    Leads S d events b → a.text ≡ b.text
+one_text S d events a b f g = sym (ap (λ (z : Dump). z.text) (same S d events a b f g).is)
+
+unanswered_alike : (S : Setup) (cs cs' : List Connection) → AreAlike S cs cs' →
+    map unanswered cs ≡ map unanswered cs'
+unanswered_alike S [] [] h = refl
+unanswered_alike S [] (c' ∷ cs') h = absurd h
+unanswered_alike S (c ∷ cs) [] h = absurd h
+unanswered_alike S (c ∷ cs) (c' ∷ cs') h =
+    let one : unanswered c ≡ unanswered c' = sym (ap unanswered h.0.is) in
+    let more = unanswered_alike S cs cs' h.1 in
+    λ j. one j ∷ more j
+
+pub one_dump : (S : Setup) (d : Dump) (events : List Event) (a b : Dump) → Leads S d events a →
+    Leads S d events b → without_answers a ≡ without_answers b
+one_dump S d events a b f g =
+    let it = same S d events a b f g in
+    ap (λ (cs : List Connection). record a { connections = cs })
+    (unanswered_alike S a.connections it.connections it.alike)
+    ∙ sym (ap without_answers it.is)
