@@ -1,5 +1,5 @@
 -- What was put where the run over a capture failed.
-use Rattle.std.proofs.Common.{◌≡◌, ◌<◌, ◌∙◌, ℕ, List, [], Option, Some, Err, refl, subst}
+use Rattle.std.proofs.Common.{◌≡◌, ◌<◌, ◌∙◌, ℕ, List, [], Option, Some, Err, refl}
 use Rattle.std.specs.Io.KnownBytes.{Consumes}
 use Rattle.capture_file.specs.declared.capture.Capture.{Capture}
 use Rattle.tcp_flow.specs.Flow.{Event}
@@ -77,10 +77,3 @@ stopped runs.Out begins c Told asked connections live links capture s before aft
     out refl
 stopped runs.Failed begins c Told asked connections live links capture s before after log same out
     ran = absurd ran
-
--- the same of a source of which this is known
-pub stopped_at : (begins : Setup → List ℕ → Type 0) (asked : Arguments) (fault : ProgramFault)
-    (log : Option OutLog) (left source : Option (List ℕ)) → left ≡ source
-    → RunFailed begins asked left fault log → RunFailed begins asked source fault log
-stopped_at begins asked fault log left source is failed =
-    subst (λ (x : Option (List ℕ)). RunFailed begins asked x fault log) is failed

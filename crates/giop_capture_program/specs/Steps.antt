@@ -11,7 +11,7 @@ use Rattle.giop_run.specs.declared.fault.RunFault.TheVariants as runs
 use Rattle.giop_run.specs.declared.fault.ProgramFault.{ProgramFault}
 use Rattle.giop_run.specs.declared.fault.ProgramFault.TheVariants as faults
 use Rattle.giop_run.specs.Console.{fault_status}
-use Rattle.giop_run.specs.Files.{Folder, NoStream, stream_of}
+use Rattle.giop_run.specs.Files.{Folder, Refusals, NoStream, stream_of}
 use Rattle.giop_run.specs.Joint.{CataloguesOf, NoCatalogues}
 use Rattle.giop_capture_run.specs.declared.arguments.Arguments.{Arguments}
 use Rattle.giop_capture_run.specs.declared.ending.Ending.{Ending}
@@ -93,12 +93,12 @@ RunFailed begins asked source (faults.Run runs.Out) (Some log) = 0 < log.failure
 RunFailed begins asked source _ _ = ⊥
 
 -- why a capture was not dumped: the first step that failed, or the run, with the log of its out
-abbrev pub NotDumped : Folder → Option (List ℕ) → (Setup → List ℕ → Type 0) → Arguments →
-    ProgramFault → Option OutLog → Type 0
-NotDumped held source begins asked fault log =
-    NoCatalogues held (signatures_of asked) fault
+abbrev pub NotDumped : Folder → Refusals → Option (List ℕ) → (Setup → List ℕ → Type 0) → Arguments
+    → ProgramFault → Option OutLog → Type 0
+NotDumped held refuses source begins asked fault log =
+    NoCatalogues held refuses (signatures_of asked) fault
     ⊎ ((C : Table) × CataloguesOf held (signatures_of asked) C
-    × (NoStream (capture_of asked) fault ⊎ RunFailed begins asked source fault log))
+    × (NoStream refuses (capture_of asked) fault ⊎ RunFailed begins asked source fault log))
 
 -- ---- The program's status.
 
@@ -114,8 +114,8 @@ Came asked (Ok ending) =
     × CaptureDumped ending unknown asked (stream_of (λ name. None) None (capture_of asked)) put
 Came asked (Err fault) =
     (log : Option OutLog)
-    × NotDumped (λ name. None) (stream_of (λ name. None) None (capture_of asked)) unknown asked
-    fault log
+    × NotDumped (λ name. None) (λ name kind. Unit {0})
+    (stream_of (λ name. None) None (capture_of asked)) unknown asked fault log
 
 -- a status is that of what the steps came to
 abbrev pub HasStatus : Arguments → ℕ → Type 0

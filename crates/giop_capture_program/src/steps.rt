@@ -24,11 +24,10 @@ use capture_file::Capture;
 use giop_capture_run::{Arguments, Ending, Notices, PacketReader, dump_capture, packet_reader};
 use giop_conversation::{Conversations, Limits};
 use giop_run::{
-    Flush, Inputs, ProgramFault, Reading, RunFault, joint_catalogue, requests, unreadable,
+    Flush, Inputs, ProgramFault, RunFault, Source, joint_catalogue, opened, requests,
 };
 use giop_sig::{Catalogue, Requests};
 use std::alloc::{AllocError, Global};
-use std::io::Read;
 
 /// The steps after the words. Answers how the dump ended, and the out that it was put to.
 pub fn perform_capture<
@@ -45,7 +44,7 @@ pub fn perform_capture<
         (stream_of (R.held rt.now) (R.given rt.now) (capture_of asked.entry))
         (O.log ended.1).written) }
     ensures flushed { IfOk result (λ ended. O.kept ended.1 ≡ []) }
-    ensures refused { IfErr result (λ failure. NotDumped (R.held rt.now)
+    ensures refused { IfErr result (λ failure. NotDumped (R.held rt.now) (R.refuses rt.now)
         (stream_of (R.held rt.now) (R.given rt.now) (capture_of asked.entry))
         B.begins asked.entry (fault_of failure) (log_of O.log failure)) }
     ensures seen { IfErr result (SeenWhereReadingFailed O.log O.kept) }
@@ -68,7 +67,8 @@ fn open_and_dump<'a, R: Inputs + AllocGlobal, O: Flush + Drop, N: Notices + Drop
         (stream_of (R.held rt.now) (R.given rt.now) (capture_of asked.entry))
         (O.log ended.1).written) }
     ensures flushed { IfOk result (λ ended. O.kept ended.1 ≡ []) }
-    ensures refused { IfErr result (λ failure. NoStream (capture_of asked.entry) (fault_of failure)
+    ensures refused { IfErr result (λ failure.
+        NoStream (R.refuses rt.now) (capture_of asked.entry) (fault_of failure)
         ⊎ RunFailed B.begins asked.entry
         (stream_of (R.held rt.now) (R.given rt.now) (capture_of asked.entry))
         (fault_of failure) (log_of O.log failure)) }
@@ -83,28 +83,17 @@ fn open_and_dump<'a, R: Inputs + AllocGlobal, O: Flush + Drop, N: Notices + Drop
     }
 }
 
-/// Opens the file of a capture; nothing was read of it.
-fn opened<'a, R: Inputs>(rt: &R, name: &'a str) -> Result<R::File, ProgramFault<'a>>
-    ensures ok { IfOk result (λ file. R.File.remaining file ≡ R.held rt.now name.entry.now) }
-    ensures err { IfErr result (NoStream (Some name.entry.now)) }
-{
-    match rt.open(name) {
-        Ok(file) => Ok(file),
-        Err(error) => Err(unreadable(name, &error)),
-    }
-}
-
 /// The steps after the opening of the capture.
 fn dump<
     'a,
     R: Inputs + AllocGlobal,
-    F: Read + Drop,
+    S: Source + Drop,
     O: Flush + Drop,
     N: Notices + Drop,
     B: Beginning,
 >(
     rt: &R,
-    file: F,
+    source: S,
     asked: Arguments<'a>,
     catalogue: &Catalogue,
     out: O,
@@ -113,14 +102,16 @@ fn dump<
     requires told { N.told notices [] }
     requires begins { BeginsAs B.begins asked catalogue.now (O.log out).written }
     ensures dumped { IfOk result (λ ended. CaptureDumped ended.0 B.begins asked.entry
-        (F.remaining file) (O.log ended.1).written) }
+        (S.log source).left (O.log ended.1).written) }
     ensures flushed { IfOk result (λ ended. O.kept ended.1 ≡ []) }
-    ensures refused { IfErr result (λ failure. NoStream (capture_of asked.entry) (fault_of failure)
-        ⊎ RunFailed B.begins asked.entry (F.remaining file)
+    ensures refused { IfErr result (λ failure.
+        NoStream (R.refuses rt.now) (capture_of asked.entry) (fault_of failure)
+        ⊎ RunFailed B.begins asked.entry (S.log source).left
         (fault_of failure) (log_of O.log failure)) }
     ensures seen { IfErr result (SeenWhereReadingFailed O.log O.kept) }
 {
     each_stream_of_a_capture_is_dumped();
+    let mut source = source;
     let requests = requests(rt, None, catalogue)?;
     let Ok(mut capture) = Capture::new(rt.alloc()) else {
         return Err(Failure::Step(ProgramFault::OutOfMemory));
@@ -129,7 +120,7 @@ fn dump<
     else {
         return Err(Failure::Step(ProgramFault::OutOfMemory));
     };
-    let ended = dump_capture(&mut Reading::new(file), &mut capture, &mut reader);
+    let ended = dump_capture(&mut source, &mut capture, &mut reader);
     let teller = reader.into_listener();
     let is_full = teller.is_full();
     let out = teller.into_out();

@@ -10,14 +10,14 @@ mod memory;
 
 use dumping::text_of;
 use giop_capture_run::Ending;
-use giop_run::front;
+use giop_run::{Inputs, front};
 use std::process::ExitCode;
 
 /// How many octets the capture has at most.
 const MOST: u64 = 16_777_216;
 
 fn main(rt: HostRuntime) -> ExitCode {
-    let Ok(capture) = front(rt.alloc(), rt.stdin(), MOST) else {
+    let Ok(capture) = front(rt.alloc(), &mut rt.standard_input(), MOST) else {
         return ExitCode::from(4);
     };
     let Some((ending, octets)) = text_of(rt.alloc(), &capture) else {

@@ -1,9 +1,9 @@
 //! What the steps of `giopcap` are handed in place of the system: a capture in memory, and nobody who is told of link types.
 
-ghost use Rattle.std.specs.Prelude.{None, Some};
+ghost use Rattle.std.specs.Prelude.{◌≡◌, None, Some};
 
 use giop_capture_run::Notices;
-use giop_run::Inputs;
+use giop_run::{Inputs, Reading};
 use std::alloc::Global;
 use std::io;
 use std::io::ErrorKind;
@@ -24,20 +24,22 @@ impl Alloc for Memory<'_> {
 }
 
 impl<'a> Inputs for Memory<'a> {
-    type File = &'a [u8];
+    type File = Reading<&'a [u8]>;
 
-    type Standard = &'a [u8];
+    type Standard = Reading<&'a [u8]>;
 
     ghost held = { λ _ _. None };
 
     ghost given = { λ m. Some m.octets.now };
 
-    fn open(&self, _name: &str) -> io::Result<&'a [u8]> {
+    ghost refuses = { λ _ _ kind. kind ≡ ErrorKind.NotFound };
+
+    fn open(&self, _name: &str) -> io::Result<Reading<&'a [u8]>> {
         Err(io::Error::from(ErrorKind::NotFound))
     }
 
-    fn standard_input(&self) -> &'a [u8] {
-        self.octets
+    fn standard_input(&self) -> Reading<&'a [u8]> {
+        Reading::new(self.octets)
     }
 }
 

@@ -9,8 +9,8 @@ use Rattle.giop_run.specs.declared.fault.RunFault.{RunFault}
 use Rattle.giop_run.specs.declared.running.Ending.{Ending}
 use Rattle.giop_run.specs.declared.running.Report.{Report}
 use Rattle.giop_print.specs.Output.{OutLog}
-use Rattle.giop_run.specs.SourceLog.{SourceLog}
-use Rattle.giop_run.specs.Console.{Dumped, unread}
+use Rattle.giop_run.specs.SourceLog.{SourceLog, unread}
+use Rattle.giop_run.specs.Console.{Dumped}
 use Rattle.giop_run.specs.Files.{Asked, Folder, GoesOn, ending_of, stream_of, setup_by}
 use Rattle.giop_run.specs.Running.{Ran, RunSetup, setup_of}
 

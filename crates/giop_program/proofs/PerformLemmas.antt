@@ -6,7 +6,7 @@ use Rattle.giop_stream.specs.Checkpoint.{counts_of}
 use Rattle.giop_stream.specs.EngineHolds.{AreOf}
 use Rattle.giop_stream.specs.declared.status.Totals.{Totals}
 use Rattle.giop_run.specs.Console.{Dumped, run_of}
-use Rattle.giop_run.specs.Files.{Folder, Asked, GoesOn, ReadsBy, Refused, NoCheckpoint, NoStream, stream_of, setup_by}
+use Rattle.giop_run.specs.Files.{Folder, Refusals, Asked, GoesOn, ReadsBy, Refused, NoCheckpoint, NoStream, stream_of, setup_by}
 use Rattle.giop_run.specs.Saving.{Saved}
 use Rattle.giop_run.specs.Performing.{Task, Performed, FailedBy, Did, Kept}
 use Rattle.giop_run.specs.declared.running.Report.{Report}
@@ -16,22 +16,23 @@ use Rattle.giop_run.specs.declared.fault.ProgramFault.{ProgramFault}
 use Rattle.giop_run.specs.declared.fault.ProgramFault.TheVariants as faults
 
 -- no step before the run fails with these
-not_unwritable : (held : Folder) (asked : Asked) (name : _) →
-    Refused held asked (faults.Unwritable name) → ⊥
-not_unwritable held asked name (inl q) = q
-not_unwritable held asked name (inr (inl (C, c, q))) = q
-not_unwritable held asked name (inr (inr (C, l, r, inl q))) = q
-not_unwritable held asked name (inr (inr (C, l, r, inr q))) = q
+not_unwritable : (held : Folder) (refuses : Refusals) (asked : Asked) (name : _) →
+    Refused held refuses asked (faults.Unwritable name) → ⊥
+not_unwritable held refuses asked name (inl q) = q
+not_unwritable held refuses asked name (inr (inl (C, c, q))) = q
+not_unwritable held refuses asked name (inr (inr (C, l, r, inl q))) = q
+not_unwritable held refuses asked name (inr (inr (C, l, r, inr q))) = q
 
-not_words : (held : Folder) (asked : Asked) → Refused held asked faults.Words → ⊥
-not_words held asked (inl q) = q
-not_words held asked (inr (inl (C, c, q))) = q
-not_words held asked (inr (inr (C, l, r, inl q))) = q
-not_words held asked (inr (inr (C, l, r, inr q))) = q
+not_words : (held : Folder) (refuses : Refusals) (asked : Asked) →
+    Refused held refuses asked faults.Words → ⊥
+not_words held refuses asked (inl q) = q
+not_words held refuses asked (inr (inl (C, c, q))) = q
+not_words held refuses asked (inr (inr (C, l, r, inl q))) = q
+not_words held refuses asked (inr (inr (C, l, r, inr q))) = q
 
 failed_by : (t : Task) (why : ProgramFault) (x y : _)
     → IfSome (run_of (Err why)) (λ ran. Performed t ran x y)
-    → (run_of (Err why) ≡ None → Refused t.held t.asked why)
+    → (run_of (Err why) ≡ None → Refused t.held t.refuses t.asked why)
     → (run_of (Err why) ≡ None → y ≡ x)
     → (run_of (Err why) ≡ Some (Err fault.Failed) → ⊥)
     → FailedBy t why x y
@@ -40,8 +41,9 @@ failed_by t (faults.Run fault.Read) x y d r u s = record { run = d }
 failed_by t (faults.Run fault.Turns) x y d r u s = record { run = d }
 failed_by t (faults.Run fault.Out) x y d r u s = record { run = d }
 failed_by t (faults.Unwritable name) x y d r u s =
-    absurd (not_unwritable t.held t.asked name (r refl))
-failed_by t faults.Words x y d r u s = absurd (not_words t.held t.asked (r refl))
+    absurd (not_unwritable t.held t.refuses t.asked name (r refl))
+failed_by t faults.Words x y d r u s =
+    absurd (not_words t.held t.refuses t.asked (r refl))
 failed_by t (faults.Signatures name why look) x y d r u s =
     record { refused = r refl; unwritten = u refl }
 failed_by t (faults.Requests name why) x y d r u s = record { refused = r refl; unwritten = u refl }
@@ -70,8 +72,9 @@ pub did_by : (t : Task) (C : Table) (l : RequestTable) (ran : Result Report Prog
     (x y : _) (a b : Option (List Saved)) → AreOf C l → ReadsBy t.held t.asked C l
     → IfSome (run_of ran) (λ r. GoesOn t.held t.asked.resume t.asked.most C l
     (λ n p. Dumped (setup_by C l n t.asked) r p (stream_of t.held t.given t.asked.stream) x y))
-    → (run_of ran ≡ None → IfErr ran (λ why. NoCheckpoint t.held t.asked.resume (counts_of C l) why
-    ⊎ NoStream t.asked.stream why))
+    → (run_of ran ≡ None → IfErr ran (λ why.
+    NoCheckpoint t.held t.refuses t.asked.resume (counts_of C l) why
+    ⊎ NoStream t.refuses t.asked.stream why))
     → (run_of ran ≡ None → y ≡ x)
     → (run_of ran ≡ Some (Err fault.Failed) → ⊥)
     → Kept t.asked.save ran result a b → Did t result x y a b

@@ -1,9 +1,10 @@
 //! The program's steps: arguments, signatures, requests, checkpoint, the opening of the stream, the run, the save. The
 //! first that fails determines the status.
 
-ghost use Rattle.std.specs.Prelude.{◌≡◌, ◌≢◌, ◌≤◌, ◌⊎◌, ℕ, List, [], false, None, Some, IfSome, IfOk, IfErr, OnOk, option_map};
+ghost use Rattle.std.specs.Prelude.{◌≡◌, ◌≢◌, ◌≤◌, ◌⊎◌, ℕ, List, [], false, Option, None, Some, IfSome, IfOk, IfErr, OnOk, option_map};
 ghost use Rattle.giop_stream.specs.Checkpoint.{counts_of};
 ghost use Rattle.giop_stream.specs.EngineHolds.{AreOf, Holds};
+ghost use Rattle.giop_run.specs.SourceLog.{unread};
 ghost use Rattle.giop_run.specs.Running.{HasKept, setup_of};
 ghost use Rattle.giop_run.specs.Console.{Dumped, exit_status, run_of};
 ghost use Rattle.giop_run.specs.Files.{CatalogueOf, GoesOn, NoCheckpoint, NoStream, ReadsBy, ending_of, stream_of, setup_by};
@@ -12,12 +13,11 @@ ghost use Rattle.giop_program.specs.Words.{asked_of};
 
 use super::arguments::Arguments;
 use giop_run::{
-    Disk, Ending, Flush, Inputs, Lines, ProgramFault, Reading, Report, Retrying, RunFault, Saves,
-    catalogue, dump, failed, refused, requests, resumed, status, unreadable, words,
+    Disk, Ending, Flush, Inputs, Lines, ProgramFault, Report, Retrying, RunFault, Saves, Source,
+    catalogue, dump, failed, opened, refused, requests, resumed, status, words,
 };
 use giop_sig::{Catalogue, Requests};
 use giop_stream::{Engine, Totals};
-use std::io::Read;
 
 /// The program's name, which stands in front of what it says on standard error.
 const PROGRAM: &str = "giopdump";
@@ -54,8 +54,9 @@ pub fn perform_run<'a, R: Inputs + AllocGlobal, O: Flush, F: Saves>(
     out: &mut O,
     files: &mut F,
 ) -> Result<Totals, ProgramFault<'a>>
-    ensures did { Did (task_of (R.held rt.now) (R.given rt.now) (asked_of asked.entry)) result
-        (O.log out.old) (O.log out.new) (F.saved files.old) (F.saved files.new) }
+    ensures did { Did (task_of (R.held rt.now) (R.refuses rt.now) (R.given rt.now)
+        (asked_of asked.entry)) result (O.log out.old) (O.log out.new) (F.saved files.old)
+        (F.saved files.new) }
     ensures flushed { OnOk result (O.kept out.new ≡ []) }
 {
     let catalogue = catalogue(rt, asked.signatures)?;
@@ -71,8 +72,9 @@ fn run_by_catalogue<'a, R: Inputs + AllocGlobal, O: Flush, F: Saves>(
     catalogue: &Catalogue,
 ) -> Result<Totals, ProgramFault<'a>>
     requires read { CatalogueOf (R.held rt.now) (asked_of asked).signatures catalogue.now }
-    ensures did { Did (task_of (R.held rt.now) (R.given rt.now) (asked_of asked.entry)) result
-        (O.log out.old) (O.log out.new) (F.saved files.old) (F.saved files.new) }
+    ensures did { Did (task_of (R.held rt.now) (R.refuses rt.now) (R.given rt.now)
+        (asked_of asked.entry)) result (O.log out.old) (O.log out.new) (F.saved files.old)
+        (F.saved files.new) }
     ensures flushed { OnOk result (O.kept out.new ≡ []) }
 {
     let requests = requests(rt, asked.requests, catalogue)?;
@@ -90,8 +92,9 @@ fn run_and_save<'a, R: Inputs + AllocGlobal, O: Flush, F: Saves>(
 ) -> Result<Totals, ProgramFault<'a>>
     requires of { AreOf catalogue.now requests.now }
     requires read { ReadsBy (R.held rt.now) (asked_of asked) catalogue.now requests.now }
-    ensures did { Did (task_of (R.held rt.now) (R.given rt.now) (asked_of asked.entry)) result
-        (O.log out.old) (O.log out.new) (F.saved files.old) (F.saved files.new) }
+    ensures did { Did (task_of (R.held rt.now) (R.refuses rt.now) (R.given rt.now)
+        (asked_of asked.entry)) result (O.log out.old) (O.log out.new) (F.saved files.old)
+        (F.saved files.new) }
     ensures flushed { OnOk result (O.kept out.new ≡ []) }
 {
     let report = begin_run(rt, asked, out, catalogue, requests)?;
@@ -114,8 +117,9 @@ fn begin_run<'a, 'c, R: Inputs + AllocGlobal, O: Flush>(
         (stream_of held (R.given rt.now) asked.stream) (O.log out.old) (O.log out.new))) }
     ensures refused { let held = R.held rt.now in let asked = asked_of asked.entry in
         run_of result ≡ None → IfErr result (λ fault.
-        NoCheckpoint held asked.resume (counts_of catalogue.now requests.now) fault
-        ⊎ NoStream asked.stream fault) }
+        NoCheckpoint held (R.refuses rt.now) asked.resume
+        (counts_of catalogue.now requests.now) fault
+        ⊎ NoStream (R.refuses rt.now) asked.stream fault) }
     ensures unwritten { run_of result ≡ None → O.log out.new ≡ O.log out.old }
     ensures sound { run_of result ≢ Some (Err RunFault.Failed) }
     ensures kept { IfOk result (λ report.
@@ -152,35 +156,36 @@ fn open_stream<'a, 'c, R: Inputs, O: Flush>(
     ensures dumped { IfSome (run_of result) (λ ran. (p : List ℕ) → Holds engine.entry p
         → Dumped (setup_of engine.entry ending) ran p
         (R.held rt.now name.entry.now) (O.log out.old) (O.log out.new)) }
-    ensures refused { run_of result ≡ None → IfErr result (NoStream (Some name.entry.now)) }
+    ensures refused { run_of result ≡ None → IfErr result
+        (NoStream (R.refuses rt.now) (Some name.entry.now)) }
     ensures unwritten { run_of result ≡ None → O.log out.new ≡ O.log out.old }
     ensures sound { run_of result ≢ Some (Err RunFault.Failed) }
     ensures kept { IfOk result (λ report. HasKept ending report.kept) }
     ensures flushed { OnOk result (O.kept out.new ≡ []) }
 {
-    match rt.open(name) {
+    match opened(rt, name) {
         Ok(file) => dumped(file, out, engine, ending),
-        Err(error) => Err(unreadable(name, &error)),
+        Err(fault) => Err(fault),
     }
 }
 
-/// Runs the engine on what a reader gives.
-fn dumped<'a, 'c, R: Read + Drop, O: Flush>(
-    reader: R,
+/// Runs the engine on what a source gives, of which nothing was read.
+fn dumped<'a, 'c, S: Source + Drop, O: Flush>(
+    source: S,
     out: &mut O,
     engine: Engine<'c>,
     ending: Ending,
 ) -> Result<Report<'c>, ProgramFault<'a>>
     requires sound { engine.failed ≡ false }
-    ensures dumped { IfSome (run_of result) (λ ran. (p : List ℕ) → Holds engine.entry p
-        → Dumped (setup_of engine.entry ending) ran p
-        (R.remaining reader) (O.log out.old) (O.log out.new)) }
+    ensures dumped { (told : Option (List ℕ)) → S.log source ≡ unread told
+        → IfSome (run_of result) (λ ran. (p : List ℕ) → Holds engine.entry p
+        → Dumped (setup_of engine.entry ending) ran p told (O.log out.old) (O.log out.new)) }
     ensures some { run_of result ≢ None }
     ensures sound { run_of result ≢ Some (Err RunFault.Failed) }
     ensures kept { IfOk result (λ report. HasKept ending report.kept) }
     ensures flushed { OnOk result (O.kept out.new ≡ []) }
 {
-    let mut source = Reading::new(reader);
+    let mut source = source;
     match dump(&mut source, out, engine, ending) {
         Ok(report) => Ok(report),
         Err(fault) => Err(ProgramFault::Run(fault)),

@@ -2,38 +2,39 @@
 use Rattle.std.proofs.Common.{◌≡◌, ◌≢◌, ℕ, List, Some, Result, Ok, Err, IfOk, IfErr, Bor, refl}
 use Rattle.giop_checkpoint.specs.declared.fixed.Counts.{Counts}
 use Rattle.giop_checkpoint.specs.declared.fault.LoadFault.{LoadFault}
-use Rattle.giop_checkpoint.specs.declared.fault.LoadFault.TheVariants as refusals
+use Rattle.giop_checkpoint.specs.declared.fault.LoadFault.TheVariants as loads
 use Rattle.giop_checkpoint.specs.Refusals.{IsOurs}
 use Rattle.giop_sig.specs.Table.{Table}
 use Rattle.giop_message.specs.Signatures.{RequestTable}
 use Rattle.giop_stream.specs.EngineView.{EngineView}
 use Rattle.giop_stream.specs.EngineHolds.{Holds}
 use Rattle.giop_stream.specs.Checkpoint.{counts_of, IsRefused, Spells}
-use Rattle.giop_run.specs.Files.{Folder, GoesOn, IsFront, NoCheckpoint, checkpoint_most}
+use Rattle.giop_run.specs.Files.{Folder, Refusals, GoesOn, IsFront, NoCheckpoint, checkpoint_most}
 use Rattle.giop_run.specs.declared.fault.ProgramFault.{ProgramFault}
 use Rattle.giop_run.specs.declared.fault.ProgramFault.TheVariants as faults
 
 -- the octets of the file are refused
-pub not_resumed : {A : Type 0} → (r : Result A ProgramFault) (held : Folder) (name : Bor (List ℕ))
-    (counts : Counts) (octets : List ℕ)
+pub not_resumed : {A : Type 0} → (r : Result A ProgramFault) (held : Folder) (refuses : Refusals)
+    (name : Bor (List ℕ)) (counts : Counts) (octets : List ℕ)
     → IsFront checkpoint_most (held name.now) octets
     → IfErr r (λ why. (fault : LoadFault) ×
-    (fault ≡ refusals.OutOfMemory → why ≡ faults.OutOfMemory)
-    × (fault ≢ refusals.OutOfMemory → why ≡ faults.Checkpoint name fault)
+    (fault ≡ loads.OutOfMemory → why ≡ faults.OutOfMemory)
+    × (fault ≢ loads.OutOfMemory → why ≡ faults.Checkpoint name fault)
     × IsRefused counts octets fault)
-    → IfErr r (NoCheckpoint held (Some name.now) counts)
-not_resumed (Ok engine) held name counts octets front refused = tt
-not_resumed (Err why) held name counts octets front (refusals.OutOfMemory, memory, is, refused) =
+    → IfErr r (NoCheckpoint held refuses (Some name.now) counts)
+not_resumed (Ok engine) held refuses name counts octets front refused = tt
+not_resumed (Err why) held refuses name counts octets front
+    (loads.OutOfMemory, memory, is, refused) =
     rw (memory refl) tt
-not_resumed (Err why) held name counts octets front (refusals.Magic, memory, is, refused) =
+not_resumed (Err why) held refuses name counts octets front (loads.Magic, memory, is, refused) =
     rw (is (λ e. cc)) (refl, (octets, front, refused))
-not_resumed (Err why) held name counts octets front (refusals.Version, memory, is, refused) =
+not_resumed (Err why) held refuses name counts octets front (loads.Version, memory, is, refused) =
     rw (is (λ e. cc)) (refl, (octets, front, refused))
-not_resumed (Err why) held name counts octets front (refusals.Catalogue, memory, is, refused) =
+not_resumed (Err why) held refuses name counts octets front (loads.Catalogue, memory, is, refused) =
     rw (is (λ e. cc)) (refl, (octets, front, refused))
-not_resumed (Err why) held name counts octets front (refusals.Length, memory, is, refused) =
+not_resumed (Err why) held refuses name counts octets front (loads.Length, memory, is, refused) =
     rw (is (λ e. cc)) (refl, (octets, front, refused))
-not_resumed (Err why) held name counts octets front (refusals.State, memory, is, refused) =
+not_resumed (Err why) held refuses name counts octets front (loads.State, memory, is, refused) =
     rw (is (λ e. cc)) (refl, (octets, front, refused))
 
 -- the octets of the file are loaded: the engine holds what they are a checkpoint of

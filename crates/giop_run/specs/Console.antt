@@ -2,7 +2,7 @@
 use Rattle.std.specs.Prelude.{ℕ, ◌==◌, List, [], Option, Some, None, Result, Ok, Err, if◌then◌else◌}
 use Rattle.giop_print.specs.Output.{OutLog}
 use Rattle.giop_stream.specs.declared.status.Totals.{Totals}
-use Rattle.giop_run.specs.SourceLog.{SourceLog}
+use Rattle.giop_run.specs.SourceLog.{SourceLog, unread}
 use Rattle.giop_run.specs.Looks.{look_words, reason_words}
 use Rattle.giop_run.specs.Running.{RunSetup, Ran}
 use Rattle.giop_run.specs.declared.running.Report.{Report}
@@ -10,11 +10,7 @@ use Rattle.giop_run.specs.declared.fault.RunFault.{RunFault}
 use Rattle.giop_run.specs.declared.fault.ProgramFault.{ProgramFault}
 use Rattle.giop_run.specs.declared.fault.ProgramFault.TheVariants as faults
 
--- a reader of which nothing was read, whose octets are known where `told` is Some
-abbrev pub unread : Option (List ℕ) → SourceLog
-unread told = record { left = told; reads = 0; failures = 0; ends = 0 }
-
--- a run of an engine that held p did this with such a reader and an out
+-- a run of an engine that held p did this with such a source and an out
 pub record Dumped (w : RunSetup) (ran : Result Report RunFault) (p : List ℕ)
     (told : Option (List ℕ)) (x y : OutLog) : Type 0 where
   pub octets : List ℕ

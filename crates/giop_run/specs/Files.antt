@@ -13,16 +13,26 @@ use Rattle.giop_message.specs.Signatures.{RequestTable}
 use Rattle.giop_checkpoint.specs.declared.fixed.Counts.{Counts}
 use Rattle.giop_checkpoint.specs.Refusals.{IsOurs}
 use Rattle.giop_stream.specs.Checkpoint.{counts_of, IsRefused, Spells}
-use Rattle.giop_run.specs.Looks.{looks_of}
+use Rattle.giop_run.specs.Looks.{looks_of, HasReason}
 use Rattle.giop_run.specs.Running.{RunSetup}
 use Rattle.giop_run.specs.declared.running.Ending.{Ending}
 use Rattle.giop_run.specs.declared.running.Ending.TheVariants as endings
+use Rattle.giop_run.specs.declared.reason.Reason.{Reason}
+use Rattle.std.specs.declared.io.ErrorKind.{ErrorKind}
 use Rattle.giop_run.specs.declared.fault.ProgramFault.{ProgramFault}
 use Rattle.giop_run.specs.declared.fault.ProgramFault.TheVariants as faults
 
 -- what the file of a name holds, where that is known
 abbrev pub Folder : Type 0
 Folder = List ℕ → Option (List ℕ)
+
+-- the errors by which the file of a name can't be opened or read
+abbrev pub Refusals : Type 1
+Refusals = List ℕ → ErrorKind → Type 0
+
+-- The file of a name can't be read, and this is why.
+abbrev pub CannotRead : Refusals → List ℕ → Reason → Type 0
+CannotRead refuses name why = (kind : ErrorKind) × refuses name kind × HasReason kind why
 
 -- a text is what is read of a file that may have at most so many octets: all of it, or one octet
 -- more than that
@@ -82,58 +92,62 @@ stream_of held given (Some name) = held name
 
 -- why there is no catalogue: no memory, or the signature file can't be read or is refused, by name,
 -- with what its text looks like
-abbrev pub NoCatalogue : Folder → Option (List ℕ) → ProgramFault → Type 0
-NoCatalogue held asked (faults.Signatures name why look) =
+abbrev pub NoCatalogue : Folder → Refusals → Option (List ℕ) → ProgramFault → Type 0
+NoCatalogue held refuses asked (faults.Signatures name why look) =
     (asked ≡ Some name.now)
     × ((text : List ℕ) × IsFront signatures_most (held name.now) text × (look ≡ looks_of text)
     × (signatures_most < length text → why ≡ text_too_long)
     × (length text ≤ signatures_most → IsFirstRefusal text why))
-NoCatalogue held asked (faults.Unreadable name why) = asked ≡ Some name.now
-NoCatalogue held asked faults.OutOfMemory = Unit {0}
-NoCatalogue held asked faults.Words = ⊥
-NoCatalogue held asked (faults.Requests name why) = ⊥
-NoCatalogue held asked (faults.Checkpoint name why) = ⊥
-NoCatalogue held asked (faults.Unwritable name) = ⊥
-NoCatalogue held asked (faults.Run why) = ⊥
+NoCatalogue held refuses asked (faults.Unreadable name why) =
+    (asked ≡ Some name.now) × CannotRead refuses name.now why
+NoCatalogue held refuses asked faults.OutOfMemory = Unit {0}
+NoCatalogue held refuses asked faults.Words = ⊥
+NoCatalogue held refuses asked (faults.Requests name why) = ⊥
+NoCatalogue held refuses asked (faults.Checkpoint name why) = ⊥
+NoCatalogue held refuses asked (faults.Unwritable name) = ⊥
+NoCatalogue held refuses asked (faults.Run why) = ⊥
 
 -- why there is no list: no memory, or the request file can't be read or is refused, by its name
-abbrev pub NoRequests : Folder → Option (List ℕ) → ProgramFault → Type 0
-NoRequests held asked (faults.Requests name why) =
+abbrev pub NoRequests : Folder → Refusals → Option (List ℕ) → ProgramFault → Type 0
+NoRequests held refuses asked (faults.Requests name why) =
     (asked ≡ Some name.now)
     × ((text : List ℕ) × IsFront requests_most (held name.now) text
     × IsRefusedAs text why.line why.kind)
-NoRequests held asked (faults.Unreadable name why) = asked ≡ Some name.now
-NoRequests held asked faults.OutOfMemory = Unit {0}
-NoRequests held asked faults.Words = ⊥
-NoRequests held asked (faults.Signatures name why look) = ⊥
-NoRequests held asked (faults.Checkpoint name why) = ⊥
-NoRequests held asked (faults.Unwritable name) = ⊥
-NoRequests held asked (faults.Run why) = ⊥
+NoRequests held refuses asked (faults.Unreadable name why) =
+    (asked ≡ Some name.now) × CannotRead refuses name.now why
+NoRequests held refuses asked faults.OutOfMemory = Unit {0}
+NoRequests held refuses asked faults.Words = ⊥
+NoRequests held refuses asked (faults.Signatures name why look) = ⊥
+NoRequests held refuses asked (faults.Checkpoint name why) = ⊥
+NoRequests held refuses asked (faults.Unwritable name) = ⊥
+NoRequests held refuses asked (faults.Run why) = ⊥
 
 -- why no checkpoint is loaded: no memory, or its file can't be read or is refused, by its name
-abbrev pub NoCheckpoint : Folder → Option (List ℕ) → Counts → ProgramFault → Type 0
-NoCheckpoint held asked counts (faults.Checkpoint name why) =
+abbrev pub NoCheckpoint : Folder → Refusals → Option (List ℕ) → Counts → ProgramFault → Type 0
+NoCheckpoint held refuses asked counts (faults.Checkpoint name why) =
     (asked ≡ Some name.now)
     × ((octets : List ℕ) × IsFront checkpoint_most (held name.now) octets
     × IsRefused counts octets why)
-NoCheckpoint held asked counts (faults.Unreadable name why) = asked ≡ Some name.now
-NoCheckpoint held asked counts faults.OutOfMemory = Unit {0}
-NoCheckpoint held asked counts faults.Words = ⊥
-NoCheckpoint held asked counts (faults.Signatures name why look) = ⊥
-NoCheckpoint held asked counts (faults.Requests name why) = ⊥
-NoCheckpoint held asked counts (faults.Unwritable name) = ⊥
-NoCheckpoint held asked counts (faults.Run why) = ⊥
+NoCheckpoint held refuses asked counts (faults.Unreadable name why) =
+    (asked ≡ Some name.now) × CannotRead refuses name.now why
+NoCheckpoint held refuses asked counts faults.OutOfMemory = Unit {0}
+NoCheckpoint held refuses asked counts faults.Words = ⊥
+NoCheckpoint held refuses asked counts (faults.Signatures name why look) = ⊥
+NoCheckpoint held refuses asked counts (faults.Requests name why) = ⊥
+NoCheckpoint held refuses asked counts (faults.Unwritable name) = ⊥
+NoCheckpoint held refuses asked counts (faults.Run why) = ⊥
 
 -- why the stream isn't opened: no memory, or its file can't be, by its name
-abbrev pub NoStream : Option (List ℕ) → ProgramFault → Type 0
-NoStream asked (faults.Unreadable name why) = asked ≡ Some name.now
-NoStream asked faults.OutOfMemory = Unit {0}
-NoStream asked faults.Words = ⊥
-NoStream asked (faults.Signatures name why look) = ⊥
-NoStream asked (faults.Requests name why) = ⊥
-NoStream asked (faults.Checkpoint name why) = ⊥
-NoStream asked (faults.Unwritable name) = ⊥
-NoStream asked (faults.Run why) = ⊥
+abbrev pub NoStream : Refusals → Option (List ℕ) → ProgramFault → Type 0
+NoStream refuses asked (faults.Unreadable name why) =
+    (asked ≡ Some name.now) × CannotRead refuses name.now why
+NoStream refuses asked faults.OutOfMemory = Unit {0}
+NoStream refuses asked faults.Words = ⊥
+NoStream refuses asked (faults.Signatures name why look) = ⊥
+NoStream refuses asked (faults.Requests name why) = ⊥
+NoStream refuses asked (faults.Checkpoint name why) = ⊥
+NoStream refuses asked (faults.Unwritable name) = ⊥
+NoStream refuses asked (faults.Run why) = ⊥
 
 -- what the arguments ask for: the names of the files, and how many messages of a new stream may be
 -- open
@@ -161,9 +175,11 @@ pub record ReadsBy (held : Folder) (asked : Asked) (C : Table) (kept : RequestTa
   pub requests : RequestsOf held asked.requests C kept
 
 -- why a step before the run failed; the steps before that one succeeded
-abbrev pub Refused : Folder → Asked → ProgramFault → Type 0
-Refused held asked fault =
-    NoCatalogue held asked.signatures fault
-    ⊎ ((C : Table) × CatalogueOf held asked.signatures C × NoRequests held asked.requests fault)
+abbrev pub Refused : Folder → Refusals → Asked → ProgramFault → Type 0
+Refused held refuses asked fault =
+    NoCatalogue held refuses asked.signatures fault
+    ⊎ ((C : Table) × CatalogueOf held asked.signatures C
+    × NoRequests held refuses asked.requests fault)
     ⊎ ((C : Table) × (kept : RequestTable) × ReadsBy held asked C kept
-    × (NoCheckpoint held asked.resume (counts_of C kept) fault ⊎ NoStream asked.stream fault))
+    × (NoCheckpoint held refuses asked.resume (counts_of C kept) fault
+    ⊎ NoStream refuses asked.stream fault))

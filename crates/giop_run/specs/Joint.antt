@@ -10,7 +10,7 @@ use Rattle.giop_sig_files.specs.Joined.{joined}
 use Rattle.giop_sig_files.specs.Places.{place}
 use Rattle.giop_sig_files.specs.Names.{DeclareSame}
 use Rattle.giop_run.specs.Looks.{looks_of}
-use Rattle.giop_run.specs.Files.{Folder, signatures_most, IsFront, Declares}
+use Rattle.giop_run.specs.Files.{Folder, Refusals, CannotRead, signatures_most, IsFront, Declares}
 use Rattle.giop_run.specs.declared.reason.Look.{Look}
 use Rattle.giop_run.specs.declared.reason.Look.TheVariants as looks
 use Rattle.giop_run.specs.declared.fault.ProgramFault.{ProgramFault}
@@ -59,12 +59,13 @@ IsRefused (first ∷ others) (faults.Signatures name why look) =
 IsRefused files fault = ⊥
 
 -- a file of these names can't be read
-abbrev pub IsUnreadable : List (List ℕ) → ProgramFault → Type 0
-IsUnreadable names (faults.Unreadable name why) = Contains names name.now
-IsUnreadable names fault = ⊥
+abbrev pub IsUnreadable : Refusals → List (List ℕ) → ProgramFault → Type 0
+IsUnreadable refuses names (faults.Unreadable name why) =
+    Contains names name.now × CannotRead refuses name.now why
+IsUnreadable refuses names fault = ⊥
 
 -- why there is no catalogue: no memory, or one of the files can't be read, or their text is refused
-abbrev pub NoCatalogues : Folder → List (List ℕ) → ProgramFault → Type 0
-NoCatalogues held names fault =
-    (fault ≡ faults.OutOfMemory) ⊎ IsUnreadable names fault
+abbrev pub NoCatalogues : Folder → Refusals → List (List ℕ) → ProgramFault → Type 0
+NoCatalogues held refuses names fault =
+    (fault ≡ faults.OutOfMemory) ⊎ IsUnreadable refuses names fault
     ⊎ ((files : List SignatureText) × AreRead held names files × IsRefused files fault)

@@ -9,6 +9,7 @@ pub mod Running
 pub mod RunSteps
 pub mod Looks
 pub mod Console
+pub mod Fronts
 pub mod Files
 pub mod Joint
 pub mod Saving

@@ -8,7 +8,7 @@ use Rattle.giop_stream.specs.EngineHolds.{AreOf}
 use Rattle.giop_stream.specs.EngineView.{EngineView}
 use Rattle.giop_stream.specs.declared.status.Totals.{Totals}
 use Rattle.giop_run.specs.Console.{Dumped}
-use Rattle.giop_run.specs.Files.{Folder, Asked, GoesOn, ReadsBy, Refused, stream_of, setup_by}
+use Rattle.giop_run.specs.Files.{Folder, Refusals, Asked, GoesOn, ReadsBy, Refused, stream_of, setup_by}
 use Rattle.giop_run.specs.Saving.{Saved, SavedMore}
 use Rattle.giop_run.specs.declared.running.Report.{Report}
 use Rattle.giop_run.specs.declared.fault.RunFault.{RunFault}
@@ -17,14 +17,16 @@ use Rattle.giop_run.specs.declared.fault.ProgramFault.{ProgramFault}
 use Rattle.giop_run.specs.declared.fault.ProgramFault.TheVariants as faults
 
 -- what the arguments ask for, and what there is to read, where it is known: files by their names,
--- and standard input
-pub record Task : Type 0 where
+-- by which errors they can't be read, and standard input
+pub record Task : Type 1 where
   pub held : Folder
+  pub refuses : Refusals
   pub given : Option (List ℕ)
   pub asked : Asked
 
-abbrev pub task_of : Folder → Option (List ℕ) → Asked → Task
-task_of held given asked = record { held = held; given = given; asked = asked }
+abbrev pub task_of : Folder → Refusals → Option (List ℕ) → Asked → Task
+task_of held refuses given asked =
+    record { held = held; refuses = refuses; given = given; asked = asked }
 
 -- A run read what the arguments name: the stream, by the catalogue and the list of the files, from
 -- the checkpoint on.
@@ -65,7 +67,7 @@ pub record Unsaved (t : Task) (name : List ℕ) (x y : OutLog) : Type 0 where
 
 -- A step before the run failed: nothing is written.
 pub record NotRun (t : Task) (why : ProgramFault) (x y : OutLog) : Type 0 where
-  pub refused : Refused t.held t.asked why
+  pub refused : Refused t.held t.refuses t.asked why
   pub unwritten : y ≡ x
 
 -- what the program did, by why it failed; the engine of a run is never failed

@@ -1,4 +1,4 @@
--- The reader or writer inside of a `Retrying` (state).
+-- The writer inside of a `Retrying` (state).
 use Rattle.giop_run.specs.declared.retrying.Retrying.{Retrying}
 
 -- the one whose calls are tried again

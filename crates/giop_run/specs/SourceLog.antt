@@ -10,6 +10,10 @@ pub record SourceLog : Type 0 where
   pub failures : ℕ
   pub ends : ℕ
 
+-- a source of which nothing was read, whose octets are known where `told` is Some
+abbrev pub unread : Option (List ℕ) → SourceLog
+unread told = record { left = told; reads = 0; failures = 0; ends = 0 }
+
 -- a read put `given` octets at the start of `into`; where it gave none and `into` isn't empty, the
 -- count of ends rises and nothing is left
 pub record Gave (before after : SourceLog) (into : List ℕ) (given : ℕ) : Type 0 where

@@ -13,10 +13,12 @@ use std::io;
 use std::io::ErrorKind;
 use thiserror::Error;
 
-/// A read failed, and gave no octets.
+/// A read failed by an error of this kind, and gave no octets.
 #[derive(Clone, Copy, Debug, PartialEq, Eq, Error)]
 #[error("read failed")]
-pub struct SourceFault;
+pub struct SourceFault {
+    pub kind: ErrorKind,
+}
 
 /// Why a run failed. `Display` is what the program prints after its name.
 #[derive(Clone, Copy, Debug, PartialEq, Eq, Error)]

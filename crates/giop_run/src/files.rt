@@ -1,23 +1,25 @@
 //! The files that are read whole: the signature file and the request list (docs/FORMATS.md).
 
-ghost use Rattle.std.specs.Prelude.{◌≡◌, ◌≢◌, ◌<◌, ◌≤◌, ◌⊎◌, length, IfOk, IfErr, option_map};
+ghost use Rattle.std.specs.Prelude.{◌≡◌, ◌≢◌, ◌<◌, ◌≤◌, ◌⊎◌, Some, length, IfOk, IfErr, option_map};
 ghost use Rattle.std.specs.IoError.{error_kind};
+ghost use Rattle.std.specs.declared.io.ErrorKind.{ErrorKind as Kind};
 ghost use Rattle.giop_sig.specs.FileReading.{text_too_long, IsFirstRefusal};
 ghost use Rattle.giop_sig.specs.RequestList.{IsRefusedAs};
 ghost use Rattle.giop_stream.specs.EngineHolds.{AreOf};
 ghost use Rattle.giop_run.specs.Console.{run_fault};
 ghost use Rattle.giop_run.specs.Looks.{HasReason, looks_of};
-ghost use Rattle.giop_run.specs.Files.{signatures_most, IsFront, Declares, Requests as Requested, CatalogueOf, RequestsOf, NoCatalogue, NoRequests};
+ghost use Rattle.giop_run.specs.Fronts.{Appended};
+ghost use Rattle.giop_run.specs.Files.{signatures_most, CannotRead, IsFront, Declares, Requests as Requested, CatalogueOf, RequestsOf, NoCatalogue, NoRequests, NoStream};
+ghost use Rattle.giop_run.specs.SourceLog.{unread};
 
 use super::fault::ProgramFault;
 use super::inputs::Inputs;
 use super::reason::Reason;
-use super::retrying::Retrying;
-use super::source::one_more;
+use super::source::{Source, one_more};
 use giop_sig::{Catalogue, ListFault, Requests, SigFault};
 use std::alloc::Global;
 use std::io;
-use std::io::{ErrorKind, Read};
+use std::io::ErrorKind;
 
 /// The greatest number of octets of a signature file. A longer text is refused by its parser.
 pub(crate) const SIGNATURES_MOST: u64 = 1_048_576;
@@ -25,23 +27,56 @@ pub(crate) const SIGNATURES_MOST: u64 = 1_048_576;
 /// The greatest number of octets of a request list. A longer text is refused by its parser.
 const REQUESTS_MOST: u64 = 16_777_216;
 
-/// What a reader gives up to its end, or up to the first octet past the limit.
-pub fn front<R: Read + Drop>(alloc: Global, reader: R, most: u64) -> io::Result<Vec<u8>>
-    ensures { IfOk result (λ octets. IsFront most (R.remaining reader) octets.items) }
+/// How many octets a read may give.
+const ROOM: usize = 4096;
+
+/// Reads once, and appends what the read gave; answers whether it gave some.
+fn append<S: Source>(source: &mut S, into: &mut [u8], octets: &mut Vec<u8>) -> io::Result<bool>
+    ensures ok { IfOk result (λ some. Appended (S.log source.old) (S.log source.new)
+        octets.old.items octets.new.items (length into.old) some) }
+    ensures err { IfErr result (λ error. (error_kind error ≡ ErrorKind.OutOfMemory)
+        ⊎ S.fails source.old (error_kind error)) }
+    ensures fewer { (kind : Kind) → S.fails source.new kind → S.fails source.old kind }
+{
+    let given = match source.read(into) {
+        Ok(given) => given,
+        Err(fault) => return Err(io::Error::from(fault.kind)),
+    };
+    match octets.extend_from_slice(&into[..given]) {
+        Ok(()) => Ok(given > 0),
+        Err(_) => Err(io::Error::from(ErrorKind::OutOfMemory)),
+    }
+}
+
+/// What a source gives up to its end, or up to the first octet past the limit.
+pub fn front<S: Source>(alloc: Global, source: &mut S, most: u64) -> io::Result<Vec<u8>>
+    ensures ok { IfOk result (λ octets. IsFront most (S.log source.old).left octets.items) }
+    ensures err { IfErr result (λ error. (error_kind error ≡ ErrorKind.OutOfMemory)
+        ⊎ S.fails source.old (error_kind error)) }
 {
     let mut octets = Vec::new(alloc);
-    let mut limited = Retrying::new(reader).take(one_more(most));
-    limited.read_to_end(&mut octets)?;
+    let mut buffer = [0; ROOM];
+    let limit = one_more(most);
+    for _turn in 0..limit {
+        let left = limit.saturating_sub(octets.len() as u64);
+        let room = left.min(ROOM as u64) as usize;
+        if !append(source, &mut buffer[..room], &mut octets)? {
+            return Ok(octets);
+        }
+    }
     Ok(octets)
 }
 
 /// The fault of a file of this name that can't be read.
-pub fn unreadable<'a>(name: &'a str, error: &io::Error) -> ProgramFault<'a>
+fn unreadable<'a>(name: &'a str, error: &io::Error) -> ProgramFault<'a>
     ensures memory { error_kind error.now ≡ ErrorKind.OutOfMemory →
         result ≡ ProgramFault.OutOfMemory }
     ensures named { error_kind error.now ≢ ErrorKind.OutOfMemory
         → (why : Reason) × (result ≡ ProgramFault.Unreadable name.entry why)
         × HasReason (error_kind error.now) why }
+    ensures either { (result ≡ ProgramFault.OutOfMemory)
+        ⊎ ((why : Reason) × (result ≡ ProgramFault.Unreadable name.entry why)
+        × HasReason (error_kind error.now) why) }
 {
     if error.kind() == ErrorKind::OutOfMemory {
         ProgramFault::OutOfMemory
@@ -50,6 +85,29 @@ pub fn unreadable<'a>(name: &'a str, error: &io::Error) -> ProgramFault<'a>
             name,
             why: Reason::of(error.kind()),
         }
+    }
+}
+
+/// Opens a file; nothing was read of it.
+pub fn opened<'a, R: Inputs>(rt: &R, name: &'a str) -> Result<R::File, ProgramFault<'a>>
+    ensures ok { IfOk result (λ file. R.File.log file ≡ unread (R.held rt.now name.entry.now)) }
+    ensures err { IfErr result (NoStream (R.refuses rt.now) (Some name.entry.now)) }
+{
+    match rt.open(name) {
+        Ok(file) => Ok(file),
+        Err(error) => Err(unreadable(name, &error)),
+    }
+}
+
+/// What a file holds, up to the first octet past the limit, or the error by which it can't be read.
+fn opened_front<R: Inputs + AllocGlobal>(rt: &R, name: &str, most: u64) -> io::Result<Vec<u8>>
+    ensures ok { IfOk result (λ octets. IsFront most (R.held rt.now name.now) octets.items) }
+    ensures err { IfErr result (λ error. (error_kind error ≡ ErrorKind.OutOfMemory)
+        ⊎ R.refuses rt.now name.now (error_kind error)) }
+{
+    match rt.open(name) {
+        Ok(mut file) => front(rt.alloc(), &mut file, most),
+        Err(error) => Err(error),
     }
 }
 
@@ -62,13 +120,10 @@ pub(crate) fn contents<'a, R: Inputs + AllocGlobal>(
     ensures ok { IfOk result (λ octets. IsFront most (R.held rt.now name.entry.now) octets.items) }
     ensures err { IfErr result (λ fault.
         (fault ≡ ProgramFault.OutOfMemory)
-        ⊎ ((why : Reason) × (fault ≡ ProgramFault.Unreadable name.entry why))) }
+        ⊎ ((why : Reason) × (fault ≡ ProgramFault.Unreadable name.entry why)
+        × CannotRead (R.refuses rt.now) name.entry.now why)) }
 {
-    let read = match rt.open(name) {
-        Ok(file) => front(rt.alloc(), file, most),
-        Err(error) => Err(error),
-    };
-    match read {
+    match opened_front(rt, name, most) {
         Ok(octets) => Ok(octets),
         Err(error) => Err(unreadable(name, &error)),
     }
@@ -100,7 +155,8 @@ pub fn catalogue<'a, R: Inputs + AllocGlobal>(
     name: Option<&'a str>,
 ) -> Result<Catalogue, ProgramFault<'a>>
     ensures ok { IfOk result (CatalogueOf (R.held rt.now) (option_map (λ n. n.now) name.entry)) }
-    ensures err { IfErr result (NoCatalogue (R.held rt.now) (option_map (λ n. n.now) name.entry)) }
+    ensures err { IfErr result (NoCatalogue (R.held rt.now) (R.refuses rt.now)
+        (option_map (λ n. n.now) name.entry)) }
     ensures file { IfErr result (λ fault. run_fault fault ≡ None) }
 {
     let alloc = rt.alloc();
@@ -142,7 +198,8 @@ pub fn requests<'a, R: Inputs + AllocGlobal>(
     ensures of { IfOk result (λ kept. AreOf catalogue.now kept) }
     ensures ok { IfOk result
         (RequestsOf (R.held rt.now) (option_map (λ n. n.now) name.entry) catalogue.now) }
-    ensures err { IfErr result (NoRequests (R.held rt.now) (option_map (λ n. n.now) name.entry)) }
+    ensures err { IfErr result (NoRequests (R.held rt.now) (R.refuses rt.now)
+        (option_map (λ n. n.now) name.entry)) }
     ensures file { IfErr result (λ fault. run_fault fault ≡ None) }
 {
     let alloc = rt.alloc();

@@ -1,18 +1,23 @@
 //! Where the program reads octets from: files by their names, and standard input.
 
-ghost use Rattle.std.specs.Prelude.{◌≡◌, ℕ, List, Option, None, IfOk};
+ghost use Rattle.std.specs.Prelude.{◌≡◌, ℕ, List, Option, None, IfOk, IfErr};
+ghost use Rattle.std.specs.IoError.{error_kind};
+ghost use Rattle.std.specs.declared.io.ErrorKind.{ErrorKind};
+ghost use Rattle.giop_run.specs.SourceLog.{unread};
 
+use super::reading::Reading;
+use super::source::Source;
 use std::fs::File;
 use std::io;
-use std::io::{Read, Stdin};
+use std::io::Stdin;
 
 /// Files that can be opened by name, and standard input.
 pub trait Inputs {
     /// An open file.
-    type File: Read + Drop;
+    type File: Source + Drop;
 
     /// Standard input.
-    type Standard: Read + Drop;
+    type Standard: Source + Drop;
 
     /// What the file of a name holds, where the contracts know it.
     ghost held: { Self → List ℕ → Option (List ℕ) };
@@ -20,30 +25,38 @@ pub trait Inputs {
     /// What standard input gives, where the contracts know it.
     ghost given: { Self → Option (List ℕ) };
 
+    /// The errors by which the file of a name can't be opened or read.
+    ghost refuses: { Self → List ℕ → ErrorKind → Type 0 };
+
     /// Opens a file; nothing was read of it.
     fn open(&self, name: &str) -> io::Result<Self::File>
-        ensures { IfOk result (λ file. Self.File.remaining file ≡ held self.now name.now) };
+        ensures ok { IfOk result (λ file. Self.File.log file ≡ unread (held self.now name.now)) }
+        ensures read { IfOk result (λ file. (kind : ErrorKind)
+            → Self.File.fails file kind → refuses self.now name.now kind) }
+        ensures err { IfErr result (λ error. refuses self.now name.now (error_kind error)) };
 
-    /// Standard input.
+    /// Standard input; nothing was read of it.
     fn standard_input(&self) -> Self::Standard
-        ensures { Self.Standard.remaining result ≡ given self.now };
+        ensures { Self.Standard.log result ≡ unread (given self.now) };
 }
 
-/// Those of the system; the contracts don't know what they hold.
+/// Those of the system; the contracts don't know what they hold, nor when they fail.
 impl Inputs for HostRuntime {
-    type File = File;
+    type File = Reading<File>;
 
-    type Standard = Stdin;
+    type Standard = Reading<Stdin>;
 
     ghost held = { λ _ _. None };
 
     ghost given = { λ _. None };
 
-    fn open(&self, name: &str) -> io::Result<File> {
-        File::open(self, name)
+    ghost refuses = { λ _ _ _. Unit {0} };
+
+    fn open(&self, name: &str) -> io::Result<Reading<File>> {
+        Ok(Reading::new(File::open(self, name)?))
     }
 
-    fn standard_input(&self) -> Stdin {
-        self.stdin()
+    fn standard_input(&self) -> Reading<Stdin> {
+        Reading::new(self.stdin())
     }
 }

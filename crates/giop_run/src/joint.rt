@@ -24,7 +24,7 @@ fn signature_texts<'a, R: Inputs + AllocGlobal>(
     ensures ok { IfOk result (λ files.
         AreRead (R.held rt.now) (map (λ name. name.now) names.now) files.items) }
     ensures err { IfErr result (λ fault. (fault ≡ ProgramFault.OutOfMemory)
-        ⊎ IsUnreadable (map (λ name. name.now) names.now) fault) }
+        ⊎ IsUnreadable (R.refuses rt.now) (map (λ name. name.now) names.now) fault) }
 {
     let mut files = Vec::new(rt.alloc());
     for name in names {
@@ -115,7 +115,8 @@ pub fn joint_catalogue<'a, R: Inputs + AllocGlobal>(
     names: &[&'a str],
 ) -> Result<Catalogue, ProgramFault<'a>>
     ensures ok { IfOk result (CataloguesOf (R.held rt.now) (map (λ name. name.now) names.now)) }
-    ensures err { IfErr result (NoCatalogues (R.held rt.now) (map (λ name. name.now) names.now)) }
+    ensures err { IfErr result (NoCatalogues (R.held rt.now) (R.refuses rt.now)
+        (map (λ name. name.now) names.now)) }
     ensures file { IfErr result (λ fault. run_fault fault ≡ None) }
 {
     let files = signature_texts(rt, names)?;

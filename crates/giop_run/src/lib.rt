@@ -26,7 +26,7 @@ mod watched;
 pub use command_line::{explained, failed, refused, words};
 pub use console::{dump, status};
 pub use fault::{ProgramFault, RunFault, SourceFault};
-pub use files::{catalogue, front, requests, unreadable};
+pub use files::{catalogue, front, opened, requests};
 pub use flush::Flush;
 pub use inputs::Inputs;
 pub use joint::joint_catalogue;

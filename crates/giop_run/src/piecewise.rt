@@ -1,6 +1,6 @@
 //! Octets in memory as a source that gives a few at each read.
 
-ghost use Rattle.std.specs.Prelude.{◌≡◌, ◌≤◌, MatchResult, Ok, Some, length, min, take};
+ghost use Rattle.std.specs.Prelude.{◌≡◌, ◌≤◌, MatchResult, IfErr, Ok, Some, length, min, take};
 ghost use Rattle.giop_run.specs.SourceLog.{Gave, ReadFailed};
 
 use super::fault::SourceFault;
@@ -40,10 +40,13 @@ impl<'a> Source for Piecewise<'a> {
 
     ghost log = { piecewise_log };
 
+    ghost fails = { λ _ _. ⊥ };
+
     fn read(&mut self, into: &mut [u8]) -> Result<usize, SourceFault>
         ensures read { MatchResult result
             (λ given. Gave (piecewise_log self.old) (piecewise_log self.new) into.new given)
             (λ _. ReadFailed (piecewise_log self.old) (piecewise_log self.new)) }
+        ensures fault { IfErr result (λ _. ⊥) }
         // It never fails, and gives as many octets as the rest, the step and the length of `into` allow.
         ensures value { result ≡ Ok (min
             (min (length (piecewise_left self.old)) (piecewise_step self.old))

@@ -44,6 +44,8 @@ impl<R: Read> Source for Reading<R> {
 
     ghost log = { reading_log R.remaining };
 
+    ghost fails = { λ _ _. Unit {0} };
+
     fn read(&mut self, into: &mut [u8]) -> Result<usize, SourceFault> {
         self.reads = one_more(self.reads);
         match retried(&mut self.reader, into) {
@@ -53,16 +55,16 @@ impl<R: Read> Source for Reading<R> {
                 }
                 Ok(given)
             }
-            Err(_) => {
+            Err(error) => {
                 self.failures = one_more(self.failures);
-                Err(SourceFault)
+                Err(SourceFault { kind: error.kind() })
             }
         }
     }
 }
 
 /// One read. It is tried again where it is interrupted, and fails where every try is.
-pub(crate) fn retried<R: Read>(reader: &mut R, into: &mut [u8]) -> io::Result<usize>
+fn retried<R: Read>(reader: &mut R, into: &mut [u8]) -> io::Result<usize>
     ensures within { ReadsAtMost result into.new }
     ensures octets { ReadConsumes (R.remaining reader.old) (R.remaining reader.new)
         result into.new }

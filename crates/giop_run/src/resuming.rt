@@ -59,7 +59,8 @@ pub fn resumed<'a, 'c, R: Inputs + AllocGlobal>(
         IfOk result (λ e. GoesOn (R.held rt.now) asked most catalogue.now requests.now
         (λ n p. (e.most ≡ n) × Holds e p)) }
     ensures err { let asked = option_map (λ n. n.now) name.entry in IfErr result
-        (NoCheckpoint (R.held rt.now) asked (counts_of catalogue.now requests.now)) }
+        (NoCheckpoint (R.held rt.now) (R.refuses rt.now) asked
+        (counts_of catalogue.now requests.now)) }
     ensures file { IfErr result (λ fault. run_fault fault ≡ None) }
     ensures sound { IfOk result (λ e. e.failed ≡ false) }
     ensures table { IfOk result (λ e. e.table ≡ catalogue.now) }

@@ -8,6 +8,7 @@ use giop_run::{ProgramFault, RunFault, SourceFault};
 use giop_sig::{ListFaultKind, SigFaultKind};
 use giop_stream::{LoadFault, NewFault, Stop, StreamFault};
 use std::fmt::Display;
+use std::io::ErrorKind;
 use std::process::Abort;
 use std::test::Fail;
 
@@ -107,7 +108,10 @@ fn each_refusal_has_its_word_and_its_number(rt: HostRuntime) -> Result<(), Fail>
         is_named(&rt, refusal, refusal.number(), number, word)?;
     }
     is_named(&rt, OutFault, 0, 0, "write failed")?;
-    is_named(&rt, SourceFault, 0, 0, "read failed")
+    let fault = SourceFault {
+        kind: ErrorKind::Other,
+    };
+    is_named(&rt, fault, 0, 0, "read failed")
 }
 
 /// Checks the text of a fault and its status.

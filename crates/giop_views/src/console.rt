@@ -5,10 +5,9 @@ ghost use Rattle.std.specs.Prelude.{◌≤◌};
 use crate::run::{Report, run};
 use crate::watching::Watching;
 use giop_run::{
-    Inputs, Lines, Look, ProgramFault, Reading, Retrying, RunFault, ShownName, failed, unreadable,
+    Inputs, Lines, Look, ProgramFault, Retrying, RunFault, ShownName, Source, failed, opened,
 };
 use giop_view_parts::{Dump, Maker, Notice, View, ViewFault};
-use std::io::Read;
 
 /// The status where a line is none of a dump.
 const UNKNOWN: u8 = 3;
@@ -27,18 +26,18 @@ pub fn viewed<V: Maker + Drop>(rt: &HostRuntime, program: &str, file: Option<&st
     let Some(name) = file else {
         return view_source(rt, program, file, rt.standard_input(), &mut view);
     };
-    match rt.open(name) {
+    match opened(rt, name) {
         Ok(source) => view_source(rt, program, file, source, &mut view),
-        Err(error) => failed(rt, program, &unreadable(name, &error)),
+        Err(fault) => failed(rt, program, &fault),
     }
 }
 
-/// The same of what a reader gives.
-fn view_source<R: Read + Drop, V: View>(
+/// The same of what a source gives.
+fn view_source<S: Source + Drop, V: View>(
     rt: &HostRuntime,
     program: &str,
     file: Option<&str>,
-    reader: R,
+    source: S,
     view: &mut V,
 ) -> u8
     ensures { result ≤ 5 }
@@ -47,7 +46,7 @@ fn view_source<R: Read + Drop, V: View>(
     let Ok(mut out) = Lines::new(rt.alloc(), writer) else {
         return failed(rt, program, &ProgramFault::OutOfMemory);
     };
-    let mut source = Reading::new(reader);
+    let mut source = source;
     match run(rt.alloc(), &mut source, &mut out, view) {
         Ok(report) => {
             say_unknown(rt, program, file, report);

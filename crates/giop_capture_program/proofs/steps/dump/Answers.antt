@@ -1,6 +1,6 @@
 -- What a source gave was dumped for the connections that are asked for.
 use Rattle.std.proofs.Common.{◌≡◌, ◌<◌, ◌∙◌, ◌⊎◌, inl, inr, [], true, false, true≢false, ap, sym, subst, Option, Some, Err, List, Bool, ℕ}
-use Rattle.std.specs.Io.KnownBytes.{Consumes, IsAtEnd}
+use Rattle.std.specs.Io.KnownBytes.{IsAtEnd}
 use Rattle.capture_file.specs.declared.fault.CaptureFault.{CaptureFault}
 use Rattle.tcp_connections.specs.Connections.{none_known}
 use Rattle.giop_conversation.specs.Captured.{Setup}
@@ -9,14 +9,9 @@ use Rattle.giop_run.specs.declared.fault.ProgramFault.TheVariants as faults
 use Rattle.giop_run.specs.Running.{IsEnded}
 use Rattle.giop_capture_run.specs.declared.ending.Ending.{Ending}
 use Rattle.giop_capture_run.specs.CaptureRun.{ending_of}
-use Rattle.giop_capture_program.proofs.Stopping.{stopped, stopped_at}
+use Rattle.giop_capture_program.proofs.Stopping.{stopped}
 use Rattle.giop_capture_program.proofs.TellerLemmas.{text_kept}
 use Rattle.giop_capture_program.proofs.steps.dump.Goals as goal
-
-given_by : (known source left : Option (List ℕ)) (octets : List ℕ) → known ≡ source →
-    Consumes known left octets → Consumes source left octets
-given_by known source left octets is given =
-    subst (λ (x : Option (List ℕ)). Consumes x left octets) is given
 
 at_end : (X : Type 0) (rest : List ℕ) (before after : SourceLog)
     → (IsEnded before after × (rest ≡ [])) ⊎ X → (IsAtEnd after.left × (rest ≡ [])) ⊎ X
@@ -44,7 +39,7 @@ returns-in-Ok-ended-clause-dumped g c =
     record {
       left = _;
       octets = d.octets;
-      given = given_by _ _ _ _ (ap (λ log. log.left) c.new-2.ensures) w.given;
+      given = w.given;
       read = w.read;
       rest = w.rest;
       parts = w.parts;
@@ -74,12 +69,10 @@ returns-clause-refused g c =
     let same = c.into_out-out.ensures.written
     ∙ ap (λ t. t.conversations.out.whole) c.into_listener-teller.ensures in
     let log = g.O.Out.log c.into_out-out.result in
-    inr (stopped_at g.B.Beginning.begins asked (faults.Run c.in-Err-2.fault) (Some log) _ _
-    (ap (λ log. log.left) c.new-2.ensures)
-    (stopped c.in-Err-2.fault g.B.Beginning.begins
+    inr (stopped c.in-Err-2.fault g.B.Beginning.begins
     c.dump_capture-ended.new.reader.streams.listener.conversations _ asked _ _ _ _ s.0 _ _ log
     same
     (λ o. by_put _ _ _ c.is_full-is_full.ensures c.if-is_full.false
     (c.into_out-out.ensures.cause
     (subst (λ t. 0 < t.conversations.out.failures) (sym c.into_listener-teller.ensures)
-    (c.in-Err-2.ensures.cause (ap Err o))))) s.1))
+    (c.in-Err-2.ensures.cause (ap Err o))))) s.1)

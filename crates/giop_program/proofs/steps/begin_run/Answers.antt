@@ -8,8 +8,8 @@ returns-in-None-clause-dumped g c =
     let e = c.in_ok-engine.ensures in
     begun_dumped _ (asked_of c.args.asked) _ _ c.in_ok-engine.engine _ _
     (g.R.Inputs.given c.args.rt.now) _ _ _
-    e.table e.request_table c.ending_for-ending.ensures (rw c.in-None.is c.standard_input.ensures)
-    e.ok c.dumped.ensures.dumped
+    e.table e.request_table c.ending_for-ending.ensures (rw c.in-None.is refl)
+    e.ok (c.dumped.ensures.dumped _ c.standard_input.ensures)
 
 pub returns-in-Some-clause-dumped : goal.returns-in-Some-clause-dumped
 returns-in-Some-clause-dumped g c =

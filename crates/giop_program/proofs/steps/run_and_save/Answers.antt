@@ -9,14 +9,14 @@ pub returns-in_err-report-clause-did : goal.returns-in_err-report-clause-did
 returns-in_err-report-clause-did g c =
     let e = c.in_err-report.ensures in
     let r = err_from_is_err_and c.from_residual.result c.from_residual.ensures.1 in
-    did_by (task_of _ _ _) _ _ (Err c.in_err-report.field-0.0) c.from_residual.result _ _ _ _
+    did_by (task_of _ _ _ _) _ _ (Err c.in_err-report.field-0.0) c.from_residual.result _ _ _ _
     c.requires.of c.requires.read
     e.dumped e.refused e.unwritten e.sound (r.1 ∙ ap Err r.2, refl)
 
 pub returns-clause-did : goal.returns-clause-did
 returns-clause-did g c =
     let r = c.in_ok-report.ensures in
-    did_by (task_of _ _ _) _ _ (Ok c.in_ok-report.report) c.kept.result _ _ _ _ c.requires.of
+    did_by (task_of _ _ _ _) _ _ (Ok c.in_ok-report.report) c.kept.result _ _ _ _ c.requires.of
     c.requires.read
     r.dumped r.refused r.unwritten r.sound c.kept.ensures
 

@@ -6,8 +6,8 @@ pub returns-clause-err : goal.returns-clause-err
 returns-clause-err g c =
     let read = c.in_ok-octets.ensures.ok in
     let refused = rw c.deref.ensures.value at c.loaded.ensures.err in
-    rw c.in-Some.is (not_resumed c.loaded.result _ c.in-Some.name _ c.in_ok-octets.octets.items read
-    refused)
+    rw c.in-Some.is (not_resumed c.loaded.result _ _ c.in-Some.name _
+    c.in_ok-octets.octets.items read refused)
 
 pub returns-clause-ok : goal.returns-clause-ok
 returns-clause-ok g c =

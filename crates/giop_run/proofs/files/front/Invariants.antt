@@ -1,0 +1,16 @@
+-- What was read so far: each turn gave an octet.
+use Rattle.std.proofs.Common.{◌≤◌, length}
+use Rattle.std.specs.Io.KnownBytes.{Consumes}
+use Rattle.std.specs.declared.io.ErrorKind.{ErrorKind}
+use Rattle.giop_run.proofs.files.front.Given as goal
+
+abbrev pub invariant-loop-turn : goal.invariant-loop-turn
+invariant-loop-turn g l =
+    record {
+      read : Consumes (g.S.Source.log l.fn.source).left (g.S.Source.log l.source).left
+          l.octets.items;
+      many : l._turn ≤ length l.octets.items;
+      few : length l.octets.items ≤ l.limit;
+      fewer : (kind : ErrorKind) → g.S.Source.fails l.source kind →
+          g.S.Source.fails l.fn.source kind;
+    }

@@ -1,0 +1,15 @@
+-- What a read of a file that is read whole came to (steps).
+use Rattle.std.specs.Prelude.{◌≡◌, ℕ, ◌≤◌, ◌<◌, Bool, false, nat_lt, List, ◌++◌, length}
+use Rattle.std.specs.Io.KnownBytes.{Consumes, IsAtEnd}
+use Rattle.giop_run.specs.SourceLog.{SourceLog}
+
+-- what a read gave, at most so many octets, stands behind those before; where it gave none of some,
+-- nothing is left
+pub record Appended (before after : SourceLog) (old new : List ℕ) (most : ℕ) (some : Bool) : Type 0
+  where
+    pub given : List ℕ
+    pub left : Consumes before.left after.left given
+    pub all : new ≡ old ++ given
+    pub few : length given ≤ most
+    pub some_is : some ≡ nat_lt 0 (length given)
+    pub over : some ≡ false → 0 < most → IsAtEnd after.left
