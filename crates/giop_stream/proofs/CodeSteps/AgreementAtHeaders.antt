@@ -7,7 +7,7 @@ use Rattle.std.proofs.lemmas.Bool.{eqb-true, ltb-false}
 use Rattle.giop_checkpoint.specs.declared.fault.StreamFault.{StreamFault}
 use Rattle.giop_checkpoint.specs.declared.fault.StreamFault.TheVariants.{StreamLimit}
 use Rattle.giop_sig.specs.Table.{Table}
-use Rattle.giop_sig.specs.Trees.{trees_after, type_in}
+use Rattle.giop_sig.specs.Trees.{tree_at}
 use Rattle.giop_sig.specs.Builtin.{builtin_types}
 use Rattle.giop_sig.specs.HeaderTypes.{header_type}
 use Rattle.giop_decode.specs.Noted.{Noted}
@@ -53,17 +53,17 @@ use Rattle.giop_stream.proofs.CodeSteps.HeaderEndSteps.{at_free, from_append}
 -- ---- no header has ended before an octet has come
 
 in_1_0 : (k : ℕ) (header : List ℕ) → noted_by_type header (header_type 0 k) [] ≡ None
-unfolding type_in trees_after builtin_types number padding block
+unfolding tree_at builtin_types number padding block
 in_1_0 (suc (suc (suc (suc (suc (suc (suc (suc k)))))))) header = refl
 in_1_0 _ header = refl
 
 in_1_1 : (k : ℕ) (header : List ℕ) → noted_by_type header (header_type 1 k) [] ≡ None
-unfolding type_in trees_after builtin_types number padding block
+unfolding tree_at builtin_types number padding block
 in_1_1 (suc (suc (suc (suc (suc (suc (suc (suc k)))))))) header = refl
 in_1_1 _ header = refl
 
 in_1_2 : (k : ℕ) (header : List ℕ) → noted_by_type header (header_type 2 k) [] ≡ None
-unfolding type_in trees_after builtin_types number padding block
+unfolding tree_at builtin_types number padding block
 in_1_2 (suc (suc (suc (suc (suc (suc (suc (suc k)))))))) header = refl
 in_1_2 _ header = refl
 
