@@ -243,7 +243,7 @@ reads_options o size left (x ∷ xs) p skipped given i interfaces at h is r =
         ≡ due given (parts.InterfaceEnd (in_block o size 0) (ticking i (ticks_by t xs)))
         interfaces (length ys)) (shift_unit p skipped H x.value pad E) next)
 
--- what comes behind the fields of an interface
+-- what comes after the fields of an interface
 abbrev first_part : ByteOrder → ℕ → List BlockOption → Interface → Part
 first_part o size [] i = parts.InterfaceEnd (in_block o size 0) i
 first_part o size (x ∷ xs) i =

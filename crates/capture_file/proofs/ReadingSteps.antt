@@ -1,5 +1,5 @@
 -- How the reading of a list goes on where more octets come: within the part that has begun, or
--- behind it.
+-- after it.
 use Rattle.std.proofs.Common.{◌≡◌, ℕ, zero, suc, ◌+◌, ◌<◌, ◌≤◌, List, [], ◌∷◌, ◌++◌, length, drop, Some, refl, sym, ◌∙◌, ap, arith, inl, inr, zero-add}
 use Rattle.std.proofs.lemmas.List.{length-append, length-drop, take-append-le, drop-append-le, drop_all, append-nil}
 use Rattle.std.proofs.lemmas.Bool.Decides.{leb_tells}

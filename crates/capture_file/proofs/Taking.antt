@@ -1,4 +1,4 @@
--- What a capture reads and answers behind octets that the part that has begun takes.
+-- What a capture reads and answers after octets that the part that has begun takes.
 use Rattle.std.proofs.Common.{◌≡◌, ℕ, ◌+◌, ◌-◌, ◌<◌, ◌≤◌, Bool, true, false, List, [], ◌∷◌, ◌++◌, length, take, drop, slice_range, None, refl, sym, ◌∙◌, ap, subst, arith, append-nil, append_assoc, if◌then◌else◌}
 use Rattle.std.proofs.lemmas.List.{length-append, length-drop, length-take-le, drop-drop, drop-take, take-take, take_all}
 use Rattle.capture_file.specs.declared.capture.Capture.{Capture}
@@ -102,7 +102,7 @@ holds_none mid new state next running begins behind_is part interfaces = record 
   end_octets = λ k below come. absurd (omega arith);
 }
 
--- what comes behind the part, by what the reading has there
+-- what comes after the part, by what the reading has there
 abbrev pub behind_here : ParserState → List ℕ → ℕ → Outcome → Reading
 behind_here state packet place o =
     behind state packet place o (λ d. record { packets = []; ending = Within d place [] })

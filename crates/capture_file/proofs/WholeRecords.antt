@@ -1,4 +1,4 @@
--- What a capture reads and answers behind a record that is taken at once.
+-- What a capture reads and answers after a record that is taken at once.
 use Rattle.std.proofs.Common.{◌≡◌, ℕ, ◌+◌, false, List, [], ◌∷◌, ◌++◌, length, take, drop, None, refl, sym, ◌∙◌, ap, arith, append-nil, append_assoc}
 use Rattle.std.proofs.lemmas.List.{length-append, length-drop, length-take-le, drop-drop, take-take, take_all, take-append-drop}
 use Rattle.capture_file.specs.declared.capture.Capture.{Capture}

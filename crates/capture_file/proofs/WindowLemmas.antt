@@ -1,11 +1,11 @@
--- What a window holds behind one more piece of a part.
+-- What a window holds after one more piece of a part.
 use Rattle.std.proofs.Common.{◌≡◌, ℕ, ◌+◌, ◌-◌, ◌<◌, ◌≤◌, List, ◌++◌, length, take, drop, get_or, max, min, refl, sym, ◌∙◌, ap, arith, inl, inr}
 use Rattle.std.proofs.lemmas.List.{length-append, length-take, length-drop, get_or-take, get_or-drop, get_or_append_left, get_or-append_right}
 use Rattle.std.proofs.lemmas.Bool.Decides.{leb_tells}
 use Rattle.std.proofs.lemmas.Grind.{same_number_lists}
 use Rattle.capture_file.specs.Window.{IsHeld}
 
--- octets from `from` on are copied behind the first ones of a window, and in front of the rest
+-- octets from `from` on are copied after the first ones of a window, and in front of the rest
 copied : (old next : List ℕ) (i n k : ℕ) → i ≤ length old → length next ≡ n → i ≤ k → k < i + n →
     get_or (take i old ++ (next ++ drop n (drop i old))) k 0 ≡ get_or next (k - i) 0
 copied old next i n k fits long low high =

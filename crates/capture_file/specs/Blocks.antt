@@ -1,4 +1,4 @@
--- What comes behind each part of a pcapng file (the PCAP Next Generation capture file format;
+-- What comes after each part of a pcapng file (the PCAP Next Generation capture file format;
 -- meaning).
 use Rattle.std.specs.Prelude.{ℕ, ◌+◌, ◌-◌, ◌*◌, ◌/◌, ◌%◌, ◌^◌, min, nat_lt, nat_le, ◌==◌, ◌&&◌, ◌||◌, List, length, slice_get, slice_index, Option, Some, None, if◌then◌else◌}
 use Rattle.capture_file.specs.declared.fault.FaultKind.TheVariants as faults
@@ -37,7 +37,7 @@ least_length kind =
     if kind == interface_type then 20
     else (if kind == enhanced_type then 32 else (if kind == simple_type then 16 else 12))
 
--- the length of a section header block, whose order is that of the byte-order magic behind it
+-- the length of a section header block, whose order is that of the byte-order magic after it
 abbrev pub length_by_order : ℕ → List ℕ → Outcome
 length_by_order at octets =
     Continues (parts.ByteOrderMagic (record {
@@ -68,7 +68,7 @@ section_version block octets =
     if two_at block.order 0 octets == 1 then Continues (parts.BlockEnd block)
     else Fails faults.Version
 
--- what comes of a block behind its length, in a section that has so many interfaces
+-- what comes of a block after its length, in a section that has so many interfaces
 unfoldable pub block_of : ByteOrder → ℕ → ℕ → ℕ → Outcome
 block_of order kind length interfaces =
     if kind == interface_type then
@@ -93,7 +93,7 @@ block_header order interfaces octets =
     (if (length % 4 == 0) && nat_le (least_length kind) length
     then block_of order kind length interfaces else Fails faults.Length)
 
--- options while there is room for the header of one, behind so many octets of the one before
+-- options while there is room for the header of one, after so many octets of the one before
 unfoldable pub options : Block → Interface → ℕ → Outcome
 options block interface skip =
     if nat_le (skip + 4) block.left

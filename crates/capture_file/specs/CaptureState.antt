@@ -57,7 +57,7 @@ abbrev pub octets_in : Capture → List ℕ → List ℕ
 octets_in c octets =
     slice_range (octets_around c octets) c.packet_range.start c.packet_range.end
 
--- The answer to octets that were taken behind p, the first of those given: with the last of them
+-- The answer to octets that were taken after p, the first of those given: with the last of them
 -- comes what the reading has there, and with none before it. More octets were taken, a packet is
 -- complete, or a fault shows.
 abbrev pub Answers : Progress → List ℕ → List ℕ → Capture → List ℕ → Type 0
@@ -75,7 +75,7 @@ Answers (progress.Fault f) p taken c octets =
     (packets (p ++ taken) ≡ packets p) × (fault (p ++ taken) ≡ Some f)
     × (f.place ≡ length (p ++ taken))
 
--- a capture goes on behind octets that complete nothing
+-- a capture goes on after octets that complete nothing
 abbrev pub IsRunning : Progress → Capture → Type 0
 IsRunning progress.More c = c.fault ≡ None
 IsRunning _ c = Unit {0}

@@ -16,7 +16,7 @@ use Rattle.capture_file.specs.Format.{interfaces_behind}
 use Rattle.capture_file.specs.Records.{IsWholeRecord}
 
 -- of a piece of the part that has begun what is looked at or given when it is complete is held
--- behind what was
+-- after what was
 pub record HoldsPiece (old new : Capture) (piece : List ℕ) : Type 0 where
   pub part : new.part ≡ old.part
   pub interfaces : new.interfaces.items ≡ old.interfaces.items
@@ -50,7 +50,7 @@ pub record EndsPacketAt (old new : Capture) (range : PacketRange) : Type 0 where
   pub packets : new.packets ≡ suc old.packets
   pub packet_range : new.packet_range ≡ range
 
--- a part begins behind another
+-- a part begins after another
 pub record PartBegins (old new : Capture) (state : Part) : Type 0 where
   pub part : new.part ≡ state
   pub interfaces : new.interfaces.items ≡ interfaces_behind old.part old.interfaces.items

@@ -1,4 +1,4 @@
--- What comes behind each part of a capture, by the octets at the part's end, in a section that has
+-- What comes after each part of a capture, by the octets at the part's end, in a section that has
 -- these interfaces (meaning).
 use Rattle.std.specs.Prelude.{ℕ, List, [], ◌∷◌, ◌++◌, length}
 use Rattle.capture_file.specs.declared.part.Interface.{Interface}
@@ -34,7 +34,7 @@ next (parts.Packet block body) interfaces octets =
 next (parts.BlockEnd block) interfaces octets =
     block_end block octets (Continues (parts.BlockHeader block.order))
 
--- the interfaces of the section behind a part: a section begins with none, and each description
+-- the interfaces of the section after a part: a section begins with none, and each description
 -- adds one
 abbrev pub interfaces_behind : Part → List Interface → List Interface
 interfaces_behind (parts.ByteOrderMagic length) interfaces = []

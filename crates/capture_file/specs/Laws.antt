@@ -7,6 +7,6 @@ use Rattle.capture_file.specs.Reading.{PacketRecord, packets, fault, reading}
 abbrev pub PacketsBegin : Type 0
 PacketsBegin = (p q : List ℕ) → (more : List PacketRecord) × (packets (p ++ q) ≡ packets p ++ more)
 
--- behind a fault nothing is read
+-- after a fault nothing is read
 abbrev pub FaultStays : Type 0
 FaultStays = (p q : List ℕ) (f : CaptureFault) → fault p ≡ Some f → reading (p ++ q) ≡ reading p

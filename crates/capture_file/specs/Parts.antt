@@ -11,7 +11,7 @@ front (parts.Record file head captured) = 4 + captured
 front (parts.Packet block body) = body.packet_offset + body.captured
 front _ = 0
 
--- how many octets behind those are passed over
+-- how many octets after those are passed over
 abbrev pub passed : Part → ℕ
 passed (parts.OptionHeader block interface skip) = skip
 passed (parts.InterfaceEnd block interface) = block.left

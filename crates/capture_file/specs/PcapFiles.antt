@@ -34,7 +34,7 @@ number_octets Big n = to_be_bytes w32 n
 number_octets Little n = to_le_bytes w32 n
 
 -- a file: its order and unit, the octets that nothing is read of (those of the minor version, and
--- behind it those without a use and of the snapshot length), and the number of its link type
+-- after it those without a use and of the snapshot length), and the number of its link type
 pub record PcapFile : Type 0 where
   pub order : ByteOrder
   pub fractions : Fractions

@@ -42,10 +42,10 @@ abbrev pub options_octets : ByteOrder → List BlockOption → List ℕ
 options_octets o [] = []
 options_octets o (x ∷ xs) = ended_options o (x ∷ xs)
 
--- a block behind the section header: an interface, with its link type, snapshot length and options;
+-- a block after the section header: an interface, with its link type, snapshot length and options;
 -- an enhanced packet, by the number of its interface, the halves of its time in units, how many
 -- octets it had, and those that were captured; a simple packet, of the first interface; and another,
--- of which nothing is read. Behind the octets of a packet stand others, as padding and options.
+-- of which nothing is read. After the octets of a packet stand others, as padding and options.
 pub data PcapngBlock : Type 0 where
   InterfaceBlock : ℕ → ℕ → List BlockOption → PcapngBlock
   EnhancedBlock : ℕ → ℕ → ℕ → ℕ → List ℕ → List ℕ → PcapngBlock
@@ -83,7 +83,7 @@ unfoldable pub blocks_octets : ByteOrder → List PcapngBlock → List ℕ
 blocks_octets o [] = []
 blocks_octets o (b ∷ bs) = block_octets o b ++ blocks_octets o bs
 
--- a file: its order, the minor version, and the octets behind that in the section header block, as
+-- a file: its order, the minor version, and the octets after that in the section header block, as
 -- the section's length and options
 pub record PcapngFile : Type 0 where
   pub order : ByteOrder
@@ -157,7 +157,7 @@ IsBlock o interfaces (OtherBlock kind body) =
     (kind ≢ interface_type) × (kind ≢ enhanced_type) × (kind ≢ simple_type)
     × (kind ≢ section_type) × (kind < 2 ^ 32) × HasLength (length_of o (OtherBlock kind body))
 
--- the interfaces behind a block
+-- the interfaces after a block
 abbrev pub with_block : List Interface → PcapngBlock → List Interface
 with_block interfaces (InterfaceBlock link snapshot options) =
     interfaces ++ interface_of link snapshot options ∷ []
@@ -165,7 +165,7 @@ with_block interfaces (EnhancedBlock interface high low original octets behind) 
 with_block interfaces (SimpleBlock original octets behind) = interfaces
 with_block interfaces (OtherBlock kind body) = interfaces
 
--- each block, behind those before it
+-- each block, after those before it
 unfoldable pub AreBlocks : ByteOrder → List Interface → List PcapngBlock → Type 0
 AreBlocks o interfaces [] = Unit {0}
 AreBlocks o interfaces (b ∷ bs) =

@@ -1,5 +1,5 @@
 -- What a capture has: its packets, and the fault that ends its reading (meaning). A capture is
--- parts, one behind another; each says by its octets what comes next.
+-- parts, one after another; each says by its octets what comes next.
 use Rattle.std.specs.Prelude.{ℕ, zero, suc, ◌+◌, nat_lt, List, [], ◌∷◌, length, take, drop, Option, Some, None, if◌then◌else◌}
 use Rattle.capture_file.specs.declared.fault.FaultKind.TheVariants.{Truncated}
 use Rattle.capture_file.specs.declared.fault.CaptureFault.{CaptureFault}
@@ -24,7 +24,7 @@ pub record ParserState : Type 0 where
   pub part : Part
   pub interfaces : List Interface
 
--- how a reading ends: within a part, behind so many octets of the capture, of which these have
+-- how a reading ends: within a part, after so many octets of the capture, of which these have
 -- come; or with a fault
 pub data Ending : Type 0 where
   Within : ParserState → ℕ → List ℕ → Ending
@@ -43,7 +43,7 @@ end_of part octets = take (back part) (drop (front part + passed part) octets)
 abbrev pub packet_in : Part → List ℕ → List ℕ
 packet_in part octets = drop (packet_offset part) (take (front part) octets)
 
--- a reading that goes on behind a part, at this place; these octets are the packet's, if the part
+-- a reading that goes on after a part, at this place; these octets are the packet's, if the part
 -- ends one
 abbrev pub behind : ParserState → List ℕ → ℕ → Outcome → (ParserState → Reading) → Reading
 behind state packet place (Continues part) rest =
@@ -55,7 +55,7 @@ behind state packet place (EndsPacket head part) rest =
 behind state packet place (Fails kind) rest =
     record { packets = []; ending = Faulted (record { kind = kind; place = place }) }
 
--- The reading of octets, where this is due behind so many others. The first number bounds how many
+-- The reading of octets, where this is due after so many others. The first number bounds how many
 -- parts are read; each has an octet, so there are no more parts than octets.
 unfoldable pub reading_from : ℕ → ParserState → ℕ → List ℕ → Reading
 reading_from zero state at octets = record { packets = []; ending = Within state at octets }
@@ -90,7 +90,7 @@ truncated_at place part (octet ∷ octets) = Some (record { kind = Truncated; pl
 truncated_at place part [] =
     if may_end_before part then None else Some (record { kind = Truncated; place = place })
 
--- the fault that the end of a capture shows, behind this many octets
+-- the fault that the end of a capture shows, after this many octets
 abbrev pub fault_at_end : ℕ → Ending → Option CaptureFault
 fault_at_end place (Within state at octets) = truncated_at place state.part octets
 fault_at_end place (Faulted fault) = Some fault

@@ -1,4 +1,4 @@
--- What comes behind each part of a pcap file (the libpcap file format; meaning).
+-- What comes after each part of a pcap file (the libpcap file format; meaning).
 use Rattle.std.specs.Prelude.{◌≡◌, ℕ, ◌+◌, ◌*◌, ◌%◌, ◌^◌, ◌≤◌, nat_lt, ◌==◌, List, length, take, Some, if◌then◌else◌}
 use Rattle.capture_file.specs.declared.fault.FaultKind.TheVariants as faults
 use Rattle.capture_file.specs.declared.part.ByteOrder.TheVariants.{Big, Little}

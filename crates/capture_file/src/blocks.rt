@@ -1,4 +1,4 @@
-//! What comes behind each part of a pcapng file.
+//! What comes after each part of a pcapng file.
 
 ghost use Rattle.std.specs.Prelude.{◌≡◌, ◌+◌, ◌≤◌, ◌<◌, ◌⊎◌, ◌-◌, length, slice_get, slice_index, Option};
 ghost use Rattle.capture_file.specs.Blocks.{section_length, section, byte_order_magic, section_version, block_of, block_header, interface_header, options, option_header, ticks_of, time_unit, enhanced_interface, packet_of, nanoseconds_of, time_of, enhanced_header, cut, simple_header, block_end, least_length, padded, length_by_order};
@@ -33,7 +33,7 @@ fn length_by_order(octets: &[u8], at: usize) -> Outcome
     Outcome::Continues(Part::ByteOrderMagic(LengthByOrder { big, little }))
 }
 
-/// Behind the length of the first block.
+/// After the length of the first block.
 #[tactic(auto, unfolding(crate::specs::Blocks::section_length))]
 pub fn section_length(octets: &[u8]) -> Outcome
     requires { 4 ≤ length octets.now }
@@ -61,7 +61,7 @@ fn section(order: ByteOrder, length: u32) -> Outcome
     }
 }
 
-/// Behind the byte-order magic of a section.
+/// After the byte-order magic of a section.
 #[tactic(auto, unfolding(crate::specs::Blocks::byte_order_magic))]
 pub fn byte_order_magic(either: LengthByOrder, octets: &[u8]) -> Outcome
     requires { 4 ≤ length octets.now }
@@ -77,7 +77,7 @@ pub fn byte_order_magic(either: LengthByOrder, octets: &[u8]) -> Outcome
     }
 }
 
-/// Behind the version of a section.
+/// After the version of a section.
 #[tactic(auto, unfolding(crate::specs::Blocks::section_version))]
 pub fn section_version(block: Block, octets: &[u8]) -> Outcome
     requires { 4 ≤ length octets.now }
@@ -103,7 +103,7 @@ fn least_length(kind: u32) -> u32
     }
 }
 
-/// What comes of a block behind its length, in a section that has so many interfaces.
+/// What comes of a block after its length, in a section that has so many interfaces.
 #[tactic(auto, unfolding(crate::specs::Blocks::block_of))]
 fn block_of(order: ByteOrder, kind: u32, length: u32, interfaces: usize) -> Outcome
     requires { least_length kind ≤ length }
@@ -126,7 +126,7 @@ fn block_of(order: ByteOrder, kind: u32, length: u32, interfaces: usize) -> Outc
     }
 }
 
-/// Behind the type and the length of a block, in a section that has so many interfaces.
+/// After the type and the length of a block, in a section that has so many interfaces.
 #[tactic(auto, unfolding(crate::specs::Blocks::block_header))]
 pub fn block_header(order: ByteOrder, interfaces: usize, octets: &[u8]) -> Outcome
     requires { 8 ≤ length octets.now }
@@ -145,7 +145,7 @@ pub fn block_header(order: ByteOrder, interfaces: usize, octets: &[u8]) -> Outco
     }
 }
 
-/// Options while there is room for the header of one, behind so many octets of the one before.
+/// Options while there is room for the header of one, after so many octets of the one before.
 #[tactic(auto, unfolding(crate::specs::Blocks::options))]
 fn options(block: Block, interface: Interface, skip: u32) -> Outcome
     requires { skip ≤ 65536 }
@@ -160,7 +160,7 @@ fn options(block: Block, interface: Interface, skip: u32) -> Outcome
     }
 }
 
-/// Behind the fixed fields of an interface description block.
+/// After the fixed fields of an interface description block.
 #[tactic(auto, unfolding(crate::specs::Blocks::interface_header))]
 pub fn interface_header(block: Block, octets: &[u8]) -> Outcome
     requires { 8 ≤ length octets.now }
@@ -185,7 +185,7 @@ fn padded(count: u16) -> u32
     (u32::from(count) + 3) / 4 * 4
 }
 
-/// Behind the code and the length of an option.
+/// After the code and the length of an option.
 #[tactic(auto, unfolding(crate::specs::Blocks::option_header))]
 pub fn option_header(block: Block, interface: Interface, octets: &[u8]) -> Outcome
     requires { 4 ≤ length octets.now }
@@ -217,7 +217,7 @@ fn ticks_of(unit: u8) -> u64
     }
 }
 
-/// Behind the unit of an interface's times.
+/// After the unit of an interface's times.
 #[tactic(auto, unfolding(crate::specs::Blocks::time_unit))]
 pub fn time_unit(block: Block, interface: Interface, octets: &[u8]) -> Outcome
     requires { 1 ≤ length octets.now }
@@ -233,7 +233,7 @@ pub fn time_unit(block: Block, interface: Interface, octets: &[u8]) -> Outcome
     }
 }
 
-/// Behind the number of an enhanced packet's interface.
+/// After the number of an enhanced packet's interface.
 #[tactic(auto, unfolding(crate::specs::Blocks::enhanced_interface))]
 pub fn enhanced_interface(block: Block, interfaces: &[Interface], octets: &[u8]) -> Outcome
     requires { 4 ≤ length octets.now }
@@ -286,7 +286,7 @@ fn time_of(units: u64, ticks: u64) -> Option<u128>
     if time >= YEAR_10000 { None } else { Some(time) }
 }
 
-/// Behind the time and the captured length of an enhanced packet.
+/// After the time and the captured length of an enhanced packet.
 #[tactic(auto, unfolding(crate::specs::Blocks::enhanced_header))]
 pub fn enhanced_header(block: Block, interface: Interface, octets: &[u8]) -> Outcome
     requires { 12 ≤ length octets.now }
@@ -319,7 +319,7 @@ fn cut(original: u32, snapshot: u32) -> u32
     }
 }
 
-/// Behind the original length of a simple packet.
+/// After the original length of a simple packet.
 #[tactic(auto, unfolding(crate::specs::Blocks::simple_header))]
 pub fn simple_header(block: Block, interfaces: &[Interface], octets: &[u8]) -> Outcome
     requires { 4 ≤ length octets.now }
@@ -341,7 +341,7 @@ pub fn simple_header(block: Block, interfaces: &[Interface], octets: &[u8]) -> O
     )
 }
 
-/// Behind the second length of a block, where this comes if it is the first again.
+/// After the second length of a block, where this comes if it is the first again.
 #[tactic(auto, unfolding(crate::specs::Blocks::block_end))]
 pub fn block_end(block: Block, octets: &[u8], outcome: Outcome) -> Outcome
     requires long { 4 ≤ length octets.now }

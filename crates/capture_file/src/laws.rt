@@ -8,7 +8,7 @@ ghost use Rattle.capture_file.specs.PcapngFiles.{APcapngFileHasItsBlocks};
 pub fn packets_begin()
     // The packets of a longer list begin with those of the shorter one,
     ensures packets { PacketsBegin }
-    // and behind a fault nothing is read.
+    // and after a fault nothing is read.
     ensures stays { FaultStays }
 {}
 

@@ -81,7 +81,7 @@ pub enum Part {
     Beginning,
     /// The version of a pcap file.
     FileVersion(Magic),
-    /// The rest of a pcap file's header, behind the version.
+    /// The rest of a pcap file's header, after the version.
     FileRest(Magic),
     /// The header of a record up to the captured length.
     RecordHeader(FileHeader),
@@ -115,7 +115,7 @@ pub enum Part {
     BlockEnd(Block),
 }
 
-/// What comes behind a part.
+/// What comes after a part.
 #[derive(Clone, Copy)]
 pub enum Outcome {
     /// This part.
@@ -141,7 +141,7 @@ impl Part {
         }
     }
 
-    /// How many octets behind those are passed over.
+    /// How many octets after those are passed over.
     pub fn passed(&self) -> u64
         ensures value { result ≡ passed self.now }
         ensures few { result < 2 ^ 32 }

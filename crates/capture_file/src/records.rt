@@ -1,4 +1,4 @@
-//! What comes behind each part of a pcap file.
+//! What comes after each part of a pcap file.
 
 ghost use Rattle.std.specs.Prelude.{◌≡◌, ◌+◌, ◌≤◌, length, take, IfSome};
 ghost use Rattle.capture_file.specs.Records.{beginning, file_version, file_rest, record_time, record_header, record_head, IsWholeRecord};
@@ -17,7 +17,7 @@ const NANOSECONDS: u32 = 0xa1b2_3c4d;
 /// The type of a section header block, with which a pcapng file begins.
 pub const SECTION: u32 = 0x0a0d_0d0a;
 
-/// Behind the first four octets of a capture.
+/// After the first four octets of a capture.
 #[tactic(auto, unfolding(crate::specs::Records::beginning))]
 pub fn beginning(octets: &[u8]) -> Outcome
     requires { 4 ≤ length octets.now }
@@ -45,7 +45,7 @@ pub fn beginning(octets: &[u8]) -> Outcome
     }
 }
 
-/// Behind the version of a pcap file.
+/// After the version of a pcap file.
 #[tactic(auto, unfolding(crate::specs::Records::file_version))]
 pub fn file_version(magic: Magic, octets: &[u8]) -> Outcome
     requires { 4 ≤ length octets.now }
@@ -59,7 +59,7 @@ pub fn file_version(magic: Magic, octets: &[u8]) -> Outcome
     }
 }
 
-/// Behind the rest of a pcap file's header.
+/// After the rest of a pcap file's header.
 #[tactic(auto, unfolding(crate::specs::Records::file_rest))]
 pub fn file_rest(magic: Magic, octets: &[u8]) -> Outcome
     requires { 16 ≤ length octets.now }
@@ -92,7 +92,7 @@ fn record_head(file: FileHeader, octets: &[u8]) -> Head
     Head { link, time }
 }
 
-/// Behind the header of a record, up to the captured length.
+/// After the header of a record, up to the captured length.
 #[tactic(auto, unfolding(crate::specs::Records::record_header))]
 pub fn record_header(file: FileHeader, octets: &[u8]) -> Outcome
     requires { 12 ≤ length octets.now }

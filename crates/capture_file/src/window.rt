@@ -21,7 +21,7 @@ pub fn copy_to_window(window: &mut [u8], begin: u64, size: u64, at: u64, piece: 
 }
 
 /// Where a part has come up to an offset, puts those octets of its next piece that are among so many first ones of the part
-/// behind those of the pieces before it. What is behind them is of an earlier part, and goes.
+/// after those of the pieces before it. What is after them is of an earlier part, and goes.
 pub fn push_front(front: &mut Vec<u8>, size: u64, at: u64, piece: &[u8])
     requires room { size ≤ vec_capacity front.old }
     requires come { min at size ≤ length front.old.items }
@@ -37,7 +37,7 @@ pub fn push_front(front: &mut Vec<u8>, size: u64, at: u64, piece: &[u8])
     }
 }
 
-/// Puts octets behind those that are there, where there is room for them: none is taken. (What `extend_from_slice` says of its
+/// Puts octets after those that are there, where there is room for them: none is taken. (What `extend_from_slice` says of its
 /// room doesn't tell that.)
 fn push_all(to: &mut Vec<u8>, octets: &[u8])
     requires room { vec_len to.old + length octets.now ≤ vec_capacity to.old }

@@ -1,4 +1,4 @@
-//! Steps of a table with room for three calls, and the number of the call under each id behind each step.
+//! Steps of a table with room for three calls, and the number of the call under each id after each step.
 
 use arrayvec::ArrayVec;
 use giop_calls::{Call, Calls};
@@ -15,7 +15,7 @@ enum Step {
     Clear,
 }
 
-/// Each step, and the message numbers of the calls outstanding under the ids 1 to 5 behind it; 0 where there is none.
+/// Each step, and the message numbers of the calls outstanding under the ids 1 to 5 after it; 0 where there is none.
 const STEPS: [(Step, [u64; 5]); 13] = [
     (Step::Add(1, 10), [10, 0, 0, 0, 0]),
     (Step::Add(2, 20), [10, 20, 0, 0, 0]),

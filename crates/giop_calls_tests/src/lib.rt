@@ -1,4 +1,4 @@
-//! Tests of outstanding calls: steps, and the calls that are outstanding behind each.
+//! Tests of outstanding calls: steps, and the calls that are outstanding after each.
 #![tactic(auto)]
 
 #[cfg(test)]

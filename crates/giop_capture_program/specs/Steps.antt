@@ -43,9 +43,9 @@ BeginsAs begins asked table before =
     → (S ≡ setup table asked.messages asked.calls asked.connections asked.first_stream)
     × (before ≡ Some written)
 
--- A source, of which this is known, was read to the end of a capture or to its fault, behind which
+-- A source, of which this is known, was read to the end of a capture or to its fault, after which
 -- nothing was read. What was put is the text of what its packets, its fault and its end do to no
--- known connections, with the capture's last line, behind what was written before, and no more; the
+-- known connections, with the capture's last line, after what was written before, and no more; the
 -- lines of each stream in it are giopdump's. The ending says whether it has a fault.
 pub record CaptureDumped (ending : Ending) (begins : Setup → List ℕ → Type 0) (asked : Arguments)
     (source put : Option (List ℕ)) : Type 0 where
@@ -68,8 +68,8 @@ pub record CaptureDumped (ending : Ending) (begins : Setup → List ℕ → Type
       read).events
       (length (packets read)) (length read) (text S written known)
 
--- The reading of a capture stopped behind some octets of a source. What was put is the text of what
--- their packets do to no known connections, behind what was written before, and no more.
+-- The reading of a capture stopped after some octets of a source. What was put is the text of what
+-- their packets do to no known connections, after what was written before, and no more.
 pub record ReadInPart (begins : Setup → List ℕ → Type 0) (asked : Arguments)
     (source put : Option (List ℕ)) : Type 0 where
   pub left : Option (List ℕ)

@@ -13,7 +13,7 @@ pub record IsWholeDump (S : Setup) (s : StreamHistory) (reads own : List ℕ) : 
   pub reads_are : reads ≡ text (rules_in S s.answers) s.octets
   pub own_are : own ≡ dumped (rules_in S s.answers) s
 
--- Behind what was written before, the text is parts, each of whole lines. Those that a stream has
+-- After what was written before, the text is parts, each of whole lines. Those that a stream has
 -- by itself are giopdump's. Each stream that began has closed, if its connection has a room: its
 -- closing lines stand there.
 pub record ShowsEachStream (S : Setup) (written : List ℕ) (h : History) (all : List ℕ) : Type 0

@@ -13,7 +13,7 @@ use giop_conversation::each_stream_is_dumped;
 
 /// Whatever a capture is, the lines of each of its streams in the text to which it leads, without the tag and without the lines
 /// `stream`, `time`, `answers`, `raises` and `closed`, are those that `giopdump` writes of the octets that were delivered of the
-/// stream, and of its end: none goes on behind its close, since streams are without a gap, and each has closed, if its
+/// stream, and of its end: none goes on after its close, since streams are without a gap, and each has closed, if its
 /// connection has a room.
 pub fn each_stream_of_a_capture_is_dumped()
     ensures shows { (S : Setup) (written : List ℕ) (ports : List ℕ) (blocks most : ℕ)

@@ -17,7 +17,7 @@ pub trait Beginning {
     ghost use Rattle.std.specs.Prelude.{List, ℕ};
     ghost use Rattle.giop_conversation.specs.Captured.{Setup};
 
-    /// A dump may have this setup, and begin behind these octets.
+    /// A dump may have this setup, and begin after these octets.
     ghost begins: { Setup → List ℕ → Type 0 };
 }
 

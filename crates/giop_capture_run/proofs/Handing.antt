@@ -32,7 +32,7 @@ handed_more HasTaken d p octets read rest n whole reads taken =
           rw same at taken;
     }
 
--- a fault that shows behind it is one of what was read
+-- a fault that shows after it is one of what was read
 pub fault_shows : (p read more : List ℕ) (f : CaptureFault) → fault ((p ++ read) ++ more) ≡ Some f
     → IsSome (fault (p ++ (read ++ more)))
 fault_shows p read more f shows =

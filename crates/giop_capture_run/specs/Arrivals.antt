@@ -51,12 +51,12 @@ capture_ended F w p = ended F (with_fault (after_packets F w (taken_of p)) (fina
 abbrev pub most_links : ℕ
 most_links = 16
 
--- those that were told, behind one packet more of this link type: it is told where it isn't read,
+-- those that were told, after one packet more of this link type: it is told where it isn't read,
 -- with its first packet
 abbrev pub links_noted : List ℕ → ℕ → List ℕ
 links_noted told link = if is_link_read link then told else told_after most_links told link
 
--- those that were told of all packets, behind these
+-- those that were told of all packets, after these
 unfoldable pub links_from : List ℕ → List Taken → List ℕ
 links_from told [] = told
 links_from told (p ∷ ps) = links_from (links_noted told p.head.link) ps

@@ -19,7 +19,7 @@ use Rattle.giop_capture_run.specs.declared.ending.Ending.TheVariants as endings
 use Rattle.giop_capture_run.specs.Packets.{Taken, taken_of, Ran}
 use Rattle.giop_capture_run.specs.Arrivals.{capture_ended, links_told}
 
--- A capture was read to its end, or to its fault, behind which nothing was read; the source gave
+-- A capture was read to its end, or to its fault, after which nothing was read; the source gave
 -- the octets s, and no read failed. All that its packets, its fault and its end do to the
 -- connections was told, and the link types of those that aren't read.
 pub record ReadWhole (O : List Event → Type 0) (Told : List ℕ → Type 0) (F : Reader)
@@ -61,7 +61,7 @@ ending_of (Some fault) faulty =
 ending_of None faulty = if faulty then endings.Faulty else endings.Whole
 
 -- A capture was read whole, and all that is due of it was written: its listener was told of all
--- before the last lines, which say whether it was told of a fault. It has finished behind all of
+-- before the last lines, which say whether it was told of a fault. It has finished after all of
 -- that.
 pub record Dumped {L : Type 0} (ending : Ending) (observed : L → List Event → Type 0)
     (finished : L → List Event → ℕ → ℕ → Bool → Type 0) (faulty : L → Bool) (F : Reader)

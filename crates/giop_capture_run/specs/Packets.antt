@@ -33,7 +33,7 @@ abbrev pub KeepsUp : {Self Start : Type 0} → (Self → Start → List Taken �
 KeepsUp {Start = Start} taken to c =
     (start : Start) × (p : List ℕ) × Reads c p × taken to start (taken_of p)
 
--- Of octets that came behind p, these were read and the packets that they complete handed on; the
+-- Of octets that came after p, these were read and the packets that they complete handed on; the
 -- rest wasn't looked at.
 pub record HandedOn (HasTaken : List Taken → Type 0) (c : Capture) (p octets read rest : List ℕ) :
     Type 0 where
@@ -49,7 +49,7 @@ HandedWhole false HasTaken c p octets =
 
 -- ---- What a run over a source did, which gave the octets s.
 
--- all that the source gave was read, behind p, and its packets were handed on; no read failed, and
+-- all that the source gave was read, after p, and its packets were handed on; no read failed, and
 -- none came to the end
 pub record ReadAll (HasTaken : List Taken → Type 0) (c : Capture) (p s : List ℕ)
     (before after : SourceLog) : Type 0 where
@@ -58,14 +58,14 @@ pub record ReadAll (HasTaken : List Taken → Type 0) (c : Capture) (p s : List 
   pub ends : after.ends ≡ before.ends
   pub handed : HandedOn HasTaken c p s s []
 
--- a read failed, behind which none was made: the packets of all that was read were handed on
+-- a read failed, after which none was made: the packets of all that was read were handed on
 pub record ReadStopped (HasTaken : List Taken → Type 0) (c : Capture) (p s : List ℕ)
     (before after : SourceLog) : Type 0 where
   pub given : Consumes before.left after.left s
   pub failures : after.failures ≡ counted before.failures
   pub handed : HandedOn HasTaken c p s s []
 
--- The source came to its end, or the capture to a fault, behind which nothing was read; no read
+-- The source came to its end, or the capture to a fault, after which nothing was read; no read
 -- failed.
 pub record ReadToEnd (HasTaken : List Taken → Type 0) (c : Capture) (p s : List ℕ)
     (before after : SourceLog) : Type 0 where
@@ -94,7 +94,7 @@ Ran (Err faults.Failed) HasTaken c s before after = ⊥
 
 -- ---- One read of it (steps).
 
--- what a read and its packets came to, behind p: true where the reading goes on
+-- what a read and its packets came to, after p: true where the reading goes on
 abbrev pub HasReadOnce : Result Bool RunFault → (List Taken → Type 0) → Capture → List ℕ → List ℕ →
     SourceLog → SourceLog → Type 0
 HasReadOnce (Ok true) HasTaken c p s before after =

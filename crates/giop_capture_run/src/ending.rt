@@ -20,7 +20,7 @@ use giop_print::OutFault;
 use giop_run::{RunFault, Source};
 
 /// Reads a capture of which nothing was read from a source, up to its end: to the end of the source or to the capture's fault,
-/// behind which nothing is read. A fault is told before the streams close. Answers that fault.
+/// after which nothing is read. A fault is told before the streams close. Answers that fault.
 pub fn read_capture<S: Source, L: CaptureListener + Drop, N: Notices + Drop>(
     source: &mut S,
     capture: &mut Capture,

@@ -7,9 +7,9 @@ ghost use Rattle.tcp_connections.specs.Gapless.{AreGapless, AreWhole, HaveRooms}
 ghost use Rattle.giop_capture_run.specs.Packets.{Taken, taken_of};
 ghost use Rattle.giop_capture_run.specs.Arrivals.{after_packets, segments_of, capture_ended};
 
-/// Streams are without a gap: behind any packets, and behind a whole capture with its fault and its end, octets have come and
-/// streams have closed only while they lived, and what was delivered of each stands one behind another, as segments of the
-/// packets have it; and behind a whole capture each stream that began has closed. It has no body, and is called for its contract.
+/// Streams are without a gap: after any packets, and after a whole capture with its fault and its end, octets have come and
+/// streams have closed only while they lived, and what was delivered of each stands one after another, as segments of the
+/// packets have it; and after a whole capture each stream that began has closed. It has no body, and is called for its contract.
 pub fn no_stream_of_a_capture_has_a_gap()
     ensures packets { (faulted : Reader) (ports : List ℕ) (blocks most : ℕ) (packets : List Taken)
         → 1 ≤ most → most ≤ 65536 → AreGapless (segments_of packets)

@@ -50,7 +50,7 @@ pub trait CaptureListener: Listener {
     /// Whether what it was told of has a fault, or a stream that was cut.
     ghost faulty: { Self → Bool };
 
-    /// It has observed these events, and the capture has ended behind them, with so many packets and octets; and whether there
+    /// It has observed these events, and the capture has ended after them, with so many packets and octets; and whether there
     /// was a fault, or a stream that was cut.
     ghost finished: { Self → List Event → ℕ → ℕ → Bool → Type 0 };
 

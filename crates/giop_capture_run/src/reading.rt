@@ -16,7 +16,7 @@ const TURNS: u64 = 1 << 40;
 /// How many octets a read may give.
 const ROOM: usize = 16_384;
 
-/// Hands on the packets that octets of a capture complete. Answers whether the reading goes on: it does not behind a fault of
+/// Hands on the packets that octets of a capture complete. Answers whether the reading goes on: it does not after a fault of
 /// the capture, which no more octets are read of.
 fn hand_on<L: PacketListener>(
     capture: &mut Capture,

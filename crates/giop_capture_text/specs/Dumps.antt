@@ -17,7 +17,7 @@ plain_setup = setup builtin_table 16 128 256 1
 
 -- A text is that of what a capture's packets, its fault and its end do to no known connections,
 -- with its last line, and no more;
--- behind its fault nothing of it was read, and without one it was read to its end. The ending says
+-- after its fault nothing of it was read, and without one it was read to its end. The ending says
 -- whether it has a fault, or a stream that was cut.
 pub record IsDumpOf (capture : List ℕ) (ending : Ending) (text : List ℕ) : Type 0 where
   pub read : List ℕ

@@ -1,4 +1,4 @@
--- What connections hold of a dump, behind one more event.
+-- What connections hold of a dump, after one more event.
 use Rattle.std.proofs.Common.{arith, ◌≡◌, ℕ, zero, suc, Bool, true, false, List, [], ◌∷◌, ◌++◌, Some, None, refl, ap, slice_get, set, replicate, ◌==◌, Result, MatchResult}
 use Rattle.tcp_flow.specs.Flow.{Event}
 use Rattle.giop_message.specs.Signatures.{Answers}

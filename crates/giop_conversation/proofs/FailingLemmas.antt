@@ -43,7 +43,7 @@ pub none_failed : (n : ℕ) → (0 < n → false ≡ true) → n ≡ 0
 none_failed zero h = refl
 none_failed (suc n) h = search (arith, false≢true)
 
--- by how often it has failed before and behind
+-- by how often it has failed before and after
 pub same_on_ok : {A E : Type 0} (r : Result A E) (before after : ℕ) → Counts r before after →
     OnOk r (after ≡ before)
 same_on_ok (Ok x) before after counts = counts

@@ -186,7 +186,7 @@ pub closing_lines_end : (R : Rules) (p : List ℕ) (cause : CloseCause) →
     is_due (closed_line cause ++ closing R p) ≡ true
 closing_lines_end R p cause = search (arith, ends_both, closed_line_ends, closing_ends)
 
--- ---- the lines that are due behind octets
+-- ---- the lines that are due after octets
 
 time_due_ends : (begun : Option ℕ) (arrival : Arrival) → is_due (time_due begun arrival) ≡ true
 time_due_ends None arrival = none_ends

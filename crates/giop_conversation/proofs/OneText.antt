@@ -208,7 +208,7 @@ agree_now S p q s x a b e h k l f g =
     (both C n p a s b (back C n p s a (at_headers C n s a p k))
     (both C n p s x b h (at_headers C n x b p l))) f g
 
--- behind octets, and their lines
+-- after octets, and their lines
 record BehindAlike (S : Setup) (a b : Answers) (side : Side) (q : List ℕ) (arrival : Arrival)
     (c c' : Connection) : Type 0 where
   connection : IsAlike S (delivered S a side q arrival c) (delivered S b side q arrival c')

@@ -148,7 +148,7 @@ module _ (C : Table) (a : Answers) (most : ℕ) where
       (both first first first (lines_due R s p (x ∷ [])) [] []
       (one (Reads first) (added_ends C a most p (x ∷ []))) (due_parts R s p (x ∷ [])))
 
-  -- of octets behind others
+  -- of octets after others
   pub stamped_parts : (octets p : List ℕ) (s : Exchanged) →
       AreParts (stamped R s p octets) (added R p octets) (added R p octets)
   unfolding stamped

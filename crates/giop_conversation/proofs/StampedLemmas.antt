@@ -232,7 +232,7 @@ module _ (C : Table) (a : Answers) (most : ℕ) where
       ∙ (sym (told_both answer_of notified s.table s first others)
       ∙ ap (after_ends notified s.table s) (sym (header_ends_both R p (x ∷ []) rest)))
 
-  -- those behind the first are undue as they were
+  -- those after the first are undue as they were
   undue_then : (n : ℕ) (s : Exchanged) (p : List ℕ) (x : ℕ) (rest : List ℕ) → s.table ≡ C →
       AreUndue C R s p (x ∷ rest) (suc n) → 0 < n →
       AreUndue C R (told R s p (x ∷ [])) (p ++ x ∷ []) rest n
@@ -256,7 +256,7 @@ module _ (C : Table) (a : Answers) (most : ℕ) where
         messages_grow p (x ∷ []),
       )))
 
-  -- what is due behind a piece is due behind its last octet
+  -- what is due after a piece is due after its last octet
   time_then : (p : List ℕ) (x : ℕ) (rest : List ℕ) → begins_in p (x ∷ []) ≡ false →
       begun_in (p ++ x ∷ []) rest ≡ begun_in p (x ∷ rest)
   time_then p x rest none = search (arith, append_assoc, same_begun)

@@ -1,4 +1,4 @@
--- Where octets come, and streams close, only while they live, no stream goes on behind its close.
+-- Where octets come, and streams close, only while they live, no stream goes on after its close.
 use Rattle.std.proofs.Common.{◌≡◌, ℕ, ◌/◌, ◌<◌, ◌==◌, ◌⊎◌, inl, inr, Bool, true, false, ◌||◌, List, [], ◌∷◌, Option, Some, None, is_some, refl, sym, ap, subst, ◌∙◌, arith, ◌≤◌, nat_lt, if◌then◌else◌}
 use Rattle.std.proofs.lemmas.Bool.{eqb-true, eqb-false, cases_eq, cases_lt, lt-ltb, false≢true}
 use Rattle.giop_message.specs.Signatures.{Answers}
@@ -13,7 +13,7 @@ use Rattle.giop_conversation.specs.StreamTexts.{StreamHistory, read_on, closed, 
 use Rattle.giop_conversation.proofs.StreamNumbers.{AreNumbered, stream_else, unequal}
 use Rattle.giop_conversation.proofs.StreamTextLemmas.{AreShown, on_event, at_start}
 
--- ---- one event of a flow, by the number that is due before and behind it
+-- ---- one event of a flow, by the number that is due before and after it
 
 opens_none : (payloads : _) (f g : ℕ) (e : Flow) (before behind : Option ℕ) →
     OwnMayFollow payloads f before (Opens g e) behind →
@@ -57,7 +57,7 @@ lives_still payloads f e before behind past (inr same) lives = ap is_some same.1
 other_flow : (f id : ℕ) → (f ≡ id → ⊥) → Some id ≡ Some f → ⊥
 other_flow f id apart is = search (arith)
 
--- ---- streams that live are not closed, and none goes on behind its close
+-- ---- streams that live are not closed, and none goes on after its close
 
 record EndOnce (h : History) (due : ℕ → Option ℕ) : Type 0 where
   ends : (m : ℕ) → IsUnique m → (h.stream m).goes_on ≡ false

@@ -32,7 +32,7 @@ pub stopped_ended : (tag text : List ℕ) (due : ℕ) → (is_due text ≡ true 
 unfolding stopped_at
 stopped_ended tag text due is = search (arith, no_tag_begun, append-nil)
 
--- more text behind a text that ended
+-- more text after a text that ended
 pub stopped_more : (tag text more : List ℕ) (due : ℕ) → is_due text ≡ true →
     stopped_at tag (text ++ more) due ≡ with_tags tag text ++ stopped_at tag more due
 unfolding stopped_at
@@ -67,7 +67,7 @@ tag_step w w' before tag since text due n stands some few is = search (
   tag_behind,
 )
 
--- the tag that is due behind octets of a line
+-- the tag that is due after octets of a line
 abbrev pub due_at : List ℕ → List ℕ → ℕ → ℕ
 due_at tag octets n = due_behind tag (slice_index octets (n - 1))
 

@@ -117,7 +117,7 @@ early_month year days zero early is = search (arith, days_of_months_closed)
 early_month year days (suc zero) early is = search (arith, days_of_months_closed)
 early_month year days (suc (suc passed)) early is = absurd (grind arith)
 
--- behind them
+-- after them
 pub late_month : (year days even passed : ℕ) → days < days_in_year year →
     days_in_year year - 306 ≤ days → even ≡ days + 61 - (days_in_year year - 306) →
     passed ≡ (12 * even + 6) / 367 → IsMonth year days passed (even - (367 * passed + 5) / 12)

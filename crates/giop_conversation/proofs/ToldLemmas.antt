@@ -1,4 +1,4 @@
--- What the connections of a capture have told, behind one more event.
+-- What the connections of a capture have told, after one more event.
 use Rattle.std.proofs.Common.{◌≡◌, ℕ, ◌<◌, ◌/◌, arith, Bool, true, false, ◌||◌, List, [], ◌∷◌, ◌++◌, length, Option, Some, None, IfSome, Result, Ok, Err, MatchResult, refl, sym, ap, subst, ◌∙◌, slice_get, set, nat_lt}
 use Rattle.giop_print.specs.Output.{counted, Writes}
 use Rattle.tcp_flow.specs.Flow.{Event, Opens, Begins, Delivers, Closes, OfCapture, ComesFrom, HasFault}

@@ -161,7 +161,7 @@ line_behind xs k l some = search (arith, length-drop, drop, get_or-drop)
 line_is_whole : (line : List ℕ) → IsLine line → line_size line ≡ length line
 line_is_whole line l = search (arith, line_some)
 
--- the tag, and octets of the line behind it
+-- the tag, and octets of the line after it
 past_tag : (a b : Option (List ℕ)) (before tag : List ℕ) (since : ℕ) (text line : List ℕ) (k : ℕ) →
     IsLine line → 0 < length tag → 0 < k → k ≤ length line →
     StandsIn a before tag since text (length tag) → Appends a b (tag ++ take k line) →

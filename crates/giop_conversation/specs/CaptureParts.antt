@@ -1,4 +1,4 @@
--- The text of a capture by its parts, one behind another (docs/FORMATS.md, Conversations of a
+-- The text of a capture by its parts, one after another (docs/FORMATS.md, Conversations of a
 -- capture; meaning): lines of a stream, each with its tag in front, and the fault of the capture.
 -- The lines that a stream has by itself are told from those beside them, which are of five kinds.
 use Rattle.std.specs.Prelude.{◌≡◌, ℕ, ◌==◌, true, List, [], flat_map, Option, if◌then◌else◌}

@@ -101,7 +101,7 @@ abbrev pub calls_behind : Setup → Answers → Side → List ℕ → Arrival �
 calls_behind S a side octets arrival c =
     exchanged (rules_in S a) (calls_in S side arrival c) (half side c).octets octets
 
--- the connection behind them
+-- the connection after them
 abbrev pub delivered : Setup → Answers → Side → List ℕ → Arrival → Connection → Connection
 delivered S a side octets arrival c =
     let behind = calls_behind S a side octets arrival c in
@@ -230,7 +230,7 @@ closed_in S d id cause (Some c) =
       text = d.text ++ with_tags (stream_tag s.stream) (closed_lines S (side_of id) cause c);
     }
 
--- behind an event, where the ids of the messages of the stream that is read answer these operations
+-- after an event, where the ids of the messages of the stream that is read answer these operations
 abbrev pub stepped : Setup → Answers → Dump → Event → Dump
 stepped S a d (Opens id flow) = opened_in d id flow (connection_of d id)
 stepped S a d (Begins id number) = begun_in S d id (connection_of d id)

@@ -34,7 +34,7 @@ pub record HoldsConnection (S : Setup) (r : Conversation) (c : Connection) : Typ
   pub calls : HasCalls r.side r.exchange c
 
 -- The octets of a flow were read by answers that are those of the calls: it holds the connection
--- behind them, and below stand their lines, each with the tag of the stream; or a front of them,
+-- after them, and below stand their lines, each with the tag of the stream; or a front of them,
 -- where a put failed.
 pub record ReadsBy {A E : Type 0} (S : Setup) (c : Connection) (side : Side) (octets : List ℕ)
     (arrival : Arrival) (w : List ℕ) (result : Result A E) (r : Conversation) (out : Tagging) :

@@ -5,7 +5,7 @@ use Rattle.giop_conversation.specs.declared.conversations.Conversations.{Convers
 use Rattle.giop_conversation.specs.Captured.{Setup}
 use Rattle.giop_conversation.specs.DumpHeld.{HasTold}
 
--- Behind what was written below before there stands the text of these events, and no more.
+-- After what was written below before there stands the text of these events, and no more.
 abbrev pub Told : {O : Type 0} → Setup → List ℕ → List Event → Conversations O → Type 0
 Told S written events c =
     HasTold S written events c.rooms.items c.out c.arrival c.first c.totals.streams

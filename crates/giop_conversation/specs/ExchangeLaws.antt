@@ -1,4 +1,4 @@
--- What an exchange answers are operations of its table, and fewer behind each header (laws).
+-- What an exchange answers are operations of its table, and fewer after each header (laws).
 use Rattle.std.proofs.Common.{◌≡◌, ℕ, ◌<◌, ◌==◌, Bool, true, false, List, [], ◌∷◌, length, Option, Some, None, IfSome, option_and_then, refl, sym, ◌∙◌}
 use Rattle.std.specs.List.{find}
 use Rattle.std.specs.Option.{option_map}
@@ -12,7 +12,7 @@ use Rattle.giop_message.specs.MessageState.{AreKnown}
 use Rattle.giop_message.specs.HeaderEnds.{CallEvent, Requested, Replied, Raised, HasKnownOperation}
 use Rattle.giop_conversation.specs.Exchanges.{Exchanged, answer_of, call_of, notified}
 
--- behind a Reply none of its id is found,
+-- after a Reply none of its id is found,
 none_found : (id : ℕ) (es : List (Entry Call)) → find (λ e. e.key == id) (without id es) ≡ None
 none_found id [] = refl
 none_found id (e ∷ es) = by (e.key == id) refl (none_found id es)

@@ -59,7 +59,7 @@ call_named s number name = record {
   time = s.arrival.time;
 }
 
--- the calls of the stream behind a Request of this number and id: an older one of its id goes
+-- the calls of the stream after a Request of this number and id: an older one of its id goes
 abbrev pub requested : Exchanged → ℕ → ℕ → Option (List ℕ) → Entries Call
 requested s number id None = with_entries s.own (without id s.own.entries)
 requested s number id (Some name) =
@@ -75,7 +75,7 @@ kept_exception number name =
 abbrev pub is_waiting : Exchanged → Bool
 is_waiting s = is_some s.answered || is_some s.raised
 
--- behind the header of a Request, and behind that of a Reply, which takes the call that it answers
+-- after the header of a Request, and after that of a Reply, which takes the call that it answers
 abbrev pub notified : Exchanged → CallEvent → Exchanged
 notified s (Requested number id name operation expects) =
     record s { own = requested s number id (kept_name name expects) }

@@ -14,13 +14,13 @@ use Rattle.giop_conversation.specs.declared.conversation.Conversation.{Conversat
 
 -- ---- the streams
 
--- the octets of a flow's last stream behind one more event, whichever flow that is of
+-- the octets of a flow's last stream after one more event, whichever flow that is of
 unfoldable pub octets_behind : ℕ → List ℕ → Event → List ℕ
 octets_behind flow p (Begins id number) = if id == flow then [] else p
 octets_behind flow p (Delivers id octets) = if id == flow then p ++ octets else p
 octets_behind flow p _ = p
 
--- those behind all events, from these on
+-- those after all events, from these on
 unfoldable pub octets_from : ℕ → List ℕ → List Event → List ℕ
 octets_from flow p [] = p
 octets_from flow p (e ∷ es) = octets_from flow (octets_behind flow p e) es
@@ -35,7 +35,7 @@ is_stopped Running = false
 is_stopped (Stopped fault) = true
 
 -- whether octets were delivered in an event, and the stream that they are of has a stream fault
--- behind all of these events
+-- after all of these events
 abbrev pub is_at_fault : List Event → Event → Bool
 is_at_fault events (Delivers id octets) = is_some (cut (octets_of id events)).stop
 is_at_fault events _ = false

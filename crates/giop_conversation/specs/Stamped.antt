@@ -1,5 +1,5 @@
 -- The lines of a stream in a capture, without its tag (docs/FORMATS.md, Conversations of a capture;
--- meaning): those that the stream has by itself, and behind the lines of an octet those that are due
+-- meaning): those that the stream has by itself, and after the lines of an octet those that are due
 -- there: when a message began, where that octet is the 12th of its header, which call a Reply
 -- answers, where the Reply's header ends, and which exception it raises, where the exception's name
 -- ends.
@@ -50,12 +50,12 @@ lines_due R s p octets =
     ++ (answers_due (told R s p octets).answered s.arrival.time
     ++ raises_due (told R s p octets).raised)
 
--- the calls of the connection behind these octets after the stream p
+-- the calls of the connection after these octets after the stream p
 unfoldable pub exchanged : Rules → Exchanged → List ℕ → List ℕ → Exchanged
 exchanged R s p [] = s
 exchanged R s p (x ∷ xs) = exchanged R (taken (told R s p (x ∷ []))) (p ++ x ∷ []) xs
 
--- what is written of these octets after the stream p: behind the lines of each octet those that are
+-- what is written of these octets after the stream p: after the lines of each octet those that are
 -- due there
 unfoldable pub stamped : Rules → Exchanged → List ℕ → List ℕ → List ℕ
 stamped R s p [] = []

@@ -54,7 +54,7 @@ pub record HasStood (e : EngineView) (a : Answers) (p : List ℕ) (after : Taggi
   pub ready : IsReady after below
   pub told : calls ≡ due
 
--- Behind what was written to the out below there stand these lines, each with the tag in front; or
+-- After what was written to the out below there stand these lines, each with the tag in front; or
 -- a front of them, and maybe the beginning of a tag, where a put failed.
 abbrev pub WritesTagged : {A E : Type 0} → Result A E → Tagging → List ℕ → List ℕ → List ℕ → Type 0
 WritesTagged result after w tag lines =

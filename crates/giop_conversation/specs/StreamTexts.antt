@@ -17,7 +17,7 @@ pub record StreamHistory : Type 0 where
   pub octets : List ℕ  -- what was delivered of it
   pub answers : Answers  -- by which its last octets were read: which operations the ids of its messages answer
   pub is_closed : Bool
-  pub goes_on : Bool  -- whether octets were delivered or it closed once more, behind its close
+  pub goes_on : Bool  -- whether octets were delivered or it closed once more, after its close
 
 abbrev pub new_stream : StreamHistory
 new_stream = record { octets = []; answers = λ number id. None; is_closed = false; goes_on = false }
@@ -62,7 +62,7 @@ with_begun h id number false = record h { begun = counted h.begun }
 abbrev pub with_stream : History → ℕ → StreamHistory → History
 with_stream h number s = record h { stream = λ n. if number == n then s else h.stream n }
 
--- behind one more event, where octets are read by these answers
+-- after one more event, where octets are read by these answers
 abbrev pub happened : Setup → Answers → History → Event → History
 happened S a h (Opens id flow) = h
 happened S a h (Begins id number) =
@@ -73,7 +73,7 @@ happened S a h (Closes id cause) =
     with_stream h (h.stream_of id) (closed (h.stream (h.stream_of id)))
 happened S a h (OfCapture event) = h
 
--- behind all events, which lead from one dump to another: in each of them octets are read by its
+-- after all events, which lead from one dump to another: in each of them octets are read by its
 -- answers
 abbrev pub history : (S : Setup) → History → (d : Dump) → (events : List Event) → (behind : Dump) →
     Leads S d events behind → History
@@ -82,7 +82,7 @@ history S h d (e ∷ es) behind leads =
     history S (happened S leads.1.answers h e) leads.0 es behind leads.2
 
 -- The lines that a stream has by itself are giopdump's: those where its octets are read are its
--- text, and all of them with those at its end are what giopdump writes, unless it goes on behind
+-- text, and all of them with those at its end are what giopdump writes, unless it goes on after
 -- its close.
 pub record IsDumped (S : Setup) (s : StreamHistory) (reads own : List ℕ) : Type 0 where
   pub reads_are : reads ≡ text (rules_in S s.answers) s.octets
@@ -102,7 +102,7 @@ AreWhole events = (flow : ℕ) → (payloads : _) × AllFollow payloads flow Non
 abbrev pub IsUnique : ℕ → Type 0
 IsUnique number = (0 < number) × (number < 2 ^ 64 - 1)
 
--- Behind what was written before, the text is parts, each of whole lines. Those that a stream has
+-- After what was written before, the text is parts, each of whole lines. Those that a stream has
 -- by itself are giopdump's.
 pub record ShowsStreams (S : Setup) (written : List ℕ) (h : History) (all : List ℕ) : Type 0 where
   pub parts : List Part

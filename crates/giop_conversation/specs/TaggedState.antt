@@ -74,7 +74,7 @@ pub record IsReady (t : Tagging) (w : List ℕ) : Type 0 where
   pub due : t.due ≡ length t.tag
   pub sound : t.failures ≡ 0
 
--- A put failed: behind what was written before to the out below there stands a front of the lines
+-- A put failed: after what was written before to the out below there stands a front of the lines
 -- with the tag, and maybe the beginning of a tag.
 pub record WroteTaggedFront (t : Tagging) (w tag lines : List ℕ) : Type 0 where
   pub size : ℕ

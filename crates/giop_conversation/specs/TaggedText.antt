@@ -3,7 +3,7 @@ use Rattle.std.specs.Prelude.{◌≡◌, ℕ, suc, ◌+◌, ◌-◌, ◌≤◌, 
 use Rattle.std.specs.Io.KnownBytes.{Appends, Keeps}
 use Rattle.giop_conversation.specs.Tags.{lead, with_tags}
 
--- whether the octet behind a text is the first of a line
+-- whether the octet after a text is the first of a line
 unfoldable pub ends_line : Bool → List ℕ → Bool
 ends_line first [] = first
 ends_line first (x ∷ xs) = ends_line (x == 10) xs
@@ -22,12 +22,12 @@ pub record IsLine (octets : List ℕ) : Type 0 where
   pub ended : (slice_index octets (length octets - 1) == 10) ≡ true
   pub only : (k : ℕ) → k + 1 < length octets → (slice_index octets k == 10) ≡ false
 
--- the text with tags, and all but `due` octets of the tag of the line behind it, where one begins
+-- the text with tags, and all but `due` octets of the tag of the line after it, where one begins
 -- there
 unfoldable pub stopped_at : List ℕ → List ℕ → ℕ → List ℕ
 stopped_at tag text due = with_tags tag text ++ take (length tag - due) (lead (is_due text) tag)
 
--- what was written behind other octets, and how many octets that is
+-- what was written after other octets, and how many octets that is
 pub record Stands (w before tag : List ℕ) (since : ℕ) (text : List ℕ) (due : ℕ) : Type 0 where
   pub whole : w ≡ before ++ stopped_at tag text due
   pub counted : since ≡ length (stopped_at tag text due)
@@ -39,11 +39,11 @@ abbrev pub StandsIn : Option (List ℕ) → List ℕ → List ℕ → ℕ → Li
 StandsIn None before tag since text due = ⊥
 StandsIn (Some w) before tag since text due = Stands w before tag since text due
 
--- how many octets of the tag are due behind an octet
+-- how many octets of the tag are due after an octet
 abbrev pub due_behind : List ℕ → ℕ → ℕ
 due_behind tag x = if x == 10 then length tag else 0
 
--- ---- what a put did, by what was written before and behind it, and the counts of octets
+-- ---- what a put did, by what was written before and after it, and the counts of octets
 
 -- the first n octets were taken, at least one unless there were none
 pub record PutSome (a b : Option (List ℕ)) (octets : List ℕ) (since since' n : ℕ) : Type 0 where

@@ -67,7 +67,7 @@ second_text seconds =
 unfoldable pub instant_text : ℕ → List ℕ
 instant_text n = second_text (n / second) ++ (last_digits 9 (n % second) ++ codes "Z")
 
--- where there is none, or it is behind the year 9999, it is `-`
+-- where there is none, or it is after the year 9999, it is `-`
 unfoldable pub time_text : Option ℕ → List ℕ
 time_text None = codes "-"
 time_text (Some n) = if nat_lt (n / day) (days_of_years years) then instant_text n else codes "-"

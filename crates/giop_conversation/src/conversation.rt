@@ -144,7 +144,7 @@ impl<'a> Conversation<'a> {
         ensures other { direction (other side) self.new ≡ direction (other side) self.old }
         ensures fails { FailsByPut result out.old out.new }
         // By answers that are those of the calls, below stand the lines of the octets, each with the tag of the stream, or a
-        // front of them; and it holds the connection behind them.
+        // front of them; and it holds the connection after them.
         ensures text { (S : Setup) (c : Connection) (w : List ℕ) → HoldsConnection S self.old c →
             IsReady out.old w → ReadsBy S c side octets.now arrival w result self.new out.new }
     {

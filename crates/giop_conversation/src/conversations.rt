@@ -157,7 +157,7 @@ impl<'a, O: Out + Drop> Conversations<'a, O> {
         sum_within(self.first, self.totals.streams)
     }
 
-    /// A stream of a flow begins, with the number behind that of the one before it.
+    /// A stream of a flow begins, with the number after that of the one before it.
     pub fn begins(&mut self, flow: u32) -> Result<(), OutFault>
         ensures follows { (events : List Event) (number : ℕ) → Follows self.old events →
             OnOk result (Follows self.new (events ++ Begins flow number ∷ [])) }

@@ -143,7 +143,7 @@ impl<'a> Direction<'a> {
         ensures status { (p : List ℕ) → HasRead self.old.engine p →
             IfOk result (λ fed. fed.status
             ≡ status_of (fault_of (cut (p ++ take fed.count piece.now)).stop)) }
-        // By answers that agree with the calls, the calls are those behind them,
+        // By answers that agree with the calls, the calls are those after them,
         ensures come { (a : Answers) (p : List ℕ) → HoldsBy self.old.engine a p →
             AgreeWith self.old.engine a exchange.old p piece.now →
             IfOk result (λ fed. HoldsBy self.new.engine a (p ++ take fed.count piece.now)
@@ -174,8 +174,8 @@ impl<'a> Direction<'a> {
         }
     }
 
-    /// Reads the first of the next octets of its stream, and writes the lines that are due behind each. Returns how many,
-    /// and whether the stream runs behind them.
+    /// Reads the first of the next octets of its stream, and writes the lines that are due after each. Returns how many,
+    /// and whether the stream runs after them.
     fn read_piece<O: Out>(
         &mut self,
         exchange: &mut Exchange<'a>,
@@ -214,7 +214,7 @@ impl<'a> Direction<'a> {
     }
 
     /// Reads octets of its stream, which came in this packet, and writes the lines that they complete.
-    /// Behind a stream fault nothing is read.
+    /// After a stream fault nothing is read.
     pub fn read<O: Out>(
         &mut self,
         exchange: &mut Exchange<'a>,
@@ -228,7 +228,7 @@ impl<'a> Direction<'a> {
         ensures status { (p : List ℕ) → HasRead self.old.engine p →
             IfOk result (λ s. s ≡ status_of (fault_of (cut (p ++ octets.now)).stop)) }
         // By answers that agree with the calls of the connection, below stand the lines of the octets, each with the tag of the
-        // stream, or a front of them; and the calls are those behind the octets.
+        // stream, or a front of them; and the calls are those after the octets.
         ensures text { (a : Answers) (p w : List ℕ) → HoldsBy self.old.engine a p →
             IsReady out.old w →
             (let calls = reading_in self.old.engine self.old.stream arrival exchange.old in

@@ -8,7 +8,7 @@ ghost use Rattle.giop_conversation.specs.Times.{years, second_text, time_text};
 use crate::times::{DAY, put_nine, put_second, seconds_of, years_of};
 use giop_print::Line;
 
-/// A second before the year 10000, by its number, in seconds since 1970-01-01 UTC, and its text with the point behind it:
+/// A second before the year 10000, by its number, in seconds since 1970-01-01 UTC, and its text with the point after it:
 /// `2026-11-23T08:13:25.`.
 #[derive(Drop)]
 pub(crate) struct KeptSecond {

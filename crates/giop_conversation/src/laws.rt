@@ -38,7 +38,7 @@ pub fn lines_stand_below()
         WroteTaggedFront after w t.tag lines }
 {}
 
-/// Lines with tags are the lines again where the tags are taken away, and those of whole lines stand one behind the other.
+/// Lines with tags are the lines again where the tags are taken away, and those of whole lines stand one after the other.
 pub fn lines_with_tags()
     ensures taken { (tag text : List ℕ) → without_tags (length tag) (with_tags tag text) ≡ text }
     ensures more { (tag first more : List ℕ) → is_due first ≡ true →
@@ -47,13 +47,13 @@ pub fn lines_with_tags()
 
 /// The lines of a stream in the text of a capture, without the tag and without the lines `stream`, `time`, `answers`, `raises`
 /// and `closed`, are those that `giopdump` writes of the octets that were delivered of it, and of its end where it closes. That
-/// is said of each stream of a number from 1 to 2^64 - 2, behind any events.
+/// is said of each stream of a number from 1 to 2^64 - 2, after any events.
 pub fn each_stream_is_dumped()
     // The text is parts: each is such lines of a stream, or its own ones, or the capture's fault.
     ensures shows { (S : Setup) (written : List ℕ) (events : List Event) (d : Dump)
         (leads : Leads S (start S written) events d) →
         ShowsStreams S written (history S no_history (start S written) events d leads) d.text }
-    // Where octets come in a flow, and a stream closes, only while one lives there, none goes on behind its close.
+    // Where octets come in a flow, and a stream closes, only while one lives there, none goes on after its close.
     ensures ends { (S : Setup) (written : List ℕ) (events : List Event) (d : Dump)
         (leads : Leads S (start S written) events d) → AreGapless events →
         (number : ℕ) → IsUnique number →

@@ -402,7 +402,7 @@ fn line_size(octets: &[u8]) -> usize
     }
 }
 
-/// How many octets of the tag are due behind an octet.
+/// How many octets of the tag are due after an octet.
 fn due_behind(tag: &[u8], octet: u8) -> usize
     ensures { result ≡ due_behind tag.now octet }
 {

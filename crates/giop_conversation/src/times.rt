@@ -182,7 +182,7 @@ pub(crate) fn put_second(line: &mut Line, passed: u16, days: u16, seconds: u32)
     put_day(line, passed, days);
 }
 
-/// The whole seconds of a number of nanoseconds, and the nanoseconds behind them. Those that fit 64 bits, as most do,
+/// The whole seconds of a number of nanoseconds, and the nanoseconds after them. Those that fit 64 bits, as most do,
 /// are divided so, which a processor does much quicker.
 #[inline]
 pub(crate) fn seconds_of(nanoseconds: u128) -> (u128, u32)

@@ -6,7 +6,7 @@ use std::test::Fail;
 
 const LINES: &[u8] = b"m1 end\n\nm2 end\nm3 ";
 
-/// The lines with the tag of stream 12, and behind them a line without one.
+/// The lines with the tag of stream 12, and after them a line without one.
 const TAGGED: &[u8] = b"s12 m1 end\ns12 \ns12 m2 end\ns12 m3 total\n";
 
 /// Puts octets in pieces of a size.

@@ -4,7 +4,7 @@ use super::connection::Direction;
 use std::alloc::{AllocError, Global};
 
 /// A conversation: its name, how many calls of each direction may be outstanding, the pieces that come once for each of
-/// some numbers, the pieces behind them, and the closing lines without the last line feed.
+/// some numbers, the pieces after them, and the closing lines without the last line feed.
 #[derive(Clone, Copy)]
 pub struct Conversation<'a> {
     pub name: &'a str,
@@ -34,7 +34,7 @@ impl<'a> Conversation<'a> {
     }
 }
 
-/// The pieces that come once for each number, and those behind them; all are behind them where there is no number.
+/// The pieces that come once for each number, and those after them; all are after them where there is no number.
 fn split<'a>(pieces: &'a str, numbers: &str) -> Option<(&'a str, &'a str)> {
     if numbers.is_empty() {
         return Some(("", pieces));

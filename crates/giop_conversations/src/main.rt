@@ -9,7 +9,7 @@
 //! A piece is a line `piece`, with `>` for the first direction or `<` for the second, and octets in hexadecimal text,
 //! and the lines that they complete. Where a line `each I..J` stands in front of the pieces, those up to a line `then`
 //! come once for each number from I to J, which stands for each `#`: in 8 hexadecimal digits in octets, and in decimal
-//! ones in lines. So the replies behind any number of calls are tried.
+//! ones in lines. So the replies after any number of calls are tried.
 //!
 //! Each conversation is read with its pieces as they are, and cut into smaller ones. What its lines have to be is from a
 //! reference that is independent of the dumper.

@@ -87,7 +87,7 @@ fn is_numbered_read(
     Ok(true)
 }
 
-/// Reads the pieces behind those.
+/// Reads the pieces after those.
 fn is_rest_read(
     rt: &HostRuntime,
     connection: &mut Connection,

@@ -122,7 +122,7 @@ number_text_is : (message : ℕ) (place : List ℕ) (p : Primitive) (n : ℕ) (n
 unfolding kind_line
 number_text_is message place p n number e = rw e refl
 
--- the line behind what it begins with
+-- the line after what it begins with
 pub line_is : (message : ℕ) (place segment kind text : List ℕ) →
     headed message place [] ++ (segment ++ (kind ++ (text ++ codes "\n")))
     ≡ kind_line message (place ++ segment) kind text
@@ -191,7 +191,7 @@ module _ (C : Table) (d : Decoder) (part : PartAhead) (f : Fits C d)
   on : IsAtLast d there part.count
   on = search (arith, part_at_last)
 
-  -- and behind them
+  -- and after them
   pub part_behind : (at : ℕ) → at ≡ (d.at + part.count) % 8 →
       IsBehind C there (at_last d at d.outer) part.of.0
   part_behind at e =

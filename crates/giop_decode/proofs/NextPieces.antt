@@ -1,4 +1,4 @@
--- Full pieces of an octet sequence, behind each of which more comes: what one of them does.
+-- Full pieces of an octet sequence, after each of which more comes: what one of them does.
 use Rattle.std.proofs.Common.{◌≡◌, Result, Ok, IsErr, ℕ, ◌+◌, ◌-◌, ◌%◌, ◌<◌, true, false, List, [], ◌∷◌, ◌++◌, length, take, Some, refl, sym, ◌∙◌, ap, subst, arith, append-nil, codes, decimal}
 use Rattle.std.proofs.Math.Bool.{and-false}
 use Rattle.giop_decode.specs.declared.decoder.Decoder.{Decoder}
@@ -42,7 +42,7 @@ use Rattle.giop_sig.specs.Table.{Table}
 use Rattle.giop_sig.specs.Trees.{tree}
 use Rattle.giop_sig.specs.Types.{Octets}
 
--- the line of a full piece behind what it begins with
+-- the line of a full piece after what it begins with
 pub line_is : (message offset : ℕ) (place octets rest : List ℕ) →
     rest ≡ codes " octets @" ++ (decimal offset ++ (spaced_hex (octets ++ []) ++ (more_word true
     ++ codes "\n"))) →

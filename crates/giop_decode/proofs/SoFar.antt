@@ -1,4 +1,4 @@
--- Octets that are taken so far, and those that are taken behind them.
+-- Octets that are taken so far, and those that are taken after them.
 use Rattle.std.proofs.Common.{◌≡◌, Result, Ok, Err, IsErr, ℕ, ◌+◌, ◌<◌, ◌≤◌, List, ◌++◌, length, take, drop, get_or, ap, subst, append-nil, take-add, length-append, length-drop, arith}
 use Rattle.std.specs.Prelude.{IfOk}
 use Rattle.std.proofs.lemmas.Bool.{false≢true}
@@ -22,7 +22,7 @@ use Rattle.giop_sig.specs.Types.{Ty}
 use Rattle.giop_sig.specs.Table.{Table}
 
 -- So many of these octets are taken, by a decoder that became this one, and the value goes on
--- behind them.
+-- after them.
 pub record TakenSoFar (C : Table) (old new : Decoder) (octets : List ℕ) (n : ℕ)
     (before after : OutLog) : Type 0 where
   pub within : n ≤ length octets
@@ -37,7 +37,7 @@ pub record TakenSoFar (C : Table) (old new : Decoder) (octets : List ℕ) (n : �
       Reads C T order at message root old s →
       Wrote before after (lines_text message root (added_lines_of_run order T at s (take n octets)))
 
--- the octet behind so many is taken with this answer
+-- the octet after so many is taken with this answer
 abbrev pub AllTake : Table → Decoder → Decoder → List ℕ → ℕ → Progress → Type 0
 AllTake C old new octets n p =
     (T : Ty) (order : Order) (at message : ℕ) (root : Root) (s : List ℕ) →
@@ -69,7 +69,7 @@ gathered_so_far C d new octets n a within f h =
           rw (said_none message root _ (h T order at message root s r).quiet) (wrote-nil a);
     }
 
--- the lines of the octet behind so many, by one step on the decoder's fields
+-- the lines of the octet after so many, by one step on the decoder's fields
 pub step_says : (C : Table) (old mid : Decoder) (octets : List ℕ) (n : ℕ) → Fits C mid →
     ((T : Ty) (order : Order) (at message : ℕ) (root : Root) (s : List ℕ) →
     Reads C T order at message root old s →
@@ -138,7 +138,7 @@ module _ (C : Table) (old mid : Decoder) (octets : List ℕ) (n : ℕ) (a b : Ou
         done = λ is. cc;
       }
 
-  -- ---- and a run behind them
+  -- ---- and a run after them
 
   module _ (new : Decoder) (c : OutLog) where
     pub then_some : {E : Type 0} (m : ℕ) (p : Progress) →
@@ -181,7 +181,7 @@ module _ (C : Table) (old mid : Decoder) (octets : List ℕ) (n : ℕ) (a b : Ou
         TakesSome {E = E} C mid new (drop n octets) b c (Err e) → TakesSome C old new octets a c r
     then_broken r e is t = search (arith, then_fails, broken, drop)
 
-    -- ---- and one octet behind them
+    -- ---- and one octet after them
 
     pub then_one : {E : Type 0} (p : Progress) → n < length octets → AllTake C old new octets n p →
         AllSay C old octets n (Wrote b c) → (GoesOn p → Fits C new) →

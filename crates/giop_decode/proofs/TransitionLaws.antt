@@ -1,4 +1,4 @@
--- The transition after the number that begins a type, before any octet behind it.
+-- The transition after the number that begins a type, before any octet after it.
 use Rattle.std.proofs.Common.{◌≡◌, ◌≢◌, ℕ, zero, suc, ◌+◌, ◌-◌, ◌^◌, ◌<◌, false, List, [], ◌∷◌, ◌++◌, length, Option, Some, None, refl, ap, arith, add-zero, lit<, lt-ltb, ne_eqb}
 use Rattle.std.proofs.lemmas.Bool.{cases_lt}
 use Rattle.giop_cdr.proofs.NumberLaws.{num_bound}

@@ -185,7 +185,7 @@ text_strings bound path (suc n) at s =
 
 -- ---- octets are no string
 
--- pieces of a type that is no string, and that no octet behind it ends
+-- pieces of a type that is no string, and that no octet after it ends
 module _ (T : Ty) (none : (offset : ℕ) (octets : List ℕ) (more : Bool) →
     text_of (Piece T offset octets more) ≡ None)
     (endless : (n : ℕ) (xs : List ℕ) → ends T n xs ≡ None) where

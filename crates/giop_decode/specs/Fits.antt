@@ -22,7 +22,7 @@ HasContent (Octets bound) = Unit {0}
 HasContent (Encapsulation T) = Unit {0}
 HasContent T = ⊥
 
--- a content of octets alone, without a zero behind it
+-- a content of octets alone, without a zero after it
 abbrev pub IsBare : Ty → Type 0
 IsBare (Octets bound) = Unit {0}
 IsBare (Encapsulation T) = Unit {0}
@@ -91,7 +91,7 @@ pub record TellingFits (T U : Ty) : Type 0 where
   pub same : U ≡ T
   pub kind : IsLed T
 
--- the octets behind that one
+-- the octets after that one
 pub record InsideFits (T U : Ty) : Type 0 where
   pub same : U ≡ T
   pub kind : IsEncapsulation T

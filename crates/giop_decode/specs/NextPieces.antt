@@ -1,4 +1,4 @@
--- Full pieces of an octet sequence, behind each of which more comes (steps).
+-- Full pieces of an octet sequence, after each of which more comes (steps).
 use Rattle.std.specs.Prelude.{◌≡◌, ℕ, ◌+◌, ◌-◌, ◌<◌, ◌≤◌, List, [], ◌++◌, length, Option, Some}
 use Rattle.giop_decode.specs.declared.decoder.Decoder.{Decoder}
 use Rattle.giop_decode.specs.declared.leaf.Leaf.TheVariants as innermost
@@ -15,7 +15,7 @@ abbrev pub path_front : Table → Decoder → List ℕ
 path_front C d = headed d.head.message (root_word d.head.root ++ frames_text C d.outer.items) []
 
 -- A full piece of an octet sequence stands whole at the head of its octets: none of it is held, and
--- more comes behind it.
+-- more comes after it.
 pub record IsPieceAhead (C : Table) (d : Decoder) (ahead : PieceAhead) : Type 0 where
   pub leaf : d.leaf ≡ Some (innermost.Content ahead.of ahead.total ahead.offset)
   pub bound : Option ℕ
@@ -24,7 +24,7 @@ pub record IsPieceAhead (C : Table) (d : Decoder) (ahead : PieceAhead) : Type 0 
   pub whole : 32 ≤ length ahead.octets.now
   pub none_held : d.piece.items ≡ []
 
--- the decoder behind that piece: 32 octets further it stands at the same offset modulo 8
+-- the decoder after that piece: 32 octets further it stands at the same offset modulo 8
 abbrev pub behind_piece : Decoder → PieceAhead → Decoder
 behind_piece d ahead = record {
   order = d.order;

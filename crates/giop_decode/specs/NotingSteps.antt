@@ -53,7 +53,7 @@ transition_offset T transition = None
 
 -- Where in its string the unfinished piece begins before and after an octet with this output, whose
 -- piece has so many octets: a length leads into a string, a piece that isn't the last goes on
--- behind its 32 octets, and the last leads out.
+-- after its 32 octets, and the last leads out.
 abbrev pub OffsetMoves : Ty → Option ℕ → Option ℕ → Output → ℕ → Type 0
 OffsetMoves T was next outputs.Nothing n = next ≡ was
 OffsetMoves T was next outputs.Length n = (was ≡ None) × (next ≡ Some 0)

@@ -36,12 +36,12 @@ over (Some bound) n = cond (ltb bound n) (Some kinds.Bound) None
 abbrev pub full_pieces : ℕ → ℕ
 full_pieces n = (n - 1) / 32
 
--- a string's content has one octet behind it, a zero
+-- a string's content has one octet after it, a zero
 abbrev pub tail : Ty → ℕ
 tail (Text bound) = 1
 tail T = 0
 
--- why a content of n octets, with those behind it, ends wrongly: a string ends in a zero
+-- why a content of n octets, with those after it, ends wrongly: a string ends in a zero
 abbrev pub ends : Ty → ℕ → List ℕ → Option Kind
 ends (Text bound) n octets = cond (eqb (get_or octets n 0) 0) None (Some kinds.StringEnd)
 ends T n octets = None

@@ -70,7 +70,7 @@ pub data OpenPart : Type 0 where
 pub data Leaf : Type 0 where
   -- the number that it begins with: the octets that are there, without padding
   LeadingNumber : Ty → List ℕ → Leaf
-  -- the octet with the byte order of an encapsulation, and how many octets stand behind it
+  -- the octet with the byte order of an encapsulation, and how many octets stand after it
   Opening : Ty → ℕ → Leaf
   -- the content of a string or an octet sequence, or the rest of an encapsulation: how long it is,
   -- where the piece begins, and what is there of the piece

@@ -83,7 +83,7 @@ pub record TakesSome {E : Type 0} (C : Table) (old new : Decoder) (octets : List
   pub writes : (T : Ty) (order : Order) (at message : ℕ) (root : Root) (s : List ℕ) →
       Reads C T order at message root old s →
       WritesRun result T order at message root s octets before after
-  -- and the new one reads them behind it
+  -- and the new one reads them after it
   pub takes : IfOk result (λ taken. (T : Ty) (order : Order) (at message : ℕ) (root : Root)
       (s : List ℕ) → Reads C T order at message root old s →
       TakesRun C T order at message root new s (take taken.0 octets) taken.1)

@@ -171,7 +171,7 @@ fn has_leading_number(catalogue: &Catalogue, of: TypeId) -> bool
     whole(catalogue, of).is_none()
 }
 
-/// Whether so many octets can be held of a piece that begins at this offset of the content; `tail` octets stand behind
+/// Whether so many octets can be held of a piece that begins at this offset of the content; `tail` octets stand after
 /// the content.
 fn content_fits(total: u32, offset: u32, held: usize, tail: usize) -> bool
     requires { tail ≤ 1 }

@@ -167,7 +167,7 @@ fn spell_switch(catalogue: &Catalogue, of: TypeId, line: &mut Line)
     }
 }
 
-/// Spells the segment of a member, a case or a discriminator, which stands behind 15 octets that say nothing: one of at
+/// Spells the segment of a member, a case or a discriminator, which stands after 15 octets that say nothing: one of at
 /// most 16 octets is the end of a block.
 #[inline(always)]
 fn spell_name(line: &mut Line, dotted: &[u8])

@@ -12,7 +12,7 @@ ghost use Rattle.giop_decode.specs.Noted.{noted_of};
 ghost use Rattle.giop_decode.specs.NotedFromLines.{TextPiece, pieces_of, AreUnended, IsLeft};
 
 /// The reading of a list follows from the parts that the reading of a front of it has begun and not ended, and the
-/// octets behind that front. It has no body, and is called for its contract.
+/// octets after that front. It has no body, and is called for its contract.
 pub fn reading_laws()
     // One octet more is one step on those parts.
     ensures step { (coding : Coding) (path : List PathSegment) (T : Ty) (at : ℕ)

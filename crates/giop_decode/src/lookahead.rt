@@ -42,7 +42,7 @@ pub(crate) fn ahead_of(of: TypeId, count: usize, step: Step, rest: &[u8]) -> Loo
     }
 }
 
-/// How many octets stand behind a piece of a content of which so many are left: a string's last is ended by a zero.
+/// How many octets stand after a piece of a content of which so many are left: a string's last is ended by a zero.
 #[inline(always)]
 pub(crate) fn octets_behind(catalogue: &Catalogue, of: TypeId, left: usize) -> usize
     requires known { of.0 < length catalogue.now.types }

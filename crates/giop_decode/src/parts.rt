@@ -74,7 +74,7 @@ impl Decoder {
     }
 
     /// Takes some of the octets, of which there is at least one: numbers of primitives that stand whole at their head,
-    /// as long as each is a part that another follows, and the one behind them. Writes their lines.
+    /// as long as each is a part that another follows, and the one after them. Writes their lines.
     #[inline(never)]
     pub(crate) fn take_parts<O: Out>(
         &mut self,

@@ -15,7 +15,7 @@ use crate::progress::Progress;
 use giop_print::{Line, Out, OutFault, Piece, SplitPiece, line_behind, put_piece_end};
 use giop_sig::{Catalogue, Shape, TypeId};
 
-/// A full piece of an octet sequence, of which no octet is held, and behind which more comes.
+/// A full piece of an octet sequence, of which no octet is held, and after which more comes.
 #[derive(Clone, Copy, Debug)]
 struct PieceAhead<'a> {
     /// The octets at whose head it stands.
@@ -39,7 +39,7 @@ const FRONT: usize = 90;
 
 impl Decoder {
     /// Whether two full pieces of an octet sequence stand whole at the head of these octets, and more of it comes
-    /// behind them.
+    /// after them.
     #[inline(always)]
     pub(crate) fn has_pieces(&self, catalogue: &Catalogue, octets: &[u8]) -> bool
         requires { Fits catalogue.now self.now }
@@ -51,7 +51,7 @@ impl Decoder {
     }
 
     /// Takes some of the octets, of which there is at least one: full pieces of an octet sequence that stand whole at
-    /// their head, and some of what is behind them. Writes their lines.
+    /// their head, and some of what is after them. Writes their lines.
     #[inline(never)]
     pub(crate) fn take_pieces<O: Out>(
         &mut self,

@@ -350,7 +350,7 @@ fn frames_too_few_or_too_many_are_refused(rt: HostRuntime) -> Result<(), Fail> {
     Ok(())
 }
 
-/// Where the octets of the decoder in an array are restored with others behind them, or without their last ones, or
+/// Where the octets of the decoder in an array are restored with others after them, or without their last ones, or
 /// nothing.
 fn frames_differ(catalogue: &Catalogue) -> &'static str {
     let mut room = [0; 512];
@@ -364,7 +364,7 @@ fn frames_differ(catalogue: &Catalogue) -> &'static str {
         }
     }
     for more in [1, 24] {
-        // Behind them the room has zeros.
+        // After them the room has zeros.
         if restored(catalogue, front(&room, count.saturating_add(more))).is_some() {
             return "zeros behind them";
         }

@@ -1,4 +1,4 @@
-//! A value octet by octet: what the decoder answers at each, and what its readers tell behind it.
+//! A value octet by octet: what the decoder answers at each, and what its readers tell after it.
 ghost use Rattle.giop_decode.specs.DecoderState.{Fits};
 
 use crate::rows::Row;

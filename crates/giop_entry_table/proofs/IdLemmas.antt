@@ -1,4 +1,4 @@
--- The ids of a table by their remainders: the look for one begins behind places that don't have it,
+-- The ids of a table by their remainders: the look for one begins after places that don't have it,
 -- and what is kept of them where one is added or removed.
 use Rattle.std.proofs.Common.{◌≡◌, ◌≢◌, ◌==◌, ◌<◌, ◌≤◌, ◌+◌, ◌-◌, ◌%◌, ◌^◌, ℕ, zero, suc, Bool, false, cond, min, List, [], ◌∷◌, ◌++◌, length, get_or, set, drop, sym, ap, ◌∙◌, inl, inr, arith, zero-add, length-append}
 use Rattle.std.proofs.Math.Seq.{get_or-append_seam}

@@ -62,7 +62,8 @@ impl Calls {
         reply: Option<Box<Message<Half>>>,
     ) -> Result<(), ViewFault>
         // The Reply answers the Request.
-        requires { IfSome request (λ q. IfSome reply (λ r. r.value.facts.answers ≡ Some q.value.key)) }
+        requires { IfSome request (λ q. IfSome reply (λ r.
+            r.value.facts.answers ≡ Some q.value.key)) }
     {
         let call = Call {
             request: half_of(&request),

@@ -1,4 +1,4 @@
-//! Lines of a message, behind its number.
+//! Lines of a message, after its number.
 
 ghost use Rattle.std.specs.Prelude.{◌≡◌, ◌++◌, codes, true, IfSome};
 ghost use Rattle.giop_lines.specs.Names.{is_word};

@@ -9,7 +9,7 @@ use crate::names::{is_letter, is_part_of_letters};
 use crate::numbers::ulong;
 use crate::words::after;
 
-/// The most parts behind the root of a path.
+/// The most parts after the root of a path.
 const PARTS_MAX: u32 = 24;
 
 /// A part of a path.

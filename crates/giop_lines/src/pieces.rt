@@ -36,7 +36,7 @@ fn are_digits(digits: &[u8]) -> bool
     are
 }
 
-/// A piece of a string, behind its kind.
+/// A piece of a string, after its kind.
 pub fn text_piece(text: &[u8]) -> Option<Value<'_>>
     ensures spelled { IfSome result (λ v. codes "string " ++ text.now ≡ value_text v) }
     ensures fields { IfSome result IsValue }
@@ -55,7 +55,7 @@ pub fn text_piece(text: &[u8]) -> Option<Value<'_>>
     }))
 }
 
-/// A piece of octets, behind its kind.
+/// A piece of octets, after its kind.
 pub fn octets_piece(content: Content, text: &[u8]) -> Option<Value<'_>>
     requires { IsHexadecimal content }
     ensures spelled { IfSome result (λ v. content_word content ++ text.now ≡ value_text v) }
@@ -83,7 +83,7 @@ fn offset_and_octets(text: &[u8]) -> Option<(u32, &[u8])>
     }
 }
 
-/// A part of an encapsulation's rest, behind its kind.
+/// A part of an encapsulation's rest, after its kind.
 pub fn rest_piece(text: &[u8]) -> Option<Value<'_>>
     ensures spelled { IfSome result (λ v. codes "rest " ++ text.now ≡ value_text v) }
     ensures fields { IfSome result IsValue }

@@ -1,4 +1,4 @@
-//! Values behind their paths: a kind, and what it is of.
+//! Values after their paths: a kind, and what it is of.
 
 ghost use Rattle.std.specs.Prelude.{◌≡◌, ◌++◌, codes, IfSome, Some};
 ghost use Rattle.giop_print.specs.Lines.{order_word};

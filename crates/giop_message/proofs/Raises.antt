@@ -588,7 +588,7 @@ module _ (C : Table) (answer : Answer) (header : List ℕ) where
       raised header (s ++ t) ≡ tail_name header (offset_of (At s)) t (stage_of (At s))
   raised_inside s t e = (message_tells C answer header).inside s t e
 
--- ---- a name comes behind the header
+-- ---- a name comes after the header
 
 before_by : (header : List ℕ) (r : Read) → noted_if_whole r ≡ None → raised_after header r ≡ None
 before_by header (Done lines n z) e = absurd cc

@@ -124,7 +124,7 @@ abbrev Row : List ℕ → List ℕ → List TimedLine → List (LineClass × Lis
 Row header s reads closes = (r.reads 1 header s ≡ reads) × (r.closes 1 header s ≡ closes)
 
 -- A Request without parameters: its message ends at the header's end, within the padding, and at
--- its end; then a rest of two octets behind it.
+-- its end; then a rest of two octets after it.
 record NoBody (octets : List ℕ) : Type 0 where
   at_header : Row (head 2 0) octets t_nop ended
   within : Row (head 2 0) (octets ++ 0 ∷ 0 ∷ []) t_nop ended

@@ -94,7 +94,7 @@ pub same_octets : (q r : Rest) → IsSameRest q r → rest_octets q ≡ rest_oct
 unfolding rest_octets
 same_octets q r same = search (arith)
 
--- ---- a message's own octets, and those behind them
+-- ---- a message's own octets, and those after them
 
 pub behind_own : (fixed : List ℕ) → length fixed ≡ 224 → length (drop 16 fixed) ≡ 208
 behind_own fixed long = search (arith, length-drop)

@@ -3,7 +3,7 @@ use Rattle.std.specs.Prelude.{◌≢◌, ℕ, List, [], ◌∷◌, ◌++◌, map
 use Rattle.std.specs.List.{AllByRecursion as Each}
 use Rattle.giop_message.specs.MessageReader.{LineClass, MessageReader, due}
 
--- each is of another class than those behind it
+-- each is of another class than those after it
 abbrev pub AreApart : List LineClass → Type 0
 AreApart [] = Unit {0}
 AreApart (s ∷ ss) = Each (λ t. s ≢ t) ss × AreApart ss

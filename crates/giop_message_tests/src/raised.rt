@@ -121,7 +121,7 @@ fn each_reply_tells(rt: &impl Abort, catalogue: &Catalogue) {
     }
 }
 
-/// What differs of what is told before the octet that is tried, at it and behind it.
+/// What differs of what is told before the octet that is tried, at it and after it.
 fn reply_differs(catalogue: &Catalogue, reply: &Reply) -> &'static str {
     let mut room = [0; 256];
     let octets = &*spelled(reply.octets, &mut room);

@@ -22,7 +22,7 @@ fn again(catalogue: &Catalogue, message: &Message) -> Option<Message>
     Message::restore(catalogue, number, header, &fixed, &frames[..24 * count])
 }
 
-/// Takes the octets behind a header in two pieces, as message 1 of a stream, and closes the message, which is stored
+/// Takes the octets after a header in two pieces, as message 1 of a stream, and closes the message, which is stored
 /// and restored between the pieces: None if it can't be restored, or doesn't take a piece whole.
 fn takes_restored(
     catalogue: &Catalogue,
@@ -123,7 +123,7 @@ fn restored_differs(
     }
 }
 
-/// The first octets of a message, the first 12 of them its header; the octets that are stored of it behind them, as
+/// The first octets of a message, the first 12 of them its header; the octets that are stored of it after them, as
 /// message 1 of a stream; and those of its frames.
 #[derive(Clone, Copy)]
 struct Case {
@@ -134,7 +134,7 @@ struct Case {
     frames: &'static str,
 }
 
-/// In padding, in its rest, and behind "IDL:" in the first string of a body, or of a system exception.
+/// In padding, in its rest, and after "IDL:" in the first string of a body, or of a system exception.
 const CASES: [Case; 5] = [
     Case {
         name: "in front of a forward",

@@ -14,7 +14,7 @@ pub hex_append : (xs ys : List ℕ) → hex (xs ++ ys) ≡ hex xs ++ hex ys
 unfolding hex
 hex_append xs ys = flat_map-append hex_octet xs ys
 
--- the first octets, and those behind them
+-- the first octets, and those after them
 pub hex_parted : (n : ℕ) (xs text : List ℕ) →
     hex (take n xs) ++ (hex (drop n xs) ++ text) ≡ hex xs ++ text
 hex_parted n xs text =

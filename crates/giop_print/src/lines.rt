@@ -277,7 +277,7 @@ pub fn put_piece_end(line: &mut Line, piece: SplitPiece<'_>)
     put_piece_word(line, piece.held);
 }
 
-/// Puts what the line of a part of a content, which came in two, has behind its word on an empty line: its offset,
+/// Puts what the line of a part of a content, which came in two, has after its word on an empty line: its offset,
 /// its octets, whether more comes, and the line feed.
 #[inline(always)]
 pub(crate) fn put_content(line: &mut Line, piece: SplitPiece<'_>)

@@ -38,7 +38,7 @@ pub trait Out {
     }
 
     /// Writes a line that is spelled. Where something else is to stand in front of it, the room that the line has left
-    /// may be used for that, so what the line holds behind this says nothing.
+    /// may be used for that, so what the line holds after this says nothing.
     fn put_line(&mut self, line: &mut Line) -> Result<(), OutFault>
         ensures { Writes result (log self.old) (log self.new) (line_text line.old) }
     {

@@ -162,7 +162,7 @@ fn the_end_of_a_block_goes_before_a_line(rt: HostRuntime) {
     assert!(rt; line.last_octets() == &line.text()[24..]);
 }
 
-/// An encapsulation and its order, and what is left of it behind its value, whole and in two.
+/// An encapsulation and its order, and what is left of it after its value, whole and in two.
 fn encapsulations(sheet: &mut Sheet, path: &Path) -> Result<(), OutFault> {
     encapsulation_line(sheet, &placed(1, path), 12)?;
     order_line(sheet, &placed(1, path), Order::Big)?;

@@ -6,7 +6,7 @@ use giop_print::{OutFault, Path, Root, Sheet, Value, put_all, value_line};
 use std::process::Abort;
 use std::test::Fail;
 
-/// A value and what its line has behind `m9 body.m.switch`.
+/// A value and what its line has after `m9 body.m.switch`.
 static VALUES: [(Value<'static>, &str); 17] = [
     (
         Value::Primitive(Prim::Octet, Number::Unsigned(255)),

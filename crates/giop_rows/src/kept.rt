@@ -31,7 +31,7 @@ impl<'a> Kept<'a> {
     }
 }
 
-/// The first of the places at which the octet is complemented, the place behind the last, and what that may lead to, with
+/// The first of the places at which the octet is complemented, the place after the last, and what that may lead to, with
 /// ` or ` between two.
 pub fn complement(text: &str) -> Option<(usize, usize, &str)> {
     let (first, rest) = text.split_once("..")?;

@@ -42,7 +42,7 @@ pub fn is_resumed(
     }
 }
 
-/// Tries a checkpoint, behind which these octets follow.
+/// Tries a checkpoint, after which these octets follow.
 fn is_followed(
     rt: &HostRuntime,
     catalogue: &Catalogue,

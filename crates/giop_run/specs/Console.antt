@@ -29,7 +29,7 @@ fault_status (faults.Unwritable name) = 4
 fault_status (faults.Run fault) = 4
 fault_status faults.OutOfMemory = 5
 
--- what giopcap says behind a fault
+-- what giopcap says after a fault
 abbrev pub fault_words : ProgramFault → List ℕ
 fault_words (faults.Signatures name fault look) = look_words look
 fault_words (faults.Unreadable name why) = reason_words why

@@ -3,7 +3,7 @@ use Rattle.std.specs.Prelude.{◌≡◌, ℕ, ◌≤◌, ◌<◌, Bool, false, n
 use Rattle.std.specs.Io.KnownBytes.{Consumes, IsAtEnd}
 use Rattle.giop_run.specs.SourceLog.{SourceLog}
 
--- what a read gave, at most so many octets, stands behind those before; where it gave none of some,
+-- what a read gave, at most so many octets, stands after those before; where it gave none of some,
 -- nothing is left
 pub record Appended (before after : SourceLog) (old new : List ℕ) (most : ℕ) (some : Bool) : Type 0
   where

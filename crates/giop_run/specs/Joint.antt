@@ -32,7 +32,7 @@ CataloguesOf held [] C = C ≡ builtin_table
 CataloguesOf held (name ∷ names) C =
     (files : List SignatureText) × AreRead held (name ∷ names) files × Declares (text_of files) C
 
--- What is said behind the refusal of a line of the text that these files are read as: what its file
+-- What is said after the refusal of a line of the text that these files are read as: what its file
 -- looks like, or which line above declares its name.
 abbrev pub IsLook : SignatureText → List SignatureText → SigFault → Look → Type 0
 IsLook first others fault look =

@@ -1,4 +1,4 @@
--- What a text looks like that is refused as a signature file, and the words that giopcap says behind
+-- What a text looks like that is refused as a signature file, and the words that giopcap says after
 -- a fault (docs/FORMATS.md, The program giopcap; meaning).
 use Rattle.std.specs.Prelude.{◌≡◌, ◌≢◌, ℕ, ◌-◌, Bool, ◌||◌, List, [], ◌∷◌, length, drop, nat_eq, codes, if◌then◌else◌}
 use Rattle.std.specs.List.{starts_with}
@@ -30,7 +30,7 @@ begins_idl text =
     || begins (codes "local") text || begins (codes "valuetype") text
     || begins (codes "native") text
 
--- the first of these: a capture; IDL, behind white space and comments
+-- the first of these: a capture; IDL, after white space and comments
 unfoldable pub looks_of : List ℕ → Look
 looks_of text =
     if begins_capture text then looks.Capture else

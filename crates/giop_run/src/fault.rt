@@ -136,7 +136,7 @@ impl<'a> ProgramFault<'a> {
         ProgramFault::Checkpoint { name, fault }
     }
 
-    /// What `giopcap` says behind it: why a file can't be read, or what a refused signature file looks like.
+    /// What `giopcap` says after it: why a file can't be read, or what a refused signature file looks like.
     pub fn words(&self) -> &'static str
         ensures { result.now ≡ fault_words self.now }
     {

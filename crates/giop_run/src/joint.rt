@@ -36,7 +36,7 @@ fn signature_texts<'a, R: Inputs + AllocGlobal>(
     Ok(files)
 }
 
-/// What is said behind the refusal of a line of the text that these files are read as.
+/// What is said after the refusal of a line of the text that these files are read as.
 fn look_in<'a>(
     first: &SignatureText<'a>,
     others: &[SignatureText<'a>],

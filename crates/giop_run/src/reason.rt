@@ -1,4 +1,4 @@
-//! Why a file can't be read, and what a text looks like that is refused as a signature file: what `giopcap` says behind a fault
+//! Why a file can't be read, and what a text looks like that is refused as a signature file: what `giopcap` says after a fault
 //! (docs/FORMATS.md, The program giopcap).
 
 ghost use Rattle.std.specs.Prelude.{◌≡◌};
@@ -36,7 +36,7 @@ impl Reason {
         }
     }
 
-    /// The words for it, which stand behind `cannot read`.
+    /// The words for it, which stand after `cannot read`.
     pub fn words(&self) -> &'static str
         ensures { result.now ≡ reason_words self.now }
     {
@@ -79,7 +79,7 @@ impl<'a> Look<'a> {
         }
     }
 
-    /// The words for it, which stand behind the refusal.
+    /// The words for it, which stand after the refusal.
     pub fn words(&self) -> &'static str
         ensures { result.now ≡ look_words self.now }
     {

@@ -1,4 +1,4 @@
-//! What is said behind a fault (docs/FORMATS.md, The program giopcap), and a writer whose reader has gone.
+//! What is said after a fault (docs/FORMATS.md, The program giopcap), and a writer whose reader has gone.
 
 use giop_run::{Look, ProgramFault, Reason, Watched};
 use giop_sig::{SigFault, SigFaultKind};
@@ -7,7 +7,7 @@ use std::io::{ErrorKind, Write};
 use std::process::Abort;
 use std::test::Fail;
 
-/// Kinds of errors, and what is said behind `cannot read`.
+/// Kinds of errors, and what is said after `cannot read`.
 const REASONS: [(ErrorKind, &str); 5] = [
     (ErrorKind::NotFound, ": no such file"),
     (ErrorKind::PermissionDenied, ": no permission"),
@@ -16,7 +16,7 @@ const REASONS: [(ErrorKind, &str); 5] = [
     (ErrorKind::Other, ""),
 ];
 
-/// Texts that are no signature files, and what is said behind their refusal.
+/// Texts that are no signature files, and what is said after their refusal.
 const LOOKS: [(&[u8], &str); 22] = [
     (b"", ""),
     (b"signatures 1;", ""),

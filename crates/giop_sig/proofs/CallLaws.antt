@@ -142,7 +142,7 @@ unfolding direction_at
 direction_again d text more h = rw (word_again text (direction_word d) more h, direction_word_of d)
     refl
 
--- the tokens behind a parameter and its mark, and whether that closes
+-- the tokens after a parameter and its mark, and whether that closes
 abbrev after_param : List Param → List Token → List Token
 after_param [] more = more
 after_param (p ∷ ps) more = spell_param p (spell_more_params ps more)

@@ -19,7 +19,7 @@ use Rattle.giop_sig.proofs.ListKept.{kept_by, finding, flat_kept}
 abbrev is_other : ℕ → ℕ → Bool
 is_other k id = not (eqb id k)
 
--- an id that comes first, or behind these
+-- an id that comes first, or after these
 abbrev with_id : List ℕ → ℕ → List ℕ
 with_id ids x = cond (list_any (nat_eq x) ids) ids (ids ++ x ∷ [])
 

@@ -11,7 +11,7 @@ use Rattle.giop_sig.proofs.FileLaws.{BrokenIn, FileOut, file_reads}
 use Rattle.giop_sig.proofs.FileRules.{not_too_many}
 use Rattle.giop_sig.proofs.UnionWhole.{union_read}
 
--- a rule that holds of each declaration holds of the one behind these
+-- a rule that holds of each declaration holds of the one after these
 each_at : (R : Scope → Declaration → Type 0) (s : Scope) (ds before after : List Declaration)
     (d : Declaration)
     → ds ≡ before ++ d ∷ after → Each R s ds → R (scope_after s before) d

@@ -170,7 +170,7 @@ impl Catalogue {
         self.kept_name(t, place).octets()
     }
 
-    /// The same name behind a dot, which is the 16th of its octets: those before it say nothing, so that a short name
+    /// The same name after a dot, which is the 16th of its octets: those before it say nothing, so that a short name
     /// with its dot is the end of a block of 16.
     #[inline(always)]
     pub fn dotted_name(&self, t: TypeId, place: u32) -> &[u8]

@@ -1,4 +1,4 @@
-//! The name of a member or a case, kept as a line shows it: behind a dot, and behind octets that
+//! The name of a member or a case, kept as a line shows it: after a dot, and after octets that
 //! fill a block, so that a short name with its dot is the end of one.
 
 ghost use Rattle.std.specs.Prelude.{◌≡◌, ◌+◌, ◌++◌, codes, drop, length, IfOk};
@@ -43,7 +43,7 @@ impl PartName {
         &self.octets[BEFORE.len()..]
     }
 
-    /// The name behind a dot, which is the 16th of its octets: those before it say nothing.
+    /// The name after a dot, which is the 16th of its octets: those before it say nothing.
     #[inline(always)]
     pub(crate) fn dotted(&self) -> &[u8]
         ensures size { length result.now ≡ 16 + length self.now }

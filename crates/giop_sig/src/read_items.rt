@@ -117,7 +117,7 @@ pub(crate) fn part_of(alloc: Global, name: &[u8], type_id: TypeId) -> Result<Par
     })
 }
 
-/// Adds a part of a name behind others.
+/// Adds a part of a name after others.
 pub(crate) fn add_part(
     alloc: Global,
     parts: &mut Vec<PartEntry>,

@@ -15,7 +15,7 @@ is_taken before block = is_declared block && list_any (λ other. bytes_eq other 
 abbrev pub once : List (List ℕ) → List ℕ → List ℕ
 once before block = if is_taken before block then blank block else block
 
--- what is taken of texts that stand behind these blocks
+-- what is taken of texts that stand after these blocks
 abbrev pub taken : List (List ℕ) → List (List ℕ) → List (List ℕ)
 taken before [] = []
 taken before (text ∷ texts) =

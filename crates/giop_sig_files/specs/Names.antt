@@ -34,13 +34,13 @@ word_before stop word (x ∷ xs) =
     if x == stop then Some word else
     (if x == 32 then word_before stop [] xs else word_before stop (word ++ x ∷ []) xs)
 
--- the name behind a word of a line
+-- the name after a word of a line
 unfoldable pub name_behind : List ℕ → ℕ → List ℕ → Option (List ℕ)
 name_behind word stop line =
     if begins word line then word_before stop [] (drop (length word) line) else None
 
 -- the name that a line declares: of an operation in front of its parenthesis, of a type or an
--- exception behind its word
+-- exception after its word
 abbrev pub declared_name : List ℕ → Option (List ℕ)
 declared_name line =
     option_or (option_or (option_or (option_or

@@ -3,7 +3,7 @@ use Rattle.std.specs.Prelude.{ℕ, ◌+◌, ◌-◌, ◌==◌, if◌then◌else�
 use Rattle.std.specs.List.{count_by}
 use Rattle.giop_sig_files.specs.declared.places.SignatureText.{SignatureText}
 
--- how many lines a text has, with the one behind its last LF
+-- how many lines a text has, with the one after its last LF
 abbrev pub line_count : List ℕ → ℕ
 line_count text = count_by (λ x. x == 10) text + 1
 

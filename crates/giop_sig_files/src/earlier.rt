@@ -42,7 +42,7 @@ fn word_before(text: &[u8], stop: u8) -> Option<&[u8]>
     None
 }
 
-/// The name behind this word of a line, in front of the first octet that is this.
+/// The name after this word of a line, in front of the first octet that is this.
 #[tactic(auto, unfolding(crate::specs::Names::name_behind))]
 fn name_behind<'a>(line: &'a [u8], word: &[u8], stop: u8) -> Option<&'a [u8]>
     ensures { option_map (λ w. w.now) result ≡ name_behind word.now stop line.now }

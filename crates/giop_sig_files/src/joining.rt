@@ -33,7 +33,7 @@ fn is_taken(before: &[Vec<u8>], block: &Vec<u8>) -> bool
     is_declared(block.as_slice()) && before.contains(block)
 }
 
-/// Adds what is taken of a block to a text, behind the blocks of the files before its own.
+/// Adds what is taken of a block to a text, after the blocks of the files before its own.
 fn take(text: &mut Vec<u8>, before: &[Vec<u8>], block: &Vec<u8>) -> Result<(), AllocError>
     ensures { IfOk result (λ _. text.new.items ≡ text.old.items
         ++ 10 ∷ once (map (λ b. b.items) before.now) block.now.items) }
@@ -50,7 +50,7 @@ fn take(text: &mut Vec<u8>, before: &[Vec<u8>], block: &Vec<u8>) -> Result<(), A
     Ok(())
 }
 
-/// Adds what is taken of blocks to a text, behind the blocks of the files before their own.
+/// Adds what is taken of blocks to a text, after the blocks of the files before their own.
 fn take_all(text: &mut Vec<u8>, before: &[Vec<u8>], blocks: &[Vec<u8>]) -> Result<(), AllocError>
     ensures { IfOk result (λ _. text.new.items ≡ text.old.items ++ flat_map with_line_feed
         (map (once (map (λ b. b.items) before.now)) (map (λ b. b.items) blocks.now))) }

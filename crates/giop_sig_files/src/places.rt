@@ -10,7 +10,7 @@ pub struct SignatureText<'a> {
     pub text: Vec<u8>,
 }
 
-/// How many lines a text has, with the one behind its last LF.
+/// How many lines a text has, with the one after its last LF.
 fn line_count(text: &[u8]) -> usize
     ensures { result ≡ line_count text.now }
 {

@@ -3,7 +3,7 @@
 use crate::{SignatureText, declared_above, joined, place};
 use std::test::Fail;
 
-/// Files and the text that they are read as; `|` stands between files, and a LF behind each.
+/// Files and the text that they are read as; `|` stands between files, and a LF after each.
 const JOINED: [(&[&str], &str); 12] = [
     (&["signatures 1;"], "signatures 1;"),
     (&["signatures 1;\n"], "signatures 1;\n"),

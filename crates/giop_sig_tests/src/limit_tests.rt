@@ -19,7 +19,7 @@ fn a_file_has_at_most_1048576_octets(rt: HostRuntime) -> Result<(), Fail> {
     expect_spaces(&rt, &mut text)
 }
 
-/// Expects what is told of a file of 13 octets with spaces behind them.
+/// Expects what is told of a file of 13 octets with spaces after them.
 fn expect_spaces(rt: &(impl Abort + AllocGlobal), text: &mut Vec<u8>) -> Result<(), Fail> {
     add_spaces(1_048_576 - 13, text)?;
     expect_told(rt, text, "0 0 0 9");

@@ -1,7 +1,7 @@
 //! What a catalogue tells of its types and operations, as rows of a text: what is asked, `|`, and what is told.
 //!
 //! A type is named by what has it: `header MINOR KIND`, `fixed NAME`, `request OPERATION`, `reply OPERATION` or
-//! `exception ID`. Behind each `/` stands the place of one of its parts, or `switch` for the type of its discriminator.
+//! `exception ID`. After each `/` stands the place of one of its parts, or `switch` for the type of its discriminator.
 //! Told of it are its members, cases or tagged parts in order, each with the outermost form of its type; `none` where
 //! there is no such type. With a word in front, a type is asked what a discriminator selects (`signed NUMBER` or
 //! `unsigned NUMBER`) and what an enum's number is called (`name NUMBER`). `operation NAME` asks for an operation's number.

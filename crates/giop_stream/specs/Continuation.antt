@@ -22,7 +22,7 @@ pub record IsOpenAt (s : Slots) (found : Continuation) : Type 0 where
   pub within : found.index < length s.slots.entries
   pub here : position_from (λ slot. slot.key == found.id) 0 s.slots.entries ≡ Some found.index
 
--- These five octets, behind the first eleven of a header, are its last one and the request id of a
+-- These five octets, after the first eleven of a header, are its last one and the request id of a
 -- Fragment of that open message.
 pub record IsContinuation (front octets : List ℕ) (s : Slots) (found : Continuation) : Type 0 where
   pub last : ℕ

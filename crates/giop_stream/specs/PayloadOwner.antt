@@ -96,13 +96,13 @@ pub record IsBeforeOctet (c : Tracked) (m : Message) (now : Current) (x : ℕ) :
   pub alive : has_name m.header ≡ true → length m.payload < 4 → c.known m.number ≡ Some m.payload
   pub says : has_name m.header ≡ true → SaysId m.header
 
--- what the octets `q` of a message do that only add to contents, where one more comes behind them
+-- what the octets `q` of a message do that only add to contents, where one more comes after them
 abbrev pub effect_before : Table → Answers → Tracked → Message → Current → List ℕ → Effect
 effect_before C l c m now q = run_effect C l (now.place - suc (length q)) c
     (owner_of_next c.still_open m) q
 
 -- The slots represent what is tracked before octets of a message come: `q`, which only add to
--- contents, and x behind them.
+-- contents, and x after them.
 pub record IsBeforeOctets (C : Table) (l : Answers) (s : Slots) (c : Tracked) (m : Message)
     (now : Current) (q : List ℕ) (x : ℕ) : Type 0 where
   pub keeps : SlotsRepresent C l s c (owner_of_next c.still_open m)

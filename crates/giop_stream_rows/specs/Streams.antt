@@ -169,7 +169,7 @@ Raised = Row (read_by asks kept)
 -- ---- Encapsulations.
 
 -- A Reply of 1.0 with a service context of code sets: an encapsulation of 12 octets, with padding
--- behind its byte order.
+-- after its byte order.
 abbrev pub CodeSets : Type 0
 CodeSets = Row (read_by builtin [])
     (stream (codes "47494f50 0100 00 01 00000020"
@@ -204,7 +204,7 @@ CodeSetsCutShort = Row (read_by builtin [])
     ∷ [])
     (codes "total messages 1 faults 1 octets 40" ∷ [])
 
--- A LocateRequest by an internet profile, behind whose members its encapsulation has 7 octets more.
+-- A LocateRequest by an internet profile, after whose members its encapsulation has 7 octets more.
 abbrev pub Profile : Type 0
 Profile = Row (read_by builtin [])
     (stream (codes "47494f50 0102 00 03 00000028"

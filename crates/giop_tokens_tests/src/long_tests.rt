@@ -47,13 +47,13 @@ fn is_no_number(rt: &(impl Abort + AllocGlobal), first: &[u8], left: usize) -> R
     Ok(())
 }
 
-/// A mebibyte of digits is no number, behind a sign neither.
+/// A mebibyte of digits is no number, after a sign neither.
 fn digits_are_no_number(rt: &(impl Abort + AllocGlobal)) -> Result<(), Fail> {
     is_no_number(rt, b"", SIZE)?;
     is_no_number(rt, b"-", SIZE + 1)
 }
 
-/// A mebibyte behind a quote is no repository id.
+/// A mebibyte after a quote is no repository id.
 fn no_repository_id(rt: &(impl Abort + AllocGlobal)) -> Result<(), Fail> {
     let text = repeated(rt.alloc(), b"\"", b"r", SIZE)?;
     assert!(rt; is_refused(repository_id(&text), SigFaultKind::Token, SIZE + 1));

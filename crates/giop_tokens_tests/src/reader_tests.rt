@@ -5,7 +5,7 @@ use giop_tokens::{
     repository_id, starts_with_keyword, starts_with_mark, word,
 };
 
-/// What stands behind the token that a reader takes.
+/// What stands after the token that a reader takes.
 const AFTER: &[u8] = b" x";
 
 #[test]
@@ -115,7 +115,7 @@ fn is_not_in(text: &[u8]) -> bool {
     }
 }
 
-/// Which text ends otherwise: one ends behind its last token.
+/// Which text ends otherwise: one ends after its last token.
 fn end_differs(token: SigFaultKind) -> &'static str {
     if ends(b" // x") != Ok(true) {
         return "a comment";

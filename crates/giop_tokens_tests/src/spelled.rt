@@ -79,7 +79,7 @@ pub fn told_of(text: &[u8], kind: SigFaultKind, left: usize) -> Option<SigFault>
     Some(fault_in(text, Refusal { kind, left }))
 }
 
-/// So many times this text, behind that one.
+/// So many times this text, after that one.
 pub fn repeated(alloc: Global, first: &[u8], text: &[u8], times: usize) -> Result<Vec<u8>, Fail> {
     let mut all = Vec::from_slice(alloc, first)?;
     add_times(text, times, &mut all)?;

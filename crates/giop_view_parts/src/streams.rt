@@ -26,7 +26,7 @@ pub struct Stream {
     pub last: Vec<u8>,
     /// The stream of the other direction that lived when it began.
     pub with: u64,
-    /// The packet behind which it began.
+    /// The packet after which it began.
     pub behind: u64,
     /// Whether its beginning was found in the middle of a flow.
     pub is_found: bool,

@@ -44,7 +44,7 @@ own_agrees payloads id (Some n) None live (Closes flow cause) small ids h own t 
 own_agrees payloads id before due live (OfCapture event) small ids h own t =
     absurd (true≢false (sym (ap is_some own)))
 
--- how often a flow stands there, behind an event of another
+-- how often a flow stands there, after an event of another
 beside_times : (id : ℕ) (live : List ℕ) (event : Event) → (flow_of event ≡ Some id → ⊥) →
     times id (behind live event) ≡ times id live
 unfolding behind

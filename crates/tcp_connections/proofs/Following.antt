@@ -61,7 +61,7 @@ flow_before payloads w id s h e =
           (h.events id));
     }
 
--- and behind it
+-- and after it
 flow_behind : (payloads : List Payload) (w : State) (id : ℕ) (f : Flow) → Follow payloads w →
     id < length w.flows → f.id ≡ id → IsGapless payloads f
     → ((other : ℕ) → (other ≡ id → ⊥) → AllFollow payloads other None f.events

@@ -60,7 +60,7 @@ at_place p (q ∷ qs) (suc i) l k e =
     unmapped None h = refl
     unmapped (Some n) h = absurd (true≢false (ap is_some h))
 
--- who isn't known behind one more wasn't before
+-- who isn't known after one more wasn't before
 none_before_insert : (p x : EndpointPair) (ps : List EndpointPair) (i : ℕ) →
     place_of p (insert ps i x) ≡ None → place_of p ps ≡ None
 unfolding place_of

@@ -33,7 +33,7 @@ from_ids live (e ∷ es) h = from_ids (behind live e) es (behind_ids live e h)
 pub lives_ids : (es : List Event) → AreIds (lives es)
 lives_ids es = from_ids [] es none_ids
 
--- ---- How often a flow stands there, behind an event.
+-- ---- How often a flow stands there, after an event.
 
 without_by : (n j x : ℕ) (xs : List ℕ) (b : Bool) → nat_eq x n ≡ b → (j ≡ n → ⊥) →
     times j (without n xs) ≡ times j xs → times j (cond b xs (x ∷ without n xs))

@@ -34,7 +34,7 @@ come_more segments id s [] e h m = (m, tt)
 come_more segments id s (x ∷ es) e h m =
     (h.0, come_more segments id (cond (is_of id x) (behind s x) s) es e h.1 m)
 
--- where an id stands behind events, all of which may have come
+-- where an id stands after events, all of which may have come
 pub record Stands (segments : List Segment) (id : ℕ) (es : List Event) (s : Standing)
     : Type 0 where
   pub come : AllMayCome segments id Unopened es

@@ -1,4 +1,4 @@
--- What is so of a state behind segments is so behind each part of what one more does: what comes
+-- What is so of a state after segments is so after each part of what one more does: what comes
 -- for a flow, a connection is forgotten, one becomes known.
 use Rattle.std.proofs.Common.{◌≡◌, ℕ, zero, suc, ◌+◌, ◌*◌, ◌-◌, ◌<◌, ◌^◌, Bool, true, false, cond, nat_eq, List, [], ◌∷◌, ◌++◌, length, take, set, get_or, Option, Some, None, is_some, unwrap_or, refl, sym, ◌∙◌, ap, subst, arith, inl, inr, true≢false, length-set, get_or-set_same, get_or-set_other}
 use Rattle.std.specs.Prelude.{slice_get}
@@ -37,7 +37,7 @@ use Rattle.tcp_connections.proofs.Shown.{shown_kept, shown_keeps}
 use Rattle.tcp_connections.proofs.Sound.{IsApart, some_none, some_within, room_below, forgot_sound, known_sound}
 use Rattle.tcp_connections.proofs.Unknown.{eldest_within, next_free, next_below}
 
--- ---- What is so of a state, behind these segments.
+-- ---- What is so of a state, after these segments.
 
 pub record At (segments : List Segment) (w : State) : Type 0 where
   pub sound : IsSound w

@@ -1,4 +1,4 @@
--- What is so of a state is so behind each change of it.
+-- What is so of a state is so after each change of it.
 use Rattle.std.proofs.Common.{◌≡◌, ℕ, zero, suc, ◌+◌, ◌*◌, ◌/◌, ◌<◌, ◌≤◌, Bool, true, false, cond, nat_eq, List, [], ◌∷◌, ◌++◌, length, set, get_or, Option, Some, None, is_some, unwrap_or, is_lt, refl, sym, ◌∙◌, ap, subst, arith, inl, inr, length-append, true≢false, length-set, get_or-set_same, get_or-set_other}
 use Rattle.std.specs.List.{insert, remove}
 use Rattle.std.proofs.lemmas.Bool.{cases_eq, cases_Bool, eqb-true, ne_eqb}

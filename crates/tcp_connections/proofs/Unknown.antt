@@ -32,7 +32,7 @@ pub eldest_within : (w : State) (n : ℕ) → 0 < n → eldest w n < n
 eldest_within w zero l = absurd (omega (arith, l))
 eldest_within w (suc n) l = eldest_below w n
 
--- behind making room there is some, and who isn't known isn't
+-- after making room there is some, and who isn't known isn't
 pub room_enough : (F : Reader) (w : State) (p : EndpointPair) → IsSound w →
     place_of p w.known ≡ None
     → (place_of p (with_room F w).known ≡ None)

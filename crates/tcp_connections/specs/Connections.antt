@@ -216,7 +216,7 @@ with_room F w =
 unfoldable pub next_room : List ℕ → ℕ
 next_room free = get_or free (length free - 1) 0
 
--- the rooms that are free behind it
+-- the rooms that are free after it
 unfoldable pub rest_of_rooms : List ℕ → List ℕ
 rest_of_rooms free = take (length free - 1) free
 
@@ -241,7 +241,7 @@ made_known w p =
 abbrev pub first_number : Segment → ℕ
 first_number s = onward s.sequence (cond s.syn 1 0)
 
--- the number behind the payload
+-- the number after the payload
 abbrev pub number_behind : Segment → ℕ
 number_behind s = onward (first_number s) (length s.payload)
 
@@ -268,7 +268,7 @@ is_own flow number =
     is_near_due flow number
     || elim (live_of flow) [ None ↦ false | Some first ↦ nat_eq first number ]
 
--- whether a segment of a flow is a SYN that is kept: it has no ACK, and the number behind it isn't
+-- whether a segment of a flow is a SYN that is kept: it has no ACK, and the number after it isn't
 -- the flow's own
 abbrev pub is_kept : Option FlowState → Segment → Bool
 is_kept flow s =
@@ -292,7 +292,7 @@ is_answer k id s =
     not (nat_eq k.flow id) && s.syn
     && elim s.acknowledgement [ None ↦ false | Some number ↦ nat_eq number k.number ]
 
--- whether it follows it: the payload behind it, in its flow
+-- whether it follows it: the payload after it, in its flow
 abbrev pub is_following : KeptSyn → ℕ → Segment → Bool
 is_following k id s =
     nat_eq k.flow id && nat_eq s.sequence k.number && nat_lt 0 (length s.payload) && not s.syn

@@ -37,7 +37,7 @@ pub record MakesWay (w : State) (s : Segment) (p : EndpointPair) : Type 0 where
   pub eldest : IsEldest w place
   pub is : get_or w.known place p ≡ p
 
--- a segment of the connection at a place, behind which one more came, counts as a RST: what was due
+-- a segment of the connection at a place, after which one more came, counts as a RST: what was due
 -- in its flow, once all else of the segment was taken, is at most W from its number
 pub record IsReset (F : Reader) (w : State) (s : Segment) (place : ℕ) : Type 0 where
   pub flow : FlowState

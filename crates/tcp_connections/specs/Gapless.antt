@@ -1,5 +1,5 @@
 -- That streams are without a gap: the octets that are delivered between the beginning and the close
--- of one stand one behind another (RFC 9293, Sequence Numbers; meaning).
+-- of one stand one after another (RFC 9293, Sequence Numbers; meaning).
 use Rattle.std.specs.Prelude.{◌≡◌, ℕ, ◌/◌, ◌<◌, List, Option, Some, None, slice_get}
 use Rattle.std.specs.List.{AllByRecursion}
 use Rattle.tcp_segment.specs.Segments.{Segment}

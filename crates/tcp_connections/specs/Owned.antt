@@ -39,7 +39,7 @@ is_of id (Delivers flow octets) = nat_eq flow id
 is_of id (Closes flow cause) = nat_eq flow id
 is_of id (OfCapture event) = false
 
--- the same behind such an event: it opens, and stands for these endpoints then
+-- the same after such an event: it opens, and stands for these endpoints then
 abbrev pub behind : Standing → Event → Standing
 behind s (Opens id flow) = Idle flow
 behind (Idle flow) (Begins id number) = Live flow number
@@ -57,7 +57,7 @@ MayCome segments (Live flow due) (Delivers id octets) = IsPartOf segments flow d
 MayCome segments (Live flow due) (Closes id cause) = Unit {0}
 MayCome segments s event = ⊥
 
--- what an id stands for behind all events
+-- what an id stands for after all events
 unfoldable pub standing : ℕ → Standing → List Event → Standing
 standing id s [] = s
 standing id s (e ∷ es) = standing id (cond (is_of id e) (behind s e) s) es

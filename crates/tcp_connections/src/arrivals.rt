@@ -171,7 +171,7 @@ impl Connections {
         self.fin_of_flow(id, number_behind(segment), to)
     }
 
-    /// A FIN of a flow comes, with the number behind the payload: nothing happens before its first
+    /// A FIN of a flow comes, with the number after the payload: nothing happens before its first
     /// stream.
     #[inline(never)]
     fn fin_of_flow<L: Listener + Drop>(
@@ -202,7 +202,7 @@ fn first_number(segment: Segment<'_>) -> u32
     onward(segment.sequence, usize::from(segment.syn))
 }
 
-/// The number behind a segment's payload.
+/// The number after a segment's payload.
 fn number_behind(segment: Segment<'_>) -> u32
     ensures { result ≡ spec_number_behind (segment_view segment.entry) }
 {

@@ -329,7 +329,7 @@ fn is_answer(syn: KeptSyn, id: u32, segment: Segment<'_>) -> bool
     syn.flow != id && segment.syn && segment.acknowledgement == Some(syn.number)
 }
 
-/// Whether a segment of an id has the payload behind a SYN of its flow.
+/// Whether a segment of an id has the payload after a SYN of its flow.
 fn is_following(syn: KeptSyn, id: u32, segment: Segment<'_>) -> bool
     ensures { result ≡ spec_is_following syn id (segment_view segment.entry) }
 {

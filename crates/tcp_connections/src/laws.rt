@@ -50,7 +50,7 @@ pub fn the_eldest_makes_room()
 {}
 
 /// Streams are without a gap, whatever segments come: octets come and a stream closes only while it lives, and they stand one
-/// behind another, by the numbers of segments that came, each of the stream's own flow. Where the capture ends after these,
+/// after another, by the numbers of segments that came, each of the stream's own flow. Where the capture ends after these,
 /// each stream has closed too.
 pub fn no_stream_has_a_gap()
     ensures gapless { (faulted : Reader) (ports : List ℕ) (blocks most : ℕ)

@@ -9,7 +9,7 @@ use std::alloc::{AllocError, Global};
 pub struct KeptSyn {
     /// The id of the flow that it is of.
     pub(crate) flow: u32,
-    /// The sequence number behind it, which answers it: RFC 9293, Three-Way Handshake.
+    /// The sequence number after it, which answers it: RFC 9293, Three-Way Handshake.
     pub(crate) number: u32,
 }
 

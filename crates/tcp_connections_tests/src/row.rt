@@ -28,7 +28,7 @@ impl<'a> Row<'a> {
     }
 }
 
-/// The text of a setting, and the lines behind it. An empty text and all lines, where there is no setting.
+/// The text of a setting, and the lines after it. An empty text and all lines, where there is no setting.
 fn setting_and(text: &str) -> (&str, &str) {
     match text.strip_prefix("setting ") {
         Some(behind) => behind.split_once('\n').unwrap_or((behind, "")),

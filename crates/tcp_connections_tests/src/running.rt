@@ -9,7 +9,7 @@ use tcp_streams::Streams;
 /// The most connections that may be known, and the most blocks that what waits may take.
 const MOST: (u32, usize) = (65_536, 1_048_576);
 
-/// The listener behind a row's segments, and the end of the capture, which may be told so many things; or behind those up to
+/// The listener after a row's segments, and the end of the capture, which may be told so many things; or after those up to
 /// the one at which it failed. None where there is no memory, a payload is too long, or the setting is out of its range.
 pub fn told_of(alloc: Global, row: &Row, left: usize) -> Option<Teller> {
     let setting = &row.setting;

@@ -43,7 +43,7 @@ fn is_told(rt: &HostRuntime, row: &Row, tally: &mut Tally) -> io::Result<bool> {
     Ok(true)
 }
 
-/// Tells a row to a listener: one that fails behind so many things, or one that may be told all that happens.
+/// Tells a row to a listener: one that fails after so many things, or one that may be told all that happens.
 fn is_told_to(
     rt: &HostRuntime,
     row: &Row,

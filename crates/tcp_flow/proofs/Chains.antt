@@ -1,4 +1,4 @@
--- Messages that stand one behind another up to the end, one after the other.
+-- Messages that stand one after another up to the end, one after the other.
 use Rattle.std.proofs.Common.{◌≡◌, ℕ, zero, suc, ◌-◌, ◌<◌, ◌≤◌, Bool, true, false, cond, nat_eq, ◌||◌, List, [], ◌∷◌, length, drop, Option, Some, None, refl, ◌∙◌, ap, arith, true≢false}
 use Rattle.std.proofs.lemmas.Bool.{eq-eqb, eqb-true, ne_eqb}
 use Rattle.tcp_flow.specs.Flow.{header_at, message_end, is_front, chain_from, is_chain, stream_at}
@@ -16,7 +16,7 @@ first_of_chain count whole xs none front end =
     cond none whole
     (cond front (elim end [ None ↦ whole | Some n ↦ chain_from count true (drop n xs) ]) false)
 
--- behind the last message
+-- after the last message
 pub chain_over : (count : ℕ) (whole : Bool) (xs : List ℕ) → length xs ≡ 0 →
     chain_from count whole xs ≡ whole
 unfolding chain_from

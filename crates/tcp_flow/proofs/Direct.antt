@@ -1,5 +1,5 @@
 -- A payload that is due at once is taken from where it is: to hold it first makes no difference.
--- Behind going on nothing of a flow is due.
+-- After going on nothing of a flow is due.
 use Rattle.std.proofs.Common.{◌≡◌, ℕ, zero, suc, ◌+◌, ◌^◌, ◌<◌, ◌≤◌, Bool, true, false, cond, nat_eq, nat_lt, nat_le, ◌&&◌, ◌||◌, not, List, [], ◌∷◌, length, get_or, Option, Some, None, is_some, IfSome, refl, sym, ◌∙◌, ap, subst, arith, add-one, inl, inr}
 use Rattle.std.specs.Option.{option_map}
 use Rattle.std.specs.List.{insert, remove}
@@ -256,7 +256,7 @@ either : (P : Flow → Type 0) (b : Bool) (f g : Flow) → P f → P g → P (co
 either P true f g p q = p
 either P false f g p q = q
 
--- behind going on nothing of the flow is due
+-- after going on nothing of the flow is due
 gone_on_ends : (F : Reader) (f : Flow) → IsEnded (gone_on F f)
 unfolding gone_on ended without_stale_fin drained IsEnded first_of is_due at
 gone_on_ends F f =

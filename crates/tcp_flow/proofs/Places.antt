@@ -64,7 +64,7 @@ place_later s r i l m h =
           ]
     ]
 
--- the octets behind the first so many
+-- the octets after the first so many
 pub drop_content : (place k : ℕ) (octets content : List ℕ) → k ≤ length octets →
     octets ≡ take (length octets) (drop place content)
     → drop k octets ≡ take (length octets - k) (drop (place + k) content)

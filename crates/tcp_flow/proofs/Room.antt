@@ -1,4 +1,4 @@
--- The pool's blocks suffice behind each payload: the gaps end, and what other flows hold is left
+-- The pool's blocks suffice after each payload: the gaps end, and what other flows hold is left
 -- alone.
 use Rattle.std.proofs.Common.{◌≡◌, ℕ, zero, suc, ◌+◌, ◌-◌, ◌/◌, ◌<◌, ◌≤◌, Bool, true, false, cond, nat_eq, nat_lt, ◌&&◌, ◌||◌, not, List, [], ◌∷◌, ◌++◌, length, get_or, Option, Some, None, is_some, refl, sym, ◌∙◌, ap, subst, arith, inl, inr}
 use Rattle.std.specs.List.{insert, remove}
@@ -377,7 +377,7 @@ enough_by A f h o =
       | inr x ↦ ltb-false A.blocks (blocks_of f.held) x
     ]
 
--- behind a payload that came the blocks suffice
+-- after a payload that came the blocks suffice
 pub room_after : (A : Setting) (f : Flow) (p : Payload) → p.flow ≡ f.id →
     blocks_of f.held ≤ A.blocks → blocks_of (payload_came A f p).held ≤ A.blocks
 unfolding payload_came holding IsOthers AtMost

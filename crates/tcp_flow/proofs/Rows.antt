@@ -21,7 +21,7 @@ setting = record { faulted = any_bad; blocks = 3 }
 unfoldable header : List ℕ
 header = 71 ∷ 73 ∷ 79 ∷ 80 ∷ 1 ∷ 0 ∷ []
 
--- one without octets behind its header
+-- one without octets after its header
 unfoldable message : List ℕ
 message = 71 ∷ 73 ∷ 79 ∷ 80 ∷ 1 ∷ 0 ∷ 0 ∷ 5 ∷ 0 ∷ 0 ∷ 0 ∷ 0 ∷ []
 

@@ -8,7 +8,7 @@ use Rattle.tcp_waiting.specs.Payload.{without_first, Payload, payload, has_as_mu
 use Rattle.tcp_flow.specs.Flow.{Flow, Event, Begins, Delivers, Closes, flow_of, OfCapture, ComesFrom, Reader, Setting, Arrival, Octets, End, Acknowledged, left, with_event, delivered, begun, told_from, taken, stream_at, at, closed, holding, gone_on, within_bounds, payload_came, fin_came, gap, step}
 use Rattle.tcp_flow.proofs.Preserving.{Keeps, cond_keeps, gone_on_keeps, relieved_keeps, missed_keeps, gap_keeps}
 
--- it is so of all that has happened, behind a flow of this id
+-- it is so of all that has happened, after a flow of this id
 pub record Told (Q : List Event → Type 0) (id : ℕ) (f : Flow) : Type 0 where
   pub same : f.id ≡ id
   pub told : Q f.events

@@ -17,7 +17,7 @@ onward_onward n k a = omega arith
 onward_small : (n k : ℕ) → onward n k < 2 ^ 32
 onward_small n k = omega arith
 
--- what is not to come is due behind what is old
+-- what is not to come is due after what is old
 pub reached : (next n : ℕ) → next < 2 ^ 32 → is_to_come next n ≡ false →
     onward n (age next n) ≡ next
 reached next n small h =

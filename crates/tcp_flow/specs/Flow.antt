@@ -57,7 +57,7 @@ pub record Flow : Type 0 where
   pub held : List Payload
   pub events : List Event
 
--- whether a number is at most W in front of the one that is due, or behind it, as the window of a
+-- whether a number is at most W in front of the one that is due, or after it, as the window of a
 -- receiver reaches (RFC 5961, Sections 3.2 and 4.2)
 abbrev pub is_near : ℕ → ℕ → Bool
 is_near next number = nat_le (ahead next number) window || nat_le (ahead number next) window
@@ -97,7 +97,7 @@ is_front xs =
     nat_eq (get_or xs 0 71) 71 && nat_eq (get_or xs 1 73) 73 && nat_eq (get_or xs 2 79) 79
     && nat_eq (get_or xs 3 80) 80 && nat_eq (get_or xs 4 1) 1 && nat_le (get_or xs 5 0) 2
 
--- whether messages stand one behind another up to the end, the last perhaps cut, and one of them is
+-- whether messages stand one after another up to the end, the last perhaps cut, and one of them is
 -- whole, as one in front was or not: at most so many
 unfoldable pub chain_from : ℕ → Bool → List ℕ → Bool
 chain_from zero whole xs = whole
@@ -229,7 +229,7 @@ payload_came A f p =
     cond (nat_eq (length q.octets) 0 || has_as_much f.id q.number (length q.octets) f.held) f
     (within_bounds A (length f.held + 1) (gone_on A.faulted (holding f q)))
 
--- a FIN comes, with the number behind the payload
+-- a FIN comes, with the number after the payload
 unfoldable pub fin_came : Reader → Flow → ℕ → Flow
 fin_came F f n =
     cond (is_some f.live && nat_eq (age f.next n) 0) (gone_on F (record f { fin = Some n })) f

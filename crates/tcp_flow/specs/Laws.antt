@@ -13,7 +13,7 @@ pub record IsPartOf (payloads : List Payload) (id number : ℕ) (octets : List �
   pub number_is : number ≡ onward (get_or payloads index no_payload).number skipped
   pub octets_are : octets ≡ drop skipped (get_or payloads index no_payload).octets
 
--- one event of the flow, by the number that is due in the live stream before and behind it
+-- one event of the flow, by the number that is due in the live stream before and after it
 unfoldable pub OwnMayFollow : List Payload → ℕ → Option ℕ → Event → Option ℕ → Type 0
 OwnMayFollow payloads id None (Opens flow endpoints) None = Unit {0}
 OwnMayFollow payloads id None (Begins flow n) (Some due) = n ≡ due
@@ -50,7 +50,7 @@ pub record IsGapless (payloads : List Payload) (f : Flow) : Type 0 where
   pub held : AllArePartsOf payloads f.held
   pub events : AllFollow payloads f.id None f.events (due_of f)
 
--- each payload that a flow holds has a rank behind `least`
+-- each payload that a flow holds has a rank after `least`
 unfoldable pub AreLater : ℕ → ℕ → ℕ → List Payload → Type 0
 AreLater id next least [] = Unit {0}
 AreLater id next least (p ∷ ps) =

@@ -13,7 +13,7 @@ octets_in id (Delivers flow octets) = cond (nat_eq flow id) octets []
 octets_in id (Closes flow cause) = []
 octets_in id (OfCapture event) = []
 
--- those of all events, one behind another
+-- those of all events, one after another
 unfoldable pub octets_of : ℕ → List Event → List ℕ
 octets_of id [] = []
 octets_of id (e ∷ es) = octets_in id e ++ octets_of id es

@@ -89,7 +89,7 @@ impl FlowState {
         Ok(())
     }
 
-    /// A FIN of the flow comes, with the number behind the payload.
+    /// A FIN of the flow comes, with the number after the payload.
     pub fn fin<T: Listener>(
         &mut self,
         number: u32,
@@ -215,7 +215,7 @@ impl FlowState {
         !self.holds(pool) && !self.has_fin()
     }
 
-    /// A FIN comes, with the number behind the payload.
+    /// A FIN comes, with the number after the payload.
     fn take_fin<T: Listener>(
         &mut self,
         number: u32,

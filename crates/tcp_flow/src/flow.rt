@@ -43,7 +43,7 @@ pub trait Listener {
     /// It has failed: what it writes to failed a put, or the like. From then on nothing is promised.
     ghost failed: { Self → Type 0 };
 
-    /// Whether the reader of the stream that was delivered to last is at a fault behind these events.
+    /// Whether the reader of the stream that was delivered to last is at a fault after these events.
     ghost faulted: { Reader };
 
     /// The id stands for a flow from now on, of which nothing came.
@@ -119,7 +119,7 @@ impl FlowState {
         self.live
     }
 
-    /// Whether a number is at most 1,048,576 in front of the one that is due, or behind it.
+    /// Whether a number is at most 1,048,576 in front of the one that is due, or after it.
     pub fn is_near(&self, number: u32) -> bool
         ensures { result ≡ is_near self.now.next number }
     {

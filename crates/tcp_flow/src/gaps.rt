@@ -14,7 +14,7 @@ impl FlowState {
     ghost use Rattle.tcp_flow.specs.Laws.{IsGapless, IsSettled};
     ghost use Rattle.tcp_flow.specs.State.{state, IsState};
 
-    /// A gap: the live stream closes, and the flow goes on. It holds fewer payloads behind it,
+    /// A gap: the live stream closes, and the flow goes on. It holds fewer payloads after it,
     /// where it held some.
     pub fn gap<T: Listener>(&mut self, pool: &mut Pool, to: &mut T) -> Result<(), ListenerFault>
         ensures does { (f : Flow) → IsState (T.observed to.old) self.old pool.old.held f
@@ -44,7 +44,7 @@ impl FlowState {
         Ok(())
     }
 
-    /// Whether what is held is too much: an end too far behind, or more blocks than there are.
+    /// Whether what is held is too much: an end too far on, or more blocks than there are.
     fn is_too_much(&self, pool: &Pool) -> bool
         ensures { (events : List Event) (faulted : Reader) → result
             ≡ spec_is_too_much (record { faulted = faulted; blocks = pool.now.blocks })

@@ -1,5 +1,5 @@
 //! Where a stream begins in octets that are looked through: at the front, or from where messages
-//! stand one behind another up to the end.
+//! stand one after another up to the end.
 
 ghost use Rattle.std.specs.Prelude.{◌≡◌, ◌≤◌, ◌<◌, ◌^◌, length, get_or, IfSome};
 ghost use Rattle.tcp_flow.specs.Flow.{weighed as spec_weighed, size_in as spec_size_in};
@@ -30,7 +30,7 @@ pub fn stream_at(octets: &[u8]) -> Option<usize>
     None
 }
 
-/// Whether messages stand one behind another up to the end, at least one of them whole.
+/// Whether messages stand one after another up to the end, at least one of them whole.
 fn is_chain(octets: &[u8]) -> bool
     ensures { result ≡ spec_is_chain octets.now }
 {

@@ -3,7 +3,7 @@ use Rattle.std.proofs.Common.{◌≡◌, ℕ, zero, suc, ◌+◌, ◌<◌, ◌�
 use Rattle.std.specs.Net.Text.{zero_run, longest_zero_run}
 use Rattle.tcp_segment.specs.EndpointText.{AreZeros, IsLongestRun}
 
--- ---- Zeros behind the first group.
+-- ---- Zeros after the first group.
 
 behind : (s : ℕ) (rest : List ℕ) (at count : ℕ) → AreZeros (s ∷ rest) (suc at) count
     → AreZeros rest at count
@@ -37,7 +37,7 @@ run_longest (s ∷ rest) (suc count) fits zeros =
     (behind s rest 0 count (λ k low high. zeros k (omega arith) (omega arith))) in
     grind (arith, first, more)
 
--- ---- The choice between the run at the front and the longest one behind the first group.
+-- ---- The choice between the run at the front and the longest one after the first group.
 
 module _ (s : ℕ) (rest : List ℕ) (start len : ℕ) (of : IsLongestRun rest start len) where
   longest_here : len ≤ zero_run (s ∷ rest) → (at count : ℕ) → at + count ≤ length (s ∷ rest)

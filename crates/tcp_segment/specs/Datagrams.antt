@@ -48,7 +48,7 @@ behind_header octets packet =
       octets = drop header packet;
     }))
 
--- what is behind the total length is no part of the packet
+-- what is after the total length is no part of the packet
 unfoldable pub ipv4 : List ℕ → Option Datagram
 ipv4 octets =
     provided (nat_le 20 (length octets) && carries_whole_tcp octets)
@@ -73,14 +73,14 @@ abbrev pub is_cut_extension : ℕ → List ℕ → Bool
 is_cut_extension header octets =
     let field = two_at 2 octets in header == 44 && (not (field / 8 == 0) || field % 2 == 1)
 
--- the next header and its octets, behind an extension header that is there whole and no fragment's
+-- the next header and its octets, after an extension header that is there whole and no fragment's
 unfoldable pub behind_extension : ℕ → List ℕ → Option (ℕ × List ℕ)
 behind_extension header octets =
     provided
     (nat_le (extension_size header octets) (length octets) && not (is_cut_extension header octets))
     (Some (slice_index octets 0, drop (extension_size header octets) octets))
 
--- the next header behind at most so many extension headers, and its octets
+-- the next header after at most so many extension headers, and its octets
 unfoldable pub behind_extensions : ℕ → ℕ → List ℕ → Option (ℕ × List ℕ)
 behind_extensions zero header octets = Some (header, octets)
 behind_extensions (suc more) header octets =
@@ -88,11 +88,11 @@ behind_extensions (suc more) header octets =
     then (behind_extension header octets >>= (λ next. behind_extensions more next.0 next.1))
     else Some (header, octets)
 
--- the payload length counts what is behind the header of 40 octets
+-- the payload length counts what is after the header of 40 octets
 unfoldable pub payload_of : List ℕ → List ℕ
 payload_of octets = limited (two_at 4 octets) (drop 40 octets)
 
--- what is behind the last header, where that names TCP
+-- what is after the last header, where that names TCP
 unfoldable pub behind_headers : List ℕ → Option (List ℕ)
 behind_headers octets = do
   upper ← behind_extensions 8 (slice_index octets 6) (payload_of octets)

@@ -7,7 +7,7 @@ use Rattle.tcp_segment.specs.declared.frame.Version.TheVariants.{V4, V6}
 use Rattle.tcp_segment.specs.declared.frame.Packet as code
 use Rattle.tcp_segment.specs.Octets.{◌>>=◌, provided, octets_at, two_at, four_at}
 
--- a packet as a frame has it: what is behind the packet is still there
+-- a packet as a frame has it: what is after the packet is still there
 pub record Packet : Type 0 where
   pub version : Version
   pub octets : List ℕ
@@ -19,11 +19,11 @@ pub record Packet : Type 0 where
 abbrev pub is_tag : ℕ → Bool
 is_tag kind = kind == 0x8100 || kind == 0x88a8 || kind == 0x9100
 
--- the type behind a tag, and what follows it; a tag is two octets and the next type
+-- the type after a tag, and what follows it; a tag is two octets and the next type
 unfoldable pub behind_tag : List ℕ → Option (ℕ × List ℕ)
 behind_tag octets = provided (nat_le 4 (length octets)) (Some (two_at 2 octets, drop 4 octets))
 
--- the type behind at most so many tags, and what follows it
+-- the type after at most so many tags, and what follows it
 unfoldable pub behind_tags : ℕ → ℕ → List ℕ → Option (ℕ × List ℕ)
 behind_tags zero kind octets = Some (kind, octets)
 behind_tags (suc more) kind octets =
@@ -35,7 +35,7 @@ abbrev pub version_of_type : ℕ → Option Version
 version_of_type kind =
     if kind == 0x0800 then Some V4 else (if kind == 0x86dd then Some V6 else None)
 
--- the packet behind a type and its tags
+-- the packet after a type and its tags
 unfoldable pub typed : ℕ → List ℕ → Option Packet
 typed kind octets = do
   behind ← behind_tags 4 kind octets

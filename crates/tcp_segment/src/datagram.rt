@@ -100,7 +100,7 @@ fn is_cut_extension(header: u8, octets: &[u8]) -> bool
     header == 44 && (offset_and_more / 8 != 0 || offset_and_more % 2 == 1)
 }
 
-/// The header behind an extension header, and its octets.
+/// The header after an extension header, and its octets.
 #[tactic(auto, using(crate::proofs::Extensions::extensions_are_long), unfolding(crate::specs::Datagrams::behind_extension))]
 fn behind_extension(header: u8, octets: &[u8]) -> Option<(u8, &[u8])>
     ensures { option_map (λ x. (x.0, x.1.now)) result ≡ behind_extension header octets.now }
@@ -115,7 +115,7 @@ fn behind_extension(header: u8, octets: &[u8]) -> Option<(u8, &[u8])>
     Some((octets[0], &octets[size..]))
 }
 
-/// The header behind the extension headers that begin with this one, and its octets.
+/// The header after the extension headers that begin with this one, and its octets.
 fn behind_extensions(header: u8, octets: &[u8]) -> Option<(u8, &[u8])>
     ensures { option_map (λ x. (x.0, x.1.now)) result ≡ behind_extensions 8 header octets.now }
 {
@@ -130,7 +130,7 @@ fn behind_extensions(header: u8, octets: &[u8]) -> Option<(u8, &[u8])>
     Some((next, behind))
 }
 
-/// What is behind the header of an IPv6 packet, as far as its payload length says.
+/// What is after the header of an IPv6 packet, as far as its payload length says.
 #[tactic(auto, unfolding(crate::specs::Datagrams::payload_of))]
 fn payload_of(octets: &[u8]) -> &[u8]
     requires { 40 ≤ length octets.now }
@@ -139,7 +139,7 @@ fn payload_of(octets: &[u8]) -> &[u8]
     limited(two_at(octets, 4), &octets[40..])
 }
 
-/// What is behind the last header of an IPv6 packet, where that names TCP.
+/// What is after the last header of an IPv6 packet, where that names TCP.
 #[tactic(auto, unfolding(crate::specs::Datagrams::behind_headers))]
 fn behind_headers(octets: &[u8]) -> Option<&[u8]>
     requires { 40 ≤ length octets.now }

@@ -12,7 +12,7 @@ pub enum Version {
     V6,
 }
 
-/// An IP packet that a frame carries, as the frame says. What is behind the packet is still there.
+/// An IP packet that a frame carries, as the frame says. What is after the packet is still there.
 #[derive(Clone, Copy)]
 pub struct Packet<'a> {
     pub version: Version,
@@ -29,7 +29,7 @@ fn is_tag(kind: u16) -> bool
     kind == 0x8100 || kind == 0x88a8 || kind == 0x9100
 }
 
-/// The Ethernet type behind a tag, and what follows it. A tag has two octets of its own and the next type.
+/// The Ethernet type after a tag, and what follows it. A tag has two octets of its own and the next type.
 #[tactic(auto, unfolding(crate::specs::Frames::behind_tag))]
 fn behind_tag(octets: &[u8]) -> Option<(u16, &[u8])>
     ensures { option_map (λ x. (x.0, x.1.now)) result ≡ behind_tag octets.now }
@@ -40,7 +40,7 @@ fn behind_tag(octets: &[u8]) -> Option<(u16, &[u8])>
     Some((two_at(octets, 2), &octets[4..]))
 }
 
-/// The Ethernet type behind the tags that begin with this type, and what follows it.
+/// The Ethernet type after the tags that begin with this type, and what follows it.
 fn behind_tags(kind: u16, octets: &[u8]) -> Option<(u16, &[u8])>
     ensures { option_map (λ x. (x.0, x.1.now)) result ≡ behind_tags 4 kind octets.now }
 {
@@ -66,7 +66,7 @@ fn version_of_type(kind: u16) -> Option<Version>
     }
 }
 
-/// The packet behind an Ethernet type and its tags.
+/// The packet after an Ethernet type and its tags.
 #[tactic(auto, unfolding(crate::specs::Frames::typed))]
 fn typed(kind: u16, octets: &[u8]) -> Option<Packet<'_>>
     ensures { option_map packet_view result ≡ typed kind octets.now }

@@ -78,7 +78,7 @@ below_any n (x ∷ xs) q h e =
       | inr a ↦ below_any n xs q h.1 a
     ]
 
--- behind one that is taken away and stands last again
+-- after one that is taken away and stands last again
 pub again_ids : (id : ℕ) (xs : List ℕ) → id < most_ids → AreIds xs →
     AreIds (without id xs ++ id ∷ [])
 again_ids id xs l h = (

@@ -1,4 +1,4 @@
--- Which streams live behind one more event, and where a number stands.
+-- Which streams live after one more event, and where a number stands.
 use Rattle.std.proofs.Common.{◌≡◌, ℕ, zero, suc, ◌+◌, ◌<◌, ◌≤◌, Bool, true, false, cond, nat_eq, List, [], ◌∷◌, ◌++◌, length, drop, get_or, Option, Some, None, is_some, IfSome, refl, sym, ◌∙◌, ap, subst, arith, add-one, true≢false}
 use Rattle.std.specs.Option.{option_map}
 use Rattle.std.specs.List.{remove}

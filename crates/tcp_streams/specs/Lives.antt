@@ -25,12 +25,12 @@ most_ids = 131072
 abbrev pub AreIds : List ℕ → Type 0
 AreIds ids = AllByRecursion (λ id. id < most_ids) ids × IsDistinct eqb ids
 
--- the flows whose streams live, behind the beginning of one: it is the last, and the only one of
+-- the flows whose streams live, after the beginning of one: it is the last, and the only one of
 -- its flow
 unfoldable pub begun : ℕ → List ℕ → List ℕ
 begun id live = cond (nat_lt id most_ids) (without id live ++ id ∷ []) live
 
--- the same behind one more event
+-- the same after one more event
 unfoldable pub behind : List ℕ → Event → List ℕ
 behind live (Opens id endpoints) = live
 behind live (Begins id number) = begun id live
@@ -38,12 +38,12 @@ behind live (Delivers id octets) = live
 behind live (Closes id cause) = without id live
 behind live (OfCapture event) = live
 
--- those behind all events, from these on
+-- those after all events, from these on
 unfoldable pub lives_from : List ℕ → List Event → List ℕ
 lives_from live [] = live
 lives_from live (e ∷ es) = lives_from (behind live e) es
 
--- the flows whose streams live behind all events, by the order in which these streams began: that
+-- the flows whose streams live after all events, by the order in which these streams began: that
 -- of their numbers
 abbrev pub lives : List Event → List ℕ
 lives events = lives_from [] events

@@ -60,7 +60,7 @@ pub length_octets : (all : List ℕ) (from count : ℕ) → from + count ≤ len
     length (octets_at all from count) ≡ count
 length_octets all from count h = simp (length-take, length-drop) (omega arith)
 
--- octets behind what waits change nothing
+-- octets after what waits change nothing
 octets_more : (all more : List ℕ) (from count : ℕ) → from + count ≤ length all →
     octets_at (all ++ more) from count ≡ octets_at all from count
 octets_more all more zero count h = take-append-le count all more (omega (arith, h))
@@ -73,7 +73,7 @@ held_more all more [] h = refl
 held_more all more (w ∷ ws) h =
     rw (octets_more all more w.from w.count h.0, held_more all more ws h.1) refl
 
--- one more waits, its octets behind all
+-- one more waits, its octets after all
 pub held_inserted : (all more : List ℕ) (ws : List Waiting) (i : ℕ) (w : Waiting) →
     AreWithin (length all) ws → w.from ≡ length all → w.count ≡ length more
     → held_in (all ++ more) (insert ws i w)

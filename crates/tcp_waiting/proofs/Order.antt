@@ -223,7 +223,7 @@ between : (id n m : ℕ) (p q : Payload) → IsSmall p → IsSmall q → q.flow 
 between id n m p q s t own low high =
     omega (arith, s.number, s.short, t.number, t.short, own, low, high)
 
--- where none of the flow stands at a place, none stands behind it
+-- where none of the flow stands at a place, none stands after it
 none_behind : (id n m : ℕ) (ps : List Payload) (i j : ℕ) (d : Payload) → AreOrdered ps →
     AreSmall ps → i ≡ place_of (key id n m) ps → stands_at i id ps ≡ false → j < length ps
     → (get_or ps j d).flow ≡ id → j < i

@@ -8,7 +8,7 @@ use Rattle.tcp_waiting.specs.Payload.{Payload, blocks_of, is_far, ends_far, key,
 use Rattle.tcp_waiting.specs.Layout.{octets_at, payload_in, held_in, AreWithin}
 use Rattle.tcp_waiting.proofs.Held.{length_held, get_held, remove_held, all_at, length_octets}
 
--- the payload at an index, and those behind it
+-- the payload at an index, and those after it
 pub record IsAtIndex (all : List ℕ) (ws : List Waiting) (k : ℕ) (w : Waiting) : Type 0 where
   pub behind : drop k (held_in all ws) ≡ payload_in all w ∷ drop (k + 1) (held_in all ws)
   pub count : length (octets_at all w.from w.count) ≡ w.count

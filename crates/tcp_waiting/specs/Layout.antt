@@ -47,7 +47,7 @@ abbrev pub stands_at : ℕ → ℕ → List Payload → Bool
 stands_at place id ps =
     nat_lt place (length ps) && nat_eq (get_or ps place no_payload).flow id
 
--- whether one of the payloads that a flow holds ends more than W behind `next`, but for those with a
+-- whether one of the payloads that a flow holds ends more than W after `next`, but for those with a
 -- number and a length
 unfoldable pub is_far_but : ℕ → ℕ → ℕ → ℕ → List Payload → Bool
 is_far_but id next number count [] = false
@@ -85,7 +85,7 @@ pub record IsSound (a : Inside) : Type 0 where
   pub counts : AreCounts a.counts.items (held_in a.octets.items a.waiting.items)
   pub nears : AreNears a.nears.items (held_in a.octets.items a.waiting.items)
 
--- the octets that wait, one behind the other without holes
+-- the octets that wait, one after the other without holes
 unfoldable pub packed : List ℕ → List Waiting → List ℕ
 packed all [] = []
 packed all (w ∷ ws) = octets_at all w.from w.count ++ packed all ws

@@ -13,7 +13,7 @@ onward number count = (number + count) % 2 ^ 32
 abbrev pub age : ℕ → ℕ → ℕ
 age next number = cond (nat_lt (ahead next number) (2 ^ 31)) 0 (2 ^ 32 - ahead next number)
 
--- whether a number is to come, behind `next`
+-- whether a number is to come, after `next`
 abbrev pub is_to_come : ℕ → ℕ → Bool
 is_to_come next number = nat_lt 0 (ahead next number) && nat_lt (ahead next number) (2 ^ 31)
 

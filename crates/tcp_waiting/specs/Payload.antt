@@ -33,7 +33,7 @@ key flow number count = (flow * 2 ^ 32 + number) * 2 ^ 32 + count
 abbrev pub key_of : Payload → ℕ
 key_of p = key p.flow p.number (length p.octets)
 
--- where in this order a payload stands, or would stand: behind those before it
+-- where in this order a payload stands, or would stand: after those before it
 unfoldable pub place_of : ℕ → List Payload → ℕ
 place_of k [] = 0
 place_of k (p ∷ ps) = cond (nat_lt (key_of p) k) (suc (place_of k ps)) 0
@@ -42,7 +42,7 @@ place_of k (p ∷ ps) = cond (nat_lt (key_of p) k) (suc (place_of k ps)) 0
 abbrev pub put : Payload → List Payload → List Payload
 put p ps = insert ps (place_of (key_of p) ps) p
 
--- W: how far behind `next` a held payload may end
+-- W: how far after `next` a held payload may end
 abbrev pub window : ℕ
 window = 1048576
 
@@ -68,11 +68,11 @@ unfoldable pub blocks_of : List Payload → ℕ
 blocks_of [] = 0
 blocks_of (p ∷ ps) = (length p.octets + 1023) / 1024 + blocks_of ps
 
--- whether a payload ends more than W behind `next`
+-- whether a payload ends more than W after `next`
 abbrev pub ends_far : ℕ → ℕ → ℕ → Bool
 ends_far next number count = nat_lt window (ahead next number + count)
 
--- whether one of the payloads that a flow holds ends more than W behind `next`
+-- whether one of the payloads that a flow holds ends more than W after `next`
 unfoldable pub is_far : ℕ → ℕ → List Payload → Bool
 is_far id next [] = false
 is_far id next (p ∷ ps) =

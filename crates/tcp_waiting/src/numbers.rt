@@ -29,7 +29,7 @@ pub fn age(next: u32, number: u32) -> u32
     }
 }
 
-/// Whether a number is to come, behind `next`.
+/// Whether a number is to come, after `next`.
 pub fn is_to_come(next: u32, number: u32) -> bool
     ensures { result ≡ spec.is_to_come next number }
 {

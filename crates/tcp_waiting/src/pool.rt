@@ -14,7 +14,7 @@ use std::collections::VecDeque;
 use std::marker::Model;
 use std::mem::swap;
 
-/// How far behind the number that is due a payload may end.
+/// How far after the number that is due a payload may end.
 pub const WINDOW: usize = 1_048_576;
 
 /// A payload that waits: where its octets are, and the packet that they came in.
@@ -28,7 +28,7 @@ pub(crate) struct Waiting {
     count: usize,
 }
 
-/// Of what a flow holds, all but payloads of this number and length end near behind a base.
+/// Of what a flow holds, all but payloads of this number and length end soon after a base.
 #[derive(Clone, Copy)]
 pub(crate) struct Near {
     base: u32,
@@ -187,7 +187,7 @@ impl Pool {
         self.stands_at(place, flow) && self.waiting[place].number == number
     }
 
-    /// Whether one of the payloads that a flow holds ends too far behind the number that is due.
+    /// Whether one of the payloads that a flow holds ends too far after the number that is due.
     pub fn is_far(&self, flow: u32, next: u32) -> bool
         ensures { result ≡ is_far flow next self.now.held }
     {
@@ -203,7 +203,7 @@ impl Pool {
         }
     }
 
-    /// The payload but for which all that a flow holds is known to end near behind the number that
+    /// The payload but for which all that a flow holds is known to end soon after the number that
     /// is due.
     fn others_are_near(&self, flow: u32, next: u32) -> Option<Near>
         ensures { IfSome result (λ n. is_far_but flow next n.number n.count self.now.held ≡ false) }
@@ -234,7 +234,7 @@ impl Pool {
         None
     }
 
-    /// Whether one of the payloads that a flow holds ends too far behind the number that is due:
+    /// Whether one of the payloads that a flow holds ends too far after the number that is due:
     /// each is looked at.
     fn finds_far(&self, flow: u32, next: u32) -> bool
         ensures { result ≡ is_far flow next self.now.held }
@@ -264,7 +264,7 @@ impl Pool {
         self.blocks
     }
 
-    /// A payload waits: its octets are copied. What a flow holds is looked through faster behind it,
+    /// A payload waits: its octets are copied. What a flow holds is looked through faster after it,
     /// if `next` is the number that is due there.
     pub fn hold(&mut self, flow: u32, next: u32, number: u32, octets: &[u8], arrival: Arrival)
         requires some { 0 < length octets.now }
@@ -332,7 +332,7 @@ fn key(flow: u32, number: u32, count: usize) -> u128
     (u128::from(flow) * 0x1_0000_0000 + u128::from(number)) * 0x1_0000_0000 + count as u128
 }
 
-/// Whether a payload ends too far behind the number that is due.
+/// Whether a payload ends too far after the number that is due.
 fn ends_far(next: u32, number: u32, count: usize) -> bool
     ensures { result ≡ spec_ends_far next number count }
 {

@@ -195,7 +195,7 @@ module _ (C : Table) (most : ℕ) where
           owner_takes most (open_after most p) h.m x h.w owner,
         ) refl)
 
-    -- answers that agree behind the octet agree for it
+    -- answers that agree after the octet agree for it
     agree_for : (b c : Answers) → AnswersAgree most (p ++ x ∷ []) b c → b h.w.number ≡ c h.w.number
     agree_for b c agree = go (of_owner (AgreeAt (p ++ x ∷ []) b c) most p h.w (rw h.current h.owner)
         front)

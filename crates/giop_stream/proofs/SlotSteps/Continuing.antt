@@ -239,7 +239,7 @@ module _ (C : Table) (l : Answers) (s : Slots) (c : Tracked) (m : Message) (now 
       ≡ id_line now.place m.number found.id ∷ rest_lines
   all_lines = search (arith, parts, first_lines)
 
-  -- what the code does at the request id, and behind it
+  -- what the code does at the request id, and after it
   pub second_does : {A E : Type 0} (n : A → ℕ) (r : Result A E) (a b : OutLog) (s' : Slots)
       → DoesEffect C l n r a b s' (effects (message_reader C l) c'
       (events_at_request_id s.slots.most c'.still_open m')) (Some opener_at.o.opener)

@@ -243,7 +243,7 @@ module _ (C : Table) (l : Answers) (most : ℕ) (c : Tracked) (m : Message) (now
         current = h.current;
       }
 
--- ---- Octets that only add to contents, and one behind them.
+-- ---- Octets that only add to contents, and one after them.
 
 -- a run is its first octets, and then the others
 run_both : (C : Table) (l : Answers) (q : List ℕ) (before : ℕ) (c : Tracked) (w : Option MessageKey)

@@ -1,4 +1,4 @@
--- The events of a capture are without a gap, so no stream of them goes on behind its close; and each
+-- The events of a capture are without a gap, so no stream of them goes on after its close; and each
 -- has closed.
 use Rattle.std.proofs.Common.{◌≡◌, ◌<◌, ◌/◌, ℕ, ◌-◌, Some, [], ◌++◌, ◌∙◌, ap, sym, subst, arith, if◌then◌else◌}
 use Rattle.std.specs.List.{AllByRecursion as Each}

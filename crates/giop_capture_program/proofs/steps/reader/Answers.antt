@@ -1,4 +1,4 @@
--- No event has come: behind what was written before stands no text.
+-- No event has come: after what was written before stands no text.
 use Rattle.giop_capture_program.proofs.steps.reader.Goals as goal
 
 pub packet_reader-requires-clause-start : goal.packet_reader-requires-clause-start

@@ -1,4 +1,4 @@
--- The streams close behind the capture's fault.
+-- The streams close after the capture's fault.
 use Rattle.giop_capture_run.specs.Arrivals.{with_fault}
 use Rattle.giop_capture_run.proofs.ending.end.Goals as goal
 

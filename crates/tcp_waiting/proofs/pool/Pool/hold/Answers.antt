@@ -46,7 +46,7 @@ insert-noted-requires c =
       length_held c.make_room.new.octets.items c.make_room.new.waiting.items,
     )
 
--- what waits behind it, by where it is
+-- what waits after it, by where it is
 record IsHeld (c : goal.After-insert-noted) : Type 0 where
   octets : c.extend_from_slice-copied.new.self.items ≡ c.make_room.new.octets.items
       ++ c.args.octets.now
