@@ -23,9 +23,7 @@ use crate::teller::{Beginning, Teller};
 use capture_file::Capture;
 use giop_capture_run::{Arguments, Ending, Notices, PacketReader, dump_capture, packet_reader};
 use giop_conversation::{Conversations, Limits};
-use giop_run::{
-    Flush, Inputs, ProgramFault, RunFault, Source, joint_catalogue, opened, requests,
-};
+use giop_run::{Flush, Inputs, ProgramFault, RunFault, Source, joint_catalogue, opened, requests};
 use giop_sig::{Catalogue, Requests};
 use std::alloc::{AllocError, Global};
 
