@@ -1,6 +1,7 @@
 //! What the steps of `giopcap` are handed in place of the system: a capture in memory, and nobody who is told of link types.
 
 ghost use Rattle.std.specs.Prelude.{◌≡◌, None, Some};
+ghost use Rattle.std.specs.declared.io.ErrorKind.TheVariants.{NotFound};
 
 use giop_capture_run::Notices;
 use giop_run::{Inputs, Reading};
@@ -32,7 +33,7 @@ impl<'a> Inputs for Memory<'a> {
 
     ghost given = { λ m. Some m.octets.now };
 
-    ghost refuses = { λ _ _ kind. kind ≡ ErrorKind.NotFound };
+    ghost refuses = { λ _ _ kind. kind ≡ NotFound };
 
     fn open(&self, _name: &str) -> io::Result<Reading<&'a [u8]>> {
         Err(io::Error::from(ErrorKind::NotFound))
