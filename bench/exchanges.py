@@ -3,7 +3,7 @@
 
     exchanges.py long OCTETS      one connection, with about so many octets of capture
     exchanges.py short COUNT      so many connections one after the other, each with a SYN, all calls, and FINs
-    exchanges.py late OCTETS      as long, but each eighth packet comes behind the two that follow it
+    exchanges.py late OCTETS      as long, but each eighth packet comes after the two that follow it
 
 A packet is Ethernet, IPv4 and TCP, and has one message.
 
@@ -40,7 +40,7 @@ ROUND = sum(len(call) + len(reply) + 2 * HEADS for call, reply in CALLS)
 
 
 def record(number: int, octets: bytes) -> bytes:
-    """The record of a packet, a tenth of a millisecond behind the one in front of it."""
+    """The record of a packet, a tenth of a millisecond after the one in front of it."""
     seconds, tenths = divmod(number, 10_000)
     return struct.pack("<IIII", 1_700_000_000 + seconds, tenths * 100, len(octets), len(octets)) + octets
 

@@ -33,7 +33,7 @@ SAID = re.compile(
 
 
 def mapped(words: Sequence[str], capture: bytes) -> Tuple[int, int]:
-    """The greatest numbers of octets that were mapped and touched up to where it waits behind these octets."""
+    """The greatest numbers of octets that were mapped and touched up to where it waits after these octets."""
     process = subprocess.Popen([str(GIOPCAP), *words], stdin=subprocess.PIPE, stdout=subprocess.DEVNULL)
     assert process.stdin
     process.stdin.write(capture)

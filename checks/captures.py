@@ -121,7 +121,7 @@ class Rows:
         self._seen.note(as_wanted, f"{row.name}, {way}", run)
 
     def _feed(self, row: Row, words: List[str]) -> None:
-        """Gives the capture in pieces, and looks behind each for what is due."""
+        """Gives the capture in pieces, and looks after each for what is due."""
         fed = Fed(words)
         at = 0
         for piece in pieces(row):

@@ -1,4 +1,4 @@
-"""Saves the examples behind each octet and goes on from there, and goes on from damaged checkpoints."""
+"""Saves the examples after each octet and goes on from there, and goes on from damaged checkpoints."""
 
 from __future__ import annotations
 

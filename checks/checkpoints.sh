@@ -1,5 +1,5 @@
 #!/usr/bin/env bash
-# Saves the examples behind each octet and goes on from there: the joined lines are those of the whole. Damages
+# Saves the examples after each octet and goes on from there: the joined lines are those of the whole. Damages
 # checkpoints, and goes on from them by other files: they are refused by name, or gone on from.
 set -euo pipefail
 cd "$(dirname "$0")/.."

@@ -40,7 +40,7 @@ class Case:
 @dataclass(frozen=True)
 class Ended:
     """What a run wrote, its status (below 0: the signal), how many calls of each sort it made (late: how many of its requests
-    for memory came behind its first read of standard input), how many of them were touched, and the files where it ran. A run
+    for memory came after its first read of standard input), how many of them were touched, and the files where it ran. A run
     that came to no end has no calls."""
 
     lines: bytes

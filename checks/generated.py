@@ -136,7 +136,7 @@ def in_parts(case: Case, cuts: List[int]) -> Tuple[bytes, int]:
 
 
 def harmed(seed: int, case: Case) -> Case:
-    """The rest of a stream, behind a checkpoint that is changed as streams are, or keeps its length."""
+    """The rest of a stream, after a checkpoint that is changed as streams are, or keeps its length."""
     draw = random.Random(f"checkpoint of {seed}")
     at = draw.randrange(len(case.stream) + 1)
     checkpoint = checkpoint_of(case.words, case.stream[:at])

@@ -115,7 +115,7 @@ m1 end
 total messages 1 faults 0 octets 48
 """
 
-# The third part without types, behind a CloseConnection.
+# The third part without types, after a CloseConnection.
 REST_3 = """\
 m2 rest @0 fffffffb
 m2 end
@@ -150,8 +150,8 @@ CUT = "stream fault truncated at 5\ntotal messages 0 faults 1 octets 5\n"
 
 @dataclass(frozen=True)
 class Case:
-    """Words, and the stream behind them, without one where the words name it or nothing is to be read; the status, what is
-    said behind the program's name, and the lines; what is saved under which name."""
+    """Words, and the stream after them, without one where the words name it or nothing is to be read; the status, what is
+    said after the program's name, and the lines; what is saved under which name."""
 
     words: str
     stream: Optional[str] = None

@@ -1,4 +1,4 @@
-"""Runs the commands in the blocks of README.md and docs/USE.md, in their order and in a copy of the repository: those behind a
+"""Runs the commands in the blocks of README.md and docs/USE.md, in their order and in a copy of the repository: those after a
 `$` print what stands beside them, the others end well, and a synopsis has the words of the program's help. Looks for the files
 that the pages link to, and for the code of docs/LIBRARY.md and docs/READING.md in the source that is proved."""
 
@@ -89,7 +89,7 @@ def blocks(text: str) -> Iterator[List[str]]:
 
 
 def commands(lines: List[str]) -> Iterator[Tuple[str, List[str]]]:
-    """Each command behind a `$` in a block, with the lines up to the next one."""
+    """Each command after a `$` in a block, with the lines up to the next one."""
     starts = [place for place, line in enumerate(lines) if line.startswith("$ ")] + [len(lines)]
     for start, end in zip(starts, starts[1:]):
         yield lines[start][2:], lines[start + 1 : end]

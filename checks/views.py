@@ -42,7 +42,7 @@ def dump_of(seed: int, known: List[bytes]) -> List[str]:
 
 
 def added_to(draw: random.Random, line: str, after: str, kinds: Dict[str, str], calls: List[str]) -> List[str]:
-    """What a capture adds behind a line of a stream, in front of the next one."""
+    """What a capture adds after a line of a stream, in front of the next one."""
     number, word = line.split(" ")[:2]
     if word == "start":
         kinds[number] = line.split(" ")[4]

@@ -18,7 +18,7 @@ FORMS = {
 
 
 class Values:
-    """Values in one byte order, one behind the other, each at a multiple of its size, which counts from `start` octets in
+    """Values in one byte order, one after the other, each at a multiple of its size, which counts from `start` octets in
     front of the first: those of a message's header, or none in an encapsulation."""
 
     def __init__(self, order: Order, start: int = HEADER) -> None:
@@ -70,7 +70,7 @@ class Values:
         return self
 
     def request(self, request_id: int, operation: str, key: bytes) -> Values:
-        """The header of a Request of 1.2 with an object key and no service context, without the padding behind it."""
+        """The header of a Request of 1.2 with an object key and no service context, without the padding after it."""
         self.put(("ulong", request_id), ("octet", 3), ("octet", 0), ("octet", 0), ("octet", 0))
         return self.put(("short", 0), ("octets", key), ("string", operation), ("ulong", 0))
 

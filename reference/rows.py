@@ -19,7 +19,7 @@ REFUSED = (2, 3)  # the statuses of rows in which no capture is read: of their w
 
 
 def octets_of(capture: str) -> bytes:
-    """The octets of hexadecimal words, each of which may have how often it stands behind it."""
+    """The octets of hexadecimal words, each of which may have how often it stands after it."""
     parts = (word.partition("*") for word in capture.split())
     return b"".join(bytes.fromhex(digits) * int(times or 1) for digits, _, times in parts)
 

@@ -42,7 +42,7 @@ class Parser:
         return self._tokens[self._at]
 
     def taken(self) -> str:
-        """The next token, which is then behind."""
+        """The next token, which is then after."""
         self._at += 1
         return self._tokens[self._at - 1]
 
@@ -54,7 +54,7 @@ class Parser:
         return token
 
     def found(self, text: str) -> bool:
-        """Whether the next token is this one, which is then behind."""
+        """Whether the next token is this one, which is then after."""
         if self.next != text:
             return False
         self._at += 1

@@ -91,7 +91,7 @@ class Message:
         self.is_over = False  # whether its lines are made
 
     def add(self, octets: bytes, begin: int) -> None:
-        """Octets that come behind so many of the stream."""
+        """Octets that come after so many of the stream."""
         self._parts.append((len(self.octets), begin - len(self.octets)))
         self.octets += octets
 
@@ -174,7 +174,7 @@ class Dump:
         self._say(place, FAULT, f"m{number} fault {word} at {place}")
 
     def _message(self, place: int) -> Optional[Tuple[str, int]]:
-        """One message, whose header begins behind so many octets; whether the stream ends in it."""
+        """One message, whose header begins after so many octets; whether the stream ends in it."""
         minor, flags, kind = self._stream[place + 5 : place + 8]
         begin = place + HEADER
         size = size_of(self._stream[place:begin])
@@ -347,7 +347,7 @@ class Reading:
         return ("exception", String()) if status == USER_EXCEPTION else ("body", BODY_OF_STATUS[status])
 
     def _body(self, path: str, body: Optional[Type]) -> None:
-        """A body, behind the padding that it has in 1.2."""
+        """A body, after the padding that it has in 1.2."""
         reader = self._reader
         if self._message.header.minor == 2:
             begin = reader.at + -reader.at % 8

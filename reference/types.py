@@ -12,7 +12,7 @@ Read = Either[int, bytes, None]  # what a reading gives: a number, the octets of
 
 
 class Fault(Exception):
-    """A fault of a message at the octet behind which so many of its octets stand."""
+    """A fault of a message at the octet after which so many of its octets stand."""
 
     def __init__(self, word: str, at: int) -> None:
         super().__init__(word)
@@ -67,7 +67,7 @@ class Reader:
         return int.from_bytes(self.take(size, size), self.order, signed=signed)
 
     def pieces(self, head: str, count: int, show: Callable[[bytes], str], last_with: int = 0) -> bytes:
-        """A content of so many octets in pieces; behind the last one stand so many octets more, which complete it."""
+        """A content of so many octets in pieces; after the last one stand so many octets more, which complete it."""
         begin = self.at
         for offset in range(0, count - PIECE, PIECE):
             self.tell(begin + offset + PIECE, f"{head} @{offset}{show(self.take(PIECE))} more")
@@ -287,7 +287,7 @@ class Encapsulation(Type):
 
 @dataclass(frozen=True)
 class Tagged(Type):
-    """Octets behind a number, which are an encapsulation where that is one known number."""
+    """Octets after a number, which are an encapsulation where that is one known number."""
 
     number: str
     known: int

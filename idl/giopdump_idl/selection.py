@@ -223,7 +223,7 @@ class Selection:
         return made[0]
 
     def _place(self, part: Section) -> None:
-        """Adds a section's entries: exceptions and operations, each behind the types that it needs."""
+        """Adds a section's entries: exceptions and operations, each after the types that it needs."""
         entries: List[Entry] = []
         for decl in part.exceptions:
             title = f"exception {spelled(decl.scopedName())} ({Place.of(decl)})"
@@ -294,7 +294,7 @@ class Selection:
         return [f"left out: {spelled(scoped)} ({place}): {why.text}" for scoped, (place, why) in refused]
 
     def _new_types(self, made: Either[Operation, Raised]) -> List[Declared]:
-        """The declarations that something needs and that aren't there yet, each behind those that it needs."""
+        """The declarations that something needs and that aren't there yet, each after those that it needs."""
         found: Dict[Declared, None] = {}
 
         def visit(each: Type) -> None:

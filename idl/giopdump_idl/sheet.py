@@ -56,7 +56,7 @@ class Sheet:
         return head + "\n  " + (between.rstrip() + "\n  ").join(parts) + "\n" + tail
 
     def _item(self, item: Item) -> str:
-        """A type and a name; an array has its length behind the name."""
+        """A type and a name; an array has its length after the name."""
         if isinstance(item.type, Array):
             return f"{self._type(item.type.element)} {item.name}[{item.type.length}]"
         return f"{self._type(item.type)} {item.name}"

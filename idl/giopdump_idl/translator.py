@@ -60,7 +60,7 @@ class Translator:
         self._nesting = 0
 
     def type_of(self, idl: idltype.Type) -> Type:
-        """The type that an IDL type is, behind all its typedefs."""
+        """The type that an IDL type is, after all its typedefs."""
         if self._nesting == MOST_NESTING:
             raise TooDeep()
         self._nesting += 1
@@ -70,7 +70,7 @@ class Translator:
             self._nesting -= 1
 
     def behind(self, idl: idltype.Type) -> Type:
-        """The type behind a typedef and those that it is made of: a loop, since they may be many."""
+        """The type after a typedef and those that it is made of: a loop, since they may be many."""
         chain: List[idlast.Declarator] = []
         while idl.kind() == idltype.tk_alias and tuple(idl.scopedName()) not in self._aliases:
             chain.append(idl.decl())
@@ -208,7 +208,7 @@ class Translator:
         return made
 
     def operation(self, decl: idlast.Operation) -> Operation:
-        """An operation. Its context, where it has one, travels behind its parameters as pairs of strings."""
+        """An operation. Its context, where it has one, travels after its parameters as pairs of strings."""
         wishes = [each.identifier() for each in decl.parameters()] + (["context"] if decl.contexts() else [])
         names = fresh_names(wishes)
         slots = self.returned(decl.returnType())

@@ -13,7 +13,7 @@ from reference.encoding import reply, request
 
 class Conversation(NamedTuple):
     """Messages of both directions over the operations of one IDL text; the request list of the replies; and the lines
-    behind the headers."""
+    after the headers."""
 
     idl: str
     messages: List[bytes]
@@ -191,7 +191,7 @@ m8 end
 """,
 )
 
-# An any is a TypeCode, here of a basic type and so one ulong, and the value behind it: rest, padding and all.
+# An any is a TypeCode, here of a basic type and so one ulong, and the value after it: rest, padding and all.
 HALF = Conversation(
     "half",
     [

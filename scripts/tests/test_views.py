@@ -580,7 +580,7 @@ msc {{
 
 
 def drawn(lines: str, *words: str) -> List[str]:
-    """The lines of a chart behind those of its ends, without the quotes around these."""
+    """The lines of a chart after those of its ends, without the quotes around these."""
     found = printed("giop-chart", unindented(lines), *words).splitlines()
     return [re.sub(r'^  "([^"]*)" (\S+) "([^"]*)"', r"\1 \2 \3", line).strip() for line in found[3:-1]]
 
