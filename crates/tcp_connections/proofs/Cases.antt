@@ -1,18 +1,19 @@
 -- The definitions of connections, a case at a time.
-use Rattle.std.proofs.Common.{◌≡◌, ℕ, zero, suc, ◌+◌, ◌-◌, ◌<◌, ◌≤◌, true, false, cond, nat_lt, List, length, set, get_or, Option, Some, None, refl, sym, ◌∙◌, ap, arith, add-one}
+use Rattle.std.proofs.Common.{◌≡◌, ℕ, zero, suc, ◌+◌, ◌-◌, ◌<◌, ◌≤◌, Bool, true, false, cond, nat_lt, List, length, set, get_or, Option, Some, None, refl, sym, ◌∙◌, ap, arith, add-one}
 use Rattle.std.proofs.lemmas.Bool.{cond-true, cond-false, lt-ltb, le-ltb}
 use Rattle.std.proofs.lemmas.List.{set-get_or}
 use Rattle.tcp_segment.specs.Segments.{Segment}
+use Rattle.tcp_flow.specs.declared.hearing.Heard.{Heard}
 use Rattle.tcp_flow.specs.declared.flow.CloseCause.{CloseCause}
 use Rattle.tcp_flow.specs.declared.flow.CloseCause.TheVariants.{Reset, Syn}
 use Rattle.tcp_flow.specs.declared.flow.FlowState.{FlowState}
-use Rattle.tcp_flow.specs.Flow.{Flow, Reader, Setting, Arrival, Octets, End, Acknowledged, setting, closed, gap, step as flow_step, held_by_others}
+use Rattle.tcp_flow.specs.Flow.{Flow, Reader, Setting, Arrival, Octets, End, Hears, setting, closed, gap, step as flow_step, held_by_others}
 use Rattle.tcp_flow.specs.State.{state}
-use Rattle.tcp_flow.proofs.Steps.{missed_none}
+use Rattle.tcp_flow.proofs.Steps.{heard_none}
 use Rattle.tcp_streams.specs.declared.pair.Side.{Side}
 use Rattle.tcp_streams.specs.Pairs.{pair_of, opposite, flow_id}
 use Rattle.tcp_streams.specs.Lives.{lives}
-use Rattle.tcp_connections.specs.Connections.{State, flow_at, with_flow, arrived, began, gapped, closed_at, flow_forgotten, place_of, room_at, gaps_at, ended_by, cleared, goes_before, eldest, with_room, next_room, made_known, first_number, number_behind, is_first, is_kept, is_anew, is_reset, syn_at, syn_kept, flow_of_side, fin_taken, unknown_taken, acknowledgement_taken, payload_taken, reset_taken, known_taken, step, is_holding, gaps_from, end_cause, all_closed}
+use Rattle.tcp_connections.specs.Connections.{State, flow_at, with_flow, arrived, began, gapped, closed_at, flow_forgotten, place_of, room_at, gaps_at, ended_by, cleared, goes_before, eldest, with_room, next_room, made_known, first_number, number_behind, is_first, is_kept, is_anew, is_reset, syn_at, syn_kept, flow_of_side, fin_taken, unknown_taken, heard, acknowledgement_heard, payload_taken, reset_taken, known_taken, step, is_holding, gaps_from, end_cause, all_closed}
 
 pub arrived_none : (F : Reader) (w : State) (id : ℕ) (a : Arrival) → flow_at w id ≡ None →
     arrived F w id a ≡ w
@@ -60,22 +61,11 @@ pub forgot_some : (w : State) (id : ℕ) (cause : CloseCause) (s : FlowState) �
 unfolding flow_forgotten
 forgot_some w id cause s e = rw (e, flow_forgotten) refl
 
-pub acknowledged_none : (F : Reader) (w : State) (id : ℕ) (s : Segment) → s.acknowledgement ≡ None →
-    acknowledgement_taken F w id s ≡ w
-unfolding acknowledgement_taken
-acknowledged_none F w id s e = rw (e, acknowledgement_taken) refl
-
-pub acknowledged_some : (F : Reader) (w : State) (id : ℕ) (s : Segment) (number : ℕ) →
-    s.acknowledgement ≡ Some number → acknowledgement_taken F w id s
-    ≡ arrived F w id (Acknowledged number)
-unfolding acknowledgement_taken
-acknowledged_some F w id s number e = rw (e, acknowledgement_taken) refl
-
--- where nothing waits, an acknowledgement changes nothing
-none_missed : (A : Setting) (f : Flow) (number : ℕ) → length f.held ≡ 0 →
-    flow_step A f (Acknowledged number) ≡ f
+-- where nothing waits, a packet says nothing of what is missing
+none_missed : (A : Setting) (f : Flow) (h : Heard) → length f.held ≡ 0 →
+    flow_step A f (Hears h) ≡ f
 unfolding flow_step
-none_missed A f number none = missed_none A.faulted (length f.held) number f (omega (arith, none))
+none_missed A f h none = heard_none A.faulted (length f.held) h f (omega (arith, none))
 
 same_flow : (w : State) (id : ℕ) (s : FlowState) → flow_at w id ≡ Some s →
     with_flow w id (state s w.held w.events) ≡ w
@@ -84,24 +74,18 @@ same_flow w id s e =
     ap (λ (flows : List (Option FlowState)). record w { flows = flows })
     (ap (set w.flows id) (sym e) ∙ set-get_or w.flows id None)
 
-none_arrived : (F : Reader) (w : State) (id number : ℕ) (o : Option FlowState) →
-    length w.held ≡ 0 → flow_at w id ≡ o → arrived F w id (Acknowledged number) ≡ w
-none_arrived F w id number None none e = arrived_none F w id (Acknowledged number) e
-none_arrived F w id number (Some s) none e =
-    arrived_some F w id (Acknowledged number) s e
-    ∙ ap (with_flow w id)
-    (none_missed (setting F w.blocks) (state s w.held w.events) number none)
+none_heard : (F : Reader) (w : State) (id : ℕ) (h : Heard) (o : Option FlowState) →
+    length w.held ≡ 0 → flow_at w id ≡ o → arrived F w id (Hears h) ≡ w
+none_heard F w id h None none e = arrived_none F w id (Hears h) e
+none_heard F w id h (Some s) none e =
+    arrived_some F w id (Hears h) s e
+    ∙ ap (with_flow w id) (none_missed (setting F w.blocks) (state s w.held w.events) h none)
     ∙ same_flow w id s e
 
-none_taken : (F : Reader) (w : State) (id : ℕ) (s : Segment) (o : Option ℕ) →
-    length w.held ≡ 0 → s.acknowledgement ≡ o → acknowledgement_taken F w id s ≡ w
-none_taken F w id s None none e = acknowledged_none F w id s e
-none_taken F w id s (Some number) none e =
-    acknowledged_some F w id s number e ∙ none_arrived F w id number (flow_at w id) none refl
-
-pub none_waits : (F : Reader) (w : State) (id : ℕ) (s : Segment) → length w.held ≡ 0 →
-    acknowledgement_taken F w id s ≡ w
-none_waits F w id s none = none_taken F w id s s.acknowledgement none refl
+pub none_waits : (F : Reader) (w : State) (id : ℕ) (acknowledged : Option ℕ) (answers : Bool) →
+    length w.held ≡ 0 → heard F w id acknowledged answers ≡ w
+unfolding heard
+none_waits F w id acknowledged answers none = none_heard F w id _ (flow_at w id) none refl
 
 pub payload_first : (F : Reader) (w : State) (id : ℕ) (s : Segment) → flow_at w id ≡ None →
     is_first w.ports s ≡ true → payload_taken F w id s ≡ began F w id (first_number s) s.payload
@@ -239,15 +223,14 @@ pub known_is : (F : Reader) (w : State) (place : ℕ) (s : Segment) (room : ℕ)
     (id other : ℕ) → room ≡ room_at w place → side ≡ (pair_of s.flow).1 → id ≡ flow_id room side →
     other ≡ flow_id room (opposite side)
     → known_taken F w place s
-    ≡ reset_taken F (fin_taken F (payload_taken F
-    (acknowledgement_taken F (record w { lasts = set w.lasts room w.segments }) other s) id s)
-    id s) place side s
+    ≡ heard F (reset_taken F (fin_taken F (payload_taken F (acknowledgement_heard F
+    (record w { lasts = set w.lasts room w.segments }) other s) id s) id s) place side s)
+    id None false
 unfolding known_taken
 known_is F w place s room side id other e f g h =
     let K : ℕ → Side → ℕ → ℕ → State = λ r d i o.
-    reset_taken F (fin_taken F (payload_taken F
-    (acknowledgement_taken F (record w { lasts = set w.lasts r w.segments }) o s) i s) i s)
-    place d s in
+    heard F (reset_taken F (fin_taken F (payload_taken F (acknowledgement_heard F
+    (record w { lasts = set w.lasts r w.segments }) o s) i s) i s) place d s) i None false in
     let here : Side = (pair_of s.flow).1 in
     sym (ap (λ (i : ℕ). K room side i other) g ∙ ap (λ (o : ℕ). K room side (flow_id room side) o) h
     ∙ ap (λ (d : Side). K room d (flow_id room d) (flow_id room (opposite d))) f

@@ -9,10 +9,10 @@ use Rattle.tcp_streams.specs.declared.pair.EndpointPair.{EndpointPair}
 use Rattle.tcp_streams.specs.declared.pair.Side.{Side}
 use Rattle.tcp_streams.specs.Lives.{lives, elder_side}
 use Rattle.tcp_streams.specs.Pairs.{pair_of, opposite, flow_id}
-use Rattle.tcp_connections.specs.Connections.{State, room_at, flow_forgotten, forgotten, shown, shown_by_age, ended_by, eldest, with_room, next_room, made_known, place_of, flow_of_side, syn_at, syn_kept, is_kept, is_anew, is_reset, is_first, first_number, began, fin_taken, acknowledgement_taken, payload_taken, reset_taken, unknown_taken, known_taken, step}
+use Rattle.tcp_connections.specs.Connections.{State, room_at, flow_forgotten, forgotten, shown, shown_by_age, ended_by, eldest, with_room, next_room, made_known, place_of, flow_of_side, syn_at, syn_kept, is_kept, is_anew, is_reset, is_first, first_number, began, fin_taken, heard, acknowledgement_heard, payload_taken, reset_taken, unknown_taken, known_taken, step}
 use Rattle.tcp_connections.proofs.Cases.{room_there, room_made, step_unknown, step_kept, step_anew, step_known}
 use Rattle.tcp_connections.proofs.Forgotten.{forgot_either}
-use Rattle.tcp_connections.proofs.Kept.{began_kept, acknowledgement_kept, payload_kept, fin_kept}
+use Rattle.tcp_connections.proofs.Kept.{began_kept, heard_kept, acknowledgement_kept, payload_kept, fin_kept}
 use Rattle.tcp_connections.proofs.Shown.{shown_kept}
 
 forgot_segments : (w : State) (id : ℕ) (cause : CloseCause) →
@@ -82,10 +82,12 @@ known_segments F w place s =
     let room : ℕ = room_at w place in
     let id : ℕ = flow_id room side in
     let seen : State = record w { lasts = set w.lasts room w.segments } in
-    let heard : State = acknowledgement_taken F seen (flow_id room (opposite side)) s in
-    let paid : State = payload_taken F heard id s in
-    reset_segments F (fin_taken F paid id s) place side s ∙ (fin_kept F paid id s).segments
-    ∙ (payload_kept F heard id s).segments
+    let told : State = acknowledgement_heard F seen (flow_id room (opposite side)) s in
+    let paid : State = payload_taken F told id s in
+    let ended : State = fin_taken F paid id s in
+    (heard_kept F (reset_taken F ended place side s) id None false).segments
+    ∙ reset_segments F ended place side s ∙ (fin_kept F paid id s).segments
+    ∙ (payload_kept F told id s).segments
     ∙ (acknowledgement_kept F seen (flow_id room (opposite side)) s).segments
 
 kept_segments : (w : State) (room id : ℕ) (s : Segment) →

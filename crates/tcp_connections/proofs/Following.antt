@@ -6,12 +6,12 @@ use Rattle.tcp_waiting.specs.Payload.{Payload, payload, blocks_of}
 use Rattle.tcp_waiting.proofs.Counts.{first_none}
 use Rattle.tcp_flow.specs.declared.flow.CloseCause.{CloseCause}
 use Rattle.tcp_flow.specs.declared.flow.FlowState.{FlowState}
-use Rattle.tcp_flow.specs.Flow.{Flow, Reader, Setting, Arrival, Octets, End, Acknowledged, setting, fresh, first_of, payload_came, closed, gap, step as flow_step, first_payload}
+use Rattle.tcp_flow.specs.Flow.{Flow, Reader, Setting, Arrival, Octets, End, Hears, setting, fresh, first_of, payload_came, closed, gap, step as flow_step, first_payload}
 use Rattle.tcp_flow.specs.Laws.{AllFollow, AllArePartsOf, IsGapless, IsSettled, due_of}
 use Rattle.tcp_flow.specs.State.{state}
-use Rattle.tcp_flow.proofs.Direct.{came_settled, fin_settled, missed_settled, gap_settled, fresh_settled}
+use Rattle.tcp_flow.proofs.Direct.{came_settled, fin_settled, heard_settled, gap_settled, fresh_settled}
 use Rattle.tcp_flow.proofs.Others.{step_others, gap_others}
-use Rattle.tcp_flow.proofs.Room.{room_after, fin_blocks, gap_blocks, missed_blocks}
+use Rattle.tcp_flow.proofs.Room.{room_after, fin_blocks, gap_blocks, heard_blocks}
 use Rattle.tcp_flow.proofs.States.{settled_whatever}
 use Rattle.tcp_flow.proofs.Truth.{runs_more, runs_grow, all_grow, came_true, gap_true, true_keeps}
 use Rattle.tcp_flow.proofs.Told.{IsKept, closed_told, came_told, step_told, gap_told}
@@ -108,7 +108,7 @@ step_blocks : (A : Setting) (f : Flow) (a : Arrival) → blocks_of f.held ≤ A.
 unfolding flow_step
 step_blocks A f (Octets n octets arrival) l = room_after A f (payload f.id n octets arrival) refl l
 step_blocks A f (End n) l = omega (arith, l, fin_blocks A.faulted f n)
-step_blocks A f (Acknowledged n) l = omega (arith, l, missed_blocks A.faulted (length f.held) n f)
+step_blocks A f (Hears h) l = omega (arith, l, heard_blocks A.faulted (length f.held) h f)
 
 step_settled : (A : Setting) (f : Flow) (a : Arrival) → IsSettled f →
     (flow_step A f a).next < 2 ^ 32 → IsSettled (flow_step A f a)
@@ -116,7 +116,7 @@ unfolding flow_step
 step_settled A f (Octets n octets arrival) t l = came_settled A f
     (payload f.id n octets arrival) t l
 step_settled A f (End n) t l = fin_settled A.faulted f n t l
-step_settled A f (Acknowledged n) t l = missed_settled A.faulted (length f.held) n f t l
+step_settled A f (Hears h) t l = heard_settled A.faulted (length f.held) h f t l
 
 -- what comes for a flow that has these payloads leaves it with those
 unfoldable pub Goes : List Payload → List Payload → Reader → State → ℕ → Arrival → Type 0

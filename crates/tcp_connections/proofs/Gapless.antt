@@ -1,5 +1,5 @@
 -- Streams are without a gap, whatever segments come.
-use Rattle.std.proofs.Common.{◌≡◌, ℕ, suc, ◌+◌, ◌*◌, ◌/◌, ◌<◌, ◌≤◌, List, [], ◌∷◌, ◌++◌, length, set, get_or, Option, Some, None, is_some, is_eq, refl, sym, ◌∙◌, ap, subst, arith, inl, inr, true≢false, length-set, append_assoc, append-nil}
+use Rattle.std.proofs.Common.{◌≡◌, ℕ, suc, ◌+◌, ◌*◌, ◌/◌, ◌<◌, ◌≤◌, false, nat_lt, List, [], ◌∷◌, ◌++◌, length, set, get_or, Option, Some, None, is_some, is_eq, refl, sym, ◌∙◌, ap, subst, arith, inl, inr, true≢false, length-set, append_assoc, append-nil}
 use Rattle.std.specs.Prelude.{slice_get}
 use Rattle.std.specs.List.{AllByRecursion}
 use Rattle.std.specs.Option.{option_map}
@@ -17,7 +17,7 @@ use Rattle.tcp_streams.specs.declared.pair.EndpointPair.{EndpointPair}
 use Rattle.tcp_streams.specs.declared.pair.Side.{Side}
 use Rattle.tcp_streams.specs.Lives.{lives}
 use Rattle.tcp_streams.specs.Pairs.{compare_pairs, pair_of, opposite, flow_id, flow_from}
-use Rattle.tcp_connections.specs.Connections.{State, none_known, flow_at, began, syn_at, syn_kept, flow_of_side, place_of, room_at, ended_by, with_room, next_room, made_known, first_number, is_first, is_kept, is_anew, fin_taken, unknown_taken, acknowledgement_taken, payload_taken, known_taken, step, after, with_packet, with_capture_event, gaps_from, ended}
+use Rattle.tcp_connections.specs.Connections.{State, none_known, flow_at, began, syn_at, syn_kept, flow_of_side, place_of, room_at, ended_by, with_room, next_room, made_known, first_number, is_first, is_kept, is_anew, fin_taken, unknown_taken, heard, acknowledgement_heard, payload_taken, reset_taken, known_taken, step, after, with_packet, with_capture_event, gaps_from, ended}
 use Rattle.tcp_connections.specs.declared.syns.KeptSyn.{KeptSyn}
 use Rattle.tcp_connections.specs.Gapless.{IsOfSegment, AreGapless, AreWhole, HaveRooms}
 use Rattle.tcp_connections.specs.Owned.{AreOwned}
@@ -34,7 +34,7 @@ use Rattle.tcp_connections.proofs.OwnersKnown.{told_owns, theirs_at, flow_of_pai
 use Rattle.tcp_connections.proofs.OwnFlows.{either}
 use Rattle.tcp_connections.proofs.Search.{forgotten_unknown}
 pub use Rattle.tcp_connections.proofs.SegmentParts.{At}
-use Rattle.tcp_connections.proofs.SegmentParts.{IsIn, fin_at, acknowledgement_at, first_at, payload_at, id_within, shown_at, reset_at, with_room_at, made_owner, made_at}
+use Rattle.tcp_connections.proofs.SegmentParts.{IsIn, fin_at, heard_at, first_at, payload_at, id_within, shown_at, reset_at, with_room_at, made_owner, made_at}
 use Rattle.tcp_connections.proofs.Shown.{shown_known}
 use Rattle.tcp_connections.proofs.Sound.{IsApart, some_none, apart_taken, room_below, sound_seen}
 use Rattle.tcp_connections.proofs.Start.{none_sound}
@@ -115,33 +115,35 @@ known_at segments F w place s among is l h =
     let id : ℕ = flow_id room side in
     let opposite_id : ℕ = flow_id room (opposite side) in
     let seen : State = record w { lasts = set w.lasts room w.segments } in
-    let heard : State = acknowledgement_taken F seen opposite_id s in
-    let paid : State = payload_taken F heard id s in
+    let told : State = acknowledgement_heard F seen opposite_id s in
+    let paid : State = payload_taken F told id s in
     let kept = acknowledgement_kept F seen opposite_id s in
-    let at_heard : At segments heard = acknowledgement_at segments F seen opposite_id s
+    let at_told : At segments told = heard_at segments F seen opposite_id
+    s.acknowledgement (nat_lt 0 (length s.payload))
     (seen_at segments w (set w.lasts room w.segments) w.syns w.segments w.arrival
     (length-set w.lasts room w.segments) h) in
-    let within : id < length heard.flows =
+    let within : id < length told.flows =
     omega (arith, id_within w room side h.sound (room_below w place h.sound l), kept.flows) in
     let own : 0 < times room w.rooms = times_at w.rooms place (omega (arith, l, h.sound.pairs)) in
-    let taken : 0 < times (id / 2) heard.rooms =
+    let taken : 0 < times (id / 2) told.rooms =
     subst (λ (rs : List ℕ). 0 < times (id / 2) rs) (sym kept.rooms)
     (subst (λ (n : ℕ). 0 < times n w.rooms) (sym (half room side)) own) in
-    let there : owner_of heard.events (flow_id (get_or heard.rooms place 0) side)
+    let there : owner_of told.events (flow_id (get_or told.rooms place 0) side)
     ≡ Some (flow_from (pair_of s.flow).0 side) =
-    theirs_at (owner_of heard.events) (pair_of s.flow).0 heard.known heard.rooms place side
-    (sym at_heard.sound.pairs) (ap (place_of (pair_of s.flow).0) kept.known ∙ is)
-    at_heard.owns.known in
-    let mine : owner_of heard.events id ≡ Some s.flow =
-    subst (λ (rs : List ℕ). owner_of heard.events (flow_id (get_or rs place 0) side)
+    theirs_at (owner_of told.events) (pair_of s.flow).0 told.known told.rooms place side
+    (sym at_told.sound.pairs) (ap (place_of (pair_of s.flow).0) kept.known ∙ is)
+    at_told.owns.known in
+    let mine : owner_of told.events id ≡ Some s.flow =
+    subst (λ (rs : List ℕ). owner_of told.events (flow_id (get_or rs place 0) side)
     ≡ Some (flow_from (pair_of s.flow).0 side)) kept.rooms there
     ∙ ap Some (flow_of_pair s.flow) in
-    let at_paid : At segments paid = payload_at segments F heard id s among mine at_heard within
-    (apart_taken heard id at_heard.sound taken) in
+    let at_paid : At segments paid = payload_at segments F told id s among mine at_told within
+    (apart_taken told id at_told.sound taken) in
     let known : (fin_taken F paid id s).known ≡ w.known =
-    (fin_kept F paid id s).known ∙ (payload_kept F heard id s).known ∙ kept.known in
-    reset_at segments F (fin_taken F paid id s) place side s (omega (arith, l, ap length known))
-    (fin_at segments F paid id s at_paid)
+    (fin_kept F paid id s).known ∙ (payload_kept F told id s).known ∙ kept.known in
+    heard_at segments F (reset_taken F (fin_taken F paid id s) place side s) id None false
+    (reset_at segments F (fin_taken F paid id s) place side s (omega (arith, l, ap length known))
+    (fin_at segments F paid id s at_paid))
 
 pub place_within : (p : EndpointPair) (ps : List EndpointPair) (i : ℕ) → place_of p ps ≡ Some i →
     i < length ps

@@ -13,13 +13,13 @@ use Rattle.tcp_streams.specs.declared.pair.Side.{Side}
 use Rattle.tcp_streams.specs.Lives.{lives, elder_side}
 use Rattle.tcp_streams.specs.Pairs.{compare_pairs, pair_of, opposite, flow_id}
 use Rattle.tcp_connections.specs.declared.syns.KeptSyn.{KeptSyn}
-use Rattle.tcp_connections.specs.Connections.{State, none_known, place_of, place_among, room_at, shown_by_age, ended_by, with_room, next_room, made_known, began, first_number, is_first, is_kept, is_anew, is_reset, is_near_due, is_answer, is_following, flow_of_side, syn_at, syn_kept, before_reset, fin_taken, payload_taken, acknowledgement_taken, unknown_taken, known_taken, step, after}
+use Rattle.tcp_connections.specs.Connections.{State, none_known, place_of, place_among, room_at, shown_by_age, ended_by, with_room, next_room, made_known, began, first_number, is_first, is_kept, is_anew, is_reset, is_near_due, is_answer, is_following, flow_of_side, syn_at, syn_kept, before_reset, fin_taken, payload_taken, reset_taken, heard, acknowledgement_heard, unknown_taken, known_taken, step, after}
 use Rattle.tcp_connections.specs.Forgetting.{MakesRoom, MakesWay, BeginsAnew, IsForgottenBy}
 use Rattle.tcp_connections.specs.State.{IsSound}
 use Rattle.tcp_connections.proofs.Cases.{no_reset, a_reset, unknown_nothing, unknown_first, room_there, step_unknown, step_kept, step_anew, step_known}
 use Rattle.tcp_connections.proofs.Eldest.{eldest_makes_room}
 use Rattle.tcp_connections.proofs.Gapless.{place_within, start_at, after_at}
-use Rattle.tcp_connections.proofs.Kept.{began_kept, acknowledgement_kept, payload_kept, fin_kept}
+use Rattle.tcp_connections.proofs.Kept.{began_kept, heard_kept, acknowledgement_kept, payload_kept, fin_kept}
 use Rattle.tcp_connections.proofs.OwnersKnown.{equal_of}
 use Rattle.tcp_connections.proofs.SamePairs.{same_pair_of}
 use Rattle.tcp_connections.proofs.Search.{forgotten_unknown}
@@ -194,12 +194,14 @@ known_gone F w place s p l found k e =
     let room : ℕ = room_at w place in
     let id : ℕ = flow_id room side in
     let seen : State = record w { lasts = set w.lasts room w.segments } in
-    let heard : State = acknowledgement_taken F seen (flow_id room (opposite side)) s in
-    let paid : State = payload_taken F heard id s in
+    let told : State = acknowledgement_heard F seen (flow_id room (opposite side)) s in
+    let paid : State = payload_taken F told id s in
     let ended : State = fin_taken F paid id s in
     let known : ended.known ≡ w.known =
-    (fin_kept F paid id s).known ∙ (payload_kept F heard id s).known
+    (fin_kept F paid id s).known ∙ (payload_kept F told id s).known
     ∙ (acknowledgement_kept F seen (flow_id room (opposite side)) s).known in
+    let e : place_of p (reset_taken F ended place side s).known ≡ None =
+    sym (ap (place_of p) (heard_kept F (reset_taken F ended place side s) id None false).known) ∙ e in
     elim (cases_Bool (is_reset (flow_of_side ended place side) s)) [
       | inr r ↦ absurd (both (place_of p w.known) k (sym (ap (place_of p) known)
           ∙ sym (ap (λ (u : State). place_of p u.known) (no_reset F ended place side s r)) ∙ e))

@@ -1,13 +1,13 @@
 -- What a flow's step leaves: which connections are known, in which rooms.
-use Rattle.std.proofs.Common.{◌≡◌, ℕ, ◌/◌, Bool, true, false, cond, List, length, Option, Some, None, refl, sym, subst, arith, length-set}
+use Rattle.std.proofs.Common.{◌≡◌, ℕ, ◌/◌, Bool, true, false, cond, nat_lt, List, length, Option, Some, None, refl, sym, subst, arith, length-set}
 use Rattle.tcp_segment.specs.Segments.{Segment}
 use Rattle.tcp_flow.specs.declared.flow.FlowState.{FlowState}
-use Rattle.tcp_flow.specs.Flow.{Flow, Reader, Arrival, Octets, End, Acknowledged, setting, step as flow_step, first_payload}
+use Rattle.tcp_flow.specs.Flow.{Flow, Reader, Arrival, Octets, End, setting, step as flow_step, first_payload}
 use Rattle.tcp_flow.specs.State.{state}
 use Rattle.tcp_streams.specs.declared.pair.Side.{Side}
 use Rattle.tcp_streams.specs.declared.pair.Side.TheVariants.{FromLesser, FromGreater}
 use Rattle.tcp_streams.specs.Pairs.{flow_id}
-use Rattle.tcp_connections.specs.Connections.{State, flow_at, flow_state, with_flow, arrived, began, acknowledgement_taken, payload_taken, fin_taken, first_number, number_behind, is_first}
+use Rattle.tcp_connections.specs.Connections.{State, flow_at, flow_state, with_flow, arrived, began, heard, acknowledgement_heard, payload_taken, fin_taken, first_number, number_behind, is_first}
 use Rattle.tcp_connections.proofs.Cases.{arrived_none, arrived_some}
 
 pub record IsKept (w v : State) : Type 0 where
@@ -58,15 +58,14 @@ either : (w : State) (b : Bool) (u v : State) → IsKept w u → IsKept w v → 
 either w true u v h k = h
 either w false u v h k = k
 
+pub heard_kept : (F : Reader) (w : State) (id : ℕ) (acknowledged : Option ℕ) (answers : Bool) →
+    IsKept w (heard F w id acknowledged answers)
+unfolding heard
+heard_kept F w id acknowledged answers = arrived_kept F w id _
+
 pub acknowledgement_kept : (F : Reader) (w : State) (id : ℕ) (s : Segment) →
-    IsKept w (acknowledgement_taken F w id s)
-unfolding acknowledgement_taken
-acknowledgement_kept F w id s =
-    elim s.acknowledgement as (λ (o : Option ℕ).
-    IsKept w (elim o [ None ↦ w | Some number ↦ arrived F w id (Acknowledged number) ])) [
-      | None ↦ kept_self w
-      | Some number ↦ arrived_kept F w id (Acknowledged number)
-    ]
+    IsKept w (acknowledgement_heard F w id s)
+acknowledgement_kept F w id s = heard_kept F w id s.acknowledgement (nat_lt 0 (length s.payload))
 
 pub payload_kept : (F : Reader) (w : State) (id : ℕ) (s : Segment) →
     IsKept w (payload_taken F w id s)

@@ -7,8 +7,8 @@ use Rattle.tcp_flow.specs.declared.flow.CloseCause.TheVariants.{Fault}
 use Rattle.tcp_waiting.specs.Numbers.{onward, age}
 use Rattle.tcp_waiting.specs.declared.arrival.Arrival as origin
 use Rattle.tcp_waiting.specs.Payload.{without_first, Payload, payload, has_as_much, put}
-use Rattle.tcp_flow.specs.Flow.{Flow, Event, Opens, Begins, Delivers, Closes, OfCapture, ComesFrom, Reader, Setting, Arrival, Octets, End, Acknowledged, left, with_event, delivered, begun as flow_begun, told_from, taken, stream_at, at, closed, holding, gone_on, within_bounds, payload_came, fin_came, gap, fresh, first_payload, step}
-use Rattle.tcp_flow.proofs.Preserving.{Keeps, gone_on_keeps, relieved_keeps, missed_keeps, gap_keeps}
+use Rattle.tcp_flow.specs.Flow.{Flow, Event, Opens, Begins, Delivers, Closes, OfCapture, ComesFrom, Reader, Setting, Arrival, Octets, End, Hears, left, with_event, delivered, begun as flow_begun, told_from, taken, stream_at, at, closed, holding, gone_on, within_bounds, payload_came, fin_came, gap, fresh, first_payload, step}
+use Rattle.tcp_flow.proofs.Preserving.{Keeps, gone_on_keeps, relieved_keeps, heard_keeps, gap_keeps}
 use Rattle.tcp_streams.specs.Lives.{lives, lives_from, behind, begun, without, most_ids, AreIds}
 use Rattle.tcp_streams.proofs.Ids.{none_ids, begun_ids, without_ids, none_left}
 use Rattle.tcp_streams.proofs.Order.{lives_more}
@@ -267,8 +267,8 @@ unfolding step
 step_turn {exact} A id es f (Octets n octets arrival) l t = came_turn A id es f
     (payload f.id n octets arrival) l t
 step_turn {exact} A id es f (End n) l t = fin_turn A.faulted id es f n l t
-step_turn {exact} A id es f (Acknowledged n) l t =
-    missed_keeps A.faulted (IsTurn exact id es) (turn_keeps A.faulted id es l) (length f.held) n f t
+step_turn {exact} A id es f (Hears h) l t =
+    heard_keeps A.faulted (IsTurn exact id es) (turn_keeps A.faulted id es l) (length f.held) h f t
 
 pub gap_turn : {exact : Bool} (F : Reader) (id : ℕ) (es : List Event) (f : Flow) →
     id < most_ids → IsTurn exact id es f →

@@ -12,8 +12,8 @@ use Rattle.tcp_waiting.specs.declared.arrival.Arrival as origin
 use Rattle.tcp_waiting.specs.Payload.{without_first, Payload, payload, no_payload, window, has_as_much, put, place_of, key_of}
 use Rattle.tcp_waiting.proofs.Held.{all_at, all_insert, all_remove}
 use Rattle.tcp_waiting.proofs.Order.{first_within, first_own}
-use Rattle.tcp_flow.specs.Flow.{Flow, Event, Begins, Delivers, Closes, OfCapture, ComesFrom, Reader, Setting, Arrival, Octets, End, Acknowledged, left, with_event, delivered, begun as flow_begun, told_from, taken, stream_at, first_of, is_due, at, closed, holding, gone_on, within_bounds, payload_came, fin_came, gap, step}
-use Rattle.tcp_flow.proofs.Preserving.{Keeps, gone_on_keeps, relieved_keeps, missed_keeps, gap_keeps}
+use Rattle.tcp_flow.specs.Flow.{Flow, Event, Begins, Delivers, Closes, OfCapture, ComesFrom, Reader, Setting, Arrival, Octets, End, Hears, left, with_event, delivered, begun as flow_begun, told_from, taken, stream_at, first_of, is_due, at, closed, holding, gone_on, within_bounds, payload_came, fin_came, gap, step}
+use Rattle.tcp_flow.proofs.Preserving.{Keeps, gone_on_keeps, relieved_keeps, heard_keeps, gap_keeps}
 use Rattle.tcp_flow.proofs.Truth.{reached}
 use Rattle.tcp_connections.specs.Owned.{IsPartOf, Standing, Unopened, Idle, Live, is_of, behind, MayCome, standing, AllMayCome}
 
@@ -353,8 +353,8 @@ module _ (segments : List Segment) (owners : ℕ → Option Endpoints) (id : ℕ
   step_own A f (Octets n octets arrival) part t =
       came_own A f (payload f.id n octets arrival) t.same (part n octets arrival refl) t
   step_own A f (End n) part t = fin_own A.faulted f n t
-  step_own A f (Acknowledged n) part t = missed_keeps A.faulted (IsOwn segments owners id o)
-      (own_keeps A.faulted) (length f.held) n f t
+  step_own A f (Hears h) part t = heard_keeps A.faulted (IsOwn segments owners id o)
+      (own_keeps A.faulted) (length f.held) h f t
 
   pub gap_own : (F : Reader) (f : Flow) → IsOwn segments owners id o f →
       IsOwn segments owners id o (gap F f)

@@ -12,11 +12,11 @@ use Rattle.tcp_streams.specs.Lives.{lives, elder_side}
 use Rattle.tcp_streams.specs.Pairs.{pair_of, opposite, flow_id}
 use Rattle.tcp_streams.specs.declared.pair.EndpointPair.{EndpointPair}
 use Rattle.tcp_streams.specs.declared.pair.Side.{Side}
-use Rattle.tcp_connections.specs.Connections.{State, flow_at, with_flow, gapped, closed_at, room_at, shown_by_age, ended_by, eldest, with_room, next_room, made_known, place_of, flow_of_side, syn_at, syn_kept, is_kept, is_anew, is_reset, is_first, first_number, began, fin_taken, acknowledgement_taken, payload_taken, reset_taken, unknown_taken, known_taken, step, after, gaps_from, ended}
+use Rattle.tcp_connections.specs.Connections.{State, flow_at, with_flow, gapped, closed_at, room_at, shown_by_age, ended_by, eldest, with_room, next_room, made_known, place_of, flow_of_side, syn_at, syn_kept, is_kept, is_anew, is_reset, is_first, first_number, began, fin_taken, heard, acknowledgement_heard, payload_taken, reset_taken, unknown_taken, known_taken, step, after, gaps_from, ended}
 use Rattle.tcp_connections.specs.Gapless.{HaveRooms}
 use Rattle.tcp_connections.specs.Owned.{Standing, Unopened, Idle, Live, owner, is_of, behind, MayCome, standing, AllMayCome}
 use Rattle.tcp_connections.proofs.Cases.{room_there, room_made, step_unknown, step_kept, step_anew, step_known}
-use Rattle.tcp_connections.proofs.Kept.{began_kept, acknowledgement_kept, payload_kept, fin_kept}
+use Rattle.tcp_connections.proofs.Kept.{began_kept, heard_kept, acknowledgement_kept, payload_kept, fin_kept}
 use Rattle.tcp_connections.proofs.Owners.{Owns}
 use Rattle.tcp_connections.proofs.Repeated.{gaps_keep, closes_keep}
 use Rattle.tcp_connections.proofs.Shown.{shown_lasts}
@@ -76,10 +76,12 @@ known_rooms F w place s =
     let room : ℕ = room_at w place in
     let id : ℕ = flow_id room side in
     let seen : State = record w { lasts = set w.lasts room w.segments } in
-    let heard : State = acknowledgement_taken F seen (flow_id room (opposite side)) s in
-    let paid : State = payload_taken F heard id s in
-    reset_rooms F (fin_taken F paid id s) place side s ∙ ap length (fin_kept F paid id s).lasts
-    ∙ ap length (payload_kept F heard id s).lasts
+    let told : State = acknowledgement_heard F seen (flow_id room (opposite side)) s in
+    let paid : State = payload_taken F told id s in
+    let ended : State = fin_taken F paid id s in
+    ap length (heard_kept F (reset_taken F ended place side s) id None false).lasts
+    ∙ reset_rooms F ended place side s ∙ ap length (fin_kept F paid id s).lasts
+    ∙ ap length (payload_kept F told id s).lasts
     ∙ ap length (acknowledgement_kept F seen (flow_id room (opposite side)) s).lasts
     ∙ length-set w.lasts room w.segments
 

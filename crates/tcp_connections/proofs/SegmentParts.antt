@@ -8,21 +8,22 @@ use Rattle.tcp_segment.specs.Segments.{Segment}
 use Rattle.tcp_segment.specs.declared.endpoint.Flow.{Flow as Endpoints}
 use Rattle.tcp_waiting.specs.declared.arrival.Arrival as origin
 use Rattle.tcp_waiting.specs.Payload.{Payload, payload}
+use Rattle.tcp_flow.specs.declared.hearing.Heard.{Heard}
 use Rattle.tcp_flow.specs.declared.flow.CloseCause.{CloseCause}
 use Rattle.tcp_flow.specs.declared.flow.CloseCause.TheVariants.{Reset, Room}
 use Rattle.tcp_flow.specs.declared.flow.FlowState.{FlowState}
-use Rattle.tcp_flow.specs.Flow.{Flow, Event, Opens, Reader, Setting, Arrival, Octets, End, Acknowledged, setting, payload_came, closed, step as flow_step, held_by_others}
+use Rattle.tcp_flow.specs.Flow.{Flow, Event, Opens, Reader, Setting, Arrival, Octets, End, Hears, setting, payload_came, closed, step as flow_step, held_by_others}
 use Rattle.tcp_flow.specs.Laws.{AllFollow, OwnMayFollow, AllArePartsOf, IsGapless, due_of}
 use Rattle.tcp_flow.specs.State.{state}
 use Rattle.tcp_flow.proofs.Room.{closed_dead}
-use Rattle.tcp_flow.proofs.Truth.{runs_more, came_true, fin_true, missed_true, true_keeps}
+use Rattle.tcp_flow.proofs.Truth.{runs_more, came_true, fin_true, heard_true, true_keeps}
 use Rattle.tcp_flow.proofs.Told.{same_flow, closed_told}
 use Rattle.tcp_streams.specs.declared.pair.EndpointPair.{EndpointPair}
 use Rattle.tcp_streams.specs.declared.pair.Side.{Side}
 use Rattle.tcp_streams.specs.declared.pair.Side.TheVariants.{FromLesser, FromGreater}
 use Rattle.tcp_streams.specs.Lives.{lives, elder_side}
 use Rattle.tcp_streams.specs.Pairs.{opposite, flow_id, flow_from}
-use Rattle.tcp_connections.specs.Connections.{State, flow_at, arrived, began, flow_forgotten, place_of, room_at, gapped, shown, forgotten, shown_by_age, ended_by, eldest, with_room, next_room, rest_of_rooms, made_known, first_number, number_behind, is_first, fin_taken, acknowledgement_taken, payload_taken, is_reset, flow_of_side, reset_taken}
+use Rattle.tcp_connections.specs.Connections.{State, flow_at, arrived, began, flow_forgotten, place_of, room_at, gapped, shown, forgotten, shown_by_age, ended_by, eldest, with_room, next_room, rest_of_rooms, made_known, first_number, number_behind, is_first, fin_taken, heard, payload_taken, is_reset, flow_of_side, reset_taken}
 use Rattle.tcp_connections.specs.Gapless.{IsOfSegment}
 use Rattle.tcp_connections.specs.Owned.{IsPartOf}
 use Rattle.tcp_connections.specs.State.{IsSound, times}
@@ -52,7 +53,7 @@ IsIn segments s = (index : ℕ) × (slice_get segments index ≡ Some s)
 abbrev is_octets : Arrival → Bool
 is_octets (Octets n octets arrival) = true
 is_octets (End n) = false
-is_octets (Acknowledged n) = false
+is_octets (Hears h) = false
 
 -- a segment's payload is that of its flow
 own_part : (segments : List Segment) (w : State) (id : ℕ) (s : Segment) → IsIn segments s →
@@ -78,12 +79,12 @@ own_part segments w id s among own o is n octets arrival e =
     number_of : Arrival → ℕ
     number_of (Octets k xs arrival) = k
     number_of (End k) = k
-    number_of (Acknowledged k) = k
+    number_of (Hears h) = 0
 
     octets_of : Arrival → List ℕ
     octets_of (Octets k xs arrival) = xs
     octets_of (End k) = []
-    octets_of (Acknowledged k) = []
+    octets_of (Hears h) = []
 
 pub fin_at : (segments : List Segment) (F : Reader) (w : State) (id : ℕ) (s : Segment) →
     At segments w → At segments (fin_taken F w id s)
@@ -102,26 +103,22 @@ fin_at segments F w id s h =
           (λ o own k octets arrival e. absurd (true≢false (sym (ap is_octets e)))) h.owns;
     }) h
 
-pub acknowledgement_at : (segments : List Segment) (F : Reader) (w : State) (id : ℕ) (s : Segment) →
-    At segments w → At segments (acknowledgement_taken F w id s)
-unfolding acknowledgement_taken flow_step Goes
-acknowledgement_at segments F w id s h =
-    elim s.acknowledgement as (λ (o : Option ℕ).
-    At segments (elim o [ None ↦ w | Some number ↦ arrived F w id (Acknowledged number) ])) [
-      | None ↦ h
-      | Some number ↦
-          (let both = arrived_both h.payloads h.payloads F w id (Acknowledged number) h.sound
-          h.follow h.follow
-          (λ f own g. missed_true F h.payloads (length f.held) number f g) in
-          record {
-            sound = both.0;
-            payloads = h.payloads;
-            came = h.came;
-            follow = both.1;
-            owns = arrived_owns segments F w id (Acknowledged number) h.follow.own
-                (λ o own k octets arrival e. absurd (true≢false (sym (ap is_octets e)))) h.owns;
-          })
-    ]
+pub heard_at : (segments : List Segment) (F : Reader) (w : State) (id : ℕ) (acknowledged : Option ℕ)
+    (answers : Bool) → At segments w → At segments (heard F w id acknowledged answers)
+unfolding heard flow_step Goes
+heard_at segments F w id acknowledged answers h =
+    let packet : Heard =
+    record { acknowledged = acknowledged; answers = answers; arrival = w.arrival } in
+    let both = arrived_both h.payloads h.payloads F w id (Hears packet) h.sound h.follow h.follow
+    (λ f own g. heard_true F h.payloads (length f.held) packet f g) in
+    record {
+      sound = both.0;
+      payloads = h.payloads;
+      came = h.came;
+      follow = both.1;
+      owns = arrived_owns segments F w id (Hears packet) h.follow.own
+          (λ o own k octets arrival e. absurd (true≢false (sym (ap is_octets e)))) h.owns;
+    }
 
 -- the payload of a segment, for a flow
 with_payload : List Payload → ℕ → Segment → origin.Arrival → List Payload

@@ -12,7 +12,7 @@ use Rattle.tcp_waiting.specs.Payload.{Payload, first}
 use Rattle.tcp_flow.specs.declared.flow.CloseCause.{CloseCause}
 use Rattle.tcp_flow.specs.declared.flow.CloseCause.TheVariants.{Reset, Syn, Room, Gap, End as CaptureEnd}
 use Rattle.tcp_flow.specs.declared.flow.FlowState.{FlowState}
-use Rattle.tcp_flow.specs.Flow.{Flow, Event, CaptureEvent, Opens, OfCapture, Reader, Arrival, Octets, End, Acknowledged, setting, is_near, stream_at, closed, gap, step as flow_step, first_payload, held_by_others}
+use Rattle.tcp_flow.specs.Flow.{Flow, Event, CaptureEvent, Opens, OfCapture, Reader, Arrival, Octets, End, Hears, setting, is_near, stream_at, closed, gap, step as flow_step, first_payload, held_by_others}
 use Rattle.tcp_flow.specs.State.{state}
 use Rattle.tcp_connections.specs.declared.syns.KeptSyn.{KeptSyn}
 use Rattle.tcp_rooms.specs.Rooms.{rooms_below}
@@ -317,10 +317,18 @@ unknown_taken F w s =
     cond (is_first w.ports s)
     (fin_taken F (began F (made_known v (pair_of s.flow).0) id (first_number s) s.payload) id s) w
 
--- an acknowledgement, of what the opposite flow sent
-unfoldable pub acknowledgement_taken : Reader → State → ℕ → Segment → State
-acknowledgement_taken F w id s =
-    elim s.acknowledgement [ None ↦ w | Some number ↦ arrived F w id (Acknowledged number) ]
+-- the packet that is read says what it acknowledges of a flow, and whether it has octets of the
+-- opposite flow
+unfoldable pub heard : Reader → State → ℕ → Option ℕ → Bool → State
+heard F w id acknowledged answers = arrived F w id (Hears (record {
+  acknowledged = acknowledged;
+  answers = answers;
+  arrival = w.arrival;
+}))
+
+-- it says so of what the opposite flow sent
+abbrev pub acknowledgement_heard : Reader → State → ℕ → Segment → State
+acknowledgement_heard F w id s = heard F w id s.acknowledgement (nat_lt 0 (length s.payload))
 
 -- a payload: the first of its flow, or a later one
 unfoldable pub payload_taken : Reader → State → ℕ → Segment → State
@@ -354,12 +362,15 @@ before_reset F w place s =
     let room : ℕ = room_at w place in
     let id : ℕ = flow_id room side in
     let seen : State = record w { lasts = set w.lasts room w.segments } in
-    let heard : State = acknowledgement_taken F seen (flow_id room (opposite side)) s in
-    fin_taken F (payload_taken F heard id s) id s
+    let told : State = acknowledgement_heard F seen (flow_id room (opposite side)) s in
+    fin_taken F (payload_taken F told id s) id s
 
--- a segment of a known connection
+-- a segment of a known connection: at last what its own flow holds may be too old
 unfoldable pub known_taken : Reader → State → ℕ → Segment → State
-known_taken F w place s = reset_taken F (before_reset F w place s) place (pair_of s.flow).1 s
+known_taken F w place s =
+    let side : Side = (pair_of s.flow).1 in
+    heard F (reset_taken F (before_reset F w place s) place side s) (flow_id (room_at w place) side)
+    None false
 
 -- one segment more
 unfoldable pub step : Reader → State → Segment → State

@@ -1,5 +1,5 @@
-//! What a segment brings the flows of its connection: an acknowledgement, a payload, with which a
-//! flow may begin, and a FIN.
+//! What a segment brings the flows of its connection: what it says of octets that are missing, a
+//! payload, with which a flow may begin, and a FIN.
 
 ghost use Rattle.std.specs.Prelude.{◌≡◌, ◌≤◌, ◌<◌, ◌/◌, length, get_or, OnErr, None};
 ghost use Rattle.std.specs.Vec.{vec_len};
@@ -8,18 +8,18 @@ ghost use Rattle.tcp_connections.specs.Connections.{first_number as spec_first_n
 ghost use Rattle.tcp_connections.specs.Connections.{number_behind as spec_number_behind};
 
 use crate::connections::Connections;
-use tcp_flow::{FlowState, Listener, ListenerFault, stream_at};
+use tcp_flow::{FlowState, Heard, Listener, ListenerFault, stream_at};
 use tcp_segment::{Flow, Segment};
 use tcp_streams::Streams;
 use tcp_waiting::onward;
 
 impl Connections {
-    ghost use Rattle.tcp_connections.specs.Connections.{is_first, is_chosen, acknowledgement_taken};
+    ghost use Rattle.tcp_connections.specs.Connections.{is_first, is_chosen, acknowledgement_heard, heard};
     ghost use Rattle.tcp_connections.specs.Connections.{payload_taken, began, arrived, fin_taken};
     ghost use Rattle.tcp_flow.specs.Flow.{End};
     ghost use Rattle.tcp_connections.specs.State.{HasState, Makes, times};
 
-    /// The opposite flow's octets are acknowledged.
+    /// A segment says what it acknowledges of the opposite flow, and whether it has octets.
     pub(crate) fn acknowledgement<L: Listener + Drop>(
         &mut self,
         id: u32,
@@ -28,22 +28,43 @@ impl Connections {
     ) -> Result<(), ListenerFault>
         requires state { HasState (L.observed to.old.listener) to.old.live.items self.old }
         ensures does { Makes result
-            (λ w. acknowledgement_taken L.faulted w id (segment_view segment.entry))
+            (λ w. acknowledgement_heard L.faulted w id (segment_view segment.entry))
             (L.observed to.old.listener) to.old.live.items self.old
             (L.observed to.new.listener) to.new.live.items self.new }
         ensures cause { OnErr result (L.failed to.new.listener) }
     {
-        // Where nothing waits, nothing is missing before it.
+        let answers = !segment.payload.is_empty();
+        self.hear(id, segment.acknowledgement, answers, to)
+    }
+
+    /// The packet that is read says what it acknowledges of a flow, and whether it has octets of the
+    /// opposite flow.
+    pub(crate) fn hear<L: Listener + Drop>(
+        &mut self,
+        id: u32,
+        acknowledged: Option<u32>,
+        answers: bool,
+        to: &mut Streams<L>,
+    ) -> Result<(), ListenerFault>
+        requires state { HasState (L.observed to.old.listener) to.old.live.items self.old }
+        ensures does { Makes result (λ w. heard L.faulted w id acknowledged answers)
+            (L.observed to.old.listener) to.old.live.items self.old
+            (L.observed to.new.listener) to.new.live.items self.new }
+        ensures cause { OnErr result (L.failed to.new.listener) }
+    {
+        // If nothing waits, nothing is missing before it.
         if self.pool.len() == 0 {
             return Ok(());
         }
-        let Some(number) = segment.acknowledgement else {
-            return Ok(());
-        };
         let Some(mut flow) = self.flow(id) else {
             return Ok(());
         };
-        flow.acknowledged(number, &mut self.pool, to)?;
+        let packet = Heard {
+            acknowledged,
+            answers,
+            arrival: self.arrival,
+        };
+        flow.hear(packet, &mut self.pool, to)?;
         self.flows[id as usize] = Some(flow);
         Ok(())
     }

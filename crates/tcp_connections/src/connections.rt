@@ -157,7 +157,8 @@ impl Connections {
         self.acknowledgement(flow_id(room, other(side)), segment, to)?;
         self.payload(id, segment, to)?;
         self.fin(id, segment, to)?;
-        self.reset(place, side, segment, to)
+        self.reset(place, side, segment, to)?;
+        self.hear(id, None, false, to)
     }
 
     /// A segment of a connection that isn't known: it is from now on, where a stream may begin.

@@ -8,7 +8,8 @@
 //! and how many blocks of 1,024 octets what waits may take (64), and `ports` and those where streams begin (all).
 //!
 //! A segment is who sends, `>` and to whom, and after that, with commas between them, `seq` and its number, `ack` and the number
-//! that it acknowledges, `syn`, `fin` and `rst` for its flags, and `octets` and its payload in hexadecimal text, where it has these.
+//! that it acknowledges, `syn`, `fin` and `rst` for its flags, and `time` and that of its packet in nanoseconds, and `octets` and
+//! its payload in hexadecimal text, where it has these.
 //!
 //! What happens to the flow of an id: `opens` and between whom it goes, `begins` and the number of a stream's first octet, `delivers`
 //! and the next octets of the stream, `closes` and why. A flow's id is twice the room of its connection, and 1 more where the

@@ -16,6 +16,8 @@ pub struct Step {
     fin: bool,
     reset: bool,
     payload: Vec<u8>,
+    /// The time of its packet in nanoseconds, if it has one.
+    pub time: Option<u128>,
 }
 
 impl Step {
@@ -30,6 +32,7 @@ impl Step {
             fin: false,
             reset: false,
             payload: Vec::new(alloc),
+            time: None,
         };
         for part in parts.split(", ") {
             step.set(alloc, part)?;
@@ -46,6 +49,7 @@ impl Step {
             "syn" => self.syn = true,
             "fin" => self.fin = true,
             "rst" => self.reset = true,
+            "time" => self.time = Some(value.parse().ok()?),
             "octets" => self.payload = hex::decode(alloc, value).ok()?,
             _ => return None,
         }

@@ -7,7 +7,7 @@ use Rattle.std.proofs.lemmas.List.{length-drop}
 use Rattle.tcp_waiting.specs.Numbers.{onward, age}
 use Rattle.tcp_waiting.specs.declared.arrival.Arrival as packet
 use Rattle.tcp_waiting.specs.Payload.{Payload, payload, without_first, has_as_much, put, place_of, key_of}
-use Rattle.tcp_flow.specs.Flow.{Flow, Setting, Arrival, Octets, End, Acknowledged, left, holding, gone_on, payload_came, step, after}
+use Rattle.tcp_flow.specs.Flow.{Flow, Setting, Arrival, Octets, End, Hears, left, holding, gone_on, payload_came, step, after}
 use Rattle.tcp_flow.specs.Laws.{IsSettled}
 use Rattle.tcp_flow.specs.Order.{closes_of, Agrees, StandsIn}
 use Rattle.tcp_flow.proofs.Closings.{came_more}
@@ -230,7 +230,7 @@ Comes x U (Octets n octets arrival) =
     (place : ℕ) × (Agrees x.start x.content place n octets
     × ((u : ℕ) → U u → place ≤ u → place + length octets ≤ u))
 Comes x U (End n) = ⊥
-Comes x U (Acknowledged n) = ⊥
+Comes x U (Hears packet) = ⊥
 
 step_so : (A : Setting) (x : Case) (U : ℕ → Type 0) (K L : Type 0) (f : Flow) (n place : ℕ)
     (octets : List ℕ) (arrival : packet.Arrival) → length x.content < 2 ^ 31
@@ -262,7 +262,7 @@ run A x U K (Octets n octets arrival ∷ cs) f small h t =
     run A x U K cs (payload_came A f (payload f.id n octets arrival)) small h.1
     (step_so A x U K K f n h.0.0 octets arrival small h.0.1.0 h.0.1.1 (λ k. inl k) t)
 run A x U K (End n ∷ cs) f small h t = absurd h.0
-run A x U K (Acknowledged n ∷ cs) f small h t = absurd h.0
+run A x U K (Hears packet ∷ cs) f small h t = absurd h.0
 
 -- the one payload is among them
 pub run_has : (A : Setting) (x : Case) (U : ℕ → Type 0) (n : ℕ) (octets : List ℕ)
@@ -283,5 +283,5 @@ run_has A x U n octets arrival (Octets m os came ∷ ds) f small agrees end span
     end spans s h.1
     (step_so A x U ⊥ ⊥ f m h.0.0 os came small h.0.1.0 h.0.1.1 (λ k. inl k) t)
 run_has A x U n octets arrival (End m ∷ ds) f small agrees end spans (inr s) h t = absurd h.0
-run_has A x U n octets arrival (Acknowledged m ∷ ds) f small agrees end spans (inr s) h t =
+run_has A x U n octets arrival (Hears packet ∷ ds) f small agrees end spans (inr s) h t =
     absurd h.0

@@ -6,10 +6,11 @@ use Rattle.std.specs.List.{insert, remove}
 use Rattle.std.proofs.lemmas.Bool.{cases_Bool, cases_eq, cases_lt, and_parts, or_parts, ltb-true, lt-ltb, le-ltb, true≢false, eqb-true, eqb-false, eq-eqb, ne_eqb, both_ways, cond-true, cond-false, not-true, not-false, or_from, and_left, and_right, not_from_true}
 use Rattle.std.proofs.lemmas.List.{get_or_default}
 use Rattle.std.proofs.lemmas.List.Edits.{length-insert, get_or-insert_at}
+use Rattle.tcp_flow.specs.declared.hearing.Heard.{Heard}
 use Rattle.tcp_flow.specs.declared.flow.CloseCause.TheVariants.{Fin, Gap}
 use Rattle.tcp_waiting.specs.Numbers.{ahead, age, onward, is_to_come, rank}
 use Rattle.tcp_waiting.specs.Payload.{without_first, Payload, no_payload, earlier, first, has_as_much, window, put, place_of, key_of}
-use Rattle.tcp_flow.specs.Flow.{Flow, Reader, Setting, first_of, is_due, at, taken, drained_at_most, drained, fin_is_reached, closed, without_stale_fin, ended, gone_on, gap, is_too_much, within_bounds, acknowledgement_came, holding, payload_came, left, fin_came}
+use Rattle.tcp_flow.specs.Flow.{Flow, Reader, Setting, first_of, is_due, at, taken, drained_at_most, drained, fin_is_reached, closed, without_stale_fin, ended, gone_on, gap, is_too_much, within_bounds, is_lost, heard, holding, payload_came, left, fin_came}
 use Rattle.tcp_flow.specs.Laws.{AreLater, IsSettled}
 use Rattle.tcp_waiting.proofs.Order.{both, first_here, first_within, place_within}
 use Rattle.tcp_flow.proofs.Steps.{length_remove, flowing_none, flowing_stays, flowing_takes, due_not, relieved_stops, came_held}
@@ -308,24 +309,21 @@ gap_settled F f small = ended_settled (gone_on F (closed f Gap)) small
 abbrev IfSmall : Flow → Type 0
 IfSmall g = g.next < 2 ^ 32 → IsSettled g
 
-missed_by : (F : Reader) (count n : ℕ) (f : Flow) → IfSmall f →
-    IfSmall (acknowledgement_came F count n f)
-unfolding acknowledgement_came gap
-missed_by F zero n f t = t
-missed_by F (suc count) n f t =
-    elim (is_some (first_of f) && is_to_come f.next n) as
-    (λ (b : Bool). IfSmall (elim b [
-      | true ↦ acknowledgement_came F count n (gap F f)
-      | false ↦ f
-    ])) [
-      | true ↦ missed_by F count n (gap F f)
+heard_by : (F : Reader) (count : ℕ) (h : Heard) (f : Flow) → IfSmall f →
+    IfSmall (heard F count h f)
+unfolding heard gap
+heard_by F zero h f t = t
+heard_by F (suc count) h f t =
+    elim (is_lost h f) as
+    (λ (b : Bool). IfSmall (elim b [ true ↦ heard F count h (gap F f) | false ↦ f ])) [
+      | true ↦ heard_by F count h (gap F f)
           (λ s. ended_settled (gap F f) s (gone_on_ends F (closed f Gap)))
       | false ↦ t
     ]
 
-pub missed_settled : (F : Reader) (count n : ℕ) (f : Flow) → IsSettled f →
-    (acknowledgement_came F count n f).next < 2 ^ 32 → IsSettled (acknowledgement_came F count n f)
-missed_settled F count n f t = missed_by F count n f (λ s. t)
+pub heard_settled : (F : Reader) (count : ℕ) (h : Heard) (f : Flow) → IsSettled f →
+    (heard F count h f).next < 2 ^ 32 → IsSettled (heard F count h f)
+heard_settled F count h f t = heard_by F count h f (λ s. t)
 
 pub fresh_settled : (f : Flow) → (is_some f.live) ≡ false → is_some (first_of f) ≡ false →
     IsSettled f

@@ -5,7 +5,7 @@ use Rattle.std.proofs.lemmas.Bool.{or_parts, eq-eqb}
 use Rattle.tcp_waiting.specs.Numbers.{onward, rank}
 use Rattle.tcp_waiting.specs.declared.arrival.Arrival as packet
 use Rattle.tcp_waiting.specs.Payload.{Payload, first}
-use Rattle.tcp_flow.specs.Flow.{Flow, Setting, Arrival, Octets, End, Acknowledged, first_of, after}
+use Rattle.tcp_flow.specs.Flow.{Flow, Setting, Arrival, Octets, End, Hears, first_of, after}
 use Rattle.tcp_flow.specs.Laws.{IsSettled, AreLater}
 use Rattle.tcp_flow.specs.Order.{octets_of, closes_of, Agrees, IsOfContent, StandsIn, IsAt, OrderMakesNoDifference}
 use Rattle.tcp_flow.proofs.Content.{Case, Piece, Reaches, Covered, So, SomeOf}
@@ -119,7 +119,7 @@ comes_of start at content f ps place end (Octets n octets arrival) s h = (
   ),
 )
 comes_of start at content f ps place end (End n) s h = absurd h
-comes_of start at content f ps place end (Acknowledged n) s h = absurd h
+comes_of start at content f ps place end (Hears packet) s h = absurd h
 
 later_some : (id next least : ℕ) (Q : Payload → Type 0) (ps : List Payload) →
     AreLater id next least ps → SomeOf Q ps → (p : Payload)

@@ -5,9 +5,9 @@ use Rattle.std.specs.List.{insert, remove}
 use Rattle.std.proofs.lemmas.Bool.{or_parts, eq-eqb, ne_eqb, eqb-true}
 use Rattle.tcp_waiting.specs.Payload.{Payload, payload, no_payload, first, blocks_of, has_as_much, put, place_of, key_of}
 use Rattle.tcp_waiting.specs.Numbers.{age, rank}
-use Rattle.tcp_flow.specs.Flow.{Flow, Reader, Setting, Arrival, Octets, End, Acknowledged, held_by_others, first_of, left, gone_on, gap, within_bounds, holding, payload_came, fin_came, step}
+use Rattle.tcp_flow.specs.Flow.{Flow, Reader, Setting, Arrival, Octets, End, Hears, held_by_others, first_of, left, gone_on, gap, within_bounds, holding, payload_came, fin_came, step}
 use Rattle.tcp_flow.specs.Laws.{AreLater, IsSettled}
-use Rattle.tcp_flow.proofs.Preserving.{Keeps, gone_on_keeps, gap_keeps, relieved_keeps, missed_keeps}
+use Rattle.tcp_flow.proofs.Preserving.{Keeps, gone_on_keeps, gap_keeps, relieved_keeps, heard_keeps}
 use Rattle.tcp_flow.proofs.Room.{Holds, held_keeps, left_flow, first_some}
 
 -- a payload of the flow falls away
@@ -99,9 +99,9 @@ step_holds A f (End n) =
     (gone_on A.faulted (record f { fin = Some n })) f
     (gone_on_keeps A.faulted P (others_keeps A.faulted (held_by_others f.id f.held) f.id)
     (record f { fin = Some n }) (record { own = refl; held = refl })) (same_others f)
-step_holds A f (Acknowledged n) =
-    missed_keeps A.faulted (Holds (OthersHold (held_by_others f.id f.held)) f.id)
-    (others_keeps A.faulted (held_by_others f.id f.held) f.id) (length f.held) n f
+step_holds A f (Hears h) =
+    heard_keeps A.faulted (Holds (OthersHold (held_by_others f.id f.held)) f.id)
+    (others_keeps A.faulted (held_by_others f.id f.held) f.id) (length f.held) h f
     (same_others f)
 
 -- a step leaves what others hold

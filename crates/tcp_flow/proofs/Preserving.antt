@@ -1,10 +1,11 @@
 -- What taking, closing and a FIN keep, a flow keeps whatever comes.
 use Rattle.std.proofs.Common.{◌≡◌, ℕ, zero, suc, Bool, true, false, cond, ◌&&◌, length, Option, Some, None, is_some, refl}
 use Rattle.std.specs.List.{remove}
+use Rattle.tcp_flow.specs.declared.hearing.Heard.{Heard}
 use Rattle.tcp_flow.specs.declared.flow.CloseCause.{CloseCause}
 use Rattle.tcp_flow.specs.declared.flow.CloseCause.TheVariants.{Fin, Gap}
 use Rattle.tcp_waiting.specs.Numbers.{is_to_come}
-use Rattle.tcp_flow.specs.Flow.{Flow, Reader, Setting, taken, first_of, is_due, at, drained_at_most, drained, fin_is_reached, closed, without_stale_fin, ended, gone_on, gap, is_too_much, within_bounds, acknowledgement_came}
+use Rattle.tcp_flow.specs.Flow.{Flow, Reader, Setting, taken, first_of, is_due, at, drained_at_most, drained, fin_is_reached, closed, without_stale_fin, ended, gone_on, gap, is_too_much, within_bounds, is_lost, heard}
 
 pub record Keeps (F : Reader) (P : Flow → Type 0) : Type 0 where
   pub takes : (f : Flow) (i : ℕ) → first_of f ≡ Some i → is_due f i ≡ true → P f →
@@ -79,13 +80,13 @@ relieved_keeps A P k (suc count) f p =
       | false ↦ p
     ]
 
-pub missed_keeps : (F : Reader) (P : Flow → Type 0) → Keeps F P → (count n : ℕ) (f : Flow) → P f →
-    P (acknowledgement_came F count n f)
-unfolding acknowledgement_came
-missed_keeps F P k zero n f p = p
-missed_keeps F P k (suc count) n f p =
-    elim (is_some (first_of f) && is_to_come f.next n) as
-    (λ (b : Bool). P (elim b [ true ↦ acknowledgement_came F count n (gap F f) | false ↦ f ])) [
-      | true ↦ missed_keeps F P k count n (gap F f) (gap_keeps F P k f p)
+pub heard_keeps : (F : Reader) (P : Flow → Type 0) → Keeps F P → (count : ℕ) (h : Heard) (f : Flow)
+    → P f → P (heard F count h f)
+unfolding heard
+heard_keeps F P k zero h f p = p
+heard_keeps F P k (suc count) h f p =
+    elim (is_lost h f) as
+    (λ (b : Bool). P (elim b [ true ↦ heard F count h (gap F f) | false ↦ f ])) [
+      | true ↦ heard_keeps F P k count h (gap F f) (gap_keeps F P k f p)
       | false ↦ p
     ]

@@ -7,13 +7,14 @@ use Rattle.std.proofs.lemmas.List.{nil_from_length}
 use Rattle.std.proofs.lemmas.List.Edits.{length-insert}
 use Rattle.tcp_flow.specs.declared.flow.CloseCause.{CloseCause}
 use Rattle.tcp_flow.specs.declared.flow.CloseCause.TheVariants.{Gap, Fault}
+use Rattle.tcp_flow.specs.declared.hearing.Heard.{Heard}
 use Rattle.std.specs.Option.{option_map}
 use Rattle.tcp_waiting.specs.Numbers.{ahead, age, is_to_come, onward, rank}
 use Rattle.tcp_waiting.specs.Payload.{without_first, Payload, no_payload, window, earlier, first, blocks_of, is_far, has_as_much, put, place_of, key_of}
-use Rattle.tcp_flow.specs.Flow.{Flow, Event, Begins, Delivers, Closes, Reader, Setting, left, with_event, delivered, begun, told_from, taken, stream_at, first_of, at, drained_at_most, drained, closed, gone_on, gap, is_too_much, within_bounds, acknowledgement_came, holding, payload_came, fin_came}
+use Rattle.tcp_flow.specs.Flow.{Flow, Event, Begins, Delivers, Closes, Reader, Setting, left, with_event, delivered, begun, told_from, taken, stream_at, first_of, at, drained_at_most, drained, closed, gone_on, gap, is_too_much, within_bounds, is_lost, heard, holding, payload_came, fin_came}
 use Rattle.tcp_waiting.proofs.Order.{first_within, first_own, place_within}
 use Rattle.tcp_flow.proofs.Steps.{length_remove, flowing_takes, due_now}
-use Rattle.tcp_flow.proofs.Preserving.{gap_keeps, Keeps, flowing_by, rest_keeps, gone_on_keeps, relieved_keeps, missed_keeps}
+use Rattle.tcp_flow.proofs.Preserving.{gap_keeps, Keeps, flowing_by, rest_keeps, gone_on_keeps, relieved_keeps, heard_keeps}
 
 same : {X : Type 0} (get : Flow → X) (b : Bool) (f g : Flow) (x : X) → get f ≡ x → get g ≡ x →
     get (cond b f g) ≡ x
@@ -438,28 +439,42 @@ unfolding InBlocks
 gap_blocks F f = (gap_keeps F (Holds (InBlocks (blocks_of f.held)) f.id)
     (blocks_keeps F (blocks_of f.held) f.id) f (record { own = refl; held = omega arith })).held
 
-pub missed_blocks : (F : Reader) (count n : ℕ) (f : Flow) →
-    blocks_of (acknowledgement_came F count n f).held ≤ blocks_of f.held
+pub heard_blocks : (F : Reader) (count : ℕ) (h : Heard) (f : Flow) →
+    blocks_of (heard F count h f).held ≤ blocks_of f.held
 unfolding InBlocks
-missed_blocks F count n f =
-    (missed_keeps F (Holds (InBlocks (blocks_of f.held)) f.id)
-    (blocks_keeps F (blocks_of f.held) f.id) count n f
+heard_blocks F count h f =
+    (heard_keeps F (Holds (InBlocks (blocks_of f.held)) f.id)
+    (blocks_keeps F (blocks_of f.held) f.id) count h f
     (record { own = refl; held = omega arith })).held
 
-abbrev IsOver : ℕ → Flow → Type 0
-IsOver n g = (is_some (first_of g) && is_to_come g.next n) ≡ false
+lost_holds_by : (h : Heard) (f : Flow) (o : Option ℕ) → first_of f ≡ o → is_lost h f ≡ true →
+    is_some (first_of f) ≡ true
+unfolding is_lost
+lost_holds_by h f None e t = absurd (true≢false (sym t ∙ rw (e, is_lost) refl))
+lost_holds_by h f (Some i) e t = ap is_some e
 
--- the gaps by an acknowledgement end
-pub missed_ends : (F : Reader) (count n : ℕ) (f : Flow) → length f.held ≤ count →
-    (is_some (first_of (acknowledgement_came F count n f))
-    && is_to_come (acknowledgement_came F count n f).next n) ≡ false
-unfolding acknowledgement_came
-missed_ends F zero n f l = and_left (is_some (first_of f)) (is_to_come f.next n) (none_some f l)
-missed_ends F (suc count) n f l =
-    elim (is_some (first_of f) && is_to_come f.next n) as
-    (λ (b : Bool). (is_some (first_of f) && is_to_come f.next n) ≡ b →
-    IsOver n (elim b [ true ↦ acknowledgement_came F count n (gap F f) | false ↦ f ])) [
-      | true ↦ (λ e. missed_ends F count n (gap F f)
-          (gap_shrinks F f count (and_parts (is_some (first_of f)) (is_to_come f.next n) e).0 l))
+-- what is lost is missing in front of something
+lost_holds : (h : Heard) (f : Flow) → is_lost h f ≡ true → is_some (first_of f) ≡ true
+lost_holds h f t = lost_holds_by h f (first_of f) refl t
+
+none_lost : (h : Heard) (f : Flow) (o : Option ℕ) → first_of f ≡ o → is_some (first_of f) ≡ false →
+    is_lost h f ≡ false
+unfolding is_lost
+none_lost h f None e n = rw (e, is_lost) refl
+none_lost h f (Some i) e n = absurd (true≢false (sym (ap is_some e) ∙ n))
+
+abbrev IsOver : Heard → Flow → Type 0
+IsOver h g = is_lost h g ≡ false
+
+-- the gaps by what a packet says end
+pub heard_ends : (F : Reader) (count : ℕ) (h : Heard) (f : Flow) → length f.held ≤ count →
+    is_lost h (heard F count h f) ≡ false
+unfolding heard
+heard_ends F zero h f l = none_lost h f (first_of f) refl (none_some f l)
+heard_ends F (suc count) h f l =
+    elim (is_lost h f) as
+    (λ (b : Bool). is_lost h f ≡ b →
+    IsOver h (elim b [ true ↦ heard F count h (gap F f) | false ↦ f ])) [
+      | true ↦ (λ e. heard_ends F count h (gap F f) (gap_shrinks F f count (lost_holds h f e) l))
       | false ↦ (λ e. e)
     ] refl

@@ -1,9 +1,9 @@
 -- Worked cases of a flow, by computation.
-use Rattle.std.proofs.Common.{◌≡◌, ℕ, Bool, false, nat_eq, List, [], ◌∷◌, ◌++◌, None, refl}
+use Rattle.std.proofs.Common.{◌≡◌, ℕ, Bool, false, nat_eq, List, [], ◌∷◌, ◌++◌, Option, Some, None, true, refl}
 use Rattle.tcp_flow.specs.declared.flow.CloseCause.TheVariants.{Fin, Gap, Fault}
 use Rattle.tcp_waiting.specs.declared.arrival.Arrival as origin
 use Rattle.tcp_waiting.specs.Payload.{earlier, first, blocks_of, is_far, has_as_much, place_of}
-use Rattle.tcp_flow.specs.Flow.{Event, Begins, Delivers, Closes, OfCapture, ComesFrom, Setting, Arrival, Octets, End, Acknowledged, header_at, chain_from, stream_at, left, with_event, delivered, begun, told_from, taken, first_of, at, is_due, drained_at_most, drained, fin_is_reached, closed, without_stale_fin, ended, gone_on, gap, is_too_much, within_bounds, holding, payload_came, fin_came, acknowledgement_came, step, after, first_payload}
+use Rattle.tcp_flow.specs.Flow.{Event, Begins, Delivers, Closes, OfCapture, ComesFrom, Setting, Arrival, Octets, End, Hears, header_at, chain_from, stream_at, left, with_event, delivered, begun, told_from, taken, first_of, at, is_due, drained_at_most, drained, fin_is_reached, closed, without_stale_fin, ended, gone_on, gap, is_too_much, within_bounds, holding, payload_came, fin_came, is_lost, heard, step, after, first_payload}
 
 -- the reader is at a fault where what it was handed last begins with an octet 255
 unfoldable is_bad : Event → Bool
@@ -31,6 +31,22 @@ packet n = record { time = None; packet = n }
 
 unfoldable octets : ℕ → List ℕ → Arrival
 octets n xs = Octets n xs (packet n)
+
+-- a packet without a time acknowledges octets
+unfoldable acknowledged : ℕ → Arrival
+acknowledged n = Hears (record { acknowledged = Some n; answers = false; arrival = packet n })
+
+-- so many nanoseconds after 1970 an octet that is missing in front comes, and then a packet that
+-- acknowledges as much as it says, with octets or without
+unfoldable held_at : ℕ → Arrival
+held_at time = Octets 1010 header (record { time = Some time; packet = 1 })
+
+unfoldable heard_at : Option ℕ → Bool → ℕ → Arrival
+heard_at number answers time = Hears (record {
+  acknowledged = number;
+  answers = answers;
+  arrival = record { time = Some time; packet = 2 };
+})
 
 unfoldable events : List Arrival → ℕ → List Event
 events cs n = (after setting (first_payload setting 7 n header (packet n) [] []) cs).events
@@ -65,20 +81,30 @@ record Rows : Type 0 where
       ≡ Begins 7 1000 ∷ Delivers 7 header ∷ []
   one-more-is-a-gap : in_flows (events (octets 1049581 (1 ∷ 2 ∷ []) ∷ []) 1000)
       ≡ Begins 7 1000 ∷ Delivers 7 header ∷ Closes 7 Gap ∷ []
-  gap-by-acknowledgement-the-held-begins : in_flows (events (octets 1010 header ∷ Acknowledged
+  gap-by-acknowledgement-the-held-begins : in_flows (events (octets 1010 header ∷ acknowledged
       1020 ∷ [])
       1000) ≡ Begins 7 1000 ∷ Delivers 7 header ∷ Closes 7 Gap ∷ Begins 7 1010
       ∷ Delivers 7 header ∷ []
   behind-the-front-no-message-is-whole : in_flows (events (octets 1010 (5 ∷ header)
-      ∷ Acknowledged 1020 ∷ []) 1000) ≡ Begins 7 1000 ∷ Delivers 7 header ∷ Closes 7 Gap ∷ []
+      ∷ acknowledged 1020 ∷ []) 1000) ≡ Begins 7 1000 ∷ Delivers 7 header ∷ Closes 7 Gap ∷ []
   behind-the-front-a-message-is-whole :
-      in_flows (events (octets 1010 (5 ∷ message) ∷ Acknowledged 1030 ∷ []) 1000)
+      in_flows (events (octets 1010 (5 ∷ message) ∷ acknowledged 1030 ∷ []) 1000)
       ≡ Begins 7 1000 ∷ Delivers 7 header ∷ Closes 7 Gap ∷ Begins 7 1011 ∷ Delivers 7 message
       ∷ []
   behind-the-front-an-octet-too-many : in_flows (events (octets 1010 ((5 ∷ message) ++ 5 ∷ [])
-      ∷ Acknowledged 1030 ∷ []) 1000) ≡ Begins 7 1000 ∷ Delivers 7 header ∷ Closes 7 Gap ∷ []
-  acknowledgement-of-next : in_flows (events (octets 1010 (5 ∷ []) ∷ Acknowledged 1006 ∷ []) 1000)
+      ∷ acknowledged 1030 ∷ []) 1000) ≡ Begins 7 1000 ∷ Delivers 7 header ∷ Closes 7 Gap ∷ []
+  acknowledgement-of-next : in_flows (events (octets 1010 (5 ∷ []) ∷ acknowledged 1006 ∷ []) 1000)
       ≡ Begins 7 1000 ∷ Delivers 7 header ∷ []
+  half-a-second-is-too-soon : in_flows (events (held_at 70 ∷ heard_at (Some 1020) false 500000070
+      ∷ []) 1000) ≡ Begins 7 1000 ∷ Delivers 7 header ∷ []
+  a-second-after-it : in_flows (events (held_at 70 ∷ heard_at (Some 1020) false 1000000070 ∷ []) 1000)
+      ≡ Begins 7 1000 ∷ Delivers 7 header ∷ Closes 7 Gap ∷ Begins 7 1010 ∷ Delivers 7 header ∷ []
+  at-once-with-octets : in_flows (events (held_at 70 ∷ heard_at (Some 1020) true 60 ∷ []) 1000)
+      ≡ Begins 7 1000 ∷ Delivers 7 header ∷ Closes 7 Gap ∷ Begins 7 1010 ∷ Delivers 7 header ∷ []
+  octets-alone-acknowledge-nothing : in_flows (events (held_at 70 ∷ heard_at None true 29999999999
+      ∷ []) 1000) ≡ Begins 7 1000 ∷ Delivers 7 header ∷ []
+  thirty-seconds-after-it : in_flows (events (held_at 70 ∷ heard_at None false 30000000070 ∷ []) 1000)
+      ≡ Begins 7 1000 ∷ Delivers 7 header ∷ Closes 7 Gap ∷ Begins 7 1010 ∷ Delivers 7 header ∷ []
   fault-and-the-next-begins : in_flows (events (octets 1006 (255 ∷ []) ∷ octets 1007 header ∷
       []) 1000)
       ≡ Begins 7 1000 ∷ Delivers 7 header ∷ Delivers 7 (255 ∷ []) ∷ Closes 7 Fault ∷ Begins 7 1007 ∷
@@ -98,7 +124,7 @@ unfolding header_at chain_from stream_at left with_event delivered begun told_fr
     first
     first_of at is_due drained_at_most drained fin_is_reached closed without_stale_fin ended
     gone_on gap blocks_of is_far is_too_much within_bounds has_as_much holding place_of payload_came
-    fin_came acknowledgement_came step after first_payload events in_flows setting packet octets
+    fin_came is_lost heard step after first_payload events in_flows setting packet octets acknowledged held_at heard_at
     header message any_bad
     is_bad
 rows = record {
@@ -116,6 +142,11 @@ rows = record {
   behind-the-front-a-message-is-whole = refl;
   behind-the-front-an-octet-too-many = refl;
   acknowledgement-of-next = refl;
+  half-a-second-is-too-soon = refl;
+  a-second-after-it = refl;
+  at-once-with-octets = refl;
+  octets-alone-acknowledge-nothing = refl;
+  thirty-seconds-after-it = refl;
   fault-and-the-next-begins = refl;
   fin-to-come = refl;
   fin-before-next-is-nothing = refl;

@@ -5,7 +5,8 @@ use Rattle.std.proofs.lemmas.Bool.{cond-true, cond-false, and_left, and_right, a
 use Rattle.tcp_waiting.specs.Numbers.{is_to_come}
 use Rattle.tcp_waiting.proofs.Order.{first_within, first_own}
 use Rattle.tcp_waiting.specs.Payload.{Payload, payload, no_payload, first, has_as_much}
-use Rattle.tcp_flow.specs.Flow.{Flow, Reader, left, delivered, begun, told_from, taken, stream_at, first_of, is_due, at, drained_at_most, Setting, is_too_much, within_bounds, gap, acknowledgement_came, payload_came, gone_on, holding}
+use Rattle.tcp_flow.specs.declared.hearing.Heard.{Heard}
+use Rattle.tcp_flow.specs.Flow.{Flow, Reader, left, delivered, begun, told_from, taken, stream_at, first_of, is_due, at, drained_at_most, Setting, is_too_much, within_bounds, gap, is_lost, heard, payload_came, gone_on, holding}
 
 pub taken_none : (F : Reader) (f : Flow) (p q : Payload) → q ≡ left f.next (is_some f.live) p →
     nat_eq (length q.octets) 0 ≡ true → taken F f p ≡ f
@@ -100,26 +101,24 @@ unfolding within_bounds
 relieved_none A zero f h = refl
 relieved_none A (suc count) f h = absurd (omega (arith, h))
 
--- gaps by an acknowledgement
-pub missed_stops : (F : Reader) (count n : ℕ) (f : Flow) →
-    (is_some (first_of f) && is_to_come f.next n) ≡ false → acknowledgement_came F count n f ≡ f
-unfolding acknowledgement_came
-missed_stops F zero n f e = refl
-missed_stops F (suc count) n f e = rw (e, acknowledgement_came) refl
+-- gaps by what a packet says
+pub heard_stops : (F : Reader) (count : ℕ) (h : Heard) (f : Flow) → is_lost h f ≡ false →
+    heard F count h f ≡ f
+unfolding heard
+heard_stops F zero h f e = refl
+heard_stops F (suc count) h f e = rw (e, heard) refl
 
-pub missed_goes : (F : Reader) (count n : ℕ) (f : Flow) → 0 < count →
-    (is_some (first_of f) && is_to_come f.next n) ≡ true →
-    acknowledgement_came F count n f ≡ acknowledgement_came F (count - 1) n (gap F f)
-unfolding acknowledgement_came
-missed_goes F zero n f h e = absurd (omega (arith, h))
-missed_goes F (suc count) n f h e = let k : suc count - 1 ≡ count = omega arith in
-    rw (k, e, acknowledgement_came) refl
+pub heard_goes : (F : Reader) (count : ℕ) (h : Heard) (f : Flow) → 0 < count → is_lost h f ≡ true →
+    heard F count h f ≡ heard F (count - 1) h (gap F f)
+unfolding heard
+heard_goes F zero h f l e = absurd (omega (arith, l))
+heard_goes F (suc count) h f l e = let k : suc count - 1 ≡ count = omega arith in
+    rw (k, e, heard) refl
 
-pub missed_none : (F : Reader) (count n : ℕ) (f : Flow) → count ≤ 0 →
-    acknowledgement_came F count n f ≡ f
-unfolding acknowledgement_came
-missed_none F zero n f h = refl
-missed_none F (suc count) n f h = absurd (omega (arith, h))
+pub heard_none : (F : Reader) (count : ℕ) (h : Heard) (f : Flow) → count ≤ 0 → heard F count h f ≡ f
+unfolding heard
+heard_none F zero h f l = refl
+heard_none F (suc count) h f l = absurd (omega (arith, l))
 
 -- a payload comes
 pub came_nothing : (A : Setting) (f : Flow) (p q : Payload) → q ≡ left f.next (is_some f.live) p →

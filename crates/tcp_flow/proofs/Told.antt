@@ -5,8 +5,8 @@ use Rattle.tcp_flow.specs.declared.flow.CloseCause.{CloseCause}
 use Rattle.tcp_flow.specs.declared.flow.CloseCause.TheVariants.{Fault}
 use Rattle.tcp_waiting.specs.Numbers.{onward, age}
 use Rattle.tcp_waiting.specs.Payload.{without_first, Payload, payload, has_as_much, put}
-use Rattle.tcp_flow.specs.Flow.{Flow, Event, Begins, Delivers, Closes, flow_of, OfCapture, ComesFrom, Reader, Setting, Arrival, Octets, End, Acknowledged, left, with_event, delivered, begun, told_from, taken, stream_at, at, closed, holding, gone_on, within_bounds, payload_came, fin_came, gap, step}
-use Rattle.tcp_flow.proofs.Preserving.{Keeps, cond_keeps, gone_on_keeps, relieved_keeps, missed_keeps, gap_keeps}
+use Rattle.tcp_flow.specs.Flow.{Flow, Event, Begins, Delivers, Closes, flow_of, OfCapture, ComesFrom, Reader, Setting, Arrival, Octets, End, Hears, left, with_event, delivered, begun, told_from, taken, stream_at, at, closed, holding, gone_on, within_bounds, payload_came, fin_came, gap, step}
+use Rattle.tcp_flow.proofs.Preserving.{Keeps, cond_keeps, gone_on_keeps, relieved_keeps, heard_keeps, gap_keeps}
 
 -- it is so of all that has happened, after a flow of this id
 pub record Told (Q : List Event → Type 0) (id : ℕ) (f : Flow) : Type 0 where
@@ -158,8 +158,8 @@ module _ (Q : List Event → Type 0) (id : ℕ) (more : IsKept Q id) where
   unfolding step
   step_told A f (Octets n octets arrival) t = came_told A f (payload f.id n octets arrival) t
   step_told A f (End n) t = fin_told A.faulted f n t
-  step_told A f (Acknowledged n) t = missed_keeps A.faulted (Told Q id) (told_keeps A.faulted)
-      (length f.held) n f t
+  step_told A f (Hears h) t = heard_keeps A.faulted (Told Q id) (told_keeps A.faulted)
+      (length f.held) h f t
 
   pub gap_told : (F : Reader) (f : Flow) → Told Q id f → Told Q id (gap F f)
   gap_told F f t = gap_keeps F (Told Q id) (told_keeps F) f t

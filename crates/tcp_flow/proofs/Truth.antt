@@ -3,13 +3,14 @@ use Rattle.std.proofs.Common.{◌≡◌, ℕ, zero, suc, ◌+◌, ◌-◌, ◌^�
 use Rattle.std.specs.List.{insert, remove}
 use Rattle.std.proofs.lemmas.Bool.{cases_lt, cases_Bool, lt-ltb, le-ltb, ltb-false, and_cases, cond-true, cond-false, not-true, and_right, not_from_true, both_ways}
 use Rattle.std.proofs.lemmas.List.{drop-drop, get_or-append_right, get_or_append_left, length-append}
+use Rattle.tcp_flow.specs.declared.hearing.Heard.{Heard}
 use Rattle.tcp_flow.specs.declared.flow.CloseCause.TheVariants.{Fault}
 use Rattle.tcp_waiting.specs.Numbers.{ahead, onward, age, is_to_come}
 use Rattle.tcp_waiting.specs.Payload.{without_first, Payload, no_payload, window, has_as_much, put, place_of, key_of}
-use Rattle.tcp_flow.specs.Flow.{gap, Flow, Event, Begins, Delivers, Closes, Reader, Setting, left, with_event, delivered, begun, told_from, OfCapture, ComesFrom, taken, stream_at, first_of, is_due, at, closed, payload_came, holding, within_bounds, gone_on, fin_came, acknowledgement_came}
+use Rattle.tcp_flow.specs.Flow.{gap, Flow, Event, Begins, Delivers, Closes, Reader, Setting, left, with_event, delivered, begun, told_from, OfCapture, ComesFrom, taken, stream_at, first_of, is_due, at, closed, payload_came, holding, within_bounds, gone_on, fin_came, heard}
 use Rattle.tcp_flow.specs.Laws.{IsPartOf, OwnMayFollow, MayFollow, AllFollow, AllArePartsOf, due_of, IsGapless}
 use Rattle.tcp_waiting.proofs.Order.{first_within, first_own}
-use Rattle.tcp_flow.proofs.Preserving.{gap_keeps, Keeps, relieved_keeps, gone_on_keeps, missed_keeps}
+use Rattle.tcp_flow.proofs.Preserving.{gap_keeps, Keeps, relieved_keeps, gone_on_keeps, heard_keeps}
 
 onward_onward : (n k a : ℕ) → onward (onward n k) a ≡ onward n (k + a)
 onward_onward n k a = omega arith
@@ -384,10 +385,10 @@ pub gap_true : (F : Reader) (payloads : List Payload) (f : Flow) → IsGapless p
     IsGapless payloads (gap F f)
 gap_true F payloads f t = gap_keeps F (IsGapless payloads) (true_keeps F payloads) f t
 
-pub missed_true : (F : Reader) (payloads' : List Payload) (count n : ℕ) (f : Flow) →
-    IsGapless payloads' f → IsGapless payloads' (acknowledgement_came F count n f)
-missed_true F payloads' count n f t = missed_keeps F (IsGapless payloads') (true_keeps F payloads')
-    count n f t
+pub heard_true : (F : Reader) (payloads' : List Payload) (count : ℕ) (h : Heard) (f : Flow) →
+    IsGapless payloads' f → IsGapless payloads' (heard F count h f)
+heard_true F payloads' count h f t = heard_keeps F (IsGapless payloads') (true_keeps F payloads')
+    count h f t
 
 pub fresh_true : (f : Flow) → f.next < 2 ^ 32 → (is_some f.live) ≡ false → f.held ≡ [] →
     f.events ≡ [] → IsGapless [] f

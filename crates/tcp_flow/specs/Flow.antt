@@ -1,9 +1,10 @@
 -- One flow of a TCP connection, from its first stream on: what it holds, and what happens.
-use Rattle.std.specs.Prelude.{ℕ, zero, suc, ◌+◌, ◌*◌, ◌%◌, Bool, true, false, cond, nat_lt, nat_le, nat_eq, ◌&&◌, ◌||◌, not, List, [], ◌∷◌, ◌++◌, length, drop, Option, Some, None, get_or, is_some}
+use Rattle.std.specs.Prelude.{ℕ, zero, suc, ◌+◌, ◌-◌, ◌*◌, ◌%◌, Bool, true, false, cond, nat_lt, nat_le, nat_eq, ◌&&◌, ◌||◌, not, List, [], ◌∷◌, ◌++◌, length, drop, Option, Some, None, get_or, is_some}
 use Rattle.std.specs.Option.{option_map}
 use Rattle.std.specs.List.{remove}
 use Rattle.tcp_flow.specs.declared.flow.CloseCause.{CloseCause}
 use Rattle.tcp_flow.specs.declared.flow.CloseCause.TheVariants.{Fin, Gap, Fault}
+use Rattle.tcp_flow.specs.declared.hearing.Heard.{Heard}
 use Rattle.tcp_segment.specs.declared.endpoint.Flow as endpoints
 use Rattle.tcp_waiting.specs.declared.arrival.Arrival as origin
 use Rattle.tcp_waiting.specs.Payload.{Payload, payload, no_payload, without_first, window, first, blocks_of, is_far, has_as_much, put}
@@ -234,26 +235,51 @@ unfoldable pub fin_came : Reader → Flow → ℕ → Flow
 fin_came F f n =
     cond (is_some f.live && nat_eq (age f.next n) 0) (gone_on F (record f { fin = Some n })) f
 
--- an acknowledgement of the opposite flow: what is missing was received; gaps while something is
--- held and the number is to come
-unfoldable pub acknowledgement_came : Reader → ℕ → ℕ → Flow → Flow
-acknowledgement_came F zero n f = f
-acknowledgement_came F (suc count) n f =
-    elim (is_some (first_of f) && is_to_come f.next n) [
-      | true ↦ acknowledgement_came F count n (gap F f)
-      | false ↦ f
+-- a second, in nanoseconds
+abbrev pub second : ℕ
+second = 1000000000
+
+-- how many nanoseconds a packet came after another; none if one of both has no time
+abbrev pub waited : origin.Arrival → origin.Arrival → Option ℕ
+waited since now =
+    elim since.time [ None ↦ None | Some before ↦ option_map (λ time. time - before) now.time ]
+
+-- whether a packet acknowledges octets after the number that is due
+abbrev pub acknowledges : Heard → ℕ → Bool
+acknowledges h next = elim h.acknowledged [ None ↦ false | Some number ↦ is_to_come next number ]
+
+-- whether, by a packet, octets are given up that are missing in front of a payload, which came in
+-- another packet: if they are acknowledged, they were received, and are given up as soon as the other
+-- side sends octets, or after a second; all are after 30 seconds. Without a time it is as if a second
+-- had passed
+abbrev pub gives_up : Heard → ℕ → origin.Arrival → Bool
+gives_up h next since =
+    elim (waited since h.arrival) [
+      | None ↦ acknowledges h next
+      | Some time ↦
+          (acknowledges h next && (h.answers || nat_le second time)) || nat_le (30 * second) time
     ]
+
+-- whether what is missing in front of the first payload that a flow holds is given up
+unfoldable pub is_lost : Heard → Flow → Bool
+is_lost h f = elim (first_of f) [ None ↦ false | Some i ↦ gives_up h f.next (at f i).arrival ]
+
+-- a packet of the flow's connection came: gaps while what is missing is given up, at most `count`
+unfoldable pub heard : Reader → ℕ → Heard → Flow → Flow
+heard F zero h f = f
+heard F (suc count) h f =
+    elim (is_lost h f) [ true ↦ heard F count h (gap F f) | false ↦ f ]
 
 -- what comes for a flow
 pub data Arrival : Type 0 where
   Octets : ℕ → List ℕ → origin.Arrival → Arrival
   End : ℕ → Arrival
-  Acknowledged : ℕ → Arrival
+  Hears : Heard → Arrival
 
 unfoldable pub step : Setting → Flow → Arrival → Flow
 step A f (Octets n octets arrival) = payload_came A f (payload f.id n octets arrival)
 step A f (End n) = fin_came A.faulted f n
-step A f (Acknowledged n) = acknowledgement_came A.faulted (length f.held) n f
+step A f (Hears h) = heard A.faulted (length f.held) h f
 
 -- the flow after all that comes, the first first
 unfoldable pub after : Setting → Flow → List Arrival → Flow

@@ -3,7 +3,7 @@
 use Rattle.std.specs.Prelude.{◌≡◌, ◌⊎◌, ℕ, ◌+◌, ◌<◌, ◌≤◌, ◌^◌, cond, nat_eq, List, [], ◌∷◌, ◌++◌, length, take, drop, is_some, true, false}
 use Rattle.std.specs.List.{AllByRecursion}
 use Rattle.tcp_waiting.specs.Numbers.{onward}
-use Rattle.tcp_flow.specs.Flow.{Flow, Event, Opens, Begins, Delivers, Closes, OfCapture, Arrival, Octets, End, Acknowledged, Setting, first_of, after}
+use Rattle.tcp_flow.specs.Flow.{Flow, Event, Opens, Begins, Delivers, Closes, OfCapture, Arrival, Octets, End, Hears, Setting, first_of, after}
 
 -- the octets that an event delivers to a flow
 abbrev pub octets_in : ℕ → Event → List ℕ
@@ -42,7 +42,7 @@ unfoldable pub IsOfContent : ℕ → List ℕ → Arrival → Type 0
 IsOfContent start content (Octets n octets arrival) =
     (place : ℕ) × Agrees start content place n octets
 IsOfContent start content (End n) = ⊥
-IsOfContent start content (Acknowledged n) = ⊥
+IsOfContent start content (Hears h) = ⊥
 
 -- one of these comes
 unfoldable pub StandsIn : List Arrival → Arrival → Type 0

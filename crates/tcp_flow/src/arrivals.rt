@@ -1,5 +1,4 @@
-//! What comes for a flow: its first payload, later ones, its FIN, and what the opposite flow
-//! acknowledges.
+//! What comes for a flow: its first payload, later ones, and its FIN.
 
 ghost use Rattle.std.specs.Prelude.{◌≡◌, ◌≤◌, ◌∷◌, ◌++◌, [], List, IfOk, OnOk, OnErr, length};
 
@@ -10,8 +9,8 @@ impl FlowState {
     ghost use Rattle.std.specs.Prelude.{◌&&◌, is_some, not, false};
     ghost use Rattle.tcp_waiting.specs.Numbers.{is_to_come as spec_is_to_come};
     ghost use Rattle.tcp_waiting.specs.Payload.{Payload, payload, blocks_of, first};
-    ghost use Rattle.tcp_flow.specs.Flow.{Flow, Event, End, Octets, Acknowledged};
-    ghost use Rattle.tcp_flow.specs.Flow.{acknowledgement_came, fin_came, payload_came};
+    ghost use Rattle.tcp_flow.specs.Flow.{Flow, Event, End, Octets};
+    ghost use Rattle.tcp_flow.specs.Flow.{fin_came, payload_came};
     ghost use Rattle.tcp_flow.specs.Flow.{first_payload, fresh, held_by_others, setting, step};
     ghost use Rattle.tcp_flow.specs.Laws.{IsGapless, IsSettled};
     ghost use Rattle.tcp_flow.specs.State.{state, IsState};
@@ -121,41 +120,6 @@ impl FlowState {
         Ok(())
     }
 
-    /// The opposite flow acknowledges up to a number.
-    pub fn acknowledged<T: Listener>(
-        &mut self,
-        number: u32,
-        pool: &mut Pool,
-        to: &mut T,
-    ) -> Result<(), ListenerFault>
-        ensures does { (f : Flow) → IsState (T.observed to.old) self.old pool.old.held f
-            → OnOk result (IsState (T.observed to.new) self.new pool.new.held
-            (step (setting T.faulted pool.old.blocks) f (Acknowledged number))) }
-        ensures gapless { (payloads : List Payload) (f : Flow)
-            → IsState (T.observed to.old) self.old pool.old.held f → IsGapless payloads f
-            → OnOk result (IsGapless payloads
-            (step (setting T.faulted pool.old.blocks) f (Acknowledged number))) }
-        ensures beside { (f : Flow) → IsState (T.observed to.old) self.old pool.old.held f
-            → OnOk result (held_by_others self.old.id pool.new.held
-            ≡ held_by_others self.old.id pool.old.held) }
-        ensures room { (f : Flow) → IsState (T.observed to.old) self.old pool.old.held f
-            → OnOk result (blocks_of pool.new.held ≤ blocks_of pool.old.held) }
-        ensures settled { (f : Flow) → IsState (T.observed to.old) self.old pool.old.held f
-            → IsSettled (state self.old pool.old.held [])
-            → OnOk result (IsSettled (state self.new pool.new.held [])) }
-        ensures over { (f : Flow) → IsState (T.observed to.old) self.old pool.old.held f
-            → OnOk result ((is_some (first self.new.id self.new.next pool.new.held)
-            && spec_is_to_come self.new.next number) ≡ false) }
-        ensures id { self.new.id ≡ self.old.id }
-        ensures blocks { pool.new.blocks ≡ pool.old.blocks }
-        ensures cause { OnErr result (T.failed to.new) }
-    {
-        self.take_acknowledgement(number, pool, to)?;
-        // Its range is known once it is read.
-        let _next = self.next;
-        Ok(())
-    }
-
     /// A payload comes.
     fn take_payload<T: Listener>(
         &mut self,
@@ -232,34 +196,6 @@ impl FlowState {
         if self.is_live() && age(self.next, number) == 0 {
             self.fin = Some(number);
             return self.go_on(pool, to);
-        }
-        Ok(())
-    }
-
-    /// The opposite flow acknowledges up to a number: what is missing before it was received.
-    fn take_acknowledgement<T: Listener>(
-        &mut self,
-        number: u32,
-        pool: &mut Pool,
-        to: &mut T,
-    ) -> Result<(), ListenerFault>
-        ensures does { (f : Flow) → IsState (T.observed to.old) self.old pool.old.held f
-            → OnOk result (IsState (T.observed to.new) self.new pool.new.held
-            (acknowledgement_came T.faulted (length pool.old.held) number f)) }
-        ensures id { self.new.id ≡ self.old.id }
-        ensures blocks { pool.new.blocks ≡ pool.old.blocks }
-        ensures cause { OnErr result (T.failed to.new) }
-    {
-        let mut left = pool.len();
-        while left > 0 {
-            if !pool.first(self.id, self.next).is_some() {
-                return Ok(());
-            }
-            if !is_to_come(self.next, number) {
-                return Ok(());
-            }
-            self.gap(pool, to)?;
-            left -= 1;
         }
         Ok(())
     }

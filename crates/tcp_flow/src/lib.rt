@@ -7,9 +7,11 @@ mod closing;
 mod delivering;
 mod flow;
 mod gaps;
+mod hearing;
 mod laws;
 mod looking;
 
 pub use flow::{CloseCause, FlowState, Listener, ListenerFault};
+pub use hearing::Heard;
 pub use laws::order_makes_no_difference;
 pub use looking::stream_at;

@@ -1,7 +1,7 @@
 use Rattle.std.proofs.Common.{◌≡◌, ◌/◌, ◌<◌, ℕ, List, [], length, get_or, set, refl, sym, ap, subst, ◌∙◌, arith}
 use Rattle.tcp_segment.specs.Segments.{segment_view}
 use Rattle.tcp_streams.specs.Pairs.{flow_id}
-use Rattle.tcp_connections.specs.Connections.{State, acknowledgement_taken, payload_taken}
+use Rattle.tcp_connections.specs.Connections.{State, acknowledgement_heard, payload_taken}
 use Rattle.tcp_connections.specs.State.{state_of, times}
 use Rattle.tcp_connections.proofs.Cases.{known_is}
 use Rattle.tcp_connections.proofs.Changes.{noted}
@@ -122,15 +122,15 @@ reset-requires-clause-place g c =
     let w = c.requires.state.0 in
     let h = c.requires.state.1 in
     let seen : State = record w { lasts = set w.lasts c.room-room.result w.segments } in
-    let heard : State = acknowledgement_taken F seen c.flow_id.result V in
-    let paid : State = payload_taken F heard c.flow_id-id.result V in
+    let told : State = acknowledgement_heard F seen c.flow_id.result V in
+    let paid : State = payload_taken F told c.flow_id-id.result V in
     let n = c.in_ok-fin.ensures.does _ (c.in_ok-payload.ensures.does _
     (c.in_ok-acknowledgement.ensures.does _
     (noted _ _ c.args.self.now _ w c.room-room.result h
     (λ e. ap (λ (ns : List ℕ). record (state_of c.args.self.now e) { lasts = ns })
     c.note.ensures.last) refl refl))) in
     let known = known_of _ _ _ _ n ∙ (fin_kept F paid c.flow_id-id.result V).known
-    ∙ (payload_kept F heard c.flow_id-id.result V).known
+    ∙ (payload_kept F told c.flow_id-id.result V).known
     ∙ (acknowledgement_kept F seen c.flow_id.result V).known ∙ sym (known_of _ _ _ _ h) in
     omega (
       arith,
@@ -140,16 +140,29 @@ reset-requires-clause-place g c =
       c.fin.new.self.table.keys.ok.0,
     )
 
+pub hear-requires : goal.hear-requires
+hear-requires g c =
+    record {
+      state = (
+        _,
+        c.in_ok-reset.ensures.does _ (c.in_ok-fin.ensures.does _ (c.in_ok-payload.ensures.does _
+            (c.in_ok-acknowledgement.ensures.does _
+            (noted _ _ c.args.self.now _ c.requires.state.0 c.room-room.result c.requires.state.1
+            (λ e. ap (λ (ns : List ℕ). record (state_of c.args.self.now e) { lasts = ns })
+            c.note.ensures.last) refl refl)))),
+      );
+    }
+
 pub returns-clause-does : goal.returns-clause-does
 returns-clause-does g c w h =
     let at = c.room-room.ensures ∙ ap (λ (u : State). get_or u.rooms c.args.place 0) h.same in
-    moved_ok c.reset.result _ _ _ _ _
+    moved_ok c.hear.result _ _ _ _ _
     (known_is g.L.Listener.faulted w c.args.place (segment_view c.args.segment) c.room-room.result
     c.args.side c.flow_id-id.result c.flow_id.result at (sym c.requires.flow)
     c.flow_id-id.ensures.id
     (c.flow_id.ensures.id ∙ ap (flow_id c.room-room.result) c.other.ensures))
-    (c.reset.ensures.does _ (c.in_ok-fin.ensures.does _
+    (c.hear.ensures.does _ (c.in_ok-reset.ensures.does _ (c.in_ok-fin.ensures.does _
     (c.in_ok-payload.ensures.does _ (c.in_ok-acknowledgement.ensures.does _
     (noted _ _ c.args.self.now _ w c.room-room.result h
     (λ e. ap (λ (ns : List ℕ). record (state_of c.args.self.now e) { lasts = ns })
-    c.note.ensures.last) refl refl)))))
+    c.note.ensures.last) refl refl))))))

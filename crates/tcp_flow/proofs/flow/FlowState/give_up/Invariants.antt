@@ -1,14 +1,14 @@
 use Rattle.std.proofs.Common.{◌≡◌}
-use Rattle.tcp_flow.specs.Flow.{Flow, acknowledgement_came}
+use Rattle.tcp_flow.specs.Flow.{Flow, heard}
 use Rattle.tcp_flow.specs.State.{IsState}
-use Rattle.tcp_flow.proofs.flow.FlowState.take_acknowledgement.Given as goal
+use Rattle.tcp_flow.proofs.flow.FlowState.give_up.Given as goal
 
 abbrev pub invariant-loop-left : goal.invariant-loop-left
 invariant-loop-left g l =
     ((f : Flow) → IsState (g.T.Listener.observed l.initial.to) l.initial.self l.initial.pool.held f
     → (d : Flow) × (IsState (g.T.Listener.observed l.to) l.self l.pool.held d
-    × (acknowledgement_came g.T.Listener.faulted l.left l.number d
-    ≡ acknowledgement_came g.T.Listener.faulted l.initial.left l.number f)))
+    × (heard g.T.Listener.faulted l.left l.packet d
+    ≡ heard g.T.Listener.faulted l.initial.left l.packet f)))
     × (l.self.id ≡ l.initial.self.id)
     × (l.pool.blocks ≡ l.initial.pool.blocks)
 

@@ -1,0 +1,136 @@
+//! What a packet of a flow's connection says of octets that are missing in the flow: that they were
+//! received, or that they are too late.
+
+ghost use Rattle.std.specs.Prelude.{◌≡◌, ◌≤◌, [], List, OnOk, OnErr, length};
+ghost use Rattle.tcp_flow.specs.Flow.{acknowledges, gives_up, waited};
+
+use crate::flow::{FlowState, Listener, ListenerFault};
+use tcp_waiting::{Arrival, Pool, is_to_come};
+
+/// A second, in nanoseconds.
+const SECOND: u128 = 1_000_000_000;
+
+/// What a packet of a flow's connection says of octets that are missing in the flow.
+#[derive(Clone, Copy, Drop)]
+pub struct Heard {
+    /// The number up to which the other side has received the flow's octets, if it says so.
+    pub acknowledged: Option<u32>,
+    /// Whether the packet has octets of the other side, which may answer what the flow holds.
+    pub answers: bool,
+    /// The packet.
+    pub arrival: Arrival,
+}
+
+impl Heard {
+    /// Whether it acknowledges octets after the number that is due.
+    fn acknowledges(&self, next: u32) -> bool
+        ensures { result ≡ acknowledges self.now next }
+    {
+        match self.acknowledged {
+            Some(number) => is_to_come(next, number),
+            None => false,
+        }
+    }
+
+    /// How many nanoseconds it came after another packet; none if one of both has no time.
+    fn waited(&self, since: Arrival) -> Option<u128>
+        ensures { result ≡ waited since self.now.arrival }
+    {
+        match (since.time, self.arrival.time) {
+            (Some(before), Some(time)) => Some(time.saturating_sub(before)),
+            _ => None,
+        }
+    }
+
+    /// Whether octets are given up that are missing in front of a payload, which came in another packet.
+    /// If they are acknowledged, they were received, and are given up as soon as the other side sends
+    /// octets, or after a second; all are after 30 seconds.
+    fn gives_up(&self, next: u32, since: Arrival) -> bool
+        ensures { result ≡ gives_up self.now next since }
+    {
+        let received = self.acknowledges(next);
+        match self.waited(since) {
+            None => received,
+            Some(time) => (received && (self.answers || SECOND <= time)) || 30 * SECOND <= time,
+        }
+    }
+}
+
+impl FlowState {
+    ghost use Rattle.std.specs.Prelude.{false};
+    ghost use Rattle.tcp_waiting.specs.Payload.{Payload, blocks_of};
+    ghost use Rattle.tcp_flow.specs.Flow.{Flow, Event, Hears, heard, held_by_others, setting, step};
+    ghost use Rattle.tcp_flow.specs.Flow.{is_lost as spec_is_lost};
+    ghost use Rattle.tcp_flow.specs.Laws.{IsGapless, IsSettled};
+    ghost use Rattle.tcp_flow.specs.State.{state, IsState};
+
+    /// A packet of the flow's connection comes: what is missing is given up, if it says so.
+    pub fn hear<T: Listener>(
+        &mut self,
+        packet: Heard,
+        pool: &mut Pool,
+        to: &mut T,
+    ) -> Result<(), ListenerFault>
+        ensures does { (f : Flow) → IsState (T.observed to.old) self.old pool.old.held f
+            → OnOk result (IsState (T.observed to.new) self.new pool.new.held
+            (step (setting T.faulted pool.old.blocks) f (Hears packet))) }
+        ensures gapless { (payloads : List Payload) (f : Flow)
+            → IsState (T.observed to.old) self.old pool.old.held f → IsGapless payloads f
+            → OnOk result (IsGapless payloads
+            (step (setting T.faulted pool.old.blocks) f (Hears packet))) }
+        ensures beside { (f : Flow) → IsState (T.observed to.old) self.old pool.old.held f
+            → OnOk result (held_by_others self.old.id pool.new.held
+            ≡ held_by_others self.old.id pool.old.held) }
+        ensures room { (f : Flow) → IsState (T.observed to.old) self.old pool.old.held f
+            → OnOk result (blocks_of pool.new.held ≤ blocks_of pool.old.held) }
+        ensures settled { (f : Flow) → IsState (T.observed to.old) self.old pool.old.held f
+            → IsSettled (state self.old pool.old.held [])
+            → OnOk result (IsSettled (state self.new pool.new.held [])) }
+        ensures over { (f : Flow) → IsState (T.observed to.old) self.old pool.old.held f
+            → OnOk result (spec_is_lost packet (state self.new pool.new.held f.events) ≡ false) }
+        ensures id { self.new.id ≡ self.old.id }
+        ensures blocks { pool.new.blocks ≡ pool.old.blocks }
+        ensures cause { OnErr result (T.failed to.new) }
+    {
+        self.give_up(packet, pool, to)?;
+        // Its range is known once it is read.
+        let _next = self.next;
+        Ok(())
+    }
+
+    /// Gaps while what is missing is given up.
+    fn give_up<T: Listener>(
+        &mut self,
+        packet: Heard,
+        pool: &mut Pool,
+        to: &mut T,
+    ) -> Result<(), ListenerFault>
+        ensures does { (f : Flow) → IsState (T.observed to.old) self.old pool.old.held f
+            → OnOk result (IsState (T.observed to.new) self.new pool.new.held
+            (heard T.faulted (length pool.old.held) packet f)) }
+        ensures id { self.new.id ≡ self.old.id }
+        ensures blocks { pool.new.blocks ≡ pool.old.blocks }
+        ensures cause { OnErr result (T.failed to.new) }
+    {
+        let mut left = pool.len();
+        while left > 0 {
+            if !self.is_lost(packet, pool) {
+                return Ok(());
+            }
+            self.gap(pool, to)?;
+            left -= 1;
+        }
+        Ok(())
+    }
+
+    /// Whether what is missing in front of the first payload that the flow holds is given up.
+    fn is_lost(&self, packet: Heard, pool: &Pool) -> bool
+        ensures { (events : List Event) → result
+            ≡ spec_is_lost packet (state self.now pool.now.held events) }
+    {
+        match pool.first(self.id, self.next) {
+            Some(first) => packet.gives_up(self.next, pool.arrival(first)),
+            None => false,
+        }
+    }
+}
