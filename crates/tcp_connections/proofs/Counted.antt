@@ -9,7 +9,7 @@ use Rattle.tcp_streams.specs.declared.pair.EndpointPair.{EndpointPair}
 use Rattle.tcp_streams.specs.declared.pair.Side.{Side}
 use Rattle.tcp_streams.specs.Lives.{lives, elder_side}
 use Rattle.tcp_streams.specs.Pairs.{pair_of, opposite, flow_id}
-use Rattle.tcp_connections.specs.Connections.{State, room_at, flow_forgotten, forgotten, shown, shown_by_age, ended_by, eldest, with_room, next_room, made_known, place_of, flow_of_side, syn_at, syn_kept, is_kept, is_anew, is_reset, is_first, first_number, began, fin_taken, heard, acknowledgement_heard, payload_taken, reset_taken, unknown_taken, known_taken, step}
+use Rattle.tcp_connections.specs.Connections.{State, room_at, flow_forgotten, forgotten, shown, shown_by_age, ended_by, eldest, with_room, next_room, made_known, place_of, flow_of_side, syn_at, syn_kept, is_kept, is_anew, is_reset, is_first, first_number, began, fin_taken, acknowledgement_heard, payload_taken, reset_taken, unknown_taken, known_taken, step}
 use Rattle.tcp_connections.proofs.Cases.{room_there, room_made, step_unknown, step_kept, step_anew, step_known}
 use Rattle.tcp_connections.proofs.Forgotten.{forgot_either}
 use Rattle.tcp_connections.proofs.Kept.{began_kept, heard_kept, acknowledgement_kept, payload_kept, fin_kept}

@@ -17,7 +17,7 @@ use Rattle.tcp_streams.specs.declared.pair.EndpointPair.{EndpointPair}
 use Rattle.tcp_streams.specs.declared.pair.Side.{Side}
 use Rattle.tcp_streams.specs.Lives.{lives}
 use Rattle.tcp_streams.specs.Pairs.{compare_pairs, pair_of, opposite, flow_id, flow_from}
-use Rattle.tcp_connections.specs.Connections.{State, none_known, flow_at, began, syn_at, syn_kept, flow_of_side, place_of, room_at, ended_by, with_room, next_room, made_known, first_number, is_first, is_kept, is_anew, fin_taken, unknown_taken, heard, acknowledgement_heard, payload_taken, reset_taken, known_taken, step, after, with_packet, with_capture_event, gaps_from, ended}
+use Rattle.tcp_connections.specs.Connections.{State, none_known, flow_at, began, syn_at, syn_kept, flow_of_side, place_of, room_at, ended_by, with_room, next_room, made_known, first_number, is_first, is_kept, is_anew, fin_taken, unknown_taken, acknowledgement_heard, payload_taken, reset_taken, known_taken, step, after, with_packet, with_capture_event, gaps_from, ended}
 use Rattle.tcp_connections.specs.declared.syns.KeptSyn.{KeptSyn}
 use Rattle.tcp_connections.specs.Gapless.{IsOfSegment, AreGapless, AreWhole, HaveRooms}
 use Rattle.tcp_connections.specs.Owned.{AreOwned}

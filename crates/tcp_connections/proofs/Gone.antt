@@ -13,7 +13,7 @@ use Rattle.tcp_streams.specs.declared.pair.Side.{Side}
 use Rattle.tcp_streams.specs.Lives.{lives, elder_side}
 use Rattle.tcp_streams.specs.Pairs.{compare_pairs, pair_of, opposite, flow_id}
 use Rattle.tcp_connections.specs.declared.syns.KeptSyn.{KeptSyn}
-use Rattle.tcp_connections.specs.Connections.{State, none_known, place_of, place_among, room_at, shown_by_age, ended_by, with_room, next_room, made_known, began, first_number, is_first, is_kept, is_anew, is_reset, is_near_due, is_answer, is_following, flow_of_side, syn_at, syn_kept, before_reset, fin_taken, payload_taken, reset_taken, heard, acknowledgement_heard, unknown_taken, known_taken, step, after}
+use Rattle.tcp_connections.specs.Connections.{State, none_known, place_of, place_among, room_at, shown_by_age, ended_by, with_room, next_room, made_known, began, first_number, is_first, is_kept, is_anew, is_reset, is_near_due, is_answer, is_following, flow_of_side, syn_at, syn_kept, before_reset, fin_taken, payload_taken, reset_taken, acknowledgement_heard, unknown_taken, known_taken, step, after}
 use Rattle.tcp_connections.specs.Forgetting.{MakesRoom, MakesWay, BeginsAnew, IsForgottenBy}
 use Rattle.tcp_connections.specs.State.{IsSound}
 use Rattle.tcp_connections.proofs.Cases.{no_reset, a_reset, unknown_nothing, unknown_first, room_there, step_unknown, step_kept, step_anew, step_known}

@@ -1,10 +1,9 @@
 -- What taking, closing and a FIN keep, a flow keeps whatever comes.
-use Rattle.std.proofs.Common.{◌≡◌, ℕ, zero, suc, Bool, true, false, cond, ◌&&◌, length, Option, Some, None, is_some, refl}
+use Rattle.std.proofs.Common.{◌≡◌, ℕ, zero, suc, Bool, true, false, cond, length, Option, Some, None, is_some, refl}
 use Rattle.std.specs.List.{remove}
 use Rattle.tcp_flow.specs.declared.hearing.Heard.{Heard}
 use Rattle.tcp_flow.specs.declared.flow.CloseCause.{CloseCause}
 use Rattle.tcp_flow.specs.declared.flow.CloseCause.TheVariants.{Fin, Gap}
-use Rattle.tcp_waiting.specs.Numbers.{is_to_come}
 use Rattle.tcp_flow.specs.Flow.{Flow, Reader, Setting, taken, first_of, is_due, at, drained_at_most, drained, fin_is_reached, closed, without_stale_fin, ended, gone_on, gap, is_too_much, within_bounds, is_lost, heard}
 
 pub record Keeps (F : Reader) (P : Flow → Type 0) : Type 0 where

@@ -2,14 +2,14 @@
 -- alone.
 use Rattle.std.proofs.Common.{◌≡◌, ℕ, zero, suc, ◌+◌, ◌-◌, ◌/◌, ◌<◌, ◌≤◌, Bool, true, false, cond, nat_eq, nat_lt, ◌&&◌, ◌||◌, not, List, [], ◌∷◌, ◌++◌, length, get_or, Option, Some, None, is_some, refl, sym, ◌∙◌, ap, subst, arith, inl, inr}
 use Rattle.std.specs.List.{insert, remove}
-use Rattle.std.proofs.lemmas.Bool.{cases_Bool, and_cases, or_cases, or_parts, and_parts, ltb-false, true≢false, eq-eqb, or_left, or_right, and_left, cond-true, cond-false}
+use Rattle.std.proofs.lemmas.Bool.{cases_Bool, and_cases, or_cases, or_parts, and_parts, ltb-false, true≢false, eq-eqb, or_left, or_right, cond-true, cond-false}
 use Rattle.std.proofs.lemmas.List.{nil_from_length}
 use Rattle.std.proofs.lemmas.List.Edits.{length-insert}
 use Rattle.tcp_flow.specs.declared.flow.CloseCause.{CloseCause}
 use Rattle.tcp_flow.specs.declared.flow.CloseCause.TheVariants.{Gap, Fault}
 use Rattle.tcp_flow.specs.declared.hearing.Heard.{Heard}
 use Rattle.std.specs.Option.{option_map}
-use Rattle.tcp_waiting.specs.Numbers.{ahead, age, is_to_come, onward, rank}
+use Rattle.tcp_waiting.specs.Numbers.{ahead, age, onward, rank}
 use Rattle.tcp_waiting.specs.Payload.{without_first, Payload, no_payload, window, earlier, first, blocks_of, is_far, has_as_much, put, place_of, key_of}
 use Rattle.tcp_flow.specs.Flow.{Flow, Event, Begins, Delivers, Closes, Reader, Setting, left, with_event, delivered, begun, told_from, taken, stream_at, first_of, at, drained_at_most, drained, closed, gone_on, gap, is_too_much, within_bounds, is_lost, heard, holding, payload_came, fin_came}
 use Rattle.tcp_waiting.proofs.Order.{first_within, first_own, place_within}

@@ -1,6 +1,5 @@
 use Rattle.std.proofs.Common.{◌≡◌, ◌≤◌, Some, length, refl, sym, ap, ◌∙◌, arith}
-use Rattle.tcp_flow.specs.declared.hearing.Heard.{Heard}
-use Rattle.tcp_flow.specs.Flow.{Flow, Hears}
+use Rattle.tcp_flow.specs.Flow.{Flow}
 use Rattle.tcp_waiting.specs.Payload.{blocks_of}
 use Rattle.tcp_flow.specs.State.{state}
 use Rattle.tcp_connections.specs.Connections.{State, flow_at, heard}

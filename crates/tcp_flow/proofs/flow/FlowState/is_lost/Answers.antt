@@ -1,4 +1,4 @@
-use Rattle.std.proofs.Common.{◌≡◌, ◌<◌, ℕ, false, get_or, length, sym, ◌∙◌, ap}
+use Rattle.std.proofs.Common.{◌<◌, ℕ, false, get_or, length, sym, ◌∙◌, ap}
 use Rattle.std.specs.Prelude.{Option, Some, None}
 use Rattle.tcp_waiting.specs.Payload.{no_payload}
 use Rattle.tcp_waiting.proofs.Order.{first_within}
