@@ -201,7 +201,8 @@ known_gone F w place s p l found k e =
     (fin_kept F paid id s).known ∙ (payload_kept F told id s).known
     ∙ (acknowledgement_kept F seen (flow_id room (opposite side)) s).known in
     let e : place_of p (reset_taken F ended place side s).known ≡ None =
-    sym (ap (place_of p) (heard_kept F (reset_taken F ended place side s) id None false).known) ∙ e in
+    sym (ap (place_of p) (heard_kept F (reset_taken F ended place side s) id None false).known)
+    ∙ e in
     elim (cases_Bool (is_reset (flow_of_side ended place side) s)) [
       | inr r ↦ absurd (both (place_of p w.known) k (sym (ap (place_of p) known)
           ∙ sym (ap (λ (u : State). place_of p u.known) (no_reset F ended place side s r)) ∙ e))

@@ -97,13 +97,15 @@ record Rows : Type 0 where
       ≡ Begins 7 1000 ∷ Delivers 7 header ∷ []
   half-a-second-is-too-soon : in_flows (events (held_at 70 ∷ heard_at (Some 1020) false 500000070
       ∷ []) 1000) ≡ Begins 7 1000 ∷ Delivers 7 header ∷ []
-  a-second-after-it : in_flows (events (held_at 70 ∷ heard_at (Some 1020) false 1000000070 ∷ []) 1000)
+  a-second-after-it : in_flows (events (held_at 70 ∷ heard_at (Some 1020) false 1000000070 ∷ [])
+      1000)
       ≡ Begins 7 1000 ∷ Delivers 7 header ∷ Closes 7 Gap ∷ Begins 7 1010 ∷ Delivers 7 header ∷ []
   at-once-with-octets : in_flows (events (held_at 70 ∷ heard_at (Some 1020) true 60 ∷ []) 1000)
       ≡ Begins 7 1000 ∷ Delivers 7 header ∷ Closes 7 Gap ∷ Begins 7 1010 ∷ Delivers 7 header ∷ []
   octets-alone-acknowledge-nothing : in_flows (events (held_at 70 ∷ heard_at None true 29999999999
       ∷ []) 1000) ≡ Begins 7 1000 ∷ Delivers 7 header ∷ []
-  thirty-seconds-after-it : in_flows (events (held_at 70 ∷ heard_at None false 30000000070 ∷ []) 1000)
+  thirty-seconds-after-it : in_flows (events (held_at 70 ∷ heard_at None false 30000000070 ∷ [])
+      1000)
       ≡ Begins 7 1000 ∷ Delivers 7 header ∷ Closes 7 Gap ∷ Begins 7 1010 ∷ Delivers 7 header ∷ []
   fault-and-the-next-begins : in_flows (events (octets 1006 (255 ∷ []) ∷ octets 1007 header ∷
       []) 1000)
@@ -124,9 +126,8 @@ unfolding header_at chain_from stream_at left with_event delivered begun told_fr
     first
     first_of at is_due drained_at_most drained fin_is_reached closed without_stale_fin ended
     gone_on gap blocks_of is_far is_too_much within_bounds has_as_much holding place_of payload_came
-    fin_came is_lost heard step after first_payload events in_flows setting packet octets acknowledged held_at heard_at
-    header message any_bad
-    is_bad
+    fin_came is_lost heard step after first_payload events in_flows setting packet octets
+    acknowledged held_at heard_at header message any_bad is_bad
 rows = record {
   begins = refl;
   retransmission-falls-away = refl;
