@@ -116,6 +116,7 @@ class Reading:
         """All that is said."""
         unread: List[int] = []
         for self._capture.packet, packet in enumerate(self._packets):
+            self._capture.time = packet.time
             if not is_read(packet.link) and packet.link not in unread and len(unread) < MOST_LINKS:
                 unread.append(packet.link)
             segment = segment_of(packet)

@@ -11,6 +11,7 @@ from .stream import header_fault, size_of
 
 WINDOW = 1_048_576
 BLOCK = 1024
+SECOND = 10**9  # nanoseconds
 
 
 @dataclass
@@ -49,11 +50,12 @@ class Stream:
 
 
 class Held(NamedTuple):
-    """A payload that came too early, and its packet."""
+    """A payload that came too early, its packet and that one's time."""
 
     number: int
     octets: bytes
     packet: int
+    time: Optional[int]
 
 
 class FlowState:
@@ -90,10 +92,10 @@ class FlowState:
         before = -self.ahead(held.number)
         if before <= 0 or self.live is None and before > WINDOW:
             return held
-        return Held(self._due, held.octets[before:], held.packet)
+        return held._replace(number=self._due, octets=held.octets[before:])
 
     def payload_came(self, number: int, octets: bytes) -> None:
-        left = self._left(Held(number, octets, self._capture.packet))
+        left = self._left(Held(number, octets, self._capture.packet, self._capture.time))
         if not left.octets or any(
             held.number == left.number and len(held.octets) >= len(left.octets) for held in self.held
         ):
@@ -111,9 +113,22 @@ class FlowState:
             self._fin = number
             self.go_on()
 
-    def acknowledged(self, number: int) -> None:
-        while self.held and self.ahead(number) > 0:
+    def packet_came(self, acknowledged: Optional[int], has_octets: bool) -> None:
+        """A packet of the connection: what it acknowledges of the flow, and whether it has octets of the other side."""
+        while self.held and self._is_missed(acknowledged, has_octets):
             self.gap()
+
+    def _is_missed(self, acknowledged: Optional[int], has_octets: bool) -> bool:
+        """Whether what is missing in front of what is held is given up."""
+        is_received = acknowledged is not None and self.ahead(acknowledged) > 0
+        first, now = self.held[self._first()].time, self._capture.time
+        if first is None or now is None:
+            return is_received
+        return is_received and (has_octets or now - first >= SECOND) or now - first >= 30 * SECOND
+
+    def _first(self) -> int:
+        """The place of the first of what is held."""
+        return min(range(len(self.held)), key=lambda at: (self.ahead(self.held[at].number), at))
 
     def gap(self) -> None:
         self.close("gap")
@@ -131,7 +146,7 @@ class FlowState:
 
     def _take_held(self) -> None:
         while self.held:
-            place = min(range(len(self.held)), key=lambda at: (self.ahead(self.held[at].number), at))
+            place = self._first()
             if self.live and self.ahead(self.held[place].number) > 0:
                 return
             left = self._left(self.held.pop(place))
@@ -231,6 +246,7 @@ class Capture:
         self.limits = limits
         self.streams: List[Stream] = []
         self.packet = -1  # the packet that is read
+        self.time: Optional[int] = None  # of that packet, in nanoseconds
         self._known: Dict[FrozenSet[Endpoint], Connection] = {}
         self._connections = 0
         self._segments = 0
@@ -278,8 +294,8 @@ class Capture:
             connection = self._made_known(ends)
         connection.last = self._segments
         opposite = connection.flows.get(segment.flow.opposite())
-        if opposite and segment.acknowledged is not None:
-            opposite.acknowledged(segment.acknowledged)
+        if opposite:
+            opposite.packet_came(segment.acknowledged, len(segment.payload) > 0)
         state = connection.flows.get(segment.flow)
         if state is None and self._may_begin(segment):
             state = FlowState(segment.flow, segment.number, self, connection)
@@ -290,6 +306,8 @@ class Capture:
             state.fin_came(segment.end())
         if state and segment.is_reset and state.is_near(segment.sequence):
             self._forget(ends, segment.flow, "reset")
+        elif state:
+            state.packet_came(None, False)
 
     def _may_begin(self, segment: Segment) -> bool:
         """Whether a segment has the first stream of its flow."""
