@@ -64,6 +64,7 @@ need_giop_stat() {
 # The library of checks/failing.c, as $failing. It is made in a folder of its own, which goes when the script ends.
 need_failing() {
     need_program cc gcc
+    need_file /usr/include/errno.h libc6-dev
     local folder
     folder=$(mktemp -d)
     trap 'rm -rf "'"$folder"'"' EXIT
