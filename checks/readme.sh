@@ -10,6 +10,8 @@ for program in jq mscgen omniidl parallel pv tcpdump; do
     need_program "$program" "$program"
 done
 need_program objdump binutils
+need_file /usr/share/javascript/chart.js/chart.min.js libjs-chart.js
+need_file /usr/lib/python3/dist-packages/jinja2 python3-jinja2
 need_giopdump
 need_giopcap
 need_giop_json
