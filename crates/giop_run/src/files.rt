@@ -54,7 +54,10 @@ pub fn front<S: Source>(alloc: Global, source: &mut S, most: u64) -> io::Result<
     ensures err { IfErr result (λ error. (error_kind error ≡ ErrorKind.OutOfMemory)
         ⊎ S.fails source.old (error_kind error)) }
 {
-    let mut octets = Vec::new(alloc);
+    // Room for a read at the beginning: so how often it grows depends on what the file holds alone.
+    let Ok(mut octets) = Vec::with_capacity(alloc, ROOM) else {
+        return Err(io::Error::from(ErrorKind::OutOfMemory));
+    };
     let mut buffer = [0; ROOM];
     let limit = one_more(most);
     for _turn in 0..limit {
