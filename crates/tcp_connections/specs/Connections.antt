@@ -12,7 +12,7 @@ use Rattle.tcp_waiting.specs.Payload.{Payload, first}
 use Rattle.tcp_flow.specs.declared.flow.CloseCause.{CloseCause}
 use Rattle.tcp_flow.specs.declared.flow.CloseCause.TheVariants.{Reset, Syn, Room, Gap, End as CaptureEnd}
 use Rattle.tcp_flow.specs.declared.flow.FlowState.{FlowState}
-use Rattle.tcp_flow.specs.Flow.{Flow, Event, CaptureEvent, Opens, OfCapture, Reader, Arrival, Octets, End, Hears, setting, is_near, stream_at, closed, gap, step as flow_step, first_payload, held_by_others}
+use Rattle.tcp_flow.specs.Flow.{Flow, Event, CaptureEvent, Opens, OfCapture, Passes, Reader, Arrival, Octets, End, Hears, setting, is_near, stream_at, closed, gap, step as flow_step, first_payload, held_by_others}
 use Rattle.tcp_flow.specs.State.{state}
 use Rattle.tcp_connections.specs.declared.syns.KeptSyn.{KeptSyn}
 use Rattle.tcp_rooms.specs.Rooms.{rooms_below}
@@ -57,6 +57,10 @@ none_known ports blocks most events = record {
   arrival = record { time = None; packet = 0 };
 }
 
+-- the listener is told of what happens in the capture, and nothing else changes
+abbrev pub with_capture_event : State → CaptureEvent → State
+with_capture_event w event = record w { events = w.events ++ OfCapture event ∷ [] }
+
 -- ---- One flow.
 
 -- a flow from its first stream on, by its id
@@ -65,7 +69,14 @@ flow_at w id = get_or w.flows id None
 
 -- what is kept of a flow
 abbrev pub flow_state : Flow → FlowState
-flow_state f = record { id = f.id; next = f.next; live = f.live; fin = f.fin }
+flow_state f = record {
+  id = f.id;
+  next = f.next;
+  live = f.live;
+  fin = f.fin;
+  since = f.since;
+  has_begun = f.has_begun;
+}
 
 -- a flow is so from now on
 unfoldable pub with_flow : State → ℕ → Flow → State
@@ -255,6 +266,15 @@ is_chosen ports flow =
 abbrev pub is_first : List ℕ → Segment → Bool
 is_first ports s = not s.reset && is_chosen ports s.flow && is_some (stream_at s.payload)
 
+-- whether a segment's payload is looked through where nothing of its flow came
+abbrev pub is_looked_through : List ℕ → Segment → Bool
+is_looked_through ports s = not s.reset && is_chosen ports s.flow && nat_lt 0 (length s.payload)
+
+-- no stream begins in it
+unfoldable pub looked_through : State → Segment → State
+looked_through w s =
+    cond (is_looked_through w.ports s) (with_capture_event w (Passes s.payload)) w
+
 -- ---- A SYN of a known connection.
 
 -- whether a number is near the one that is due in a flow, of which something began
@@ -315,7 +335,8 @@ unknown_taken F w s =
     let v : State = with_room F w in
     let id : ℕ = flow_id (next_room v.free) (pair_of s.flow).1 in
     cond (is_first w.ports s)
-    (fin_taken F (began F (made_known v (pair_of s.flow).0) id (first_number s) s.payload) id s) w
+    (fin_taken F (began F (made_known v (pair_of s.flow).0) id (first_number s) s.payload) id s)
+    (looked_through w s)
 
 -- the packet that is read says what it acknowledges of a flow, and whether it has octets of the
 -- opposite flow
@@ -334,7 +355,8 @@ acknowledgement_heard F w id s = heard F w id s.acknowledgement (nat_lt 0 (lengt
 unfoldable pub payload_taken : Reader → State → ℕ → Segment → State
 payload_taken F w id s =
     elim (flow_at w id) [
-      | None ↦ cond (is_first w.ports s) (began F w id (first_number s) s.payload) w
+      | None ↦
+          cond (is_first w.ports s) (began F w id (first_number s) s.payload) (looked_through w s)
       | Some f ↦ cond s.reset w (arrived F w id (Octets (first_number s) s.payload w.arrival))
     ]
 
@@ -398,10 +420,6 @@ abbrev pub with_packet : State → Option ℕ → State
 with_packet w time = record w {
   arrival = record { time = time; packet = min (w.arrival.packet + 1) (2 ^ 64 - 1) };
 }
-
--- the listener is told of it, and nothing else changes
-abbrev pub with_capture_event : State → CaptureEvent → State
-with_capture_event w event = record w { events = w.events ++ OfCapture event ∷ [] }
 
 -- ---- The end of the capture.
 

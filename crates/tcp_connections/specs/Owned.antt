@@ -34,7 +34,7 @@ owner (Live flow due) = Some flow
 -- whether an event is of the flow of an id
 abbrev pub is_of : ℕ → Event → Bool
 is_of id (Opens flow endpoints) = nat_eq flow id
-is_of id (Begins flow number) = nat_eq flow id
+is_of id (Begins flow start) = nat_eq flow id
 is_of id (Delivers flow octets) = nat_eq flow id
 is_of id (Closes flow cause) = nat_eq flow id
 is_of id (OfCapture event) = false
@@ -42,7 +42,7 @@ is_of id (OfCapture event) = false
 -- the same after such an event: it opens, and stands for these endpoints then
 abbrev pub behind : Standing → Event → Standing
 behind s (Opens id flow) = Idle flow
-behind (Idle flow) (Begins id number) = Live flow number
+behind (Idle flow) (Begins id start) = Live flow start.number
 behind (Live flow due) (Delivers id octets) = Live flow (onward due (length octets))
 behind (Live flow due) (Closes id cause) = Idle flow
 behind s event = s
@@ -52,7 +52,7 @@ behind s event = s
 abbrev pub MayCome : List Segment → Standing → Event → Type 0
 MayCome segments Unopened (Opens id flow) = Unit {0}
 MayCome segments (Idle before) (Opens id flow) = Unit {0}
-MayCome segments (Idle flow) (Begins id number) = Unit {0}
+MayCome segments (Idle flow) (Begins id start) = Unit {0}
 MayCome segments (Live flow due) (Delivers id octets) = IsPartOf segments flow due octets
 MayCome segments (Live flow due) (Closes id cause) = Unit {0}
 MayCome segments s event = ⊥

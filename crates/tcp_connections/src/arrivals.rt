@@ -16,8 +16,9 @@ use tcp_waiting::onward;
 impl Connections {
     ghost use Rattle.tcp_connections.specs.Connections.{is_first, is_chosen, acknowledgement_heard, heard};
     ghost use Rattle.tcp_connections.specs.Connections.{payload_taken, began, arrived, fin_taken};
+    ghost use Rattle.tcp_connections.specs.Connections.{State, looked_through};
     ghost use Rattle.tcp_flow.specs.Flow.{End};
-    ghost use Rattle.tcp_connections.specs.State.{HasState, Makes, times};
+    ghost use Rattle.tcp_connections.specs.State.{IsState, HasState, Makes, times};
 
     /// A segment says what it acknowledges of the opposite flow, and whether it has octets.
     pub(crate) fn acknowledgement<L: Listener + Drop>(
@@ -120,9 +121,22 @@ impl Connections {
         ensures cause { OnErr result (L.failed to.new.listener) }
     {
         if !self.is_first(segment) {
+            self.pass(segment, to);
             return Ok(());
         }
         self.begin(id, segment, to)
+    }
+
+    /// No stream begins in a payload of a flow of which nothing came: it was looked through, where
+    /// it has octets and one of the ports is chosen.
+    pub(crate) fn pass<L: Listener + Drop>(&self, segment: Segment<'_>, to: &mut Streams<L>)
+        ensures { (w : State) → IsState (L.observed to.old.listener) to.old.live.items self.now w
+            → IsState (L.observed to.new.listener) to.new.live.items self.now
+            (looked_through w (segment_view segment.entry)) }
+    {
+        if !segment.reset && self.is_chosen(segment.flow) && !segment.payload.is_empty() {
+            to.passes(segment.payload);
+        }
     }
 
     /// The first stream of a flow begins.

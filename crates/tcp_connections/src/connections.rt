@@ -179,6 +179,7 @@ impl Connections {
         ensures cause { OnErr result (L.failed to.new.listener) }
     {
         if !self.is_first(segment) {
+            self.pass(segment, to);
             return Ok(());
         }
         self.make_room(to)?;

@@ -1,20 +1,21 @@
 //! A listener that writes what it is told, a line each.
 
-ghost use Rattle.std.specs.Prelude.{◌≡◌, OnErr, true, false};
+ghost use Rattle.std.specs.Prelude.{◌≡◌, OnErr, true, None};
 
 use crate::endpoint::shown;
 use std::fmt;
-use tcp_flow::{CloseCause, Listener, ListenerFault};
+use tcp_flow::{CloseCause, Listener, ListenerFault, Start};
 use tcp_segment::Flow;
 use tcp_waiting::Arrival;
 
-/// What is told of the flow of an id.
+/// What is told of the flow of an id, or of octets in which no stream begins.
 #[derive(Clone, Copy)]
 enum Told<'a> {
     Opens(u32, Flow),
-    Begins(u32, u32),
+    Begins(u32, Start),
     Delivers(u32, &'a [u8]),
     Closes(u32, CloseCause),
+    Passes(&'a [u8]),
 }
 
 impl fmt::Display for Told<'_> {
@@ -25,14 +26,30 @@ impl fmt::Display for Told<'_> {
                 let to = shown(flow.to);
                 write!(f, "opens {id} {from} > {to}")
             }
-            Told::Begins(id, number) => write!(f, "begins {id} {number}"),
+            Told::Begins(id, start) => write_start(f, id, start),
             Told::Delivers(id, octets) => {
                 write!(f, "delivers {id} ")?;
                 write_octets(f, octets)
             }
             Told::Closes(id, cause) => write!(f, "closes {id} {}", cause_word(cause)),
+            Told::Passes(octets) => {
+                write!(f, "passes ")?;
+                write_octets(f, octets)
+            }
         }
     }
+}
+
+/// Writes the beginning of a stream: its number, and where it holds, how many octets are in no stream and that it is found.
+fn write_start<W: fmt::Write>(f: &mut fmt::Formatter<W>, id: u32, start: Start) -> fmt::Result {
+    write!(f, "begins {id} {}", start.number)?;
+    if start.passed != 0 {
+        write!(f, " passed {}", start.passed)?;
+    }
+    if start.is_found {
+        write!(f, " found")?;
+    }
+    Ok(())
 }
 
 /// Writes octets in hexadecimal text.
@@ -82,7 +99,7 @@ impl Listener for Teller {
 
     ghost failed = { λ s. s.has_failed ≡ true };
 
-    ghost faulted = { λ events. false };
+    ghost faulted = { λ events. None };
 
     fn opens(&mut self, flow: u32, endpoints: Flow) -> Result<(), ListenerFault> {
         self.tell(Told::Opens(flow, endpoints))
@@ -90,13 +107,18 @@ impl Listener for Teller {
 
     fn comes_from(&mut self, _arrival: Arrival) {}
 
-    fn begins(&mut self, flow: u32, number: u32) -> Result<(), ListenerFault> {
-        self.tell(Told::Begins(flow, number))
+    fn passes(&mut self, octets: &[u8]) {
+        // It can't say that it fails: it does at what is told next.
+        let _told = self.tell(Told::Passes(octets));
     }
 
-    fn delivers(&mut self, flow: u32, octets: &[u8]) -> Result<bool, ListenerFault> {
+    fn begins(&mut self, flow: u32, start: Start) -> Result<(), ListenerFault> {
+        self.tell(Told::Begins(flow, start))
+    }
+
+    fn delivers(&mut self, flow: u32, octets: &[u8]) -> Result<Option<u64>, ListenerFault> {
         self.tell(Told::Delivers(flow, octets))?;
-        Ok(false)
+        Ok(None)
     }
 
     fn closes(&mut self, flow: u32, cause: CloseCause) -> Result<(), ListenerFault> {

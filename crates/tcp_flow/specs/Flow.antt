@@ -1,27 +1,29 @@
 -- One flow of a TCP connection, from its first stream on: what it holds, and what happens.
-use Rattle.std.specs.Prelude.{ℕ, zero, suc, ◌+◌, ◌-◌, ◌*◌, ◌%◌, Bool, true, false, cond, nat_lt, nat_le, nat_eq, ◌&&◌, ◌||◌, not, List, [], ◌∷◌, ◌++◌, length, drop, Option, Some, None, get_or, is_some}
+use Rattle.std.specs.Prelude.{ℕ, zero, suc, ◌+◌, ◌-◌, ◌*◌, ◌%◌, Bool, true, false, cond, nat_lt, nat_le, nat_eq, ◌&&◌, ◌||◌, not, List, [], ◌∷◌, ◌++◌, length, drop, Option, Some, None, get_or, is_some, unwrap_or}
 use Rattle.std.specs.Option.{option_map}
 use Rattle.std.specs.List.{remove}
 use Rattle.tcp_flow.specs.declared.flow.CloseCause.{CloseCause}
 use Rattle.tcp_flow.specs.declared.flow.CloseCause.TheVariants.{Fin, Gap, Fault}
+use Rattle.tcp_flow.specs.declared.flow.Start.{Start}
 use Rattle.tcp_flow.specs.declared.hearing.Heard.{Heard}
 use Rattle.tcp_segment.specs.declared.endpoint.Flow as endpoints
 use Rattle.tcp_waiting.specs.declared.arrival.Arrival as origin
 use Rattle.tcp_waiting.specs.Payload.{Payload, payload, no_payload, without_first, window, first, blocks_of, is_far, has_as_much, put}
 use Rattle.tcp_waiting.specs.Numbers.{ahead, onward, age, is_to_come}
 
--- what happens in a capture beside its flows: what is delivered next came in this packet; it has a
--- fault, of this word, at the octet of this number
+-- what happens in a capture beside its flows: what is delivered next came in this packet; octets were
+-- looked through, and no stream begins in them; it has a fault, of this word, at the octet of this
+-- number
 pub data CaptureEvent : Type 0 where
   ComesFrom : origin.Arrival → CaptureEvent
+  Passes : List ℕ → CaptureEvent
   HasFault : List ℕ → ℕ → CaptureEvent
 
 -- what happens in flows, each by its id: the id stands for the flow between these endpoints from
--- now on, a stream begins at a number, octets are delivered to it, it closes; and what happens in
--- the capture
+-- now on, a stream begins, octets are delivered to it, it closes; and what happens in the capture
 pub data Event : Type 0 where
   Opens : ℕ → endpoints.Flow → Event
-  Begins : ℕ → ℕ → Event
+  Begins : ℕ → Start → Event
   Delivers : ℕ → List ℕ → Event
   Closes : ℕ → CloseCause → Event
   OfCapture : CaptureEvent → Event
@@ -29,15 +31,15 @@ pub data Event : Type 0 where
 -- the flow in which an event happens, where it happens in one
 abbrev pub flow_of : Event → Option ℕ
 flow_of (Opens id flow) = Some id
-flow_of (Begins id number) = Some id
+flow_of (Begins id start) = Some id
 flow_of (Delivers id octets) = Some id
 flow_of (Closes id cause) = Some id
 flow_of (OfCapture event) = None
 
--- whether the reader of the stream that octets were delivered to last is at a fault, by all that
--- has happened
+-- the octet at which the reader of the stream that octets were delivered to last is at a fault,
+-- counted from 1 in the stream, if it is at one: by all that has happened
 abbrev pub Reader : Type 0
-Reader = List Event → Bool
+Reader = List Event → Option ℕ
 
 -- what a flow stands among: the readers, and the blocks of the pool
 pub record Setting : Type 0 where
@@ -48,13 +50,15 @@ abbrev pub setting : Reader → ℕ → Setting
 setting faulted blocks = record { faulted = faulted; blocks = blocks }
 
 -- a flow: its id, the number that is due, the number that its live stream began with, a FIN to
--- come;
+-- come; from which number on octets are in no stream, while none lives, and whether one has begun;
 -- what this and other flows hold, in its order; and what has happened in all of them
 pub record Flow : Type 0 where
   pub id : ℕ
   pub next : ℕ
   pub live : Option ℕ
   pub fin : Option ℕ
+  pub since : ℕ
+  pub has_begun : Bool
   pub held : List Payload
   pub events : List Event
 
@@ -131,26 +135,51 @@ left next live p = cond (nat_lt window (age next p.number) && not live) p
 unfoldable pub with_event : Flow → Event → Flow
 with_event f h = record f { events = f.events ++ h ∷ [] }
 
+-- the live stream closes, and octets are in no stream from a number on
+unfoldable pub stopped : Flow → ℕ → CloseCause → Flow
+stopped f since cause = with_event (record f { live = None; since = since }) (Closes f.id cause)
+
+-- the number after an octet of the live stream, which is counted from 1
+abbrev pub number_after : Flow → ℕ → ℕ
+number_after f at = onward (unwrap_or f.live f.next) at
+
+-- it closes if its reader is at a fault: what is after the octet of the fault is in no stream
+unfoldable pub checked : Flow → Option ℕ → Flow
+checked f None = f
+checked f (Some at) = stopped f (number_after f at) Fault
+
 -- octets are delivered to the live stream, whose reader may come to a fault
 unfoldable pub delivered : Reader → Flow → Payload → Flow
 delivered F f p =
     let g : Flow =
     with_event (record f { next = onward p.number (length p.octets) }) (Delivers f.id p.octets) in
-    cond (F g.events) (with_event (record g { live = None }) (Closes f.id Fault)) g
+    checked g (F g.events)
 
--- the octets from a header on are delivered to a new stream
+-- the beginning of a stream at a number: it is found where octets are in no stream before it, or a
+-- stream of the flow came before it
+abbrev pub start_at : ℕ → Bool → ℕ → Start
+start_at since has_begun n = record {
+  number = n;
+  passed = ahead since n;
+  is_found = has_begun || nat_lt 0 (ahead since n);
+}
+
+-- a stream begins at a number
+unfoldable pub started : Flow → ℕ → Flow
+started f n =
+    with_event (record f { live = Some n; has_begun = true })
+    (Begins f.id (start_at f.since f.has_begun n))
+
+-- the octets from a header on are delivered to a new stream, if they have one
 unfoldable pub begun : Reader → Flow → Payload → Option ℕ → Flow
-begun F f p None = f
-begun F f p (Some i) =
-    delivered F
-    (with_event (record f { live = Some (onward p.number i) }) (Begins f.id (onward p.number i)))
-    (without_first i p)
+begun F f p None = with_event f (OfCapture (Passes p.octets))
+begun F f p (Some i) = delivered F (started f (onward p.number i)) (without_first i p)
 
 -- what is told next came in the packet of a payload
 unfoldable pub told_from : Flow → Payload → Flow
 told_from f p = with_event f (OfCapture (ComesFrom p.arrival))
 
--- a payload is taken: delivered, or a stream begins in it, or it is nothing
+-- a payload is taken: delivered, or a stream begins in it, or none begins in what was looked through
 unfoldable pub taken : Reader → Flow → Payload → Flow
 taken F f p =
     let q : Payload = left f.next (is_some f.live) p in
@@ -191,7 +220,7 @@ fin_is_reached next live None = false
 fin_is_reached next live (Some n) = live && not (is_to_come next n)
 
 unfoldable pub closed : Flow → CloseCause → Flow
-closed f cause = cond (is_some f.live) (with_event (record f { live = None }) (Closes f.id cause)) f
+closed f cause = cond (is_some f.live) (stopped f f.next cause) f
 
 -- a FIN is kept only while a stream is live
 unfoldable pub without_stale_fin : Flow → Flow
@@ -288,8 +317,16 @@ after A f (c ∷ cs) = after A (step A f c) cs
 
 -- a flow of which nothing came: a number is due
 abbrev pub fresh : ℕ → ℕ → List Payload → List Event → Flow
-fresh id n held events =
-    record { id = id; next = n; live = None; fin = None; held = held; events = events }
+fresh id n held events = record {
+  id = id;
+  next = n;
+  live = None;
+  fin = None;
+  since = n;
+  has_begun = false;
+  held = held;
+  events = events;
+}
 
 -- a flow of which the first payload with a header comes: its number is due
 unfoldable pub first_payload : Setting → ℕ → ℕ → List ℕ → origin.Arrival → List Payload →

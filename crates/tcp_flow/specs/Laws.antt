@@ -16,7 +16,7 @@ pub record IsPartOf (payloads : List Payload) (id number : ℕ) (octets : List �
 -- one event of the flow, by the number that is due in the live stream before and after it
 unfoldable pub OwnMayFollow : List Payload → ℕ → Option ℕ → Event → Option ℕ → Type 0
 OwnMayFollow payloads id None (Opens flow endpoints) None = Unit {0}
-OwnMayFollow payloads id None (Begins flow n) (Some due) = n ≡ due
+OwnMayFollow payloads id None (Begins flow start) (Some due) = start.number ≡ due
 OwnMayFollow payloads id (Some due) (Delivers flow octets) (Some next) =
     IsPartOf payloads id due octets × (next ≡ onward due (length octets))
 OwnMayFollow payloads id (Some due) (Closes flow cause) None = Unit {0}

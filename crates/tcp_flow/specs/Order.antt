@@ -8,7 +8,7 @@ use Rattle.tcp_flow.specs.Flow.{Flow, Event, Opens, Begins, Delivers, Closes, Of
 -- the octets that an event delivers to a flow
 abbrev pub octets_in : ℕ → Event → List ℕ
 octets_in id (Opens flow endpoints) = []
-octets_in id (Begins flow number) = []
+octets_in id (Begins flow start) = []
 octets_in id (Delivers flow octets) = cond (nat_eq flow id) octets []
 octets_in id (Closes flow cause) = []
 octets_in id (OfCapture event) = []
@@ -21,7 +21,7 @@ octets_of id (e ∷ es) = octets_in id e ++ octets_of id es
 -- how many streams of a flow an event closes
 abbrev pub closes_in : ℕ → Event → ℕ
 closes_in id (Opens flow endpoints) = 0
-closes_in id (Begins flow number) = 0
+closes_in id (Begins flow start) = 0
 closes_in id (Delivers flow octets) = 0
 closes_in id (Closes flow cause) = cond (nat_eq flow id) 1 0
 closes_in id (OfCapture event) = 0

@@ -5,8 +5,16 @@ use Rattle.tcp_waiting.specs.Payload.{Payload}
 use Rattle.tcp_flow.specs.Flow.{Flow, Event}
 
 abbrev pub state : FlowState → List Payload → List Event → Flow
-state s held events =
-    record { id = s.id; next = s.next; live = s.live; fin = s.fin; held = held; events = events }
+state s held events = record {
+  id = s.id;
+  next = s.next;
+  live = s.live;
+  fin = s.fin;
+  since = s.since;
+  has_begun = s.has_begun;
+  held = held;
+  events = events;
+}
 
 -- the code has a flow: what is held is so, and the listener has observed all that has happened
 pub record IsState (O : List Event → Type 0) (s : FlowState) (held : List Payload) (f : Flow)

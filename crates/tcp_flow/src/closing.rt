@@ -26,6 +26,7 @@ impl FlowState {
     {
         if self.is_live() {
             self.live = None;
+            self.since = self.next;
             to.closes(self.id, cause)?;
         }
         Ok(())

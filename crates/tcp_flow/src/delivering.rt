@@ -3,13 +3,14 @@
 
 ghost use Rattle.std.specs.Prelude.{◌≡◌, ◌≤◌, List, OnOk, OnErr, is_some, length};
 
-use crate::flow::{CloseCause, FlowState, Listener, ListenerFault};
+use crate::flow::{CloseCause, FlowState, Listener, ListenerFault, Start};
 use crate::looking::stream_at;
-use tcp_waiting::{Arrival, Pool, WINDOW, age, is_to_come, onward};
+use tcp_waiting::{Arrival, Pool, WINDOW, age, ahead, is_to_come, onward};
 
 impl FlowState {
     ghost use Rattle.tcp_waiting.specs.Payload.{Payload, payload};
     ghost use Rattle.tcp_flow.specs.Flow.{Flow, left, delivered, taken, drained};
+    ghost use Rattle.tcp_flow.specs.Flow.{start_at as spec_start_at};
     ghost use Rattle.tcp_flow.specs.State.{IsState};
 
     /// What is left of a payload: what is before the number that is due falls away.
@@ -42,14 +43,28 @@ impl FlowState {
         ensures cause { OnErr result (T.failed to.new) }
     {
         self.next = onward(number, octets.len());
-        if to.delivers(self.id, octets)? {
+        if let Some(at) = to.delivers(self.id, octets)? {
+            self.since = onward(self.live.unwrap_or(self.next), at as usize);
             self.live = None;
             to.closes(self.id, CloseCause::Fault)?;
         }
         Ok(())
     }
 
-    /// A payload is taken: delivered, or a stream begins in it, or it is nothing.
+    /// The beginning of a stream at a number.
+    fn start_at(&self, number: u32) -> Start
+        ensures { result ≡ spec_start_at self.now.since self.now.has_begun number }
+    {
+        let passed = ahead(self.since, number);
+        Start {
+            number,
+            passed,
+            is_found: self.has_begun || 0 < passed,
+        }
+    }
+
+    /// A payload is taken: delivered, or a stream begins in it, or none begins in what was looked
+    /// through.
     #[inline(always)]
     pub(crate) fn take<T: Listener>(
         &mut self,
@@ -75,10 +90,12 @@ impl FlowState {
         }
         if let Some(at) = stream_at(octets) {
             let number = onward(number, at);
-            to.begins(self.id, number)?;
+            to.begins(self.id, self.start_at(number))?;
             self.live = Some(number);
+            self.has_begun = true;
             return self.deliver(number, &octets[at..], to);
         }
+        to.passes(octets);
         Ok(())
     }
 

@@ -27,6 +27,18 @@ pub enum CloseCause {
     End,
 }
 
+/// The beginning of a stream.
+#[derive(Clone, Copy, Debug, Drop, PartialEq, Eq)]
+pub struct Start {
+    /// The sequence number of its first octet.
+    pub number: u32,
+    /// How many octets, modulo 2^32, are in no stream: from where the flow's last stream closed, or its first payload began,
+    /// up to this one.
+    pub passed: u32,
+    /// Whether its place was looked for: octets are in no stream before it, or a stream of the flow came before it.
+    pub is_found: bool,
+}
+
 /// A listener couldn't go on: what it writes to failed. Nothing is promised of what comes after.
 #[derive(Clone, Copy, Debug, Drop, PartialEq, Eq)]
 pub struct ListenerFault;
@@ -34,7 +46,7 @@ pub struct ListenerFault;
 /// Is told what happens in flows, each by its id.
 pub trait Listener {
     ghost use Rattle.tcp_flow.specs.Flow.{Event, Opens, Begins, Delivers, Closes, Reader};
-    ghost use Rattle.tcp_flow.specs.Flow.{OfCapture, ComesFrom};
+    ghost use Rattle.tcp_flow.specs.Flow.{OfCapture, ComesFrom, Passes};
 
     /// The listener has observed these events of all flows, and of the capture: a relation, so that one that forgets can
     /// be a listener.
@@ -43,7 +55,8 @@ pub trait Listener {
     /// It has failed: what it writes to failed a put, or the like. From then on nothing is promised.
     ghost failed: { Self → Type 0 };
 
-    /// Whether the reader of the stream that was delivered to last is at a fault after these events.
+    /// The octet at which the reader of the stream that was delivered to last is at a fault after these events, counted from 1
+    /// in the stream, if it is at one.
     ghost faulted: { Reader };
 
     /// The id stands for a flow from now on, of which nothing came.
@@ -57,17 +70,23 @@ pub trait Listener {
         ensures { (events : List Event) → observed self.old events
             → observed self.new (events ++ OfCapture (ComesFrom arrival) ∷ []) };
 
-    /// A stream of a flow begins at a sequence number.
-    fn begins(&mut self, flow: u32, number: u32) -> Result<(), ListenerFault>
+    /// These octets were looked through, and no stream begins in them.
+    fn passes(&mut self, octets: &[u8])
+        ensures { (events : List Event) → observed self.old events
+            → observed self.new (events ++ OfCapture (Passes octets.now) ∷ []) };
+
+    /// A stream of a flow begins.
+    fn begins(&mut self, flow: u32, start: Start) -> Result<(), ListenerFault>
         ensures does { (events : List Event) → observed self.old events
-            → OnOk result (observed self.new (events ++ Begins flow number ∷ [])) }
+            → OnOk result (observed self.new (events ++ Begins flow start ∷ [])) }
         ensures cause { OnErr result (failed self.new) };
 
-    /// The next octets of a flow's live stream. Answers whether the stream's reader is at a fault.
-    fn delivers(&mut self, flow: u32, octets: &[u8]) -> Result<bool, ListenerFault>
-        ensures does { (events : List Event) → observed self.old events → IfOk result (λ at_fault.
+    /// The next octets of a flow's live stream. If the stream's reader is at a fault, answers the octet of the stream, counted
+    /// from 1, at which it is.
+    fn delivers(&mut self, flow: u32, octets: &[u8]) -> Result<Option<u64>, ListenerFault>
+        ensures does { (events : List Event) → observed self.old events → IfOk result (λ fault.
             observed self.new (events ++ Delivers flow octets.now ∷ [])
-            × (at_fault ≡ faulted (events ++ Delivers flow octets.now ∷ []))) }
+            × (fault ≡ faulted (events ++ Delivers flow octets.now ∷ []))) }
         ensures cause { OnErr result (failed self.new) };
 
     /// A flow's live stream closes.
@@ -84,6 +103,10 @@ pub struct FlowState {
     pub(crate) next: u32,
     pub(crate) live: Option<u32>,
     pub(crate) fin: Option<u32>,
+    /// From where on octets are in no stream, while none is live.
+    pub(crate) since: u32,
+    /// Whether a stream of the flow has begun.
+    pub(crate) has_begun: bool,
 }
 
 impl FlowState {
@@ -102,6 +125,8 @@ impl FlowState {
             next: number,
             live: None,
             fin: None,
+            since: number,
+            has_begun: false,
         }
     }
 

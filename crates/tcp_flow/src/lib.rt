@@ -11,7 +11,7 @@ mod hearing;
 mod laws;
 mod looking;
 
-pub use flow::{CloseCause, FlowState, Listener, ListenerFault};
+pub use flow::{CloseCause, FlowState, Listener, ListenerFault, Start};
 pub use hearing::Heard;
 pub use laws::order_makes_no_difference;
 pub use looking::stream_at;

@@ -33,7 +33,7 @@ begun id live = cond (nat_lt id most_ids) (without id live ++ id ∷ []) live
 -- the same after one more event
 unfoldable pub behind : List ℕ → Event → List ℕ
 behind live (Opens id endpoints) = live
-behind live (Begins id number) = begun id live
+behind live (Begins id start) = begun id live
 behind live (Delivers id octets) = live
 behind live (Closes id cause) = without id live
 behind live (OfCapture event) = live

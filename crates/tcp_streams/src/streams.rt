@@ -9,7 +9,7 @@ use crate::pair::Side;
 use crate::sides::flow_id;
 use std::alloc::{AllocError, Global};
 use std::collections::VecDeque;
-use tcp_flow::{CloseCause, Listener, ListenerFault};
+use tcp_flow::{CloseCause, Listener, ListenerFault, Start};
 use tcp_segment::Flow;
 use tcp_waiting::Arrival;
 
@@ -126,12 +126,16 @@ impl<L: Listener + Drop> Listener for Streams<L> {
         self.listener.comes_from(arrival);
     }
 
-    fn begins(&mut self, flow: u32, number: u32) -> Result<(), ListenerFault> {
-        begin(&mut self.live, flow);
-        self.listener.begins(flow, number)
+    fn passes(&mut self, octets: &[u8]) {
+        self.listener.passes(octets);
     }
 
-    fn delivers(&mut self, flow: u32, octets: &[u8]) -> Result<bool, ListenerFault> {
+    fn begins(&mut self, flow: u32, start: Start) -> Result<(), ListenerFault> {
+        begin(&mut self.live, flow);
+        self.listener.begins(flow, start)
+    }
+
+    fn delivers(&mut self, flow: u32, octets: &[u8]) -> Result<Option<u64>, ListenerFault> {
         self.listener.delivers(flow, octets)
     }
 

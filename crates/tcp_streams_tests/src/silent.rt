@@ -1,8 +1,8 @@
 //! A listener that keeps nothing of what it is told.
 
-ghost use Rattle.std.specs.Prelude.{false};
+ghost use Rattle.std.specs.Prelude.{None};
 
-use tcp_flow::{CloseCause, Listener, ListenerFault};
+use tcp_flow::{CloseCause, Listener, ListenerFault, Start};
 use tcp_segment::Flow;
 use tcp_waiting::Arrival;
 
@@ -15,7 +15,7 @@ impl Listener for Silent {
 
     ghost failed = { λ s. ⊥ };
 
-    ghost faulted = { λ events. false };
+    ghost faulted = { λ events. None };
 
     fn opens(&mut self, _flow: u32, _endpoints: Flow) -> Result<(), ListenerFault> {
         Ok(())
@@ -23,12 +23,14 @@ impl Listener for Silent {
 
     fn comes_from(&mut self, _arrival: Arrival) {}
 
-    fn begins(&mut self, _flow: u32, _number: u32) -> Result<(), ListenerFault> {
+    fn passes(&mut self, _octets: &[u8]) {}
+
+    fn begins(&mut self, _flow: u32, _start: Start) -> Result<(), ListenerFault> {
         Ok(())
     }
 
-    fn delivers(&mut self, _flow: u32, _octets: &[u8]) -> Result<bool, ListenerFault> {
-        Ok(false)
+    fn delivers(&mut self, _flow: u32, _octets: &[u8]) -> Result<Option<u64>, ListenerFault> {
+        Ok(None)
     }
 
     fn closes(&mut self, _flow: u32, _cause: CloseCause) -> Result<(), ListenerFault> {

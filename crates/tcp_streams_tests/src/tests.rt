@@ -1,7 +1,7 @@
 //! A pair and its flows, and streams by the order of their beginnings.
 
 use crate::silent::Silent;
-use tcp_flow::{CloseCause, Listener};
+use tcp_flow::{CloseCause, Listener, Start};
 use tcp_segment::{Address, Endpoint, Flow};
 use tcp_streams::{Side, Streams, flow_from, flow_id, other, pair_of};
 
@@ -56,12 +56,18 @@ fn streams_that_live_stand_in_the_order_of_their_beginnings(rt: HostRuntime) {
     let Ok(mut streams) = Streams::new(rt.alloc(), Silent) else {
         return;
     };
+    let start = Start {
+        number: 1,
+        passed: 0,
+        is_found: false,
+    };
     for flow in [5, 0, 2] {
-        assert!(rt; streams.begins(flow, 1).is_ok(), "flow {flow}");
+        assert!(rt; streams.begins(flow, start).is_ok(), "flow {flow}");
     }
     assert!(rt; streams.closes(0, CloseCause::Fin).is_ok());
-    assert!(rt; streams.begins(0, 1).is_ok());
+    assert!(rt; streams.begins(0, start).is_ok());
     assert!(rt; streams.delivers(0, b"GIOP").is_ok());
+    streams.passes(b"MUCH");
     assert_eq!(rt; streams.len(), 3);
     for (rank, flow) in [(0, Some(5)), (1, Some(2)), (2, Some(0)), (3, None)] {
         assert_eq!(rt; streams.live(rank), flow, "rank {rank}");
