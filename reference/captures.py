@@ -132,7 +132,8 @@ class Reading:
         lines = [self._placed(due, end) for due in sorted(self._due, key=lambda due: due[:3])]
         messages = sum(dump.messages for dump in dumps)
         total = f"total streams {len(dumps)} messages {messages} faults {faults}"
-        lines.append((self._end(), f"{total} packets {len(self._packets)} octets {self._octets}"))
+        rest = f"packets {len(self._packets)} octets {self._octets} other {self._capture.others}"
+        lines.append((self._end(), f"{total} {rest}"))
         is_cut = any(stream.closed[0] in ("gap", "room") for stream in self._capture.streams)
         return Dumped(lines, unread, is_cut or faults > 0 or self._fault is not None)
 
@@ -187,15 +188,22 @@ class Reading:
             lines.append((header.place, ANSWERS, f"m{number} answers {text}"))
         for raised in dump.raised:
             lines.append((raised.place, RAISES, f"m{raised.number} raises {raised.name.decode()}"))
-        begun = time_text(self._time(stream.packet))
-        ends = " > ".join(endpoint_text(each) for each in stream.flow)
-        self._say(stream, stream.deliveries[0], 0, 0, f"stream {ends} at {begun}")
+        self._say(stream, stream.deliveries[0], 0, 0, self._stream_line(stream))
         for place, sort, line in lines:
             self._say(stream, when(stream, place), place, sort, line)
         word, *closed = stream.closed
         for at, line in enumerate([f"closed {word}", *dump.closing]):
             self._due.append(Due(closed[0], 0, at, f"s{stream.number} {line}", closed[1]))
         return dump
+
+    def _stream_line(self, stream: Stream) -> str:
+        """The line with which a stream begins."""
+        ends = " > ".join(endpoint_text(each) for each in stream.flow)
+        start = stream.start
+        partner = f" with s{start.partner}" if start.partner else ""
+        passed = f" behind {start.passed}" if start.passed else ""
+        found = " found" if start.is_found else ""
+        return f"stream {ends} at {time_text(self._time(stream.packet))}{partner}{passed}{found}"
 
     def _say(self, stream: Stream, came: Delivery, place: int, sort: int, line: str) -> None:
         self._due.append(Due(came.happened, place, sort, f"s{stream.number} {line}", came.read))

@@ -35,15 +35,25 @@ class Delivery(NamedTuple):
     end: int
 
 
+class Start(NamedTuple):
+    """What is known of a stream where it begins: the number of the opposite flow's live stream, 0 if none lives; how many
+    octets of its own flow are in no stream before it; and whether it was looked for."""
+
+    partner: int
+    passed: int
+    is_found: bool
+
+
 @dataclass
 class Stream:
-    """A stream: the flow and the packet in which it began, its octets, how they came, and the word with which it closed, when,
-    and the packet that was read then."""
+    """A stream: the flow and the packet in which it began, what is known of its beginning, its octets, how they came, and the
+    word with which it closed, when, and the packet that was read then."""
 
     number: int
     flow: Flow
     connection: int
     packet: int
+    start: Start
     octets: bytearray = field(default_factory=bytearray)
     deliveries: List[Delivery] = field(default_factory=list)
     closed: Tuple[str, int, int] = ("", 0, 0)
@@ -69,6 +79,8 @@ class FlowState:
         self._fin: Optional[int] = None
         self._next_message = 0  # of the live stream: after how many of its octets its next message begins
         self._began = 0
+        self._since = due  # from where on octets are in no stream, while none lives
+        self._has_begun = False  # a stream of the flow
         self.live: Optional[Stream] = None
         self.held: List[Held] = []
 
@@ -159,25 +171,35 @@ class FlowState:
         if self.live is None:
             found = stream_at(held.octets)
             if found is None:
+                self._capture.others += 1
                 return
             begin = found
             self._began = (held.number + begin) % 2**32
             self._next_message = 0
-            self.live = self._capture.begun(self._flow, self._connection, held.packet)
+            self.live = self._capture.begun(self._flow, self._connection, held.packet, self._start())
+            self._has_begun = True
         self._capture.delivered(self.live, held.octets[begin:], held.packet)
         self._due = (held.number + len(held.octets)) % 2**32
         while header := bytes(self.live.octets[self._next_message : self._next_message + HEADER]):
-            if header_fault(header):
+            if fault := header_fault(header):
                 self.close("fault")
+                self._since = (self._began + self._next_message + fault[1]) % 2**32
                 return
             if len(header) < HEADER:
                 return
             self._next_message += HEADER + size_of(header)
 
+    def _start(self) -> Start:
+        """What is known of a stream that begins."""
+        passed = (self._began - self._since) % 2**32
+        opposite = self._connection.flows.get(self._flow.opposite())
+        return Start(number_of(opposite) if opposite else 0, passed, self._has_begun or passed > 0)
+
     def close(self, word: str) -> None:
         if self.live:
             self._capture.closed(self.live, word)
             self.live = None
+            self._since = self._due
 
     def end(self) -> None:
         """The end of the capture."""
@@ -245,6 +267,7 @@ class Capture:
     def __init__(self, limits: Limits) -> None:
         self.limits = limits
         self.streams: List[Stream] = []
+        self.others = 0  # payloads that were looked through and in which no stream begins
         self.packet = -1  # the packet that is read
         self.time: Optional[int] = None  # of that packet, in nanoseconds
         self._known: Dict[FrozenSet[Endpoint], Connection] = {}
@@ -257,9 +280,9 @@ class Capture:
         self._happened += 1
         return self._happened
 
-    def begun(self, flow: Flow, connection: Connection, packet: int) -> Stream:
+    def begun(self, flow: Flow, connection: Connection, packet: int, start: Start) -> Stream:
         self.happened()
-        self.streams.append(Stream(self.limits.first + len(self.streams), flow, connection.number, packet))
+        self.streams.append(Stream(self.limits.first + len(self.streams), flow, connection.number, packet, start))
         self.streams[-1].deliveries.append(Delivery(self._happened, self.packet, packet, 0))
         return self.streams[-1]
 
@@ -292,6 +315,7 @@ class Capture:
             if not self._may_begin(segment):
                 return
             connection = self._made_known(ends)
+            connection.flows[segment.flow] = FlowState(segment.flow, segment.number, self, connection)
         connection.last = self._segments
         opposite = connection.flows.get(segment.flow.opposite())
         if opposite:
@@ -310,9 +334,14 @@ class Capture:
             state.packet_came(None, False)
 
     def _may_begin(self, segment: Segment) -> bool:
-        """Whether a segment has the first stream of its flow."""
+        """Whether a segment has the first stream of its flow, which is looked for in its octets."""
         is_chosen = not self.limits.ports or bool(self.limits.ports & set(segment.flow.ports()))
-        return not segment.is_reset and is_chosen and stream_at(segment.payload) is not None
+        if segment.is_reset or not is_chosen or not segment.payload:
+            return False
+        if stream_at(segment.payload) is None:
+            self.others += 1
+            return False
+        return True
 
     def _made_known(self, ends: FrozenSet[Endpoint]) -> Connection:
         if len(self._known) == self.limits.connections:
