@@ -7,7 +7,7 @@ use giop_capture_run::CaptureListener;
 use giop_conversation::Conversations;
 use giop_run::Flush;
 use std::marker::PhantomData;
-use tcp_flow::{CloseCause, Listener, ListenerFault};
+use tcp_flow::{CloseCause, Listener, ListenerFault, Start};
 use tcp_segment::Flow;
 use tcp_waiting::Arrival;
 
@@ -89,16 +89,20 @@ impl<'a, O: Flush + Drop, B: Beginning> Listener for Teller<'a, O, B> {
         self.conversations.comes_from(arrival);
     }
 
-    fn begins(&mut self, flow: u32, _number: u32) -> Result<(), ListenerFault> {
-        match self.conversations.begins(flow) {
+    fn passes(&mut self, _octets: &[u8]) {
+        self.conversations.passes();
+    }
+
+    fn begins(&mut self, flow: u32, start: Start) -> Result<(), ListenerFault> {
+        match self.conversations.begins(flow, start) {
             Ok(()) => Ok(()),
             Err(_) => Err(ListenerFault),
         }
     }
 
-    fn delivers(&mut self, flow: u32, octets: &[u8]) -> Result<bool, ListenerFault> {
+    fn delivers(&mut self, flow: u32, octets: &[u8]) -> Result<Option<u64>, ListenerFault> {
         match self.conversations.delivers(flow, octets) {
-            Ok(at_fault) => Ok(at_fault),
+            Ok(fault) => Ok(fault),
             Err(_) => Err(ListenerFault),
         }
     }

@@ -124,13 +124,14 @@ delivered_holds : (S : Setup) (side : Side) (k : Connection) (a : Answers) (octe
     (direction side new).engine.table ≡ S.table →
     (direction side new).engine.most ≡ S.messages →
     (direction side new).stream ≡ (half side k).stream →
+    (direction side new).is_live ≡ (half side k).is_live →
     (direction side new).flow ≡ (half side k).flow →
     HoldsHalf S (direction (other side) new) (half (other side) k) →
     new.exchange ≡ calls_behind S a side octets arrival k →
     HoldsConnection S new (delivered S a side octets arrival k)
-delivered_holds S Even k a octets arrival new is holds table most stream flow opposite calls =
+delivered_holds S Even k a octets arrival new is holds table most stream live flow opposite calls =
     search (arith)
-delivered_holds S Odd k a octets arrival new is holds table most stream flow opposite calls =
+delivered_holds S Odd k a octets arrival new is holds table most stream live flow opposite calls =
     search (arith)
 
 -- the answers of a stream, and what the reading of it asks of them
@@ -165,6 +166,7 @@ pub reads_by : {A E : Type 0} (r : Result A E) (S : Setup) (k : Connection) (sid
     HoldsHalf S d (half side k) → HasCalls side t k → GoesOn S k side octets arrival d t a →
     new.side ≡ side →
     IsSetAlike (direction side new).engine d.engine → (direction side new).stream ≡ d.stream →
+    (direction side new).is_live ≡ d.is_live →
     (direction side new).flow ≡ d.flow →
     HoldsHalf S (direction (other side) new) (half (other side) k) →
     MatchResult r
@@ -177,5 +179,5 @@ pub reads_by : {A E : Type 0} (r : Result A E) (S : Setup) (k : Connection) (sid
     (stamped (rules_with d.engine a) (reading_in d.engine d.stream arrival t)
     (half side k).octets octets)) →
     ReadsBy S k side octets arrival w r new out
-reads_by r S k side octets arrival w new out d t a h calls on is alike stream flow opposite reads
-    = search (arith, reading_is, rules_are, delivered_holds)
+reads_by r S k side octets arrival w new out d t a h calls on is alike stream live flow opposite
+    reads = search (arith, reading_is, rules_are, delivered_holds)

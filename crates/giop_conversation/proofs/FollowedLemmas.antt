@@ -1,20 +1,18 @@
 -- What connections have followed, after one more event.
-use Rattle.std.proofs.Common.{◌≡◌, ℕ, ◌<◌, ◌≤◌, ◌/◌, ◌%◌, ◌==◌, ◌⊎◌, true, false, List, [], ◌∷◌, ◌++◌, length, Option, Some, None, refl, sym, ap, ◌∙◌, arith, inl, inr, get_or, slice_get, is_some, Result, Ok, Err, OnOk}
+use Rattle.std.proofs.Common.{◌≡◌, ℕ, ◌<◌, ◌≤◌, ◌/◌, ◌%◌, ◌==◌, ◌⊎◌, true, false, List, [], ◌∷◌, ◌++◌, length, Option, Some, None, refl, sym, ap, ◌∙◌, arith, inl, inr, get_or, slice_get, Result, Ok, Err, IfOk, OnOk}
 use Rattle.std.proofs.Math.ListN.{set}
 use Rattle.std.proofs.lemmas.Bool.{eqb-true, eqb-false, eq-eqb, cases_lt, cases_eq, false≢true}
 use Rattle.std.proofs.lemmas.List.{get_or-set_same, get_or-set_other}
 use Rattle.std.proofs.lemmas.Option.{slice_get_within, slice_get_past, slice_get-get_or, slice_get_cases, slice_get_read}
 use Rattle.std.specs.List.{All}
 use Rattle.std.proofs.Math.ListN.{length-set}
-use Rattle.tcp_flow.specs.Flow.{Event, Opens, Begins, Delivers, Closes}
+use Rattle.tcp_flow.specs.Flow.{Event, Opens, Begins, Delivers, Closes, OfCapture, Passes}
+use Rattle.tcp_flow.specs.declared.flow.Start.{Start}
 use Rattle.tcp_flow.specs.declared.flow.CloseCause.{CloseCause}
 use Rattle.tcp_segment.specs.declared.endpoint.Flow.{Flow}
-use Rattle.giop_conversation.specs.Followed.{octets_behind, octets_from, octets_of, is_at_fault, is_last_at_fault, reader_faulted, is_stopped, side_of, other, direction, HaveFollowed}
-use Rattle.giop_conversation.specs.Directions.{DirectionView, HasRead}
-use Rattle.giop_checkpoint.specs.declared.fault.StreamFault.{StreamFault}
-use Rattle.giop_stream.specs.declared.status.Status.{Status}
-use Rattle.giop_stream.specs.Framing.{cut, fault_of}
-use Rattle.giop_stream.specs.EngineHolds.{status_of}
+use Rattle.giop_conversation.specs.Followed.{octets_behind, octets_from, octets_of, fault_at, last_fault_at, reader_faulted, side_of, other, direction, HaveFollowed}
+use Rattle.giop_conversation.specs.Directions.{DirectionView, HasRead, fault_place}
+use Rattle.giop_stream.specs.Framing.{cut}
 use Rattle.giop_conversation.specs.declared.conversation.Side.{Side}
 use Rattle.giop_conversation.specs.declared.conversation.Side.TheVariants.{Even, Odd}
 use Rattle.giop_conversation.specs.declared.conversation.Conversation.{Conversation}
@@ -26,8 +24,8 @@ octets_more flow p [] e = refl
 octets_more flow p (e' ∷ es) e = octets_more flow (octets_behind flow p e') es e
 
 last_more : (all events : List Event) (e : Event) →
-    is_last_at_fault all (events ++ e ∷ []) ≡ is_at_fault all e
-unfolding is_last_at_fault
+    last_fault_at all (events ++ e ∷ []) ≡ fault_at all e
+unfolding last_fault_at
 last_more all [] e = refl
 last_more all (e' ∷ []) e = refl
 last_more all (e' ∷ e'' ∷ es) e = last_more all (e'' ∷ es) e
@@ -113,17 +111,18 @@ followed_beyond rooms events e flow follows beyond only g = search (arith, cases
 apart_false : (a b : ℕ) → (b ≡ a → ⊥) → (a == b) ≡ false
 apart_false a b apart = search (arith, eqb-true)
 
-pub of_begins : (flow number : ℕ) → IsOfFlow flow (Begins flow number)
+pub of_begins : (flow : ℕ) (start : Start) → IsOfFlow flow (Begins flow start)
 unfolding octets_behind
-of_begins flow number g p apart = search (arith, apart_false)
+of_begins flow start g p apart = search (arith, apart_false)
 
 pub of_delivers : (flow : ℕ) (octets : List ℕ) → IsOfFlow flow (Delivers flow octets)
 unfolding octets_behind
 of_delivers flow octets g p apart = search (arith, apart_false)
 
-pub behind_begins : (flow number : ℕ) (p : List ℕ) → octets_behind flow p (Begins flow number) ≡ []
+pub behind_begins : (flow : ℕ) (start : Start) (p : List ℕ) →
+    octets_behind flow p (Begins flow start) ≡ []
 unfolding octets_behind
-behind_begins flow number p = search (arith, eq-eqb)
+behind_begins flow start p = search (arith, eq-eqb)
 
 pub behind_delivers : (flow : ℕ) (octets p : List ℕ) →
     octets_behind flow p (Delivers flow octets) ≡ p ++ octets
@@ -140,12 +139,17 @@ pub none_of_closes : (flow : ℕ) (cause : CloseCause) (g : ℕ) (p : List ℕ) 
 unfolding octets_behind
 none_of_closes flow cause g p = refl
 
+pub none_of_passes : (octets : List ℕ) (g : ℕ) (p : List ℕ) →
+    octets_behind g p (OfCapture (Passes octets)) ≡ p
+unfolding octets_behind
+none_of_passes octets g p = refl
+
 pub fault_of_delivers : (flow : ℕ) (octets : List ℕ) (events : List Event) →
     reader_faulted (events ++ Delivers flow octets ∷ [])
-    ≡ is_some (cut (octets_of flow events ++ octets)).stop
+    ≡ fault_place (cut (octets_of flow events ++ octets)).stop
 fault_of_delivers flow octets events =
     last_more (events ++ Delivers flow octets ∷ []) events (Delivers flow octets)
-    ∙ ap (λ (p : List ℕ). is_some (cut p).stop)
+    ∙ ap (λ (p : List ℕ). fault_place (cut p).stop)
     (octets_more flow [] events (Delivers flow octets)
     ∙ behind_delivers flow octets (octets_of flow events))
 
@@ -180,32 +184,29 @@ same_engine : (p : Side) (old new : Conversation) → new.even.engine ≡ old.ev
 same_engine Even old new even odd = even
 same_engine Odd old new even odd = odd
 
-none_opens : (flow : ℕ) (endpoints : Flow) → IsOfFlow flow (Opens flow endpoints)
-none_opens flow endpoints = search (arith, none_of_opens)
-
-pub opened : (rooms : List Conversation) (events : List Event) (flow : ℕ) (endpoints : Flow)
+-- what a connection does without a change of what it has read
+pub engines_stay : (rooms : List Conversation) (events : List Event) (e : Event) (flow : ℕ)
     (old new : Conversation) → HaveFollowed rooms events → slice_get rooms (flow / 2) ≡ Some old →
     new.even.engine ≡ old.even.engine → new.odd.engine ≡ old.odd.engine →
-    HaveFollowed (set rooms (flow / 2) new) (events ++ Opens flow endpoints ∷ [])
-opened rooms events flow endpoints old new follows here even odd = search (
+    ((g : ℕ) (p : List ℕ) → octets_behind g p e ≡ p) →
+    HaveFollowed (set rooms (flow / 2) new) (events ++ e ∷ [])
+engines_stay rooms events e flow old new follows here even odd none = search (
   arith,
   followed_on,
-  none_opens,
-  none_of_opens,
   same_engine,
 )
 
-pub stream_begun : (rooms : List Conversation) (events : List Event) (flow number : ℕ)
+pub stream_begun : (rooms : List Conversation) (events : List Event) (flow : ℕ) (start : Start)
     (old new : Conversation) → HaveFollowed rooms events → slice_get rooms (flow / 2) ≡ Some old →
     HasRead (direction (side_of flow) new).engine [] →
     direction (other (side_of flow)) new ≡ direction (other (side_of flow)) old →
-    HaveFollowed (set rooms (flow / 2) new) (events ++ Begins flow number ∷ [])
-stream_begun rooms events flow number old new follows here read stays =
-    followed_on rooms events (Begins flow number) flow old new follows here (of_begins flow number)
-    (λ h. rw (behind_begins flow number (octets_of flow events)) read)
+    HaveFollowed (set rooms (flow / 2) new) (events ++ Begins flow start ∷ [])
+stream_begun rooms events flow start old new follows here read stays =
+    followed_on rooms events (Begins flow start) flow old new follows here (of_begins flow start)
+    (λ h. rw (behind_begins flow start (octets_of flow events)) read)
     (ap (λ (d : DirectionView). d.engine) stays)
 
-pub octets_read : (rooms : List Conversation) (events : List Event) (flow : ℕ) (octets : List ℕ)
+octets_read : (rooms : List Conversation) (events : List Event) (flow : ℕ) (octets : List ℕ)
     (old new : Conversation) → HaveFollowed rooms events → slice_get rooms (flow / 2) ≡ Some old →
     ((p : List ℕ) → HasRead (direction (side_of flow) old).engine p →
     HasRead (direction (side_of flow) new).engine (p ++ octets)) →
@@ -218,22 +219,28 @@ octets_read rooms events flow octets old new follows here reads stays =
     (reads (octets_of flow events) h))
     (ap (λ (d : DirectionView). d.engine) stays)
 
-stopped_is : (stop : Option (ℕ × StreamFault)) →
-    is_stopped (status_of (fault_of stop)) ≡ is_some stop
-stopped_is None = refl
-stopped_is (Some found) = refl
-
-pub fault_told : (rooms : List Conversation) (events : List Event) (flow : ℕ) (octets : List ℕ)
-    (old : Conversation) (status : Status) → HaveFollowed rooms events →
+at_fault : (rooms : List Conversation) (events : List Event) (flow : ℕ) (octets : List ℕ)
+    (old : Conversation) (at : Option ℕ) → HaveFollowed rooms events →
     slice_get rooms (flow / 2) ≡ Some old →
     ((p : List ℕ) → HasRead (direction (side_of flow) old).engine p →
-    status ≡ status_of (fault_of (cut (p ++ octets)).stop)) →
-    is_stopped status ≡ reader_faulted (events ++ Delivers flow octets ∷ [])
-fault_told rooms events flow octets old status follows here tells = search (
-  arith,
-  stopped_is,
-  fault_of_delivers,
-)
+    at ≡ fault_place (cut (p ++ octets)).stop) →
+    at ≡ reader_faulted (events ++ Delivers flow octets ∷ [])
+at_fault rooms events flow octets old at follows here tells = search (arith, fault_of_delivers)
+
+pub octets_told : {E : Type 0} (r : Result (Option ℕ) E) (rooms : List Conversation)
+    (events : List Event) (flow : ℕ) (octets : List ℕ) (old new : Conversation) →
+    HaveFollowed rooms events → slice_get rooms (flow / 2) ≡ Some old →
+    ((p : List ℕ) → HasRead (direction (side_of flow) old).engine p →
+    OnOk r (HasRead (direction (side_of flow) new).engine (p ++ octets))) →
+    ((p : List ℕ) → HasRead (direction (side_of flow) old).engine p →
+    IfOk r (λ at. at ≡ fault_place (cut (p ++ octets)).stop)) →
+    direction (other (side_of flow)) new ≡ direction (other (side_of flow)) old →
+    IfOk r (λ at. HaveFollowed (set rooms (flow / 2) new) (events ++ Delivers flow octets ∷ [])
+    × (at ≡ reader_faulted (events ++ Delivers flow octets ∷ [])))
+octets_told (Ok at) rooms events flow octets old new follows here reads tells stays =
+    (octets_read rooms events flow octets old new follows here reads stays,
+    at_fault rooms events flow octets old at follows here tells)
+octets_told (Err e) rooms events flow octets old new follows here reads tells stays = tt
 
 pub on_ok : {A E : Type 0} (r : Result A E) (P : Type 0) → P → OnOk r P
 on_ok (Ok x) P h = h

@@ -20,8 +20,10 @@ use Rattle.tcp_flow.specs.declared.flow.CloseCause.{CloseCause}
 use Rattle.tcp_segment.specs.declared.endpoint.Flow.{Flow}
 use Rattle.tcp_segment.specs.EndpointText.{endpoint_text}
 use Rattle.tcp_waiting.specs.declared.arrival.Arrival.{Arrival}
+use Rattle.giop_conversation.specs.declared.lines.Opening.{Opening}
+use Rattle.giop_conversation.specs.declared.lines.CaptureTotals.{CaptureTotals}
 use Rattle.giop_conversation.specs.Times.{time_text, span_text}
-use Rattle.giop_conversation.specs.Lines.{stream_line, time_line, answers_line, raises_line, cause_word, closed_line, capture_fault_line, capture_total_line}
+use Rattle.giop_conversation.specs.Lines.{partner_text, passed_text, found_text, stream_line, time_line, answers_line, raises_line, cause_word, closed_line, capture_fault_line, capture_total_line}
 use Rattle.giop_conversation.specs.TaggedText.{ends_line, is_due}
 use Rattle.giop_conversation.specs.Exchanges.{Exchanged, Answering, Raising}
 use Rattle.giop_stream.specs.DueOctets.{begun_in}
@@ -139,11 +141,13 @@ closing_ends R p = search (arith, flat_map, ends_append, total_ends)
 
 -- ---- the lines of a capture
 
-pub stream_line_ends : (flow : Flow) (time : Option ℕ) → is_due (stream_line flow time) ≡ true
+pub stream_line_ends : (flow : Flow) (opening : Opening) →
+    is_due (stream_line flow opening) ≡ true
 unfolding stream_line
-stream_line_ends flow time =
+stream_line_ends flow opening =
     ends_joined true (codes "stream " ∷ endpoint_text flow.from ∷ codes " > " ∷ endpoint_text
-    flow.to ∷ codes " at " ∷ time_text time ∷ [])
+    flow.to ∷ codes " at " ∷ time_text opening.time ∷ partner_text opening.partner
+    ∷ passed_text opening.start.passed ∷ found_text opening.start.is_found ∷ [])
 
 pub time_line_ends : (message : ℕ) (arrival : Arrival) → is_due (time_line message arrival) ≡ true
 unfolding time_line
@@ -174,13 +178,12 @@ unfolding capture_fault_line
 capture_fault_ends word at = ends_joined true
     (codes "capture fault " ∷ word ∷ codes " at " ∷ decimal at ∷ [])
 
-pub capture_total_ends : (streams messages faults packets octets : ℕ) →
-    is_due (capture_total_line streams messages faults packets octets) ≡ true
+pub capture_total_ends : (t : CaptureTotals) → is_due (capture_total_line t) ≡ true
 unfolding capture_total_line
-capture_total_ends streams messages faults packets octets =
-    ends_joined true (codes "total streams " ∷ decimal streams ∷ codes " messages " ∷ decimal
-    messages ∷ codes " faults "
-    ∷ decimal faults ∷ codes " packets " ∷ decimal packets ∷ codes " octets " ∷ decimal octets ∷ [])
+capture_total_ends t =
+    ends_joined true (codes "total streams " ∷ decimal t.streams ∷ codes " messages " ∷ decimal
+    t.messages ∷ codes " faults " ∷ decimal t.faults ∷ codes " packets " ∷ decimal t.packets
+    ∷ codes " octets " ∷ decimal t.octets ∷ codes " other " ∷ decimal t.others ∷ [])
 
 pub closing_lines_end : (R : Rules) (p : List ℕ) (cause : CloseCause) →
     is_due (closed_line cause ++ closing R p) ≡ true

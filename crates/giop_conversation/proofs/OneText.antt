@@ -8,7 +8,8 @@ use Rattle.giop_stream.specs.AnswersAgree.{AnswersAgree, AgreeAtHeaders}
 use Rattle.giop_stream.specs.HeaderEndsOfStream.{header_ends_from}
 use Rattle.giop_stream.specs.Stream.{closing, final}
 use Rattle.giop_stream.proofs.StreamLaws.{closing_alike, final_alike, added_alike, ends_alike, alike_front, leads_on, back, both, itself, at_headers}
-use Rattle.tcp_flow.specs.Flow.{Event, Opens, Begins, Delivers, Closes, OfCapture, ComesFrom, HasFault}
+use Rattle.tcp_flow.specs.Flow.{Event, Opens, Begins, Delivers, Closes, OfCapture, ComesFrom, Passes, HasFault}
+use Rattle.tcp_flow.specs.declared.flow.Start.{Start}
 use Rattle.tcp_flow.specs.declared.flow.CloseCause.{CloseCause}
 use Rattle.tcp_segment.specs.declared.endpoint.Flow.{Flow}
 use Rattle.tcp_waiting.specs.declared.arrival.Arrival.{Arrival}
@@ -19,7 +20,7 @@ use Rattle.giop_conversation.specs.Lines.{closed_line}
 use Rattle.giop_conversation.specs.Followed.{side_of}
 use Rattle.giop_conversation.specs.Exchanges.{Exchanged, answer_of, notified}
 use Rattle.giop_conversation.specs.Stamped.{begin_lines, told, taken, lines_due, exchanged, stamped}
-use Rattle.giop_conversation.specs.Captured.{Setup, Half, Connection, Dump, Step, Leads, Answered, IsAnswered, half, rules_in, number_in, calls_in, opened, begun, delivered, delivered_lines, opened_in, begun_in, delivered_in, closed_in, connection_of, sum_within, cuts, stepped, unanswered, without_answers}
+use Rattle.giop_conversation.specs.Captured.{Setup, Half, Connection, Dump, Step, Leads, Answered, IsAnswered, half, rules_in, number_in, calls_in, opened, begun, ended, opening, delivered, delivered_lines, opened_in, begun_in, delivered_in, closed_in, connection_of, sum_within, cuts, stepped, unanswered, without_answers}
 
 -- ---- octets that are read by answers that agree
 
@@ -171,6 +172,29 @@ begun_alike S Odd stream c c' k = record {
   odd = tt;
 }
 
+ended_alike : (S : Setup) (side : Side) (c c' : Connection) → IsAlike S c c' →
+    IsAlike S (ended side c) (ended side c')
+ended_alike S Even c c' k = record {
+  x = k.x;
+  y = k.y;
+  is = ap (ended Even) k.is;
+  even = k.even;
+  odd = k.odd;
+}
+ended_alike S Odd c c' k = record {
+  x = k.x;
+  y = k.y;
+  is = ap (ended Odd) k.is;
+  even = k.even;
+  odd = k.odd;
+}
+
+-- what is said of a stream that begins
+opening_alike : (S : Setup) (side : Side) (time : Option ℕ) (start : Start) (c c' : Connection) →
+    IsAlike S c c' → opening side time start c' ≡ opening side time start c
+opening_alike S Even time start c c' k = ap (opening Even time start) k.is
+opening_alike S Odd time start c c' k = ap (opening Odd time start) k.is
+
 -- what is written of a flow
 record Writes (S : Setup) (s s' : Half) : Type 0 where
   flow : s.flow ≡ s'.flow
@@ -288,20 +312,23 @@ module _ (S : Setup) (a b : Answers) (d : Dump) (cs' : List Connection)
             (opened_alike S (side_of id) flow k.c k.c' k.alike);
       })
 
-  on_begun : (id : ℕ) → At S d.connections cs' (id / 2) →
-      IsSame S (begun_in S d id (connection_of d id)) (begun_in S twin id (connection_of twin id))
-  on_begun id (inl k) = rw (k.0, k.1) (record { connections = cs'; is = refl; alike = h })
-  on_begun id (inr k) =
+  on_begun : (id : ℕ) (start : Start) → At S d.connections cs' (id / 2) →
+      IsSame S (begun_in S d id start (connection_of d id))
+      (begun_in S twin id start (connection_of twin id))
+  on_begun id start (inl k) = rw (k.0, k.1) (record { connections = cs'; is = refl; alike = h })
+  on_begun id start (inr k) =
       let number = number_in S d.streams in
       let side = side_of id in
       let behind = set cs' (id / 2) (begun side number k.c') in
       rw (k.is, k.is') (record {
         connections = behind;
-        is = ap (λ (flow : Option Flow). record d {
+        is = λ j. record d {
           connections = behind;
           streams = counted d.streams;
-          text = d.text ++ with_tags (stream_tag number) (begin_lines flow d.arrival.time);
-        }) (sym (writes_alike S side k.c k.c' k.alike).flow);
+          text = d.text ++ with_tags (stream_tag number)
+              (begin_lines (sym (writes_alike S side k.c k.c' k.alike).flow j)
+              (opening_alike S side d.arrival.time start k.c k.c' k.alike j));
+        };
         alike = alike_set S d.connections cs' (id / 2) (begun side number k.c)
             (begun side number k.c') h
             (begun_alike S side number k.c k.c' k.alike);
@@ -334,29 +361,33 @@ module _ (S : Setup) (a b : Answers) (d : Dump) (cs' : List Connection)
   on_closed id cause (inl k) = rw (k.0, k.1) (record { connections = cs'; is = refl; alike = h })
   on_closed id cause (inr k) =
       let w = writes_alike S (side_of id) k.c k.c' k.alike in
+      let behind = set cs' (id / 2) (ended (side_of id) k.c') in
       rw (k.is, k.is') (record {
-        connections = cs';
+        connections = behind;
         is = λ j. record d {
-          connections = cs';
+          connections = behind;
           messages = sum_within d.messages (sym w.final_is j).messages;
           faults = sum_within d.faults (sym w.final_is j).faults;
           is_cut = d.is_cut || cuts cause;
           text = d.text ++ with_tags (stream_tag (sym w.stream j))
               (closed_line cause ++ sym w.closing_is j);
         };
-        alike = h;
+        alike = alike_set S d.connections cs' (id / 2) (ended (side_of id) k.c)
+            (ended (side_of id) k.c') h (ended_alike S (side_of id) k.c k.c' k.alike);
       })
 
   step_alike : (e : Event) → Answered S a d e → Answered S b twin e →
       IsSame S (stepped S a d e) (stepped S b twin e)
   step_alike (Opens id flow) f g = on_opened id flow (alike_at S d.connections cs' (id / 2) h)
-  step_alike (Begins id number) f g = on_begun id (alike_at S d.connections cs' (id / 2) h)
+  step_alike (Begins id start) f g = on_begun id start (alike_at S d.connections cs' (id / 2) h)
   step_alike (Delivers id q) f g =
       on_delivered id q (alike_at S d.connections cs' (id / 2) h) f g
   step_alike (Closes id cause) f g = on_closed id cause (alike_at S d.connections cs' (id / 2) h)
   step_alike (OfCapture (ComesFrom arrival)) f g =
       record { connections = cs'; is = refl; alike = h }
   step_alike (OfCapture (HasFault word at)) f g =
+      record { connections = cs'; is = refl; alike = h }
+  step_alike (OfCapture (Passes octets)) f g =
       record { connections = cs'; is = refl; alike = h }
 
 same_step : (S : Setup) (d d' : Dump) (e : Event) (m m' : Dump) → IsSame S d d' →

@@ -13,6 +13,7 @@ use Rattle.giop_stream.proofs.StreamLaws.{added_both_by}
 use Rattle.tcp_flow.specs.declared.flow.CloseCause.{CloseCause}
 use Rattle.tcp_segment.specs.declared.endpoint.Flow.{Flow}
 use Rattle.tcp_waiting.specs.declared.arrival.Arrival.{Arrival}
+use Rattle.giop_conversation.specs.declared.lines.Opening.{Opening}
 use Rattle.giop_conversation.specs.Tags.{tagged, with_tags, stream_tag}
 use Rattle.giop_conversation.specs.TaggedText.{is_due}
 use Rattle.giop_conversation.specs.Lines.{closed_line}
@@ -95,9 +96,10 @@ of_another f number other (x ∷ xs) apart = rw apart (of_another f number other
 
 -- ---- what is written of a stream
 
-pub begin_parts : (flow : Option Flow) (time : Option ℕ) → AreParts (begin_lines flow time) [] []
-begin_parts None time = none
-begin_parts (Some flow) time = one (StreamLine flow time) (stream_line_ends flow time)
+pub begin_parts : (flow : Option Flow) (opening : Opening) →
+    AreParts (begin_lines flow opening) [] []
+begin_parts None opening = none
+begin_parts (Some flow) opening = one (StreamLine flow opening) (stream_line_ends flow opening)
 
 pub closed_parts : (R : Rules) (p : List ℕ) (cause : CloseCause) →
     AreParts (closed_line cause ++ closing R p) [] (closing R p)

@@ -2,6 +2,7 @@
 use Rattle.std.proofs.Common.{arith, ◌≡◌, ℕ, ◌==◌, ◌⊎◌, inl, inr, Bool, true, false, List, [], ◌∷◌, Option, Some, None, is_some, refl, sym, ap, ◌∙◌, if◌then◌else◌}
 use Rattle.std.proofs.lemmas.Bool.{eqb-true, eq-eqb, cases_eq, false≢true}
 use Rattle.giop_message.specs.Signatures.{Answers}
+use Rattle.tcp_flow.specs.declared.flow.Start.{Start}
 use Rattle.tcp_flow.specs.Flow.{Event, Opens, Begins, Delivers, Closes, OfCapture, flow_of}
 use Rattle.tcp_flow.specs.Laws.{OwnMayFollow, MayFollow, AllFollow}
 use Rattle.tcp_flow.specs.declared.flow.CloseCause.{CloseCause}
@@ -18,14 +19,14 @@ opens_dead payloads f g e None behind own lives = cc
 opens_dead payloads f g e (Some m) None own lives = own
 opens_dead payloads f g e (Some m) (Some n) own lives = own
 
-begins_dead : (payloads : _) (f g n : ℕ) (before behind : Option ℕ) →
+begins_dead : (payloads : _) (f g : ℕ) (n : Start) (before behind : Option ℕ) →
     OwnMayFollow payloads f before (Begins g n) behind → is_some before ≡ true → ⊥
 unfolding OwnMayFollow
 begins_dead payloads f g n None behind own lives = cc
 begins_dead payloads f g n (Some m) None own lives = own
 begins_dead payloads f g n (Some m) (Some k) own lives = own
 
-begins_lives : (payloads : _) (f g n : ℕ) (before behind : Option ℕ) →
+begins_lives : (payloads : _) (f g : ℕ) (n : Start) (before behind : Option ℕ) →
     OwnMayFollow payloads f before (Begins g n) behind → is_some behind ≡ true
 unfolding OwnMayFollow
 begins_lives payloads f g n None None own = absurd own
@@ -97,7 +98,7 @@ module _ (S : Setup) (h : History) (due behind : ℕ → Option ℕ) (t : AreLas
             l.lives;
       }
 
-  begun_last : (id n : ℕ) (b : Bool) → FollowsBy (Begins id n) →
+  begun_last : (id : ℕ) (n : Start) (b : Bool) → FollowsBy (Begins id n) →
       AreLast (with_begun h id (number_in S h.begun) b) behind
   begun_last id n false follows m room closes =
       let l = t m room closes in

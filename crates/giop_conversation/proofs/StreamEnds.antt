@@ -4,6 +4,7 @@ use Rattle.std.proofs.lemmas.Bool.{eqb-true, eqb-false, cases_eq, cases_lt, lt-l
 use Rattle.giop_message.specs.Signatures.{Answers}
 use Rattle.giop_stream.specs.Stream.{text}
 use Rattle.giop_stream.specs.AnswersAgree.{AnswersAgree}
+use Rattle.tcp_flow.specs.declared.flow.Start.{Start}
 use Rattle.tcp_flow.specs.Flow.{Event, Opens, Begins, Delivers, Closes, OfCapture, flow_of}
 use Rattle.tcp_flow.specs.Laws.{OwnMayFollow, MayFollow, AllFollow}
 use Rattle.tcp_flow.specs.declared.flow.CloseCause.{CloseCause}
@@ -88,7 +89,7 @@ module _ (S : Setup) (h : History) (due behind : ℕ → Option ℕ) (k : AreNum
           t.live f (lives_still x.0 f (Opens id flow) (due f) (behind f) (other_flow f id apart) x.1
           lives) number
 
-  begun_ends : (id n : ℕ) (b : Bool) → (b ≡ false → h.stream_of id ≡ 0) → FollowsBy (Begins id n) →
+  begun_ends : (id : ℕ) (n : Start) (b : Bool) → (b ≡ false → h.stream_of id ≡ 0) → FollowsBy (Begins id n) →
       EndOnce (with_begun h id (number_in S h.begun) b) behind
   begun_ends id n true room follows = record {
     ends = t.ends;

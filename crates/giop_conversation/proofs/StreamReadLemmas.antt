@@ -9,7 +9,12 @@ use Rattle.giop_message.specs.Signatures.{Answers}
 use Rattle.giop_message.specs.HeaderEnds.{after_ends}
 use Rattle.giop_stream.specs.Rules.{Rules, rules_by}
 use Rattle.giop_stream.specs.HeaderOctets.{fronts, wrong, first_wrong, first_wrong_octet}
-use Rattle.giop_stream.specs.Framing.{limit, limited, cut_from, cut, messages}
+use Rattle.giop_checkpoint.specs.declared.fault.StreamFault.{StreamFault}
+use Rattle.giop_stream.specs.declared.status.Status.TheVariants.{Stopped}
+use Rattle.giop_stream.specs.declared.status.Totals.{Totals}
+use Rattle.giop_stream.specs.EngineState.{state_of}
+use Rattle.giop_stream.specs.Stream.{tally}
+use Rattle.giop_stream.specs.Framing.{limit, limited, cut_from, cut, messages, fault_of, read_of}
 use Rattle.giop_stream.specs.Events.{events_from, events}
 use Rattle.giop_stream.specs.AnswersAgree.{AnswersAgree}
 use Rattle.giop_stream.specs.DueOctets.{begun_in}
@@ -17,10 +22,12 @@ use Rattle.giop_stream.specs.HeaderEndsOfStream.{header_ends_from}
 use Rattle.giop_stream.specs.declared.fault.Stop.{Stop}
 use Rattle.giop_stream.specs.declared.fault.Stop.TheVariants as stop
 use Rattle.giop_stream.specs.EngineView.{EngineView}
-use Rattle.giop_stream.specs.EngineHolds.{HoldsBy, StopWrites, Leaves, added, rules_with}
+use Rattle.giop_stream.specs.EngineHolds.{HoldsBy, StopWrites, Leaves, added, rules_with, status_of}
+use Rattle.giop_conversation.specs.Directions.{HasRead, fault_place}
 use Rattle.tcp_segment.specs.declared.endpoint.Flow.{Flow}
 use Rattle.tcp_waiting.specs.declared.arrival.Arrival.{Arrival}
 use Rattle.giop_conversation.specs.Tags.{with_tags, tagged}
+use Rattle.giop_conversation.specs.declared.lines.Opening.{Opening}
 use Rattle.giop_conversation.specs.TaggedText.{ends_line, is_due, stopped_at}
 use Rattle.giop_conversation.specs.TaggedState.{Tagging, tagging_log, IsReady}
 use Rattle.giop_conversation.specs.Exchanges.{Exchanged, notified}
@@ -61,9 +68,10 @@ pub writes_below : {A E : Type 0} (r : Result A E) (t after : Tagging) (w lines 
 writes_below (Ok v) t after w lines ready ends wrote = search (arith, ready_wrote)
 writes_below (Err e) t after w lines ready ends wrote = search (arith, ready_front)
 
-pub begin_lines_end : (flow : Option Flow) (time : Option ℕ) → is_due (begin_lines flow time) ≡ true
-begin_lines_end None time = none_ends
-begin_lines_end (Some flow) time = stream_line_ends flow time
+pub begin_lines_end : (flow : Option Flow) (opening : Opening) →
+    is_due (begin_lines flow opening) ≡ true
+begin_lines_end None opening = none_ends
+begin_lines_end (Some flow) opening = stream_line_ends flow opening
 
 -- the same once a tag is set
 pub below_tag : {A E : Type 0} (r : Result A E) (t set after : Tagging) (w lines tag due : List ℕ) →
@@ -314,3 +322,18 @@ pub reading_starts : (e : EngineView) (stream : ℕ) (arrival : Arrival) (s0 s1 
     } →
     e.table ≡ C → number ≡ stream → s2 ≡ reading_in e stream arrival s0
 reading_starts e stream arrival s0 s1 s2 C number first second same numbered = search (arith)
+
+-- ---- a stream fault
+
+-- an engine has read up to the octet of its stream's fault
+pub fault_place_is : (e : EngineView) (p : List ℕ) (fault : StreamFault) → HasRead e p →
+    Stopped fault ≡ status_of (fault_of (cut p).stop) →
+    Some e.stream.totals.octets ≡ fault_place (cut p).stop
+unfolding state_of tally read_of
+fault_place_is e p fault read is =
+    ap (λ (t : Totals). Some t.octets) read.holds.shows.totals ∙ by (cut p).stop is
+  where
+    by : (stop : Option (ℕ × StreamFault)) → Stopped fault ≡ status_of (fault_of stop) →
+        Some (read_of p stop) ≡ fault_place stop
+    by None is = absurd cc
+    by (Some found) is = refl

@@ -35,7 +35,7 @@ event_rooms : (S : Setup) (a : Answers) (h : History) (e : Event) →
     ((id : ℕ) → flow_of e ≡ Some id → id / 2 < S.connections) → HaveBegun S h →
     HaveBegun S (happened S a h e)
 event_rooms S a h (Opens id flow) room t = t
-event_rooms S a h (Begins id number) room t =
+event_rooms S a h (Begins id start) room t =
     subst (λ (b : Bool). HaveBegun S (with_begun h id (number_in S h.begun) b))
     (sym (lt-ltb (id / 2) S.connections (room id refl))) (one_more S h id t)
 event_rooms S a h (Delivers id octets) room t = t

@@ -12,14 +12,15 @@ use Rattle.giop_stream.specs.Stream.{text, closing}
 use Rattle.giop_stream.specs.AnswersAgree.{AnswersAgree}
 use Rattle.giop_stream.specs.EngineHolds.{added}
 use Rattle.giop_stream.proofs.StreamLaws.{added_both_by}
-use Rattle.tcp_flow.specs.Flow.{Event, Opens, Begins, Delivers, Closes, OfCapture, ComesFrom, HasFault}
+use Rattle.tcp_flow.specs.Flow.{Event, Opens, Begins, Delivers, Closes, OfCapture, ComesFrom, Passes, HasFault}
+use Rattle.tcp_flow.specs.declared.flow.Start.{Start}
 use Rattle.tcp_flow.specs.declared.flow.CloseCause.{CloseCause}
 use Rattle.tcp_segment.specs.declared.endpoint.Flow.{Flow}
 use Rattle.giop_conversation.specs.declared.conversation.Side.TheVariants.{Even, Odd}
 use Rattle.giop_conversation.specs.Tags.{stream_tag, with_tags}
 use Rattle.giop_conversation.specs.Lines.{capture_fault_line}
 use Rattle.giop_conversation.specs.Followed.{side_of, other}
-use Rattle.giop_conversation.specs.Captured.{Setup, Half, Connection, Dump, Leads, Answered, IsAnswered, start, new_connection, half, rules_in, number_in, delivered_lines, calls_behind, opened_in, begun_in, delivered_in, closed_in, closed_lines, stepped, calls_in}
+use Rattle.giop_conversation.specs.Captured.{Setup, Half, Connection, Dump, Leads, Answered, IsAnswered, start, new_connection, half, rules_in, number_in, delivered_lines, calls_behind, opening, opened_in, begun_in, delivered_in, closed_in, closed_lines, stepped, calls_in}
 use Rattle.giop_conversation.specs.CaptureParts.{StreamPart, read_lines, own_lines, Part, OfStream, FaultLine, part_text, text_of, of_stream, read_of, own_of}
 use Rattle.giop_conversation.specs.StreamTexts.{StreamHistory, new_stream, read_on, closed, History, no_history, with_begun, with_stream, happened, history, IsDumped, IsUnique, ShowsStreams}
 use Rattle.giop_conversation.specs.Exchanges.{Exchanged}
@@ -135,11 +136,12 @@ module _ (S : Setup) (written : List ℕ)
   on_opened h d id flow None is b = b
   on_opened h d id flow (Some c) is b = search (arith, own_half, half_on)
 
-  on_begun : (h : History) (d : Dump) (id : ℕ) (o : Option Connection) →
+  on_begun : (h : History) (d : Dump) (id : ℕ) (start : Start) (o : Option Connection) →
       slice_get d.connections (id / 2) ≡ o →
       AreShown S written h d → AreShown S written
-      (with_begun h id (number_in S h.begun) (nat_lt (id / 2) S.connections)) (begun_in S d id o)
-  on_begun h d id None is b =
+      (with_begun h id (number_in S h.begun) (nat_lt (id / 2) S.connections)) 
+      (begun_in S d id start o)
+  on_begun h d id start None is b =
       let past = no_room d.connections (id / 2) is in
       let none : nat_lt (id / 2) S.connections ≡ false =
       false_from_ne_true _ (λ some. let low = ltb-true _ _ some in let rooms = b.halves.rooms in
@@ -164,20 +166,21 @@ module _ (S : Setup) (written : List ℕ)
           IfSome o (HasHalves S (with_begun h id (number_in S h.begun) false) i)
       by i None has = tt
       by i (Some c) has = search (arith, text_is)
-  on_begun h d id (Some c) is b =
+  on_begun h d id start (Some c) is b =
       let low = slice_get_within d.connections (id / 2) c is in
       let rooms = b.halves.rooms in
       let room : id / 2 < S.connections = omega (arith, low, rooms) in
       let some : nat_lt (id / 2) S.connections ≡ true = lt-ltb _ _ room in
       let n = number_in S d.streams in
       let s = half (side_of id) c in
-      let lines = begin_parts s.flow d.arrival.time in
+      let opens = opening (side_of id) d.arrival.time start c in
+      let lines = begin_parts s.flow opens in
       let new : IsUnique n → h.stream n ≡ new_stream =
       λ number. b.numbers.fresh n number (rw b.count (omega arith)) in
       rw some (record {
         count = ap counted b.count;
         halves = half_on S h (with_begun h id (number_in S h.begun) true) d.connections id c
-            (record s { stream = n; octets = [] }) is b.halves
+            (record s { stream = n; is_live = true; octets = [] }) is b.halves
             (λ g m p a apart k. record {
               stream_is = k.stream_is ∙ sym (rw (unequal g id apart) refl);
               octets_are = k.octets_are;
@@ -194,7 +197,7 @@ module _ (S : Setup) (written : List ℕ)
             });
         numbers = numbers_begun S h id true (λ is. room) b.numbers;
         shows = more_lines S written h (with_begun h id (number_in S h.begun) true) d.text n
-            (begin_lines s.flow d.arrival.time) [] [] b.shows lines
+            (begin_lines s.flow opens) [] [] b.shows lines
             (λ m number apart. refl) (λ number r o t. rw (append-nil r, append-nil o) t);
       })
 
@@ -320,11 +323,8 @@ module _ (S : Setup) (written : List ℕ)
   on_closed h d id cause None is b = search (arith, on_nothing)
   on_closed h d id cause (Some c) is b = record {
     count = b.count;
-    halves = record {
-      rooms = b.halves.rooms;
-      halves =
-          λ i. by i (slice_get d.connections i) (b.halves.halves i);
-    };
+    halves = half_on S h behind d.connections id c (record s { is_live = false }) is b.halves
+        (λ g m p a apart it. kept g m p a it) (kept id s.stream s.octets s.answers k);
     numbers = numbers_with S h n next (b.numbers.within id) b.numbers;
     shows = subst (λ m. ShowsStreams S written behind
         (d.text ++ with_tags (stream_tag m) (closed_lines S (side_of id) cause c)))
@@ -363,10 +363,8 @@ module _ (S : Setup) (written : List ℕ)
           at true same = search (arith, eqb-true)
           at false apart = rw apart refl
 
-      by : (i : ℕ) (o : Option Connection) → IfSome o (HasHalves S h i) →
-          IfSome o (HasHalves S behind i)
-      by i None has = tt
-      by i (Some c) has = search (arith, stays, text_is)
+      kept : (g m : ℕ) (p : List ℕ) (a : Answers) → IsHalf S h g m p a → IsHalf S behind g m p a
+      kept g m p a it = search (arith, stays, text_is)
 
       here : IsUnique n → (r o : List ℕ) → IsDumped S (h.stream n) r o →
           IsDumped S (behind.stream n) (r ++ []) (o ++ closing R s.octets)
@@ -376,11 +374,12 @@ module _ (S : Setup) (written : List ℕ)
       AreShown S written h d →
       AreShown S written (happened S a h e) (stepped S a d e)
   on_event a h d (Opens id flow) answered b = search (arith, on_opened)
-  on_event a h d (Begins id number) answered b = search (arith, on_begun)
+  on_event a h d (Begins id start) answered b = search (arith, on_begun)
   on_event a h d (Delivers id octets) answered b = search (arith, on_delivered)
   on_event a h d (Closes id cause) answered b = search (arith, on_closed)
   on_event a h d (OfCapture (ComesFrom arrival)) answered b = search (arith)
   on_event a h d (OfCapture (HasFault word at)) answered b = search (arith, more_fault)
+  on_event a h d (OfCapture (Passes octets)) answered b = search (arith)
 
   on_events : (events : List Event) (h : History) (d behind : Dump)
       (leads : Leads S d events behind) → AreShown S written h d →

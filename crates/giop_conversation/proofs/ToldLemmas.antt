@@ -1,7 +1,8 @@
 -- What the connections of a capture have told, after one more event.
 use Rattle.std.proofs.Common.{◌≡◌, ℕ, ◌<◌, ◌/◌, arith, Bool, true, false, ◌||◌, List, [], ◌∷◌, ◌++◌, length, Option, Some, None, IfSome, Result, Ok, Err, MatchResult, refl, sym, ap, subst, ◌∙◌, slice_get, set, nat_lt}
 use Rattle.giop_print.specs.Output.{counted, Writes}
-use Rattle.tcp_flow.specs.Flow.{Event, Opens, Begins, Delivers, Closes, OfCapture, ComesFrom, HasFault}
+use Rattle.tcp_flow.specs.Flow.{Event, Opens, Begins, Delivers, Closes, OfCapture, ComesFrom, Passes, HasFault}
+use Rattle.tcp_flow.specs.declared.flow.Start.{Start}
 use Rattle.tcp_flow.specs.declared.flow.CloseCause.{CloseCause}
 use Rattle.tcp_segment.specs.declared.endpoint.Flow.{Flow}
 use Rattle.giop_message.specs.Signatures.{Answers}
@@ -9,13 +10,15 @@ use Rattle.giop_stream.specs.declared.status.Totals.{Totals}
 use Rattle.giop_stream.specs.Stream.{final}
 use Rattle.tcp_waiting.specs.declared.arrival.Arrival.{Arrival}
 use Rattle.giop_conversation.specs.declared.conversation.Conversation.{Conversation}
+use Rattle.giop_conversation.specs.declared.lines.CaptureTotals.{CaptureTotals}
+use Rattle.giop_conversation.specs.declared.lines.Opening.{Opening}
 use Rattle.giop_conversation.specs.Tags.{stream_tag, with_tags}
 use Rattle.giop_conversation.specs.TaggedState.{Tagging, tagging_log, IsReady, WroteTaggedFront}
 use Rattle.giop_conversation.specs.Lines.{capture_fault_line, capture_total_line}
 use Rattle.giop_conversation.specs.Stamped.{begin_lines}
 use Rattle.giop_conversation.specs.StreamReads.{WritesTagged}
 use Rattle.giop_conversation.specs.Followed.{side_of}
-use Rattle.giop_conversation.specs.Captured.{Setup, Connection, Dump, Step, Leads, start, half, opened, begun, delivered, delivered_lines, closed_lines, rules_in, sum_within, number_in, cuts, opened_in, begun_in, delivered_in, closed_in, finished_text, IsAnswered}
+use Rattle.giop_conversation.specs.Captured.{Setup, Connection, Dump, Step, Leads, start, half, opened, begun, ended, opening, totals_of, delivered, delivered_lines, closed_lines, rules_in, sum_within, number_in, cuts, opened_in, begun_in, delivered_in, closed_in, finished_text, IsAnswered}
 use Rattle.giop_conversation.specs.DumpHeld.{HoldsConnection, ReadsBy, HoldsDump, HasTold, HasToldFront, HasFinished, HasFinishedFront}
 use Rattle.giop_conversation.proofs.Tagging.{ready_new}
 use Rattle.giop_conversation.proofs.DumpLemmas.{leads_more, held_at, none_at, held_set, no_tag_is}
@@ -28,6 +31,13 @@ no_answers number id = None
 pub counted_is : (n : ℕ) → sum_within n 1 ≡ counted n
 unfolding counted
 counted_is n = refl
+
+-- the sums after one stream more has begun, and after one has closed
+abbrev pub with_streams : CaptureTotals → ℕ → CaptureTotals
+with_streams t streams = record t { streams = streams }
+
+abbrev pub with_counts : CaptureTotals → ℕ → ℕ → CaptureTotals
+with_counts t messages faults = record t { messages = messages; faults = faults }
 
 pub still_sound : (n : ℕ) → n ≡ 0 → 0 < n → ⊥
 still_sound n none some = omega (arith, none, some)
@@ -50,24 +60,23 @@ module _ (S : Setup) (written : List ℕ) (events : List Event) where
   -- an event that leads on, whose lines were written or a front of them
   told_or_front : {A E : Type 0} (r : Result A E) (d behind : Dump) (e : Event)
       (rooms : List Conversation) (out : Tagging)
-      (arrival : Arrival) (first streams messages faults : ℕ) (cut : Bool) (tag lines : List ℕ) →
+      (arrival : Arrival) (first : ℕ) (totals : CaptureTotals) (cut : Bool) (tag lines : List ℕ) →
       Leads S (start S written) events d → Step S d e behind → behind.text ≡ d.text
       ++ with_tags tag lines →
-      (IsReady out behind.text → HoldsDump S rooms out arrival first streams messages faults cut
+      (IsReady out behind.text → HoldsDump S rooms out arrival first totals cut
       behind) →
       WritesTagged r out d.text tag lines →
-      MatchResult r (λ _. HasTold S written (events ++ e ∷ []) rooms out arrival first streams
-      messages faults cut)
+      MatchResult r (λ _. HasTold S written (events ++ e ∷ []) rooms out arrival first totals cut)
       (λ _. HasToldFront S written (events ++ e ∷ []) out)
-  told_or_front (Ok v) d behind e rooms out arrival first streams messages faults cut tag lines
+  told_or_front (Ok v) d behind e rooms out arrival first totals cut tag lines
       leads step text holds writes = search (arith, leads_more)
-  told_or_front (Err v) d behind e rooms out arrival first streams messages faults cut tag lines
+  told_or_front (Err v) d behind e rooms out arrival first totals cut tag lines
       leads step text holds writes = search (arith, leads_more)
 
   module _ (rooms : List Conversation) (out : Tagging) (arrival : Arrival)
-      (first streams messages faults : ℕ) (cut : Bool) where
+      (first : ℕ) (totals : CaptureTotals) (cut : Bool) where
     abbrev Before : Type 0
-    Before = HasTold S written events rooms out arrival first streams messages faults cut
+    Before = HasTold S written events rooms out arrival first totals cut
 
     -- ---- an id stands for a flow
 
@@ -76,7 +85,7 @@ module _ (S : Setup) (written : List ℕ) (events : List Event) where
         ((c : Connection) → HoldsConnection S old c →
         HoldsConnection S new (opened (side_of flow) endpoints c)) →
         HasTold S written (events ++ Opens flow endpoints ∷ []) (set rooms (flow / 2) new) out
-        arrival first streams messages faults cut
+        arrival first totals cut
     opened_told flow endpoints old new b here opens =
         let d = b.dump in
         let h = b.holds in
@@ -101,13 +110,13 @@ module _ (S : Setup) (written : List ℕ) (events : List Event) where
             streams_are = h.streams_are;
             messages_are = h.messages_are;
             faults_are = h.faults_are;
+            others_are = h.others_are;
             cut_is = h.cut_is;
           };
         }
 
     pub opened_beyond : (flow : ℕ) (endpoints : Flow) → Before → slice_get rooms (flow / 2) ≡ None →
-        HasTold S written (events ++ Opens flow endpoints ∷ []) rooms out arrival first streams
-        messages faults cut
+        HasTold S written (events ++ Opens flow endpoints ∷ []) rooms out arrival first totals cut
     opened_beyond flow endpoints b beyond =
         let d = b.dump in
         let none = none_at S rooms d.connections (flow / 2) b.holds.connections beyond in
@@ -125,39 +134,41 @@ module _ (S : Setup) (written : List ℕ) (events : List Event) where
 
     -- ---- a stream begins
 
-    pub begun_told : {A E : Type 0} (r : Result A E) (flow number own next : ℕ)
+    pub begun_told : {A E : Type 0} (r : Result A E) (flow : ℕ) (first_octet : Start) (own next : ℕ)
         (old new : Conversation) (out' : Tagging) →
-        own ≡ sum_within first streams → next ≡ sum_within streams 1 → Before →
+        own ≡ sum_within first totals.streams → next ≡ sum_within totals.streams 1 → Before →
         slice_get rooms (flow / 2) ≡ Some old →
         ((c : Connection) → HoldsConnection S old c →
         HoldsConnection S new (begun (side_of flow) own c)) →
         ((c : Connection) (w : List ℕ) → HoldsConnection S old c → IsReady out w →
         WritesTagged r out' w (stream_tag own) (begin_lines (half (side_of flow) c).flow
-        arrival.time)) →
+        (opening (side_of flow) arrival.time first_octet c))) →
         MatchResult r
-        (λ _. HasTold S written (events ++ Begins flow number ∷ []) (set rooms (flow / 2) new) out'
-        arrival first next messages faults cut)
-        (λ _. HasToldFront S written (events ++ Begins flow number ∷ []) out')
-    begun_told r flow number own next old new out' own_is is b here begins writes =
+        (λ _. HasTold S written (events ++ Begins flow first_octet ∷ []) (set rooms (flow / 2) new) out'
+        arrival first (with_streams totals next) cut)
+        (λ _. HasToldFront S written (events ++ Begins flow first_octet ∷ []) out')
+    begun_told r flow first_octet own next old new out' own_is is b here begins writes =
         let d = b.dump in
         let h = b.holds in
         let has : own ≡ number_in S d.streams =
-        own_is ∙ (ap (λ n. sum_within n streams) h.first_is
+        own_is ∙ (ap (λ n. sum_within n totals.streams) h.first_is
         ∙ ap (λ n. sum_within S.first n) h.streams_are) in
         let at = held_at S rooms d.connections (flow / 2) old h.connections here in
         let endpoints = (half (side_of flow) at.connection).flow in
-        let step : Step S d (Begins flow number) (begun_in S d flow (Some at.connection)) =
-        record { answers = no_answers; answered = tt; is = ap (begun_in S d flow) (sym at.is) } in
+        let opens : Option ℕ → Opening = λ time. opening (side_of flow) time first_octet at.connection in
+        let step : Step S d (Begins flow first_octet) (begun_in S d flow first_octet (Some at.connection)) =
+        record { answers = no_answers; answered = tt; is = ap (begun_in S d flow first_octet) (sym at.is) } in
         let holds = subst (λ n. HoldsConnection S new (begun (side_of flow) n at.connection))
         has (begins at.connection at.holds) in
         let lines = subst (λ n. WritesTagged r out' d.text (stream_tag n)
-        (begin_lines endpoints d.arrival.time)) has
+        (begin_lines endpoints (opens d.arrival.time))) has
         (subst (λ (t : Option ℕ). WritesTagged r out' d.text (stream_tag own)
-        (begin_lines endpoints t)) (ap (λ (x : Arrival). x.time) h.arrival_is)
+        (begin_lines endpoints (opens t))) (ap (λ (x : Arrival). x.time) h.arrival_is)
         (writes at.connection d.text at.holds h.ready)) in
-        told_or_front r d (begun_in S d flow (Some at.connection)) (Begins flow number)
-        (set rooms (flow / 2) new) out' arrival first next messages faults cut
-        (stream_tag (number_in S d.streams)) (begin_lines endpoints d.arrival.time) b.leads step
+        told_or_front r d (begun_in S d flow first_octet (Some at.connection)) (Begins flow first_octet)
+        (set rooms (flow / 2) new) out' arrival first (with_streams totals next) cut
+        (stream_tag (number_in S d.streams)) (begin_lines endpoints (opens d.arrival.time)) b.leads
+        step
         refl
         (λ ready. record {
           connections = held_set S rooms d.connections (flow / 2) new
@@ -168,26 +179,26 @@ module _ (S : Setup) (written : List ℕ) (events : List Event) where
           streams_are = is ∙ (ap (λ n. sum_within n 1) h.streams_are ∙ counted_is d.streams);
           messages_are = h.messages_are;
           faults_are = h.faults_are;
+            others_are = h.others_are;
           cut_is = h.cut_is;
         }) lines
 
-    pub begun_beyond : (flow number next : ℕ) → next ≡ sum_within streams 1 → Before →
+    pub begun_beyond : (flow : ℕ) (first_octet : Start) (next : ℕ) → next ≡ sum_within totals.streams 1 → Before →
         slice_get rooms (flow / 2) ≡ None →
-        HasTold S written (events ++ Begins flow number ∷ []) rooms out arrival first next messages
-        faults cut
-    begun_beyond flow number next is b beyond =
+        HasTold S written (events ++ Begins flow first_octet ∷ []) rooms out arrival first (with_streams totals next) cut
+    begun_beyond flow first_octet next is b beyond =
         let d = b.dump in
         let h = b.holds in
         let none = none_at S rooms d.connections (flow / 2) h.connections beyond in
         record {
-          dump = begun_in S d flow None;
-          leads = leads_more S events (start S written) (Begins flow number) d
-              (begun_in S d flow None) b.leads
+          dump = begun_in S d flow first_octet None;
+          leads = leads_more S events (start S written) (Begins flow first_octet) d
+              (begun_in S d flow first_octet None) b.leads
               (record {
                 answers = no_answers;
                 answered = tt;
                 is =
-                    ap (begun_in S d flow) (sym none);
+                    ap (begun_in S d flow first_octet) (sym none);
               });
           holds = record {
             connections = h.connections;
@@ -197,6 +208,7 @@ module _ (S : Setup) (written : List ℕ) (events : List Event) where
             streams_are = is ∙ (ap (λ n. sum_within n 1) h.streams_are ∙ counted_is d.streams);
             messages_are = h.messages_are;
             faults_are = h.faults_are;
+            others_are = h.others_are;
             cut_is = h.cut_is;
           };
         }
@@ -210,7 +222,7 @@ module _ (S : Setup) (written : List ℕ) (events : List Event) where
         ReadsBy S c (side_of flow) octets arrival w r new out') →
         MatchResult r
         (λ _. HasTold S written (events ++ Delivers flow octets ∷ []) (set rooms (flow / 2) new)
-        out' arrival first streams messages faults cut)
+        out' arrival first totals cut)
         (λ _. HasToldFront S written (events ++ Delivers flow octets ∷ []) out')
     delivered_told r flow octets old new out' b here reads =
         let d = b.dump in
@@ -241,6 +253,7 @@ module _ (S : Setup) (written : List ℕ) (events : List Event) where
           streams_are = h.streams_are;
           messages_are = h.messages_are;
           faults_are = h.faults_are;
+            others_are = h.others_are;
           cut_is = h.cut_is;
         })
       where
@@ -251,10 +264,10 @@ module _ (S : Setup) (written : List ℕ) (events : List Event) where
             MatchResult r (λ _. Held × IsReady out' (d.text ++ with_tags (stream_tag stream) lines))
             (λ _. WroteTaggedFront out' d.text (stream_tag stream) lines) →
             (Held → IsReady out' behind.text → HoldsDump S (set rooms (flow / 2) new) out' arrival
-            first streams messages faults cut behind) →
+            first totals cut behind) →
             MatchResult r
             (λ _. HasTold S written (events ++ Delivers flow octets ∷ []) (set rooms (flow / 2) new)
-            out' arrival first streams messages faults cut)
+            out' arrival first totals cut)
             (λ _. HasToldFront S written (events ++ Delivers flow octets ∷ []) out')
         by (Ok v) d behind stream lines Held leads step text read holds = search (arith, leads_more)
         by (Err v) d behind stream lines Held leads step text read holds = search (
@@ -294,23 +307,25 @@ module _ (S : Setup) (written : List ℕ) (events : List Event) where
     -- ---- a stream closes
 
     pub closed_told : {A E : Type 0} (r : Result A E) (flow : ℕ) (cause : CloseCause)
-        (old : Conversation) (out' : Tagging)
-        (messages' faults' : ℕ) (cut' : Bool) (totals : Totals) → Before →
+        (old new : Conversation) (out' : Tagging)
+        (messages' faults' : ℕ) (cut' : Bool) (had : Totals) → Before →
         slice_get rooms (flow / 2) ≡ Some old →
         ((c : Connection) (w : List ℕ) → HoldsConnection S old c → IsReady out w →
         WritesTagged r out' w (stream_tag (half (side_of flow) c).stream)
         (closed_lines S (side_of flow) cause c)) →
         ((c : Connection) → HoldsConnection S old c →
-        totals ≡ final (rules_in S (half (side_of flow) c).answers)
+        HoldsConnection S new (ended (side_of flow) c)) →
+        ((c : Connection) → HoldsConnection S old c →
+        had ≡ final (rules_in S (half (side_of flow) c).answers)
         (half (side_of flow) c).octets) →
-        messages' ≡ sum_within messages totals.messages →
-        faults' ≡ sum_within faults totals.faults → cut' ≡ (cut || cuts cause) →
+        messages' ≡ sum_within totals.messages had.messages →
+        faults' ≡ sum_within totals.faults had.faults → cut' ≡ (cut || cuts cause) →
         MatchResult r
-        (λ _. HasTold S written (events ++ Closes flow cause ∷ []) rooms out' arrival first streams
-        messages' faults' cut')
+        (λ _. HasTold S written (events ++ Closes flow cause ∷ []) (set rooms (flow / 2) new) out'
+        arrival first (with_counts totals messages' faults') cut')
         (λ _. HasToldFront S written (events ++ Closes flow cause ∷ []) out')
-    closed_told r flow cause old out' messages' faults' cut' totals b here writes ends more fault
-        is_cut =
+    closed_told r flow cause old new out' messages' faults' cut' had b here writes closes ends more
+        fault is_cut =
         let d = b.dump in
         let h = b.holds in
         let at = held_at S rooms d.connections (flow / 2) old h.connections here in
@@ -324,19 +339,21 @@ module _ (S : Setup) (written : List ℕ) (events : List Event) where
           is =
               ap (closed_in S d flow cause) (sym at.is);
         } in
-        told_or_front r d behind (Closes flow cause) rooms out' arrival first streams messages'
-        faults' cut'
+        told_or_front r d behind (Closes flow cause) (set rooms (flow / 2) new) out' arrival first
+        (with_counts totals messages' faults') cut'
         (stream_tag (half side at.connection).stream) (closed_lines S side cause at.connection)
         b.leads step refl
         (λ ready. record {
-          connections = h.connections;
+          connections = held_set S rooms d.connections (flow / 2) new (ended side at.connection)
+              h.connections (closes at.connection at.holds);
           ready = ready;
           arrival_is = h.arrival_is;
           first_is = h.first_is;
           streams_are = h.streams_are;
-          messages_are = more ∙ (ap (λ n. sum_within n totals.messages) h.messages_are
+          messages_are = more ∙ (ap (λ n. sum_within n had.messages) h.messages_are
               ∙ ap (λ (t : Totals). sum_within d.messages t.messages) total);
-          faults_are = fault ∙ (ap (λ n. sum_within n totals.faults) h.faults_are
+          others_are = h.others_are;
+          faults_are = fault ∙ (ap (λ n. sum_within n had.faults) h.faults_are
               ∙ ap (λ (t : Totals). sum_within d.faults t.faults) total);
           cut_is = is_cut ∙ ap (λ b. b || cuts cause) h.cut_is;
         }) (writes at.connection d.text at.holds h.ready)
@@ -371,8 +388,7 @@ module _ (S : Setup) (written : List ℕ) (events : List Event) where
 
     pub closed_beyond : (flow : ℕ) (cause : CloseCause) → Before →
         slice_get rooms (flow / 2) ≡ None →
-        HasTold S written (events ++ Closes flow cause ∷ []) rooms out arrival first streams
-        messages faults cut
+        HasTold S written (events ++ Closes flow cause ∷ []) rooms out arrival first totals cut
     closed_beyond flow cause b beyond =
         let d = b.dump in
         let none = none_at S rooms d.connections (flow / 2) b.holds.connections beyond in
@@ -391,8 +407,7 @@ module _ (S : Setup) (written : List ℕ) (events : List Event) where
     -- ---- what happens in the capture
 
     pub packet_told : (now : Arrival) → Before →
-        HasTold S written (events ++ OfCapture (ComesFrom now) ∷ []) rooms out now first streams
-        messages faults cut
+        HasTold S written (events ++ OfCapture (ComesFrom now) ∷ []) rooms out now first totals cut
     packet_told now b =
         let d = b.dump in
         let h = b.holds in
@@ -410,6 +425,7 @@ module _ (S : Setup) (written : List ℕ) (events : List Event) where
             streams_are = h.streams_are;
             messages_are = h.messages_are;
             faults_are = h.faults_are;
+            others_are = h.others_are;
             cut_is = h.cut_is;
           };
         }
@@ -420,15 +436,14 @@ module _ (S : Setup) (written : List ℕ) (events : List Event) where
         Writes r (tagging_log set_out) (tagging_log out') (capture_fault_line word place) →
         MatchResult r
         (λ _. HasTold S written (events ++ OfCapture (HasFault word place) ∷ []) rooms out' arrival
-        first streams messages faults true)
+        first totals true)
         (λ _. HasToldFront S written (events ++ OfCapture (HasFault word place) ∷ []) out')
     fault_told r word place tag set_out out' b sets none writes =
         let d = b.dump in
         let h = b.holds in
         let line = capture_fault_line word place in
         let behind = record d { is_cut = true; text = d.text ++ line } in
-        told_or_front r d behind (OfCapture (HasFault word place)) rooms out' arrival first streams
-        messages faults true [] line b.leads
+        told_or_front r d behind (OfCapture (HasFault word place)) rooms out' arrival first totals true [] line b.leads
         (record { answers = no_answers; answered = tt; is = refl })
         (ap (λ (t : List ℕ). d.text ++ t) (sym (no_tag_is line)))
         (λ ready. record {
@@ -439,10 +454,35 @@ module _ (S : Setup) (written : List ℕ) (events : List Event) where
           streams_are = h.streams_are;
           messages_are = h.messages_are;
           faults_are = h.faults_are;
+            others_are = h.others_are;
           cut_is = refl;
         })
         (below_tag r out set_out out' d.text line tag [] h.ready sets none
         (capture_fault_ends word place) writes)
+
+    pub passed_told : (octets : List ℕ) (next : ℕ) → next ≡ sum_within totals.others 1 → Before →
+        HasTold S written (events ++ OfCapture (Passes octets) ∷ []) rooms out arrival first
+        (record totals { others = next }) cut
+    passed_told octets next is b =
+        let d = b.dump in
+        let h = b.holds in
+        let behind = record d { others = counted d.others } in
+        record {
+          dump = behind;
+          leads = leads_more S events (start S written) (OfCapture (Passes octets)) d behind b.leads
+              (record { answers = no_answers; answered = tt; is = refl });
+          holds = record {
+            connections = h.connections;
+            ready = h.ready;
+            arrival_is = h.arrival_is;
+            first_is = h.first_is;
+            streams_are = h.streams_are;
+            messages_are = h.messages_are;
+            faults_are = h.faults_are;
+            others_are = is ∙ (ap (λ n. sum_within n 1) h.others_are ∙ counted_is d.others);
+            cut_is = h.cut_is;
+          };
+        }
 
     -- ---- the end
 
@@ -450,35 +490,34 @@ module _ (S : Setup) (written : List ℕ) (events : List Event) where
         (set_out out' : Tagging) → Before →
         set_out ≡ record out { tag = tag; due = length tag; since = 0 } → tag ≡ [] →
         Writes r (tagging_log set_out) (tagging_log out')
-        (capture_total_line streams messages faults packets octets) →
+        (capture_total_line (record totals { packets = packets; octets = octets })) →
         MatchResult r (λ _. HasFinished S written events packets octets out'
-        (cut || nat_lt 0 faults))
+        (cut || nat_lt 0 totals.faults))
         (λ _. HasFinishedFront S written events packets octets out')
     finished r packets octets tag set_out out' b sets none writes =
         let d = b.dump in
         let h = b.holds in
-        let line = capture_total_line d.streams d.messages d.faults packets octets in
-        let line_is : capture_total_line streams messages faults packets octets ≡ line =
-        ap (λ n. capture_total_line n messages faults packets octets) h.streams_are
-        ∙ (ap (λ n. capture_total_line d.streams n faults packets octets) h.messages_are
-        ∙ ap (λ n. capture_total_line d.streams d.messages n packets octets) h.faults_are) in
+        let all = totals_of d packets octets in
+        let line = capture_total_line all in
+        let all_is : record totals { packets = packets; octets = octets } ≡ all =
+        rw (h.streams_are, h.messages_are, h.faults_are, h.others_are) refl in
         let text : finished_text d packets octets ≡ d.text ++ with_tags [] line =
         ap (λ (t : List ℕ). d.text ++ t) (sym (no_tag_is line)) in
-        let faulted : (cut || nat_lt 0 faults) ≡ (d.is_cut || nat_lt 0 d.faults) =
-        ap (λ c. c || nat_lt 0 faults) h.cut_is ∙ ap (λ n. d.is_cut || nat_lt 0 n) h.faults_are in
+        let faulted : (cut || nat_lt 0 totals.faults) ≡ (d.is_cut || nat_lt 0 d.faults) =
+        ap (λ c. c || nat_lt 0 totals.faults) h.cut_is ∙ ap (λ n. d.is_cut || nat_lt 0 n) h.faults_are in
         by r d line b.leads text faulted
         (below_tag r out set_out out' d.text line tag [] h.ready sets none
-        (capture_total_ends d.streams d.messages d.faults packets octets)
-        (subst (λ (l : List ℕ). Writes r (tagging_log set_out) (tagging_log out') l) line_is
-        writes))
+        (capture_total_ends all)
+        (subst (λ (t : CaptureTotals). Writes r (tagging_log set_out) (tagging_log out')
+        (capture_total_line t)) all_is writes))
       where
         by : {A E : Type 0} (r : Result A E) (d : Dump) (line : List ℕ) →
             Leads S (start S written) events d →
             finished_text d packets octets ≡ d.text ++ with_tags [] line →
-            (cut || nat_lt 0 faults) ≡ (d.is_cut || nat_lt 0 d.faults) →
+            (cut || nat_lt 0 totals.faults) ≡ (d.is_cut || nat_lt 0 d.faults) →
             WritesTagged r out' d.text [] line →
             MatchResult r (λ _. HasFinished S written events packets octets out'
-            (cut || nat_lt 0 faults))
+            (cut || nat_lt 0 totals.faults))
             (λ _. HasFinishedFront S written events packets octets out')
         by (Ok v) d line leads text faulted writes = search (arith)
         by (Err v) d line leads text faulted writes = search (arith)

@@ -6,6 +6,7 @@ use Rattle.giop_calls.specs.declared.calls.Call.{Call}
 use Rattle.tcp_flow.specs.declared.flow.CloseCause.{CloseCause}
 use Rattle.tcp_segment.specs.declared.endpoint.Flow.{Flow}
 use Rattle.tcp_waiting.specs.declared.arrival.Arrival.{Arrival}
+use Rattle.giop_conversation.specs.declared.lines.Opening.{Opening}
 use Rattle.giop_conversation.specs.Tags.{stream_tag, with_tags}
 use Rattle.giop_conversation.specs.TaggedText.{is_due}
 use Rattle.giop_conversation.specs.Lines.{stream_line, time_line, answers_line, raises_line, closed_line, capture_fault_line}
@@ -14,7 +15,7 @@ use Rattle.giop_conversation.specs.Lines.{stream_line, time_line, answers_line, 
 pub data StreamPart : Type 0 where
   Reads : List ℕ → StreamPart  -- by itself, where octets of it are read
   Closing : List ℕ → StreamPart  -- by itself, where it closes
-  StreamLine : Flow → Option ℕ → StreamPart  -- where it begins
+  StreamLine : Flow → Opening → StreamPart  -- where it begins
   TimeLine : ℕ → Arrival → StreamPart  -- when a message began
   AnswersLine : ℕ → Call → Option ℕ → StreamPart  -- which call a Reply answers
   RaisesLine : ℕ → List ℕ → StreamPart  -- which exception a Reply raises
@@ -24,7 +25,7 @@ pub data StreamPart : Type 0 where
 abbrev pub lines_of : StreamPart → List ℕ
 lines_of (Reads lines) = lines
 lines_of (Closing lines) = lines
-lines_of (StreamLine flow time) = stream_line flow time
+lines_of (StreamLine flow opening) = stream_line flow opening
 lines_of (TimeLine message arrival) = time_line message arrival
 lines_of (AnswersLine message call time) = answers_line message call time
 lines_of (RaisesLine message name) = raises_line message name
@@ -34,7 +35,7 @@ lines_of (ClosedLine cause) = closed_line cause
 abbrev pub read_lines : StreamPart → List ℕ
 read_lines (Reads lines) = lines
 read_lines (Closing lines) = []
-read_lines (StreamLine flow time) = []
+read_lines (StreamLine flow opening) = []
 read_lines (TimeLine message arrival) = []
 read_lines (AnswersLine message call time) = []
 read_lines (RaisesLine message name) = []
@@ -44,7 +45,7 @@ read_lines (ClosedLine cause) = []
 abbrev pub own_lines : StreamPart → List ℕ
 own_lines (Reads lines) = lines
 own_lines (Closing lines) = lines
-own_lines (StreamLine flow time) = []
+own_lines (StreamLine flow opening) = []
 own_lines (TimeLine message arrival) = []
 own_lines (AnswersLine message call time) = []
 own_lines (RaisesLine message name) = []

@@ -1,7 +1,7 @@
 -- The text of a capture, by what happens in it (docs/FORMATS.md, Conversations of a capture;
 -- meaning). A flow is named by its id: half of it is the place of its connection, and the flow is
 -- the connection's one with an even id or the other one.
-use Rattle.std.specs.Prelude.{◌≡◌, ℕ, ◌+◌, ◌-◌, ◌^◌, ◌/◌, min, Bool, true, false, ◌||◌, List, [], ◌∷◌, ◌++◌, map, Option, Some, None, IfSome, slice_get, set, replicate}
+use Rattle.std.specs.Prelude.{◌≡◌, ℕ, ◌+◌, ◌-◌, ◌^◌, ◌/◌, min, Bool, true, false, ◌||◌, List, [], ◌∷◌, ◌++◌, map, Option, Some, None, IfSome, slice_get, set, replicate, if◌then◌else◌}
 use Rattle.giop_print.specs.Output.{counted}
 use Rattle.giop_sig.specs.Table.{Table}
 use Rattle.giop_entry_table.specs.EntryTable.{Entries}
@@ -13,12 +13,15 @@ use Rattle.giop_stream.specs.AnswersAgree.{AnswersAgree}
 use Rattle.giop_stream.specs.HeaderEndsOfStream.{header_ends_from}
 use Rattle.giop_stream.specs.Stream.{closing, final}
 use Rattle.tcp_segment.specs.declared.endpoint.Flow.{Flow}
-use Rattle.tcp_flow.specs.Flow.{Event, Opens, Begins, Delivers, Closes, OfCapture, ComesFrom, HasFault}
+use Rattle.tcp_flow.specs.Flow.{Event, Opens, Begins, Delivers, Closes, OfCapture, ComesFrom, Passes, HasFault}
+use Rattle.tcp_flow.specs.declared.flow.Start.{Start}
 use Rattle.tcp_flow.specs.declared.flow.CloseCause.{CloseCause}
 use Rattle.tcp_flow.specs.declared.flow.CloseCause.TheVariants.{Fin, Reset, Syn, Fault, Gap, Room, End}
 use Rattle.giop_conversation.specs.declared.conversation.Side.{Side}
 use Rattle.giop_conversation.specs.declared.conversation.Side.TheVariants.{Even, Odd}
 use Rattle.tcp_waiting.specs.declared.arrival.Arrival.{Arrival}
+use Rattle.giop_conversation.specs.declared.lines.CaptureTotals.{CaptureTotals}
+use Rattle.giop_conversation.specs.declared.lines.Opening.{Opening}
 use Rattle.giop_conversation.specs.Tags.{stream_tag, with_tags}
 use Rattle.giop_conversation.specs.Lines.{closed_line, capture_fault_line, capture_total_line}
 use Rattle.giop_conversation.specs.Exchanges.{Exchanged, answer_of, notified}
@@ -49,7 +52,8 @@ setup table messages calls connections first = record {
 -- one flow of a connection
 pub record Half : Type 0 where
   pub flow : Option Flow  -- who sends to whom
-  pub stream : ℕ  -- the number of its last stream; 0 where none has begun
+  pub stream : ℕ  -- the number of its last stream; 0 if none has begun
+  pub is_live : Bool  -- whether that stream lives
   pub octets : List ℕ  -- what was delivered of that stream
   pub answers : Answers  -- which operations the ids of the stream's messages answer
   pub calls : Entries Call  -- its outstanding calls
@@ -93,7 +97,21 @@ opened side flow c =
 
 -- a stream of this number begins in a flow
 abbrev pub begun : Side → ℕ → Connection → Connection
-begun side stream c = with_half side c (record (half side c) { stream = stream; octets = [] })
+begun side stream c =
+    with_half side c (record (half side c) { stream = stream; is_live = true; octets = [] })
+
+-- the stream of a flow closes
+abbrev pub ended : Side → Connection → Connection
+ended side c = with_half side c (record (half side c) { is_live = false })
+
+-- the number of a flow's stream, if it lives
+abbrev pub live_stream : Half → Option ℕ
+live_stream s = if s.is_live then Some s.stream else None
+
+-- what the line of a stream says that begins in a flow at this time
+abbrev pub opening : Side → Option ℕ → Start → Connection → Opening
+opening side time start c =
+    record { time = time; partner = live_stream (half (other side) c); start = start }
 
 -- the calls of the connection after octets that are delivered in this packet, if the ids of the
 -- stream's messages answer these operations
@@ -138,6 +156,7 @@ pub record Dump : Type 0 where
   pub streams : ℕ  -- how many streams have begun
   pub messages : ℕ  -- how many messages and faults the streams had that have closed
   pub faults : ℕ
+  pub others : ℕ  -- how many payloads were looked through in which no stream begins
   pub is_cut : Bool  -- whether a stream was cut by a gap or for room, or the capture has a fault
   pub arrival : Arrival  -- the packet of what is delivered
   pub text : List ℕ  -- all that was written
@@ -146,6 +165,7 @@ abbrev pub new_half : Setup → Half
 new_half S = record {
   flow = None;
   stream = 0;
+  is_live = false;
   octets = [];
   answers = λ number id. None;
   calls = record { most = S.calls; entries = [] };
@@ -161,6 +181,7 @@ start S written = record {
   streams = 0;
   messages = 0;
   faults = 0;
+  others = 0;
   is_cut = false;
   arrival = record { time = None; packet = 0 };
   text = written;
@@ -185,19 +206,13 @@ abbrev pub opened_in : Dump → ℕ → Flow → Option Connection → Dump
 opened_in d id flow None = d
 opened_in d id flow (Some c) = with_connection d id (opened (side_of id) flow c)
 
--- the line of a stream that begins, with the stream's tag
-abbrev pub text_of_begin : Setup → Dump → ℕ → Option Connection → List ℕ
-text_of_begin S d id None = []
-text_of_begin S d id (Some c) =
-    with_tags (stream_tag (number_in S d.streams)) (begin_lines (half (side_of id) c).flow
-    d.arrival.time)
-
-abbrev pub begun_in : Setup → Dump → ℕ → Option Connection → Dump
-begun_in S d id None = record d { streams = counted d.streams }
-begun_in S d id (Some c) =
+abbrev pub begun_in : Setup → Dump → ℕ → Start → Option Connection → Dump
+begun_in S d id start None = record d { streams = counted d.streams }
+begun_in S d id start (Some c) =
     record (with_connection d id (begun (side_of id) (number_in S d.streams) c)) {
       streams = counted d.streams;
-      text = d.text ++ text_of_begin S d id (Some c);
+      text = d.text ++ with_tags (stream_tag (number_in S d.streams))
+          (begin_lines (half (side_of id) c).flow (opening (side_of id) d.arrival.time start c));
     }
 
 abbrev pub delivered_in : Setup → Answers → Dump → ℕ → List ℕ → Option Connection → Dump
@@ -223,7 +238,7 @@ closed_in S d id cause None = d
 closed_in S d id cause (Some c) =
     let s = half (side_of id) c in
     let totals = final (rules_in S s.answers) s.octets in
-    record d {
+    record (with_connection d id (ended (side_of id) c)) {
       messages = sum_within d.messages totals.messages;
       faults = sum_within d.faults totals.faults;
       is_cut = d.is_cut || cuts cause;
@@ -233,10 +248,11 @@ closed_in S d id cause (Some c) =
 -- after an event, where the ids of the messages of the stream that is read answer these operations
 abbrev pub stepped : Setup → Answers → Dump → Event → Dump
 stepped S a d (Opens id flow) = opened_in d id flow (connection_of d id)
-stepped S a d (Begins id number) = begun_in S d id (connection_of d id)
+stepped S a d (Begins id start) = begun_in S d id start (connection_of d id)
 stepped S a d (Delivers id octets) = delivered_in S a d id octets (connection_of d id)
 stepped S a d (Closes id cause) = closed_in S d id cause (connection_of d id)
 stepped S a d (OfCapture (ComesFrom arrival)) = record d { arrival = arrival }
+stepped S a d (OfCapture (Passes octets)) = record d { others = counted d.others }
 stepped S a d (OfCapture (HasFault word at)) =
     record d { is_cut = true; text = d.text ++ capture_fault_line word at }
 
@@ -245,7 +261,7 @@ abbrev pub Answered : Setup → Answers → Dump → Event → Type 0
 Answered S a d (Delivers id octets) =
     IfSome (connection_of d id) (λ c. IsAnswered S a (side_of id) octets d.arrival c)
 Answered S a d (Opens id flow) = Unit {0}
-Answered S a d (Begins id number) = Unit {0}
+Answered S a d (Begins id start) = Unit {0}
 Answered S a d (Closes id cause) = Unit {0}
 Answered S a d (OfCapture event) = Unit {0}
 
@@ -270,7 +286,17 @@ abbrev pub Leads : Setup → Dump → List Event → Dump → Type 0
 Leads S d [] behind = behind ≡ d
 Leads S d (e ∷ es) behind = (between : Dump) × Step S d e between × Leads S between es behind
 
--- the text of a capture of so many packets and octets, its last line included
+-- what a capture of so many packets and octets has
+abbrev pub totals_of : Dump → ℕ → ℕ → CaptureTotals
+totals_of d packets octets = record {
+  streams = d.streams;
+  messages = d.messages;
+  faults = d.faults;
+  packets = packets;
+  octets = octets;
+  others = d.others;
+}
+
+-- its text, the last line included
 abbrev pub finished_text : Dump → ℕ → ℕ → List ℕ
-finished_text d packets octets =
-    d.text ++ capture_total_line d.streams d.messages d.faults packets octets
+finished_text d packets octets = d.text ++ capture_total_line (totals_of d packets octets)

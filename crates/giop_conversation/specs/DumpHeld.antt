@@ -7,6 +7,7 @@ use Rattle.giop_stream.specs.EngineHolds.{HoldsBy}
 use Rattle.tcp_waiting.specs.declared.arrival.Arrival.{Arrival}
 use Rattle.giop_conversation.specs.declared.conversation.Side.{Side}
 use Rattle.giop_conversation.specs.declared.conversation.Conversation.{Conversation}
+use Rattle.giop_conversation.specs.declared.lines.CaptureTotals.{CaptureTotals}
 use Rattle.giop_conversation.specs.Tags.{stream_tag, with_tags}
 use Rattle.giop_conversation.specs.TaggedState.{Tagging, IsReady, WroteTaggedFront}
 use Rattle.giop_conversation.specs.Exchanges.{Exchanged}
@@ -20,6 +21,7 @@ pub record HoldsHalf (S : Setup) (d : DirectionView) (s : Half) : Type 0 where
   pub table : d.engine.table ≡ S.table
   pub most : d.engine.most ≡ S.messages
   pub stream : d.stream ≡ s.stream
+  pub live : d.is_live ≡ s.is_live
   pub flow : d.flow ≡ s.flow
 
 -- An exchange has the calls of a connection, those of this flow as its own.
@@ -59,24 +61,25 @@ AreHeld S (r ∷ rs) (c ∷ cs) = HoldsConnection S r c × AreHeld S rs cs
 -- Connections, what they wrote through an out with tags, the packet that is read, the number of the
 -- first stream, and the sums over the streams are those of a dump.
 pub record HoldsDump (S : Setup) (rooms : List Conversation) (out : Tagging) (arrival : Arrival)
-    (first streams messages faults : ℕ) (cut : Bool) (d : Dump) : Type 0 where
+    (first : ℕ) (totals : CaptureTotals) (cut : Bool) (d : Dump) : Type 0 where
   pub connections : AreHeld S rooms d.connections
   pub ready : IsReady out d.text
   pub arrival_is : arrival ≡ d.arrival
   pub first_is : first ≡ S.first
-  pub streams_are : streams ≡ d.streams
-  pub messages_are : messages ≡ d.messages
-  pub faults_are : faults ≡ d.faults
+  pub streams_are : totals.streams ≡ d.streams
+  pub messages_are : totals.messages ≡ d.messages
+  pub faults_are : totals.faults ≡ d.faults
+  pub others_are : totals.others ≡ d.others
   pub cut_is : cut ≡ d.is_cut
 
 -- The events lead from the start, where this was written below, to such a dump: all of its text was
 -- written, and no more.
 pub record HasTold (S : Setup) (written : List ℕ) (events : List Event) (rooms : List Conversation)
     (out : Tagging)
-    (arrival : Arrival) (first streams messages faults : ℕ) (cut : Bool) : Type 0 where
+    (arrival : Arrival) (first : ℕ) (totals : CaptureTotals) (cut : Bool) : Type 0 where
   pub dump : Dump
   pub leads : Leads S (start S written) events dump
-  pub holds : HoldsDump S rooms out arrival first streams messages faults cut dump
+  pub holds : HoldsDump S rooms out arrival first totals cut dump
 
 -- A put failed: of the text that the events lead to a front was written, and maybe the beginning of
 -- a tag.

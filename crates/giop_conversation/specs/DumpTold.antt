@@ -8,5 +8,4 @@ use Rattle.giop_conversation.specs.DumpHeld.{HasTold}
 -- After what was written below before there stands the text of these events, and no more.
 abbrev pub Told : {O : Type 0} → Setup → List ℕ → List Event → Conversations O → Type 0
 Told S written events c =
-    HasTold S written events c.rooms.items c.out c.arrival c.first c.totals.streams
-    c.totals.messages c.totals.faults c.cut
+    HasTold S written events c.rooms.items c.out c.arrival c.first c.totals c.cut

@@ -1,13 +1,11 @@
 -- The streams of a capture by what has happened in its flows (meaning), and which connections have
 -- read them (state). A connection has two flows, and its directions are those of the one with an
 -- even id and of the other.
-use Rattle.std.specs.Prelude.{ℕ, ◌/◌, ◌%◌, ◌==◌, Bool, true, false, List, [], ◌∷◌, ◌++◌, Option, IfSome, is_some, slice_get, if◌then◌else◌}
+use Rattle.std.specs.Prelude.{ℕ, ◌/◌, ◌%◌, ◌==◌, List, [], ◌∷◌, ◌++◌, Option, None, IfSome, slice_get, if◌then◌else◌}
 use Rattle.std.specs.Option.{option_map}
 use Rattle.tcp_flow.specs.Flow.{Event, Begins, Delivers}
 use Rattle.giop_stream.specs.Framing.{cut}
-use Rattle.giop_stream.specs.declared.status.Status.{Status}
-use Rattle.giop_stream.specs.declared.status.Status.TheVariants.{Running, Stopped}
-use Rattle.giop_conversation.specs.Directions.{DirectionView, HasRead}
+use Rattle.giop_conversation.specs.Directions.{DirectionView, HasRead, fault_place}
 use Rattle.giop_conversation.specs.declared.conversation.Side.{Side}
 use Rattle.giop_conversation.specs.declared.conversation.Side.TheVariants.{Even, Odd}
 use Rattle.giop_conversation.specs.declared.conversation.Conversation.{Conversation}
@@ -16,7 +14,7 @@ use Rattle.giop_conversation.specs.declared.conversation.Conversation.{Conversat
 
 -- the octets of a flow's last stream after one more event, whichever flow that is of
 unfoldable pub octets_behind : ℕ → List ℕ → Event → List ℕ
-octets_behind flow p (Begins id number) = if id == flow then [] else p
+octets_behind flow p (Begins id start) = if id == flow then [] else p
 octets_behind flow p (Delivers id octets) = if id == flow then p ++ octets else p
 octets_behind flow p _ = p
 
@@ -29,26 +27,22 @@ octets_from flow p (e ∷ es) = octets_from flow (octets_behind flow p e) es
 abbrev pub octets_of : ℕ → List Event → List ℕ
 octets_of flow events = octets_from flow [] events
 
--- whether a stream is at a fault, by its status
-abbrev pub is_stopped : Status → Bool
-is_stopped Running = false
-is_stopped (Stopped fault) = true
-
--- whether octets were delivered in an event, and the stream that they are of has a stream fault
--- after all of these events
-abbrev pub is_at_fault : List Event → Event → Bool
-is_at_fault events (Delivers id octets) = is_some (cut (octets_of id events)).stop
-is_at_fault events _ = false
+-- if octets were delivered in an event, and the stream that they are of has a stream fault after all
+-- of these events, the octet of the stream, from 1, at which it has it
+abbrev pub fault_at : List Event → Event → Option ℕ
+fault_at events (Delivers id octets) = fault_place (cut (octets_of id events)).stop
+fault_at events _ = None
 
 -- the same of the last event of a list
-unfoldable pub is_last_at_fault : List Event → List Event → Bool
-is_last_at_fault events [] = false
-is_last_at_fault events (e ∷ []) = is_at_fault events e
-is_last_at_fault events (e ∷ e' ∷ es) = is_last_at_fault events (e' ∷ es)
+unfoldable pub last_fault_at : List Event → List Event → Option ℕ
+last_fault_at events [] = None
+last_fault_at events (e ∷ []) = fault_at events e
+last_fault_at events (e ∷ e' ∷ es) = last_fault_at events (e' ∷ es)
 
--- whether the stream that octets were delivered to last is at a fault, by all that has happened
-abbrev pub reader_faulted : List Event → Bool
-reader_faulted events = is_last_at_fault events events
+-- the octet at which the stream that octets were delivered to last has a stream fault, if it has one,
+-- by all that has happened
+abbrev pub reader_faulted : List Event → Option ℕ
+reader_faulted events = last_fault_at events events
 
 -- ---- the connections
 

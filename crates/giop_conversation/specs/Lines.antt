@@ -1,6 +1,6 @@
 -- The lines of a capture beside those of its streams (docs/FORMATS.md; meaning). Those of a stream
 -- have its tag in front (Tags).
-use Rattle.std.specs.Prelude.{ℕ, List, [], ◌∷◌, Option, codes, decimal}
+use Rattle.std.specs.Prelude.{ℕ, nat_lt, Bool, List, [], ◌∷◌, ◌++◌, Option, Some, None, codes, decimal, if◌then◌else◌}
 use Rattle.giop_print.specs.Text.{joined}
 use Rattle.giop_calls.specs.declared.calls.Call.{Call}
 use Rattle.tcp_flow.specs.declared.flow.CloseCause.{CloseCause}
@@ -8,14 +8,29 @@ use Rattle.tcp_flow.specs.declared.flow.CloseCause.TheVariants.{Fin, Reset, Syn,
 use Rattle.tcp_segment.specs.declared.endpoint.Flow.{Flow}
 use Rattle.tcp_segment.specs.EndpointText.{endpoint_text}
 use Rattle.tcp_waiting.specs.declared.arrival.Arrival.{Arrival}
+use Rattle.giop_conversation.specs.declared.lines.CaptureTotals.{CaptureTotals}
+use Rattle.giop_conversation.specs.declared.lines.Opening.{Opening}
 use Rattle.giop_conversation.specs.Times.{time_text, span_text}
 
+-- which stream of the opposite flow lives where one begins, if any does
+abbrev pub partner_text : Option ℕ → List ℕ
+partner_text None = []
+partner_text (Some stream) = codes " with s" ++ decimal stream
+
+-- how many octets are in no stream before one, if any are
+abbrev pub passed_text : ℕ → List ℕ
+passed_text passed = if nat_lt 0 passed then codes " behind " ++ decimal passed else []
+
+-- whether its place was looked for
+abbrev pub found_text : Bool → List ℕ
+found_text is_found = if is_found then codes " found" else []
+
 -- the beginning of a stream
-unfoldable pub stream_line : Flow → Option ℕ → List ℕ
-stream_line flow time =
+unfoldable pub stream_line : Flow → Opening → List ℕ
+stream_line flow opening =
     joined (codes "stream " ∷ endpoint_text flow.from ∷ codes " > " ∷ endpoint_text flow.to
-    ∷ codes " at " ∷ time_text time
-    ∷ codes "\n" ∷ [])
+    ∷ codes " at " ∷ time_text opening.time ∷ partner_text opening.partner
+    ∷ passed_text opening.start.passed ∷ found_text opening.start.is_found ∷ codes "\n" ∷ [])
 
 -- when the header of a message was complete, and in which packet of the capture
 unfoldable pub time_line : ℕ → Arrival → List ℕ
@@ -53,10 +68,11 @@ unfoldable pub capture_fault_line : List ℕ → ℕ → List ℕ
 capture_fault_line word at =
     joined (codes "capture fault " ∷ word ∷ codes " at " ∷ decimal at ∷ codes "\n" ∷ [])
 
--- the sums over all streams, the packets, and the octets of the capture
-unfoldable pub capture_total_line : ℕ → ℕ → ℕ → ℕ → ℕ → List ℕ
-capture_total_line streams messages faults packets octets =
-    joined (codes "total streams " ∷ decimal streams ∷ codes " messages " ∷ decimal messages
-    ∷ codes " faults "
-    ∷ decimal faults ∷ codes " packets " ∷ decimal packets ∷ codes " octets " ∷ decimal octets
+-- the sums over all streams, the packets, the octets of the capture, and how many payloads were
+-- looked through in which no stream begins
+unfoldable pub capture_total_line : CaptureTotals → List ℕ
+capture_total_line t =
+    joined (codes "total streams " ∷ decimal t.streams ∷ codes " messages " ∷ decimal t.messages
+    ∷ codes " faults " ∷ decimal t.faults ∷ codes " packets " ∷ decimal t.packets
+    ∷ codes " octets " ∷ decimal t.octets ∷ codes " other " ∷ decimal t.others
     ∷ codes "\n" ∷ [])

@@ -11,13 +11,14 @@ use Rattle.giop_stream.specs.HeaderEndsOfStream.{header_ends_from}
 use Rattle.giop_stream.specs.EngineHolds.{added}
 use Rattle.tcp_segment.specs.declared.endpoint.Flow.{Flow}
 use Rattle.tcp_waiting.specs.declared.arrival.Arrival.{Arrival}
+use Rattle.giop_conversation.specs.declared.lines.Opening.{Opening}
 use Rattle.giop_conversation.specs.Lines.{stream_line, time_line, answers_line, raises_line}
 use Rattle.giop_conversation.specs.Exchanges.{Exchanged, Answering, Raising, notified}
 
--- the line with which a stream begins, where who sends to whom is known
-abbrev pub begin_lines : Option Flow → Option ℕ → List ℕ
-begin_lines None time = []
-begin_lines (Some flow) time = stream_line flow time
+-- the line with which a stream begins, if who sends to whom is known
+abbrev pub begin_lines : Option Flow → Opening → List ℕ
+begin_lines None opening = []
+begin_lines (Some flow) opening = stream_line flow opening
 
 -- when a message of this number began, where one did
 abbrev pub time_due : Option ℕ → Arrival → List ℕ

@@ -65,7 +65,7 @@ with_stream h number s = record h { stream = λ n. if number == n then s else h.
 -- after one more event, where octets are read by these answers
 abbrev pub happened : Setup → Answers → History → Event → History
 happened S a h (Opens id flow) = h
-happened S a h (Begins id number) =
+happened S a h (Begins id start) =
     with_begun h id (number_in S h.begun) (nat_lt (id / 2) S.connections)
 happened S a h (Delivers id octets) =
     with_stream h (h.stream_of id) (read_on a octets (h.stream (h.stream_of id)))

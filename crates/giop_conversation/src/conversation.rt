@@ -2,28 +2,29 @@
 
 ghost use Rattle.std.specs.Prelude.{◌≡◌, ◌≤◌, ◌++◌, ℕ, List, [], IfOk, OnOk};
 ghost use Rattle.giop_stream.specs.Rules.{most_open};
-ghost use Rattle.giop_stream.specs.Framing.{cut, fault_of};
-ghost use Rattle.giop_stream.specs.EngineHolds.{AreOf, status_of};
+ghost use Rattle.giop_stream.specs.Framing.{cut};
+ghost use Rattle.giop_stream.specs.EngineHolds.{AreOf};
 ghost use Rattle.giop_conversation.specs.Failing.{FailsByPut};
-ghost use Rattle.giop_conversation.specs.Directions.{HasRead};
+ghost use Rattle.giop_conversation.specs.Directions.{HasRead, fault_place};
 ghost use Rattle.giop_conversation.specs.Followed.{direction, other, side_of as spec_side_of};
 ghost use Rattle.giop_stream.specs.Stream.{final};
 ghost use Rattle.giop_conversation.specs.Tags.{stream_tag};
 ghost use Rattle.giop_conversation.specs.TaggedState.{IsReady};
 ghost use Rattle.giop_conversation.specs.Stamped.{begin_lines};
 ghost use Rattle.giop_conversation.specs.StreamReads.{WritesTagged};
-ghost use Rattle.giop_conversation.specs.Captured.{Setup, Connection, setup, half, new_connection, opened, begun, closed_lines, rules_in};
+ghost use Rattle.giop_conversation.specs.Captured.{Setup, Connection, setup, half, new_connection, opened, begun, ended, closed_lines, rules_in, opening, live_stream};
 ghost use Rattle.giop_conversation.specs.DumpHeld.{HasCalls, HoldsConnection, ReadsBy};
 
 use crate::direction::Direction;
 use crate::exchange::Exchange;
 use crate::limits::{Limits, NoMemory};
+use crate::lines::Opening;
 use crate::tagged::Tagged;
 use giop_print::{Out, OutFault};
 use giop_sig::{Catalogue, Requests};
-use giop_stream::{Status, Totals, answers_agree, answers_go_on};
+use giop_stream::{Totals, answers_agree, answers_go_on};
 use std::alloc::Global;
-use tcp_flow::CloseCause;
+use tcp_flow::{CloseCause, Start};
 use tcp_segment::Flow;
 use tcp_waiting::Arrival;
 
@@ -39,6 +40,16 @@ pub fn side_of(flow: u32) -> Side
     ensures { result ≡ spec_side_of flow }
 {
     if flow % 2 == 0 { Side::Even } else { Side::Odd }
+}
+
+/// The other flow of a connection.
+fn opposite(side: Side) -> Side
+    ensures { result ≡ other side }
+{
+    match side {
+        Side::Even => Side::Odd,
+        Side::Odd => Side::Even,
+    }
 }
 
 /// A connection: the directions of its two flows, and the calls of both.
@@ -105,12 +116,24 @@ impl<'a> Conversation<'a> {
         }
     }
 
-    /// A stream of a flow begins.
+    /// The number of a flow's stream, if it lives.
+    fn live_stream(&self, side: Side) -> Option<u64>
+        ensures { (S : Setup) (c : Connection) → HoldsConnection S self.now c →
+            result ≡ live_stream (half side c) }
+    {
+        match side {
+            Side::Even => self.even.live_stream(),
+            Side::Odd => self.odd.live_stream(),
+        }
+    }
+
+    /// A stream of a flow begins, at a time in nanoseconds since 1970-01-01 UTC.
     pub fn begin<O: Out>(
         &mut self,
         side: Side,
         stream: u64,
         time: Option<u128>,
+        start: Start,
         out: &mut Tagged<O>,
     ) -> Result<(), OutFault>
         ensures read { HasRead (direction side self.new).engine [] }
@@ -121,26 +144,31 @@ impl<'a> Conversation<'a> {
         // Below stands its line with the tag of the stream, or a front of it.
         ensures text { (S : Setup) (c : Connection) (w : List ℕ) → HoldsConnection S self.old c →
             IsReady out.old w → WritesTagged result out.new w (stream_tag stream)
-            (begin_lines (half side c).flow time) }
+            (begin_lines (half side c).flow (opening side time start c)) }
     {
+        let opening = Opening {
+            time,
+            partner: self.live_stream(opposite(side)),
+            start,
+        };
         match side {
-            Side::Even => self.even.begin(stream, time, out),
-            Side::Odd => self.odd.begin(stream, time, out),
+            Side::Even => self.even.begin(stream, opening, out),
+            Side::Odd => self.odd.begin(stream, opening, out),
         }
     }
 
-    /// Reads octets of a flow's stream.
+    /// Reads octets of a flow's stream. Returns the octet of the stream, from 1, at which it has a stream fault, if it has one.
     pub fn read<O: Out>(
         &mut self,
         side: Side,
         octets: &[u8],
         arrival: Arrival,
         out: &mut Tagged<O>,
-    ) -> Result<Status, OutFault>
+    ) -> Result<Option<u64>, OutFault>
         ensures read { (p : List ℕ) → HasRead (direction side self.old).engine p →
             OnOk result (HasRead (direction side self.new).engine (p ++ octets.now)) }
-        ensures status { (p : List ℕ) → HasRead (direction side self.old).engine p →
-            IfOk result (λ s. s ≡ status_of (fault_of (cut (p ++ octets.now)).stop)) }
+        ensures fault { (p : List ℕ) → HasRead (direction side self.old).engine p →
+            IfOk result (λ at. at ≡ fault_place (cut (p ++ octets.now)).stop) }
         ensures other { direction (other side) self.new ≡ direction (other side) self.old }
         ensures fails { FailsByPut result out.old out.new }
         // By answers that are those of the calls, below stand the lines of the octets, each with the tag of the stream, or a
@@ -159,23 +187,33 @@ impl<'a> Conversation<'a> {
 
     /// The stream of a flow closes. Returns what it had.
     pub fn close<O: Out>(
-        &self,
+        &mut self,
         side: Side,
         cause: CloseCause,
         out: &mut Tagged<O>,
     ) -> Result<Totals, OutFault>
+        ensures even { self.new.even.engine ≡ self.old.even.engine }
+        ensures odd { self.new.odd.engine ≡ self.old.odd.engine }
+        ensures held { (S : Setup) (c : Connection) → HoldsConnection S self.old c →
+            HoldsConnection S self.new (ended side c) }
         ensures fails { FailsByPut result out.old out.new }
         // Below stand why, and then the closing, each line with the tag of the stream; or a front of them.
-        ensures text { (S : Setup) (c : Connection) (w : List ℕ) → HoldsConnection S self.now c →
+        ensures text { (S : Setup) (c : Connection) (w : List ℕ) → HoldsConnection S self.old c →
             IsReady out.old w → WritesTagged result out.new w (stream_tag (half side c).stream)
             (closed_lines S side cause c) }
-        ensures totals { (S : Setup) (c : Connection) → HoldsConnection S self.now c →
+        ensures totals { (S : Setup) (c : Connection) → HoldsConnection S self.old c →
             IfOk result (λ t.
             t ≡ final (rules_in S (half side c).answers) (half side c).octets) }
     {
         match side {
-            Side::Even => self.even.close(cause, out),
-            Side::Odd => self.odd.close(cause, out),
+            Side::Even => {
+                self.even.end();
+                self.even.close(cause, out)
+            }
+            Side::Odd => {
+                self.odd.end();
+                self.odd.close(cause, out)
+            }
         }
     }
 }

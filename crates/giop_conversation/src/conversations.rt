@@ -3,7 +3,7 @@
 ghost use Rattle.std.specs.Prelude.{◌≡◌, ◌⊎◌, ◌≤◌, ◌<◌, ◌+◌, ◌*◌, ◌/◌, ◌++◌, ◌∷◌, ◌||◌, ℕ, List, [], true, length, nat_lt, IfOk, OnOk, OnErr, Err, Some, MatchResult};
 ghost use Rattle.std.specs.Io.KnownBytes.{Keeps};
 ghost use Rattle.std.specs.Vec.{vec_len};
-ghost use Rattle.tcp_flow.specs.Flow.{Event, Opens, Begins, Delivers, Closes, OfCapture, ComesFrom, HasFault};
+ghost use Rattle.tcp_flow.specs.Flow.{Event, Opens, Begins, Delivers, Closes, OfCapture, ComesFrom, Passes, HasFault};
 ghost use Rattle.giop_stream.specs.Rules.{most_open};
 ghost use Rattle.giop_stream.specs.EngineHolds.{AreOf};
 ghost use Rattle.giop_conversation.specs.Failing.{FailsOnce};
@@ -12,7 +12,7 @@ ghost use Rattle.giop_conversation.specs.Follows.{Follows};
 ghost use Rattle.giop_conversation.specs.Captured.{Setup, setup, cuts, sum_within as spec_sum_within};
 ghost use Rattle.giop_conversation.specs.DumpHeld.{HasToldFront, HasFinished, HasFinishedFront};
 ghost use Rattle.giop_conversation.specs.DumpTold.{Told};
-ghost use Rattle.giop_conversation.specs.Followed.{reader_faulted, is_stopped as spec_is_stopped};
+ghost use Rattle.giop_conversation.specs.Followed.{reader_faulted};
 
 use crate::conversation::{Conversation, side_of};
 use crate::limits::{Limits, NoMemory};
@@ -22,21 +22,10 @@ use crate::tagged::Tagged;
 use giop_print::{Out, OutFault};
 use giop_run::Flush;
 use giop_sig::{Catalogue, Requests};
-use giop_stream::Status;
 use std::alloc::Global;
-use tcp_flow::CloseCause;
+use tcp_flow::{CloseCause, Start};
 use tcp_segment::Flow;
 use tcp_waiting::Arrival;
-
-/// Whether a stream is at a fault, by its status.
-fn is_stopped(status: Status) -> bool
-    ensures { result ≡ spec_is_stopped status }
-{
-    match status {
-        Status::Running => false,
-        Status::Stopped(_) => true,
-    }
-}
 
 /// A sum that stays at its greatest.
 fn sum_within(a: u64, b: u64) -> u64
@@ -111,6 +100,7 @@ impl<'a, O: Out + Drop> Conversations<'a, O> {
             faults: 0,
             packets: 0,
             octets: 0,
+            others: 0,
         };
         Ok(Conversations {
             rooms,
@@ -158,14 +148,14 @@ impl<'a, O: Out + Drop> Conversations<'a, O> {
     }
 
     /// A stream of a flow begins, with the number after that of the one before it.
-    pub fn begins(&mut self, flow: u32) -> Result<(), OutFault>
-        ensures follows { (events : List Event) (number : ℕ) → Follows self.old events →
-            OnOk result (Follows self.new (events ++ Begins flow number ∷ [])) }
+    pub fn begins(&mut self, flow: u32, start: Start) -> Result<(), OutFault>
+        ensures follows { (events : List Event) → Follows self.old events →
+            OnOk result (Follows self.new (events ++ Begins flow start ∷ [])) }
         // Below stands the text of all events, or a front of it.
-        ensures told { (S : Setup) (written : List ℕ) (events : List Event) (number : ℕ) →
+        ensures told { (S : Setup) (written : List ℕ) (events : List Event) →
             Told S written events self.old →
-            MatchResult result (λ _. Told S written (events ++ Begins flow number ∷ []) self.new)
-            (λ _. HasToldFront S written (events ++ Begins flow number ∷ []) self.new.out) }
+            MatchResult result (λ _. Told S written (events ++ Begins flow start ∷ []) self.new)
+            (λ _. HasToldFront S written (events ++ Begins flow start ∷ []) self.new.out) }
         ensures fails { FailsOnce result self.new.out }
         // Once a put has failed nothing is written.
         ensures still { 0 < self.old.out.failures → self.new.out ≡ self.old.out }
@@ -176,16 +166,19 @@ impl<'a, O: Out + Drop> Conversations<'a, O> {
         let number = self.next_number();
         self.totals.streams = sum_within(self.totals.streams, 1);
         match self.rooms.get_mut(flow as usize / 2) {
-            Some(room) => room.begin(side_of(flow), number, self.arrival.time, &mut self.out),
+            Some(room) => {
+                let time = self.arrival.time;
+                room.begin(side_of(flow), number, time, start, &mut self.out)
+            }
             None => Ok(()),
         }
     }
 
-    /// The next octets of a flow's stream. Answers whether the stream is at a fault.
-    pub fn delivers(&mut self, flow: u32, octets: &[u8]) -> Result<bool, OutFault>
-        ensures follows { (events : List Event) → Follows self.old events → IfOk result (λ at_fault.
+    /// The next octets of a flow's stream. Returns the octet of the stream, from 1, at which it has a stream fault, if it has one.
+    pub fn delivers(&mut self, flow: u32, octets: &[u8]) -> Result<Option<u64>, OutFault>
+        ensures follows { (events : List Event) → Follows self.old events → IfOk result (λ at.
             Follows self.new (events ++ Delivers flow octets.now ∷ [])
-            × (at_fault ≡ reader_faulted (events ++ Delivers flow octets.now ∷ []))) }
+            × (at ≡ reader_faulted (events ++ Delivers flow octets.now ∷ []))) }
         // Below stands the text of all events, or a front of it.
         ensures told { (S : Setup) (written : List ℕ) (events : List Event) →
             Told S written events self.old →
@@ -200,10 +193,7 @@ impl<'a, O: Out + Drop> Conversations<'a, O> {
             return Err(OutFault);
         }
         match self.rooms.get_mut(flow as usize / 2) {
-            Some(room) => match room.read(side_of(flow), octets, self.arrival, &mut self.out) {
-                Ok(status) => Ok(is_stopped(status)),
-                Err(fault) => Err(fault),
-            },
+            Some(room) => room.read(side_of(flow), octets, self.arrival, &mut self.out),
             // Nothing is known of its stream.
             None => Err(self.out.refuse()),
         }
@@ -225,7 +215,7 @@ impl<'a, O: Out + Drop> Conversations<'a, O> {
         if self.out.has_failed() {
             return Err(OutFault);
         }
-        match self.rooms.get(flow as usize / 2) {
+        match self.rooms.get_mut(flow as usize / 2) {
             Some(room) => match room.close(side_of(flow), cause, &mut self.out) {
                 Ok(totals) => {
                     self.totals.messages = sum_within(self.totals.messages, totals.messages);
@@ -237,6 +227,18 @@ impl<'a, O: Out + Drop> Conversations<'a, O> {
             },
             None => Ok(()),
         }
+    }
+
+    /// A payload was looked through, and no stream begins in it.
+    pub fn passes(&mut self)
+        ensures follows { (events : List Event) (octets : List ℕ) → Follows self.old events →
+            Follows self.new (events ++ OfCapture (Passes octets) ∷ []) }
+        ensures kept { self.new.out ≡ self.old.out }
+        ensures told { (S : Setup) (written : List ℕ) (events : List Event) (octets : List ℕ) →
+            Told S written events self.old →
+            Told S written (events ++ OfCapture (Passes octets) ∷ []) self.new }
+    {
+        self.totals.others = sum_within(self.totals.others, 1);
     }
 
     /// The capture has a fault of its own, at its octet of this number, from 1: it ends there.

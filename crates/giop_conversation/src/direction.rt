@@ -1,6 +1,6 @@
 //! One direction of a connection: the engine of its streams, and the number of the last one.
 
-ghost use Rattle.std.specs.Prelude.{◌≡◌, ◌≤◌, ◌<◌, ◌++◌, ℕ, List, [], length, take, None, false, IfOk, OnOk, MatchResult};
+ghost use Rattle.std.specs.Prelude.{◌≡◌, ◌≤◌, ◌<◌, ◌++◌, ℕ, List, [], length, take, Some, None, true, false, IfOk, OnOk, MatchResult, if◌then◌else◌};
 ghost use Rattle.std.specs.Option.{option_map};
 ghost use Rattle.giop_print.specs.Output.{Writes, WroteFront};
 ghost use Rattle.giop_sig.specs.Table.{Table};
@@ -21,10 +21,10 @@ ghost use Rattle.giop_conversation.specs.Exchanges.{answer_of, notified, is_wait
 ghost use Rattle.giop_conversation.specs.Stamped.{stamped, exchanged, taken, time_due, answers_due, raises_due, begin_lines};
 ghost use Rattle.giop_conversation.specs.StreamReads.{AgreeWith, IsUndueAfter, IsSetAlike, HasCome, HasStood, WritesTagged, reading_in};
 ghost use Rattle.giop_conversation.specs.Failing.{FailsByPut};
-ghost use Rattle.giop_conversation.specs.Directions.{HasRead};
+ghost use Rattle.giop_conversation.specs.Directions.{HasRead, fault_place};
 
 use crate::exchange::{Answering, Exchange, Raising, answers_are_known};
-use crate::lines::{answers_line, closed_line, raises_line, stream_line};
+use crate::lines::{Opening, answers_line, closed_line, raises_line, stream_line};
 use crate::tag::{Tag, stream_tag};
 use crate::tagged::Tagged;
 use giop_print::{Out, OutFault};
@@ -42,6 +42,8 @@ pub struct Direction<'a> {
     catalogue: &'a Catalogue,
     engine: Engine<'a>,
     stream: u64,
+    // Whether that stream lives.
+    live: bool,
     // That of the stream's lines.
     tag: Tag,
     flow: Option<Flow>,
@@ -55,6 +57,7 @@ impl<'a> Model for Direction<'a> {
     ghost view = { λ d. record {
       engine = d.engine;
       stream = d.stream;
+      is_live = d.live;
       flow = d.flow;
     } };
 
@@ -80,6 +83,7 @@ impl<'a> Direction<'a> {
         ensures table { IfOk result (λ d. d.engine.table ≡ catalogue.now) }
         ensures most { IfOk result (λ d. d.engine.most ≡ messages) }
         ensures stream { IfOk result (λ d. d.stream ≡ 0) }
+        ensures live { IfOk result (λ d. d.is_live ≡ false) }
         ensures flow { IfOk result (λ d. d.flow ≡ None) }
     {
         answers_agree();
@@ -87,9 +91,17 @@ impl<'a> Direction<'a> {
             catalogue,
             engine: Engine::new(alloc, catalogue, requests, messages)?,
             stream: 0,
+            live: false,
             tag: stream_tag(0),
             flow: None,
         })
+    }
+
+    /// The number of its stream, if that lives.
+    pub fn live_stream(&self) -> Option<u64>
+        ensures { result ≡ (if self.now.is_live then Some self.now.stream else None) }
+    {
+        if self.live { Some(self.stream) } else { None }
     }
 
     /// From now on it is of this flow.
@@ -99,11 +111,11 @@ impl<'a> Direction<'a> {
         self.flow = Some(flow);
     }
 
-    /// A stream of this number begins, at a time in nanoseconds since 1970-01-01 UTC: writes its line.
+    /// A stream of this number begins: writes its line.
     pub fn begin<O: Out>(
         &mut self,
         stream: u64,
-        time: Option<u128>,
+        opening: Opening,
         out: &mut Tagged<O>,
     ) -> Result<(), OutFault>
         ensures read { HasRead self.new.engine [] }
@@ -111,18 +123,20 @@ impl<'a> Direction<'a> {
         ensures holds { (a : Answers) → HoldsBy self.new.engine a [] }
         ensures same { IsSetAlike self.new.engine self.old.engine }
         ensures stream { self.new.stream ≡ stream }
+        ensures live { self.new.is_live ≡ true }
         ensures flow { self.new.flow ≡ self.old.flow }
         ensures fails { FailsByPut result out.old out.new }
         // Below stands its line with the tag of the stream, or a front of it.
         ensures text { (w : List ℕ) → IsReady out.old w →
             WritesTagged result out.new w (spec_stream_tag stream)
-            (begin_lines self.old.flow time) }
+            (begin_lines self.old.flow opening) }
     {
         self.engine.restart();
         self.stream = stream;
+        self.live = true;
         self.tag = stream_tag(stream);
         out.set_tag(self.tag.copied());
-        write_begin(self.flow, time, out)
+        write_begin(self.flow, opening, out)
     }
 
     /// Reads a piece of its stream up to the first octet after which a line of the conversation is due, and writes the
@@ -161,6 +175,7 @@ impl<'a> Direction<'a> {
         ensures same { IsSetAlike self.new.engine self.old.engine }
         ensures fails { FailsByPut result out.old out.new }
         ensures stream { self.new.stream ≡ self.old.stream }
+        ensures live { self.new.is_live ≡ self.old.is_live }
         ensures flow { self.new.flow ≡ self.old.flow }
     {
         answers_agree();
@@ -206,6 +221,7 @@ impl<'a> Direction<'a> {
         ensures same { IsSetAlike self.new.engine self.old.engine }
         ensures fails { FailsByPut result out.old out.new }
         ensures stream { self.new.stream ≡ self.old.stream }
+        ensures live { self.new.is_live ≡ self.old.is_live }
         ensures flow { self.new.flow ≡ self.old.flow }
     {
         let fed = self.feed(exchange, octets, out)?;
@@ -213,20 +229,20 @@ impl<'a> Direction<'a> {
         Ok((fed.count, fed.status))
     }
 
-    /// Reads octets of its stream, which came in this packet, and writes the lines that they complete.
-    /// After a stream fault nothing is read.
+    /// Reads octets of its stream, which came in this packet, and writes the lines that they complete. Returns the octet of the
+    /// stream, from 1, at which it has a stream fault, if it has one: nothing after it is read.
     pub fn read<O: Out>(
         &mut self,
         exchange: &mut Exchange<'a>,
         octets: &[u8],
         arrival: Arrival,
         out: &mut Tagged<O>,
-    ) -> Result<Status, OutFault>
+    ) -> Result<Option<u64>, OutFault>
         // Its stream has grown by the octets.
         ensures read { (p : List ℕ) → HasRead self.old.engine p →
             OnOk result (HasRead self.new.engine (p ++ octets.now)) }
-        ensures status { (p : List ℕ) → HasRead self.old.engine p →
-            IfOk result (λ s. s ≡ status_of (fault_of (cut (p ++ octets.now)).stop)) }
+        ensures fault { (p : List ℕ) → HasRead self.old.engine p →
+            IfOk result (λ at. at ≡ fault_place (cut (p ++ octets.now)).stop) }
         // By answers that agree with the calls of the connection, below stand the lines of the octets, each with the tag of the
         // stream, or a front of them; and the calls are those after the octets.
         ensures text { (a : Answers) (p w : List ℕ) → HoldsBy self.old.engine a p →
@@ -242,6 +258,7 @@ impl<'a> Direction<'a> {
         ensures same { IsSetAlike self.new.engine self.old.engine }
         ensures fails { FailsByPut result out.old out.new }
         ensures stream { self.new.stream ≡ self.old.stream }
+        ensures live { self.new.is_live ≡ self.old.is_live }
         ensures flow { self.new.flow ≡ self.old.flow }
     {
         answers_are_known();
@@ -254,9 +271,27 @@ impl<'a> Direction<'a> {
             let (size, status) = self.read_piece(exchange, &octets[at..], arrival, out)?;
             at += size;
             if at >= octets.len() {
-                return Ok(status);
+                return Ok(self.fault_place(status));
             }
         }
+    }
+
+    /// The octet of its stream, from 1, at which it has a stream fault, if it has one by its status.
+    fn fault_place(&self, status: Status) -> Option<u64>
+        ensures { (p : List ℕ) → HasRead self.now.engine p →
+            status ≡ status_of (fault_of (cut p).stop) → result ≡ fault_place (cut p).stop }
+    {
+        match status {
+            Status::Running => None,
+            Status::Stopped(_) => Some(self.engine.totals().octets),
+        }
+    }
+
+    /// Its stream lives no more.
+    pub fn end(&mut self)
+        ensures { self.new ≡ record self.old { is_live = false } }
+    {
+        self.live = false;
     }
 
     /// Its stream closes: writes why, and its closing, and returns what it had.
@@ -280,11 +315,11 @@ impl<'a> Direction<'a> {
 }
 
 /// Writes the line with which a stream begins, where who sends to whom is known.
-fn write_begin<O: Out>(flow: Option<Flow>, time: Option<u128>, out: &mut O) -> Result<(), OutFault>
-    ensures { Writes result (O.log out.old) (O.log out.new) (begin_lines flow time) }
+fn write_begin<O: Out>(flow: Option<Flow>, opening: Opening, out: &mut O) -> Result<(), OutFault>
+    ensures { Writes result (O.log out.old) (O.log out.new) (begin_lines flow opening) }
 {
     match flow {
-        Some(flow) => stream_line(out, flow, time),
+        Some(flow) => stream_line(out, flow, opening),
         None => Ok(()),
     }
 }

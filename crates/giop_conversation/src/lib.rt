@@ -22,7 +22,7 @@ pub use laws::{
 };
 pub use limits::{Limits, NoMemory};
 pub use lines::{
-    CaptureTotals, answers_line, capture_fault_line, capture_total_line, closed_line, raises_line,
+    CaptureTotals, Opening, answers_line, capture_fault_line, capture_total_line, closed_line, raises_line,
     stream_line, time_line,
 };
 pub use tag::{Tag, no_tag, stream_tag};

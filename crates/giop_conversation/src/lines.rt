@@ -1,20 +1,22 @@
 //! The lines of a capture beside those of its streams, written to any `Out` (docs/FORMATS.md). A function returns Ok where its
 //! whole line was written; else a put failed, and a front of the line was written. Times are nanoseconds since 1970-01-01 UTC.
 
-ghost use Rattle.std.specs.Prelude.{◌≡◌};
+ghost use Rattle.std.specs.Prelude.{◌≡◌, ◌≤◌, ◌+◌, ◌++◌};
 ghost use Rattle.giop_print.specs.Output.{Writes};
-ghost use Rattle.giop_conversation.specs.Lines.{stream_line, time_line, answers_line, raises_line, cause_word, closed_line, capture_fault_line, capture_total_line};
+ghost use Rattle.giop_print.specs.Line.{line_text, line_room};
+ghost use Rattle.giop_conversation.specs.Lines.{stream_line, found_text, passed_text, partner_text, time_line, answers_line, raises_line, cause_word, closed_line, capture_fault_line, capture_total_line};
 
 use crate::kept_second::{KeptSecond, put_time};
 use crate::times::put_span;
 use giop_calls::Call;
 use giop_print::{Line, Out, OutFault, numbered_line, put_parts};
 use itoa::Buffer;
-use tcp_flow::CloseCause;
+use tcp_flow::{CloseCause, Start};
 use tcp_segment::{Flow, endpoint_text};
 use tcp_waiting::Arrival;
 
-/// What a whole capture has: its streams, their messages and faults, its packets, and its octets up to its fault.
+/// What a whole capture has: its streams, their messages and faults, its packets, its octets up to its fault, and how many
+/// payloads were looked through in which no stream begins.
 #[derive(Clone, Copy, Debug, PartialEq, Eq)]
 pub struct CaptureTotals {
     pub streams: u64,
@@ -22,22 +24,73 @@ pub struct CaptureTotals {
     pub faults: u64,
     pub packets: u64,
     pub octets: u64,
+    pub others: u64,
 }
 
-/// The line of a stream that begins: who sends to whom, and when.
+/// What the line of a stream says beside who sends to whom: when it begins, which stream of the opposite flow lives then, by its
+/// number, and what is before its first octet in its own flow.
+#[derive(Clone, Copy, Debug, PartialEq, Eq)]
+pub struct Opening {
+    pub time: Option<u128>,
+    pub partner: Option<u64>,
+    pub start: Start,
+}
+
+/// The line of a stream that begins: who sends to whom, and what else is known of its beginning.
 #[tactic(auto, unfolding(crate::specs::Lines::stream_line))]
-pub fn stream_line<O: Out>(out: &mut O, flow: Flow, time: Option<u128>) -> Result<(), OutFault>
-    ensures { Writes result (O.log out.old) (O.log out.new) (stream_line flow time) }
+pub fn stream_line<O: Out>(out: &mut O, flow: Flow, opening: Opening) -> Result<(), OutFault>
+    ensures { Writes result (O.log out.old) (O.log out.new) (stream_line flow opening) }
 {
     let mut line = Line::new();
     line.put(b'\n');
-    put_time(&mut line, time);
+    put_found(&mut line, opening.start.is_found);
+    put_passed(&mut line, opening.start.passed);
+    put_partner(&mut line, opening.partner);
+    put_time(&mut line, opening.time);
     line.put_octets(b" at ");
     line.put_octets(endpoint_text(flow.to).as_slice());
     line.put_octets(b" > ");
     line.put_octets(endpoint_text(flow.from).as_slice());
     line.put_octets(b"stream ");
     out.put_line(&mut line)
+}
+
+/// Puts whether the place of a stream was looked for before what was spelled of a line.
+fn put_found(line: &mut Line, is_found: bool)
+    requires room { 6 ≤ line_room line.old }
+    ensures text { line_text line.new ≡ found_text is_found ++ line_text line.old }
+    ensures room { line_room line.old ≤ line_room line.new + 6 }
+{
+    if is_found {
+        line.put_octets(b" found");
+    }
+}
+
+/// Puts how many octets are in no stream before one, if any are, before what was spelled of a line.
+fn put_passed(line: &mut Line, passed: u32)
+    requires room { 28 ≤ line_room line.old }
+    ensures text { line_text line.new ≡ passed_text passed ++ line_text line.old }
+    ensures room { line_room line.old ≤ line_room line.new + 28 }
+{
+    if passed > 0 {
+        line.put_number(u64::from(passed));
+        line.put_octets(b" behind ");
+    }
+}
+
+/// Puts the number of the stream of the opposite flow, if one lives, before what was spelled of a line.
+fn put_partner(line: &mut Line, partner: Option<u64>)
+    requires room { 27 ≤ line_room line.old }
+    ensures text { line_text line.new ≡ partner_text partner ++ line_text line.old }
+    ensures room { line_room line.old ≤ line_room line.new + 27 }
+{
+    match partner {
+        Some(stream) => {
+            line.put_number(stream);
+            line.put_octets(b" with s");
+        }
+        None => {}
+    }
 }
 
 /// The line of when the header of a message was complete, and in which packet of the capture.
@@ -177,14 +230,14 @@ pub fn capture_fault_line<O: Out>(out: &mut O, word: &str, at: u64) -> Result<()
 #[tactic(auto, unfolding(crate::specs::Lines::capture_total_line))]
 pub fn capture_total_line<O: Out>(out: &mut O, totals: CaptureTotals) -> Result<(), OutFault>
     ensures { Writes result (O.log out.old) (O.log out.new)
-        (capture_total_line totals.streams totals.messages
-        totals.faults totals.packets totals.octets) }
+        (capture_total_line totals) }
 {
     let mut streams = Buffer::new();
     let mut messages = Buffer::new();
     let mut faults = Buffer::new();
     let mut packets = Buffer::new();
     let mut octets = Buffer::new();
+    let mut others = Buffer::new();
     put_parts(
         out,
         &[
@@ -198,6 +251,8 @@ pub fn capture_total_line<O: Out>(out: &mut O, totals: CaptureTotals) -> Result<
             packets.format(totals.packets).as_bytes(),
             b" octets ",
             octets.format(totals.octets).as_bytes(),
+            b" other ",
+            others.format(totals.others).as_bytes(),
             b"\n",
         ],
     )

@@ -4,7 +4,7 @@ use giop_conversation::{Conversations, Limits, events_lead_to_one_text};
 use giop_print::{OutFault, Sheet};
 use giop_sig::{Catalogue, Requests};
 use std::test::Fail;
-use tcp_flow::CloseCause;
+use tcp_flow::{CloseCause, Start};
 use tcp_segment::{Address, Endpoint, Flow};
 use tcp_waiting::Arrival;
 
@@ -54,7 +54,7 @@ s1 m1 header.operation string @0 \"one\"
 s1 m1 call 7 one
 s1 m1 header.requesting_principal octets @0
 s1 m1 end
-s2 stream 10.0.0.2:2809 > 10.0.0.1:1000 at 1970-01-01T00:00:02.000000000Z
+s2 stream 10.0.0.2:2809 > 10.0.0.1:1000 at 1970-01-01T00:00:02.000000000Z with s1 behind 9 found
 s2 m1 start 1.0 big Reply size 12
 s2 m1 time 1970-01-01T00:00:02.000000000Z packet 2
 s2 m1 header.service_contexts count 0
@@ -66,8 +66,22 @@ s1 closed end
 s1 total messages 1 faults 0 octets 44
 s2 closed end
 s2 total messages 1 faults 0 octets 24
-total streams 2 messages 2 faults 0 packets 2 octets 204
+total streams 2 messages 2 faults 0 packets 2 octets 204 other 1
 ";
+
+/// The first octet of a flow.
+const FIRST: Start = Start {
+    number: 1,
+    passed: 0,
+    is_found: false,
+};
+
+/// One after nine octets that are in no stream.
+const FOUND: Start = Start {
+    number: 10,
+    passed: 9,
+    is_found: true,
+};
 
 /// A call and its reply, the second in pieces of a size.
 fn tell(conversations: &mut Conversations<Sheet>, size: usize) -> Result<bool, OutFault> {
@@ -77,13 +91,14 @@ fn tell(conversations: &mut Conversations<Sheet>, size: usize) -> Result<bool, O
         time: Some(SECOND),
         packet: 1,
     });
-    conversations.begins(0)?;
+    conversations.begins(0, FIRST)?;
     conversations.delivers(0, &REQUEST)?;
     conversations.comes_from(Arrival {
         time: Some(2 * SECOND),
         packet: 2,
     });
-    conversations.begins(1)?;
+    conversations.passes();
+    conversations.begins(1, FOUND)?;
     for piece in REPLY.chunks(size.max(1)) {
         conversations.delivers(1, piece)?;
     }

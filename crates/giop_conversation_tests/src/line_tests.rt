@@ -3,12 +3,12 @@
 use arrayvec::ArrayVec;
 use giop_calls::Call;
 use giop_conversation::{
-    CaptureTotals, answers_line, capture_fault_line, capture_total_line, closed_line, raises_line,
+    CaptureTotals, Opening, answers_line, capture_fault_line, capture_total_line, closed_line, raises_line,
     stream_line, time_line,
 };
 use giop_print::{OutFault, Sheet};
 use std::test::Fail;
-use tcp_flow::CloseCause;
+use tcp_flow::{CloseCause, Start};
 use tcp_segment::{Address, Endpoint, Flow};
 use tcp_waiting::Arrival;
 
@@ -39,10 +39,25 @@ fn call() -> Call {
     }
 }
 
+/// The beginning of a stream.
+fn opening(time: Option<u128>, partner: Option<u64>, passed: u32, is_found: bool) -> Opening {
+    Opening {
+        time,
+        partner,
+        start: Start {
+            number: 7,
+            passed,
+            is_found,
+        },
+    }
+}
+
 /// A line of each kind.
 fn lines(sheet: &mut Sheet) -> Result<(), OutFault> {
-    stream_line(sheet, FLOW, Some(TIME))?;
-    stream_line(sheet, FLOW.opposite(), None)?;
+    stream_line(sheet, FLOW, opening(Some(TIME), None, 0, false))?;
+    stream_line(sheet, FLOW.opposite(), opening(None, Some(3), 12, true))?;
+    stream_line(sheet, FLOW.opposite(), opening(None, Some(u64::MAX), 0, true))?;
+    stream_line(sheet, FLOW.opposite(), opening(None, None, u32::MAX, false))?;
     let arrival = Arrival {
         time: Some(TIME),
         packet: 4711,
@@ -62,18 +77,21 @@ fn lines(sheet: &mut Sheet) -> Result<(), OutFault> {
         faults: 1,
         packets: 54,
         octets: 8190,
+        others: 3,
     };
     capture_total_line(sheet, totals)
 }
 
 const LINES: &[u8] = b"stream 192.0.2.1:33490 > [2001:db8::1]:2809 at 2026-11-23T08:13:25.580228123Z
-stream [2001:db8::1]:2809 > 192.0.2.1:33490 at -
+stream [2001:db8::1]:2809 > 192.0.2.1:33490 at - with s3 behind 12 found
+stream [2001:db8::1]:2809 > 192.0.2.1:33490 at - with s18446744073709551615 found
+stream [2001:db8::1]:2809 > 192.0.2.1:33490 at - behind 4294967295
 m6 time 2026-11-23T08:13:25.580228123Z packet 4711
 m6 answers s3 m12 resolve after 0.000228123
 m7 answers s3 m12 resolve after -
 m6 raises IDL:omg.org/CosNaming/NamingContext/NotFound:1.0
 capture fault truncated at 4711
-total streams 8 messages 29 faults 1 packets 54 octets 8190
+total streams 8 messages 29 faults 1 packets 54 octets 8190 other 3
 ";
 
 #[test]

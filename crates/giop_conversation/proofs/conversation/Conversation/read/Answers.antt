@@ -22,7 +22,7 @@ returns-in-Even-clause-text g c = λ S k w holds ready.
     (c.answers_agree.ensures.held d.engine k.even.answers a k.even.octets) go.1 go.2 in
     rw c.in-Even.is (reads_by c.read.result S k Even octets arrival w _ c.read.new.out d t a h
     calls on here
-    c.read.ensures.same c.read.ensures.stream c.read.ensures.flow opposite
+    c.read.ensures.same c.read.ensures.stream c.read.ensures.live c.read.ensures.flow opposite
     (c.read.ensures.text a k.even.octets w on.holds ready on.agrees))
 
 pub returns-in-Odd-clause-text : goal.returns-in-Odd-clause-text
@@ -42,5 +42,6 @@ returns-in-Odd-clause-text g c = λ S k w holds ready.
     (c.answers_agree.ensures.held d.engine k.odd.answers a k.odd.octets) go.1 go.2 in
     rw c.in-Odd.is (reads_by c.read-in-Odd.result S k Odd octets arrival w _ c.read-in-Odd.new.out
     d t a h calls on here
-    c.read-in-Odd.ensures.same c.read-in-Odd.ensures.stream c.read-in-Odd.ensures.flow opposite
+    c.read-in-Odd.ensures.same c.read-in-Odd.ensures.stream c.read-in-Odd.ensures.live
+    c.read-in-Odd.ensures.flow opposite
     (c.read-in-Odd.ensures.text a k.odd.octets w on.holds ready on.agrees))

@@ -8,15 +8,15 @@ use Rattle.giop_conversation.proofs.ToldLemmas.{begun_told, begun_beyond, still_
 use Rattle.giop_conversation.proofs.conversations.Conversations.begins.Goals as goal
 
 pub returns-in-Some-clause-follows : goal.returns-in-Some-clause-follows
-returns-in-Some-clause-follows g c = λ events number follows.
+returns-in-Some-clause-follows g c = λ events follows.
     let rooms = c.args.self.now.rooms in
     let old = c.in-Some.room.now in
     let new = c.begin.new.self in
     let here = element rooms.items (vec_len rooms) (c.args.flow / 2) old rooms.ok.0
     (c.in-Some.ensures.variant.0 refl) c.in-Some.ensures.value in
     on_ok c.begin.result (HaveFollowed (set rooms.items (c.args.flow / 2) new)
-    (events ++ Begins c.args.flow number ∷ []))
-    (stream_begun rooms.items events c.args.flow number old new follows here
+    (events ++ Begins c.args.flow c.args.start ∷ []))
+    (stream_begun rooms.items events c.args.flow c.args.start old new follows here
     (rw c.side_of.ensures at c.begin.ensures.read)
     (rw c.side_of.ensures at c.begin.ensures.other))
 
@@ -26,40 +26,40 @@ returns-in-Some-clause-fails g c =
     (none_failed c.args.self.now.out.failures c.if-has_failed.ensures.1) c.begin.ensures.fails
 
 pub returns-in-None-clause-follows : goal.returns-in-None-clause-follows
-returns-in-None-clause-follows g c = λ events number follows.
+returns-in-None-clause-follows g c = λ events follows.
     let rooms = c.args.self.now.rooms in
-    followed_beyond rooms.items events (Begins c.args.flow number) c.args.flow follows
+    followed_beyond rooms.items events (Begins c.args.flow c.args.start) c.args.flow follows
     (no_element rooms.items (vec_len rooms) (c.args.flow / 2) rooms.ok.0
     c.in-None.ensures.variant.1)
-    (of_begins c.args.flow number)
+    (of_begins c.args.flow c.args.start)
 
 pub returns-in-Some-clause-told : goal.returns-in-Some-clause-told
-returns-in-Some-clause-told g c = λ S written events number told.
+returns-in-Some-clause-told g c = λ S written events told.
     let now = c.args.self.now in
     let rooms = now.rooms in
     let t = now.totals in
     let old = c.in-Some.room.now in
     let here = element rooms.items (vec_len rooms) (c.args.flow / 2) old rooms.ok.0
     (c.in-Some.ensures.variant.0 refl) c.in-Some.ensures.value in
-    begun_told S written events rooms.items now.out now.arrival now.first t.streams
-    t.messages t.faults now.cut c.begin.result c.args.flow number c.next_number-number.result
+    begun_told S written events rooms.items now.out now.arrival now.first t
+    now.cut c.begin.result c.args.flow c.args.start c.next_number-number.result
     c.sum_within-self.result old c.begin.new.self c.begin.new.out c.next_number-number.ensures
     c.sum_within-self.ensures told here
     (λ k. rw c.side_of.ensures at (c.begin.ensures.held S k))
     (λ k w. rw c.side_of.ensures at (c.begin.ensures.text S k w))
 
 pub returns-in-None-clause-told : goal.returns-in-None-clause-told
-returns-in-None-clause-told g c = λ S written events number told.
+returns-in-None-clause-told g c = λ S written events told.
     let now = c.args.self.now in
     let rooms = now.rooms in
     let t = now.totals in
-    begun_beyond S written events rooms.items now.out now.arrival now.first t.streams
-    t.messages t.faults now.cut c.args.flow number
+    begun_beyond S written events rooms.items now.out now.arrival now.first t
+    now.cut c.args.flow c.args.start
     c.sum_within-self.result c.sum_within-self.ensures told
     (no_element rooms.items (vec_len rooms) (c.args.flow / 2) rooms.ok.0
     c.in-None.ensures.variant.1)
 
 pub returns-then-has_failed-clause-told : goal.returns-then-has_failed-clause-told
-returns-then-has_failed-clause-told g c = λ S written events number told.
+returns-then-has_failed-clause-told g c = λ S written events told.
     absurd (still_sound c.args.self.now.out.failures told.holds.ready.sound
     (c.if-has_failed.ensures.0 refl))

@@ -1,8 +1,7 @@
-use Rattle.std.proofs.Common.{◌/◌, length, refl, ℕ, Result, Ok}
-use Rattle.std.proofs.lemmas.Option.{slice_get_read, slice_get_past}
+use Rattle.std.proofs.Common.{◌/◌, vec_len, refl, ℕ, Result, Ok}
 use Rattle.tcp_flow.specs.Flow.{Closes}
 use Rattle.giop_conversation.proofs.FailingBelow.{counted_more}
-use Rattle.giop_conversation.proofs.FollowedLemmas.{none_of_closes, followed_still}
+use Rattle.giop_conversation.proofs.FollowedLemmas.{element, no_element, engines_stay, none_of_closes, followed_still}
 use Rattle.giop_conversation.proofs.ToldLemmas.{closed_told, closed_front, closed_beyond, still_sound}
 use Rattle.giop_conversation.proofs.conversations.Conversations.closes.Goals as goal
 
@@ -17,7 +16,12 @@ returns-in-Err-clause-fails g c = rw c.in-Err.ensures.fails
 
 pub returns-in-Ok-clause-follows : goal.returns-in-Ok-clause-follows
 returns-in-Ok-clause-follows g c = λ events follows.
-    followed_still c.args.self.now.rooms.items events (Closes c.args.flow c.args.cause) follows
+    let rooms = c.args.self.now.rooms in
+    let old = c.in-Some.room.now in
+    let here = element rooms.items (vec_len rooms) (c.args.flow / 2) old rooms.ok.0
+    (c.in-Some.ensures.variant.0 refl) c.in-Some.ensures.value in
+    engines_stay rooms.items events (Closes c.args.flow c.args.cause) c.args.flow old
+    c.close.new.self follows here c.close.ensures.even c.close.ensures.odd
     (none_of_closes c.args.flow c.args.cause)
 
 pub returns-in-Ok-clause-told : goal.returns-in-Ok-clause-told
@@ -26,15 +30,15 @@ returns-in-Ok-clause-told g c = λ S written events told.
     let rooms = now.rooms in
     let t = now.totals in
     let old = c.in-Some.room.now in
-    let at = rw c.deref.ensures.value at c.in-Some.ensures.lookup in
-    let here = slice_get_read rooms.items (length rooms.items) (c.args.flow / 2) old refl at.3.0
-    (at.3.1 old) in
+    let here = element rooms.items (vec_len rooms) (c.args.flow / 2) old rooms.ok.0
+    (c.in-Some.ensures.variant.0 refl) c.in-Some.ensures.value in
     let done : Result ℕ ℕ = Ok 0 in
-    closed_told S written events rooms.items now.out now.arrival now.first t.streams
-    t.messages t.faults now.cut done c.args.flow c.args.cause
-    old c.close.new.out c.sum_within-self.result c.sum_within-self-in-Ok.result c.is_cut-self.result
+    closed_told S written events rooms.items now.out now.arrival now.first t
+    now.cut done c.args.flow c.args.cause
+    old c.close.new.self c.close.new.out c.sum_within-self.result c.sum_within-self-in-Ok.result c.is_cut-self.result
     c.in-Ok.totals told here
     (λ k w. rw c.side_of.ensures at (c.in-Ok.ensures.text S k w))
+    (λ k. rw c.side_of.ensures at (c.close.ensures.held S k))
     (λ k. rw c.side_of.ensures at (c.in-Ok.ensures.totals S k))
     c.sum_within-self.ensures c.sum_within-self-in-Ok.ensures c.is_cut-self.ensures
 
@@ -43,10 +47,10 @@ returns-in-None-clause-told g c = λ S written events told.
     let now = c.args.self.now in
     let rooms = now.rooms in
     let t = now.totals in
-    let at = rw c.deref.ensures.value at c.in-None.ensures.lookup in
-    closed_beyond S written events rooms.items now.out now.arrival now.first t.streams
-    t.messages t.faults now.cut c.args.flow c.args.cause told
-    (slice_get_past rooms.items (c.args.flow / 2) at.3)
+    closed_beyond S written events rooms.items now.out now.arrival now.first t
+    now.cut c.args.flow c.args.cause told
+    (no_element rooms.items (vec_len rooms) (c.args.flow / 2) rooms.ok.0
+    c.in-None.ensures.variant.1)
 
 pub returns-in-Err-clause-told : goal.returns-in-Err-clause-told
 returns-in-Err-clause-told g c = λ S written events told.
@@ -54,11 +58,10 @@ returns-in-Err-clause-told g c = λ S written events told.
     let rooms = now.rooms in
     let t = now.totals in
     let old = c.in-Some.room.now in
-    let at = rw c.deref.ensures.value at c.in-Some.ensures.lookup in
-    let here = slice_get_read rooms.items (length rooms.items) (c.args.flow / 2) old refl at.3.0
-    (at.3.1 old) in
-    closed_front S written events rooms.items now.out now.arrival now.first t.streams
-    t.messages t.faults now.cut c.args.flow c.args.cause
+    let here = element rooms.items (vec_len rooms) (c.args.flow / 2) old rooms.ok.0
+    (c.in-Some.ensures.variant.0 refl) c.in-Some.ensures.value in
+    closed_front S written events rooms.items now.out now.arrival now.first t
+    now.cut c.args.flow c.args.cause
     old c.close.new.out told here (λ k w. rw c.side_of.ensures at (c.in-Err.ensures.text S k w))
 
 pub returns-then-has_failed-clause-told : goal.returns-then-has_failed-clause-told

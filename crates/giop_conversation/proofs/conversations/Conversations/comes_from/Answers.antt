@@ -5,5 +5,5 @@ pub returns-clause-told : goal.returns-clause-told
 returns-clause-told g c = λ S written events told.
     let now = c.args.self.now in
     let t = now.totals in
-    packet_told S written events now.rooms.items now.out now.arrival now.first t.streams t.messages
-    t.faults now.cut c.args.arrival told
+    packet_told S written events now.rooms.items now.out now.arrival now.first t
+    now.cut c.args.arrival told

@@ -20,8 +20,8 @@ returns-clause-told g c = λ S written events told.
     let now = c.args.self.now in
     let rooms = now.rooms in
     let t = now.totals in
-    fault_told S written events rooms.items now.out now.arrival now.first t.streams
-    t.messages t.faults now.cut c.capture_fault_line.result
+    fault_told S written events rooms.items now.out now.arrival now.first t
+    now.cut c.capture_fault_line.result
     c.args.word.now c.args.at c.no_tag.result c.set_tag.new.self c.capture_fault_line.new.out
     told c.set_tag.ensures c.no_tag.ensures
     c.capture_fault_line.ensures

@@ -22,8 +22,8 @@ returns-in_err-capture_total_line-clause-told g c = λ S written events told.
     let t = now.totals in
     let failed : Result ℕ ℕ = Err 0 in
     MatchResult-from_err c.from_residual.result _ _ c.from_residual.ensures.0 (λ _.
-    finished S written events rooms.items now.out now.arrival now.first t.streams
-    t.messages t.faults now.cut
+    finished S written events rooms.items now.out now.arrival now.first t
+    now.cut
     failed c.args.packets c.args.octets
     c.no_tag.result c.set_tag.new.self c.capture_total_line.new.out told c.set_tag.ensures
     c.no_tag.ensures
@@ -37,8 +37,8 @@ returns-clause-told g c = λ S written events told.
     let done : Result ℕ ℕ = Ok 0 in
     subst (λ (b : Bool). HasFinished S written events c.args.packets c.args.octets
     c.capture_total_line.new.out b) (sym c.is_faulted.ensures)
-    (finished S written events rooms.items now.out now.arrival now.first t.streams
-    t.messages t.faults now.cut
+    (finished S written events rooms.items now.out now.arrival now.first t
+    now.cut
     done c.args.packets c.args.octets
     c.no_tag.result c.set_tag.new.self c.capture_total_line.new.out told c.set_tag.ensures
     c.no_tag.ensures

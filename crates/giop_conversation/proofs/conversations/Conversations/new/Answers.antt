@@ -48,6 +48,7 @@ returns-clause-told g c = λ written known.
         streams_are = refl;
         messages_are = refl;
         faults_are = refl;
+        others_are = refl;
         cut_is = refl;
       };
     }

@@ -1,6 +1,6 @@
 use Rattle.std.proofs.Common.{◌/◌, vec_len, refl}
 use Rattle.tcp_flow.specs.Flow.{Opens}
-use Rattle.giop_conversation.proofs.FollowedLemmas.{element, opened, none_of_opens, followed_still}
+use Rattle.giop_conversation.proofs.FollowedLemmas.{element, engines_stay, none_of_opens, followed_still}
 use Rattle.giop_conversation.proofs.FollowedLemmas.{no_element}
 use Rattle.giop_conversation.proofs.ToldLemmas.{opened_told, opened_beyond}
 use Rattle.giop_conversation.proofs.conversations.Conversations.opens.Goals as goal
@@ -11,8 +11,9 @@ returns-in-Some-clause-follows g c = λ events follows.
     let old = c.in-Some.room.now in
     let here = element rooms.items (vec_len rooms) (c.args.flow / 2) old rooms.ok.0
     (c.in-Some.ensures.variant.0 refl) c.in-Some.ensures.value in
-    opened rooms.items events c.args.flow c.args.endpoints old c.open.new.self follows here
-    c.open.ensures.even c.open.ensures.odd
+    engines_stay rooms.items events (Opens c.args.flow c.args.endpoints) c.args.flow old
+    c.open.new.self follows here c.open.ensures.even c.open.ensures.odd
+    (none_of_opens c.args.flow c.args.endpoints)
 
 pub returns-in-None-clause-follows : goal.returns-in-None-clause-follows
 returns-in-None-clause-follows g c = λ events follows.
@@ -27,8 +28,8 @@ returns-in-Some-clause-told g c = λ S written events told.
     let old = c.in-Some.room.now in
     let here = element rooms.items (vec_len rooms) (c.args.flow / 2) old rooms.ok.0
     (c.in-Some.ensures.variant.0 refl) c.in-Some.ensures.value in
-    opened_told S written events rooms.items now.out now.arrival now.first t.streams
-    t.messages t.faults now.cut c.args.flow c.args.endpoints old c.open.new.self
+    opened_told S written events rooms.items now.out now.arrival now.first t
+    now.cut c.args.flow c.args.endpoints old c.open.new.self
     told here (λ k. rw c.side_of.ensures at (c.open.ensures.held S k))
 
 pub returns-in-None-clause-told : goal.returns-in-None-clause-told
@@ -36,7 +37,7 @@ returns-in-None-clause-told g c = λ S written events told.
     let now = c.args.self.now in
     let rooms = now.rooms in
     let t = now.totals in
-    opened_beyond S written events rooms.items now.out now.arrival now.first t.streams
-    t.messages t.faults now.cut c.args.flow c.args.endpoints told
+    opened_beyond S written events rooms.items now.out now.arrival now.first t
+    now.cut c.args.flow c.args.endpoints told
     (no_element rooms.items (vec_len rooms) (c.args.flow / 2) rooms.ok.0
     c.in-None.ensures.variant.1)

@@ -2,7 +2,7 @@ use Rattle.std.proofs.Common.{ℕ, ◌+◌, ◌++◌, ◌≤◌, length, take, d
 use Rattle.std.proofs.lemmas.List.{take_all}
 use Rattle.giop_print.proofs.Writing.{rest_from}
 use Rattle.giop_stream.specs.EngineHolds.{rules_with}
-use Rattle.std.proofs.Common.{◌≡◌, Result, Err, subst, sym, ap}
+use Rattle.std.proofs.Common.{◌≡◌, List, Result, Err, subst, sym, ap}
 use Rattle.std.proofs.lemmas.Result.{MatchResult-from_err}
 use Rattle.giop_print.specs.Output.{WroteFront}
 use Rattle.giop_conversation.specs.Tags.{stream_tag, with_tags}
@@ -44,6 +44,7 @@ loop-size-preserved g c =
       };
       sound = does.fails ∙ c.loop-size.invariant.sound;
       stream = does.stream ∙ c.loop-size.invariant.stream;
+      live = does.live ∙ c.loop-size.invariant.live;
       flow = does.flow ∙ c.loop-size.invariant.flow;
     }
 
@@ -66,6 +67,7 @@ loop-size-init g c =
       same = record { table = refl; most = refl };
       sound = refl;
       stream = refl;
+      live = refl;
       flow = refl;
     }
 
@@ -116,19 +118,20 @@ returns-in_err-size-clause-text g c = λ a p w holds ready agrees.
     (λ _. subst (λ (x : Exchanged). WroteTaggedFront c.read_piece.new.out w due
     (stamped R x p octets)) starts below)
 
-pub returns-then-at-octets-clause-status : goal.returns-then-at-octets-clause-status
-returns-then-at-octets-clause-status g c = λ p read.
+pub returns-then-at-octets-clause-fault : goal.returns-then-at-octets-clause-fault
+returns-then-at-octets-clause-fault g c = λ p read.
     let at = c.loop-size.at in
     let n = c.in_ok-size.size in
     let octets = c.args.octets.now in
     let does = rw (rest_from at octets) at c.in_ok-size.ensures in
-    let more = does.status (p ++ take at octets) (c.loop-size.invariant.read p read) in
+    let before = c.loop-size.invariant.read p read in
     let past : length octets ≤ at + n = omega arith in
-    rw (
-      append_assoc p (take at octets) (take n (drop at octets)),
-      ← take-add at n octets,
-      take_all (at + n) octets past,
-    ) at more
+    let all : (p ++ take at octets) ++ take n (drop at octets) ≡ p ++ octets =
+    append_assoc p (take at octets) (take n (drop at octets))
+    ∙ ap (λ (q : List ℕ). p ++ q) (sym (take-add at n octets) ∙ take_all (at + n) octets past) in
+    let has = does.read (p ++ take at octets) before in
+    let is = does.status (p ++ take at octets) before in
+    c.fault_place.ensures (p ++ octets) (rw all at has) (rw all at is)
 
 pub returns-then-at-octets-clause-text : goal.returns-then-at-octets-clause-text
 returns-then-at-octets-clause-text g c = λ a p w holds ready agrees.

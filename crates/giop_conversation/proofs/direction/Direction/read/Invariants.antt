@@ -25,6 +25,7 @@ invariant-loop-size g l =
       same : IsSetAlike l.self.engine l.initial.self.engine;
       sound : l.out.failures ≡ l.initial.out.failures;
       stream : l.self.stream ≡ l.initial.self.stream;
+      live : l.self.is_live ≡ l.initial.self.is_live;
       flow : l.self.flow ≡ l.initial.self.flow;
     }
 
