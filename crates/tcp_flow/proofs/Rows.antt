@@ -83,7 +83,8 @@ record Rows : Type 0 where
       ≡ first_begins ∷ Delivers 7 header ∷ Delivers 7 (7 ∷ 8 ∷ []) ∷ Delivers 7 (2 ∷ 2 ∷ []) ∷
       Delivers 7 (3 ∷ 3 ∷ []) ∷ []
   wraps : in_flows (events (octets 5 (9 ∷ []) ∷ octets 3 (7 ∷ 8 ∷ []) ∷ []) 4294967293)
-      ≡ begins_at 4294967293 0 false ∷ Delivers 7 header ∷ Delivers 7 (7 ∷ 8 ∷ []) ∷ Delivers 7 (9 ∷ []) ∷ []
+      ≡ begins_at 4294967293 0 false ∷ Delivers 7 header ∷ Delivers 7 (7 ∷ 8 ∷ [])
+      ∷ Delivers 7 (9 ∷ []) ∷ []
   window-edge-is-held : in_flows (events (octets 1049580 (1 ∷ 2 ∷ []) ∷ []) 1000)
       ≡ first_begins ∷ Delivers 7 header ∷ []
   one-more-is-a-gap : in_flows (events (octets 1049581 (1 ∷ 2 ∷ []) ∷ []) 1000)
@@ -106,18 +107,21 @@ record Rows : Type 0 where
       ∷ []) 1000) ≡ first_begins ∷ Delivers 7 header ∷ []
   a-second-after-it : in_flows (events (held_at 70 ∷ heard_at (Some 1020) false 1000000070 ∷ [])
       1000)
-      ≡ first_begins ∷ Delivers 7 header ∷ Closes 7 Gap ∷ begins_at 1010 4 true ∷ Delivers 7 header ∷ []
+      ≡ first_begins ∷ Delivers 7 header ∷ Closes 7 Gap ∷ begins_at 1010 4 true
+      ∷ Delivers 7 header ∷ []
   at-once-with-octets : in_flows (events (held_at 70 ∷ heard_at (Some 1020) true 60 ∷ []) 1000)
-      ≡ first_begins ∷ Delivers 7 header ∷ Closes 7 Gap ∷ begins_at 1010 4 true ∷ Delivers 7 header ∷ []
+      ≡ first_begins ∷ Delivers 7 header ∷ Closes 7 Gap ∷ begins_at 1010 4 true
+      ∷ Delivers 7 header ∷ []
   octets-alone-acknowledge-nothing : in_flows (events (held_at 70 ∷ heard_at None true 29999999999
       ∷ []) 1000) ≡ first_begins ∷ Delivers 7 header ∷ []
   thirty-seconds-after-it : in_flows (events (held_at 70 ∷ heard_at None false 30000000070 ∷ [])
       1000)
-      ≡ first_begins ∷ Delivers 7 header ∷ Closes 7 Gap ∷ begins_at 1010 4 true ∷ Delivers 7 header ∷ []
+      ≡ first_begins ∷ Delivers 7 header ∷ Closes 7 Gap ∷ begins_at 1010 4 true
+      ∷ Delivers 7 header ∷ []
   fault-and-the-next-begins : in_flows (events (octets 1006 (255 ∷ []) ∷ octets 1007 header ∷
       []) 1000)
-      ≡ first_begins ∷ Delivers 7 header ∷ Delivers 7 (255 ∷ []) ∷ Closes 7 Fault ∷ begins_at 1007 0 true ∷
-      Delivers 7 header ∷ []
+      ≡ first_begins ∷ Delivers 7 header ∷ Delivers 7 (255 ∷ []) ∷ Closes 7 Fault
+      ∷ begins_at 1007 0 true ∷ Delivers 7 header ∷ []
   behind-a-fault-the-rest-falls-away : in_flows (events (octets 1006 (255 ∷ 1 ∷ 2 ∷ [])
       ∷ octets 1009 header ∷ []) 1000)
       ≡ first_begins ∷ Delivers 7 header ∷ Delivers 7 (255 ∷ 1 ∷ 2 ∷ []) ∷ Closes 7 Fault
@@ -132,15 +136,15 @@ record Rows : Type 0 where
   fin-before-next-is-nothing : in_flows (events (End 1005 ∷ []) 1000)
       ≡ first_begins ∷ Delivers 7 header ∷ []
   fin-at-once : in_flows (events (End 1006 ∷ octets 1006 (9 ∷ []) ∷ octets 1007 header ∷ []) 1000)
-      ≡ first_begins ∷ Delivers 7 header ∷ Closes 7 Fin ∷ begins_at 1007 1 true ∷ Delivers 7 header ∷ []
+      ≡ first_begins ∷ Delivers 7 header ∷ Closes 7 Fin ∷ begins_at 1007 1 true
+      ∷ Delivers 7 header ∷ []
   pool-of-three : in_flows (events (octets 1008 (1 ∷ []) ∷ octets 1010 (2 ∷ []) ∷ octets 1012
       (3 ∷ []) ∷
       octets 1014 (4 ∷ []) ∷ []) 1000) ≡ first_begins ∷ Delivers 7 header ∷ Closes 7 Gap ∷ []
 
 rows : Rows
-unfolding header_at chain_from stream_at left with_event checked delivered begun told_from taken earlier
-    first
-    first_of at is_due drained_at_most drained fin_is_reached closed without_stale_fin ended
+unfolding header_at chain_from stream_at left with_event checked delivered begun told_from taken
+    earlier first first_of at is_due drained_at_most drained fin_is_reached closed without_stale_fin ended
     gone_on gap blocks_of is_far is_too_much within_bounds has_as_much holding place_of payload_came
     fin_came is_lost heard step after first_payload events in_flows setting packet octets
     acknowledged held_at heard_at header message begins_at first_begins any_bad is_bad

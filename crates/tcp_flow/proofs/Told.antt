@@ -25,7 +25,8 @@ of_capture : (id j : ℕ) → ◌≡◌ {A = Option ℕ} None (Some j) → j ≡
 of_capture id j e = absurd (true≢false (sym (ap is_some e)))
 
 module _ (Q : List Event → Type 0) (id : ℕ) (more : IsKept Q id) where
-  stopped_told : (f : Flow) (n : ℕ) (cause : CloseCause) → Told Q id f → Told Q id (stopped f n cause)
+  stopped_told : (f : Flow) (n : ℕ) (cause : CloseCause) → Told Q id f →
+      Told Q id (stopped f n cause)
   unfolding with_event
   stopped_told f n cause t = record {
     same = t.same;

@@ -11,9 +11,9 @@ use Rattle.tcp_waiting.specs.declared.arrival.Arrival as origin
 use Rattle.tcp_waiting.specs.Payload.{Payload, payload, no_payload, without_first, window, first, blocks_of, is_far, has_as_much, put}
 use Rattle.tcp_waiting.specs.Numbers.{ahead, onward, age, is_to_come}
 
--- what happens in a capture beside its flows: what is delivered next came in this packet; octets were
--- looked through, and no stream begins in them; it has a fault, of this word, at the octet of this
--- number
+-- what happens in a capture beside its flows: what is delivered next came in this packet; these
+-- octets were looked through, and no stream begins in them; it has a fault, of this word, at the
+-- octet of this number
 pub data CaptureEvent : Type 0 where
   ComesFrom : origin.Arrival → CaptureEvent
   Passes : List ℕ → CaptureEvent
@@ -181,7 +181,7 @@ begun F f p (Some i) = delivered F (started f (onward p.number i)) (without_firs
 unfoldable pub told_from : Flow → Payload → Flow
 told_from f p = with_event f (OfCapture (ComesFrom p.arrival))
 
--- a payload is taken: delivered, or a stream begins in it, or none begins in what was looked through
+-- a payload is taken: delivered, or looked through for the beginning of a stream
 unfoldable pub taken : Reader → Flow → Payload → Flow
 taken F f p =
     let q : Payload = left f.next (is_some f.live) p in
