@@ -7,13 +7,13 @@ use Rattle.tcp_flow.specs.declared.hearing.Heard.{Heard}
 use Rattle.tcp_flow.specs.declared.flow.CloseCause.{CloseCause}
 use Rattle.tcp_flow.specs.declared.flow.CloseCause.TheVariants.{Reset, Syn}
 use Rattle.tcp_flow.specs.declared.flow.FlowState.{FlowState}
-use Rattle.tcp_flow.specs.Flow.{Flow, Reader, Setting, Arrival, Octets, End, Hears, setting, closed, gap, step as flow_step, held_by_others}
+use Rattle.tcp_flow.specs.Flow.{Flow, Passes, Reader, Setting, Arrival, Octets, End, Hears, setting, closed, gap, step as flow_step, held_by_others}
 use Rattle.tcp_flow.specs.State.{state}
 use Rattle.tcp_flow.proofs.Steps.{heard_none}
 use Rattle.tcp_streams.specs.declared.pair.Side.{Side}
 use Rattle.tcp_streams.specs.Pairs.{pair_of, opposite, flow_id}
 use Rattle.tcp_streams.specs.Lives.{lives}
-use Rattle.tcp_connections.specs.Connections.{State, flow_at, with_flow, arrived, began, gapped, closed_at, flow_forgotten, place_of, room_at, gaps_at, ended_by, cleared, goes_before, eldest, with_room, next_room, made_known, first_number, number_behind, is_first, is_kept, is_anew, is_reset, syn_at, syn_kept, flow_of_side, fin_taken, unknown_taken, heard, acknowledgement_heard, payload_taken, reset_taken, known_taken, step, is_holding, gaps_from, end_cause, all_closed}
+use Rattle.tcp_connections.specs.Connections.{State, flow_at, with_flow, arrived, began, gapped, closed_at, flow_forgotten, place_of, room_at, gaps_at, ended_by, cleared, goes_before, eldest, with_room, next_room, made_known, first_number, number_behind, is_first, is_looked_through, looked_through, with_capture_event, is_kept, is_anew, is_reset, syn_at, syn_kept, flow_of_side, fin_taken, unknown_taken, heard, acknowledgement_heard, payload_taken, reset_taken, known_taken, step, is_holding, gaps_from, end_cause, all_closed}
 
 pub arrived_none : (F : Reader) (w : State) (id : ℕ) (a : Arrival) → flow_at w id ≡ None →
     arrived F w id a ≡ w
@@ -91,13 +91,27 @@ pub payload_first : (F : Reader) (w : State) (id : ℕ) (s : Segment) → flow_a
     is_first w.ports s ≡ true → payload_taken F w id s ≡ began F w id (first_number s) s.payload
 unfolding payload_taken
 payload_first F w id s e f = rw (e, payload_taken)
-    (cond-true (is_first w.ports s) (began F w id (first_number s) s.payload) w f)
+    (cond-true (is_first w.ports s) (began F w id (first_number s) s.payload)
+    (looked_through w s) f)
+
+pub looked_none : (w : State) (s : Segment) → is_looked_through w.ports s ≡ false →
+    looked_through w s ≡ w
+unfolding looked_through
+looked_none w s e =
+    cond-false (is_looked_through w.ports s) (with_capture_event w (Passes s.payload)) w e
+
+pub looked_passes : (w : State) (s : Segment) → is_looked_through w.ports s ≡ true →
+    looked_through w s ≡ with_capture_event w (Passes s.payload)
+unfolding looked_through
+looked_passes w s e =
+    cond-true (is_looked_through w.ports s) (with_capture_event w (Passes s.payload)) w e
 
 pub payload_nothing : (F : Reader) (w : State) (id : ℕ) (s : Segment) → flow_at w id ≡ None →
-    is_first w.ports s ≡ false → payload_taken F w id s ≡ w
+    is_first w.ports s ≡ false → payload_taken F w id s ≡ looked_through w s
 unfolding payload_taken
 payload_nothing F w id s e f = rw (e, payload_taken)
-    (cond-false (is_first w.ports s) (began F w id (first_number s) s.payload) w f)
+    (cond-false (is_first w.ports s) (began F w id (first_number s) s.payload)
+    (looked_through w s) f)
 
 pub payload_reset : (F : Reader) (w : State) (id : ℕ) (s : Segment) (f : FlowState) →
     flow_at w id ≡ Some f → s.reset ≡ true → payload_taken F w id s ≡ w
@@ -136,12 +150,12 @@ a_reset F w place side s e =
     cond-true (is_reset (flow_of_side w place side) s) (ended_by F w place side Reset) w e
 
 pub unknown_nothing : (F : Reader) (w : State) (s : Segment) → is_first w.ports s ≡ false →
-    unknown_taken F w s ≡ w
+    unknown_taken F w s ≡ looked_through w s
 unfolding unknown_taken
 unknown_nothing F w s e = cond-false (is_first w.ports s)
     (fin_taken F (began F (made_known (with_room F w) (pair_of s.flow).0)
     (flow_id (next_room (with_room F w).free) (pair_of s.flow).1) (first_number s) s.payload)
-    (flow_id (next_room (with_room F w).free) (pair_of s.flow).1) s) w e
+    (flow_id (next_room (with_room F w).free) (pair_of s.flow).1) s) (looked_through w s) e
 
 pub unknown_first : (F : Reader) (w : State) (s : Segment) → is_first w.ports s ≡ true
     → unknown_taken F w s ≡ fin_taken F (began F (made_known (with_room F w) (pair_of s.flow).0)
@@ -151,7 +165,7 @@ unfolding unknown_taken
 unknown_first F w s e = cond-true (is_first w.ports s)
     (fin_taken F (began F (made_known (with_room F w) (pair_of s.flow).0)
     (flow_id (next_room (with_room F w).free) (pair_of s.flow).1) (first_number s) s.payload)
-    (flow_id (next_room (with_room F w).free) (pair_of s.flow).1) s) w e
+    (flow_id (next_room (with_room F w).free) (pair_of s.flow).1) s) (looked_through w s) e
 
 pub room_there : (F : Reader) (w : State) → length w.known < length w.lasts → with_room F w ≡ w
 unfolding with_room

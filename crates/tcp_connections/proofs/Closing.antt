@@ -5,7 +5,7 @@ use Rattle.std.proofs.lemmas.Bool.{cases_eq, cases_lt, cond-true, lt-ltb}
 use Rattle.tcp_flow.specs.declared.flow.CloseCause.{CloseCause}
 use Rattle.tcp_flow.specs.declared.flow.FlowState.{FlowState}
 use Rattle.tcp_flow.specs.declared.flow.ListenerFault.{ListenerFault}
-use Rattle.tcp_flow.specs.Flow.{Flow, Event, Closes, Reader, closed, gap, with_event}
+use Rattle.tcp_flow.specs.Flow.{Flow, Event, Closes, Reader, closed, gap, with_event, stopped}
 use Rattle.tcp_flow.specs.State.{state}
 use Rattle.tcp_streams.specs.Lives.{lives, behind, without, most_ids}
 use Rattle.tcp_streams.proofs.Order.{lives_more}
@@ -94,14 +94,7 @@ front_closes w id s cause h e live some front =
     let c : Flow = closed f cause in
     let own : s.id ≡ id = h.ids id s e in
     let events : c.events ≡ w.events ++ Closes s.id cause ∷ [] =
-    ap (λ (g : Flow). g.events) (cond-true (is_some s.live) (record {
-      id = f.id;
-      next = f.next;
-      live = None;
-      fin = f.fin;
-      held = f.held;
-      events = f.events ++ Closes f.id cause ∷ [];
-    }) f live) in
+    ap (λ (g : Flow). g.events) (cond-true (is_some s.live) (stopped f f.next cause) f live) in
     let less : lives c.events ≡ without s.id (lives w.events) =
     ap lives events ∙ lives_more [] w.events (Closes s.id cause) in
     record {

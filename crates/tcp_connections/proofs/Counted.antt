@@ -9,10 +9,10 @@ use Rattle.tcp_streams.specs.declared.pair.EndpointPair.{EndpointPair}
 use Rattle.tcp_streams.specs.declared.pair.Side.{Side}
 use Rattle.tcp_streams.specs.Lives.{lives, elder_side}
 use Rattle.tcp_streams.specs.Pairs.{pair_of, opposite, flow_id}
-use Rattle.tcp_connections.specs.Connections.{State, room_at, flow_forgotten, forgotten, shown, shown_by_age, ended_by, eldest, with_room, next_room, made_known, place_of, flow_of_side, syn_at, syn_kept, is_kept, is_anew, is_reset, is_first, first_number, began, fin_taken, acknowledgement_heard, payload_taken, reset_taken, unknown_taken, known_taken, step}
+use Rattle.tcp_connections.specs.Connections.{State, room_at, flow_forgotten, forgotten, shown, shown_by_age, ended_by, eldest, with_room, next_room, made_known, place_of, flow_of_side, syn_at, syn_kept, is_kept, is_anew, is_reset, is_first, looked_through, first_number, began, fin_taken, acknowledgement_heard, payload_taken, reset_taken, unknown_taken, known_taken, step}
 use Rattle.tcp_connections.proofs.Cases.{room_there, room_made, step_unknown, step_kept, step_anew, step_known}
 use Rattle.tcp_connections.proofs.Forgotten.{forgot_either}
-use Rattle.tcp_connections.proofs.Kept.{began_kept, heard_kept, acknowledgement_kept, payload_kept, fin_kept}
+use Rattle.tcp_connections.proofs.Kept.{began_kept, looked_kept, heard_kept, acknowledgement_kept, payload_kept, fin_kept}
 use Rattle.tcp_connections.proofs.Shown.{shown_kept}
 
 forgot_segments : (w : State) (id : ℕ) (cause : CloseCause) →
@@ -63,9 +63,9 @@ unknown_segments F w s =
     let m : State = made_known v (pair_of s.flow).0 in
     let id : ℕ = flow_id (next_room v.free) (pair_of s.flow).1 in
     let b : State = began F m id (first_number s) s.payload in
-    either w.segments (is_first w.ports s) (fin_taken F b id s) w
+    either w.segments (is_first w.ports s) (fin_taken F b id s) (looked_through w s)
     ((fin_kept F b id s).segments ∙ (began_kept F m id (first_number s) s.payload).segments
-    ∙ made_segments v (pair_of s.flow).0 ∙ room_segments F w) refl
+    ∙ made_segments v (pair_of s.flow).0 ∙ room_segments F w) (looked_kept w s).segments
 
 reset_segments : (F : Reader) (w : State) (place : ℕ) (side : Side) (s : Segment) →
     (reset_taken F w place side s).segments ≡ w.segments

@@ -9,7 +9,7 @@ use Rattle.tcp_flow.specs.declared.flow.CloseCause.TheVariants.{Fault, Gap}
 use Rattle.tcp_flow.specs.declared.flow.FlowState.{FlowState}
 use Rattle.tcp_waiting.specs.Numbers.{onward}
 use Rattle.tcp_waiting.specs.Payload.{without_first, Payload, first, count_of}
-use Rattle.tcp_flow.specs.Flow.{Flow, Begins, Delivers, Closes, OfCapture, ComesFrom, Reader, left, with_event, delivered, begun as flow_begun, told_from, taken, stream_at, at, closed, gap, first_of, held_by_others}
+use Rattle.tcp_flow.specs.Flow.{Flow, Begins, Delivers, Closes, OfCapture, ComesFrom, Reader, left, with_event, delivered, begun as flow_begun, told_from, taken, stream_at, at, closed, gap, first_of, held_by_others, CaptureEvent, Passes, stopped, checked, number_after, handed, start_at, started}
 use Rattle.tcp_flow.specs.State.{state}
 use Rattle.tcp_flow.proofs.Preserving.{Keeps, gone_on_keeps}
 use Rattle.tcp_flow.proofs.Room.{gap_fewer}
@@ -111,18 +111,10 @@ either : {X : Type 0} (P : X → Type 0) (b : Bool) (x y : X) → P x → P y �
 either P true x y p q = p
 either P false x y p q = q
 
-closing_tail : (id : ℕ) (others : List ℕ) (g : Flow) (cause : CloseCause) → IsOther id others →
-    IsTail id others g
-    → IsTail id others (record {
-      id = g.id;
-      next = g.next;
-      live = None;
-      fin = g.fin;
-      held = g.held;
-      events = g.events ++ Closes g.id cause ∷ [];
-    })
-unfolding behind
-closing_tail id others g cause o t =
+closing_tail : (id : ℕ) (others : List ℕ) (g : Flow) (n : ℕ) (cause : CloseCause) →
+    IsOther id others → IsTail id others g → IsTail id others (stopped g n cause)
+unfolding with_event behind
+closing_tail id others g n cause o t =
     let more : lives (g.events ++ Closes g.id cause ∷ []) ≡ without id (lives g.events) =
     lives_more [] g.events (Closes g.id cause)
     ∙ ap (λ (n : ℕ). without n (lives g.events)) t.same in
@@ -137,48 +129,39 @@ closing_tail id others g cause o t =
 
 closed_tail : (id : ℕ) (others : List ℕ) (g : Flow) (cause : CloseCause) → IsOther id others →
     IsTail id others g → IsTail id others (closed g cause)
-unfolding closed with_event
+unfolding closed
 closed_tail id others g cause o t =
-    either (IsTail id others) (is_some g.live)
-    (record {
-      id = g.id;
-      next = g.next;
-      live = None;
-      fin = g.fin;
-      held = g.held;
-      events =
-          g.events ++ Closes g.id cause ∷ [];
-    }) g
-    (closing_tail id others g cause o t) t
+    either (IsTail id others) (is_some g.live) (stopped g g.next cause) g
+    (closing_tail id others g g.next cause o t) t
+
+checked_tail : (id : ℕ) (others : List ℕ) (g : Flow) (r : Option ℕ) → IsOther id others →
+    IsTail id others g → IsTail id others (checked g r)
+unfolding checked
+checked_tail id others g None o t = t
+checked_tail id others g (Some at) o t = closing_tail id others g (number_after g at) Fault o t
+
+capture_tail : (id : ℕ) (others : List ℕ) (g : Flow) (e : CaptureEvent) → IsTail id others g →
+    IsTail id others (with_event g (OfCapture e))
+unfolding with_event behind
+capture_tail id others g e t =
+    let more = lives_more [] g.events (OfCapture e) in
+    record {
+      same = t.same;
+      tail = elim t.tail [ inl e ↦ inl (more ∙ e) | inr e ↦ inr (more ∙ e) ];
+    }
 
 delivered_tail : (F : Reader) (id : ℕ) (others : List ℕ) (g : Flow) (p : Payload) →
     IsOther id others → IsTail id others g → IsTail id others (delivered F g p)
 unfolding delivered with_event behind
 delivered_tail F id others g p o t =
     let more = lives_more [] g.events (Delivers g.id p.octets) in
-    let d : Flow = record {
-      id = g.id;
-      next = onward p.number (length p.octets);
-      live = g.live;
-      fin = g.fin;
-      held = g.held;
-      events = g.events ++ Delivers g.id p.octets ∷ [];
-    } in
+    let d : Flow = handed g p in
     let u : IsTail id others d = record {
       same = t.same;
       tail =
           elim t.tail [ inl e ↦ inl (more ∙ e) | inr e ↦ inr (more ∙ e) ];
     } in
-    either (IsTail id others) (F d.events)
-    (record {
-      id = d.id;
-      next = d.next;
-      live = None;
-      fin = d.fin;
-      held = d.held;
-      events =
-          d.events ++ Closes d.id Fault ∷ [];
-    }) d (closing_tail id others d Fault o u) u
+    checked_tail id others d (F d.events) o u
 
 begun_last : (id : ℕ) (others xs : List ℕ) → IsOther id others → without id xs ≡ others →
     begun id xs ≡ others ++ id ∷ []
@@ -189,20 +172,14 @@ begun_last id others xs o e = cond-true (nat_lt id most_ids) (without id xs ++ i
 begun_tail : (F : Reader) (id : ℕ) (others : List ℕ) (g : Flow) (q : Payload) (r : Option ℕ) →
     IsOther id others → IsTail id others g → IsTail id others (flow_begun F g q r)
 unfolding flow_begun with_event behind
-begun_tail F id others g q None o t = t
+begun_tail F id others g q None o t = capture_tail id others g (Passes q.octets) t
 begun_tail F id others g q (Some i) o t =
     let n : ℕ = onward q.number i in
-    let more : lives (g.events ++ Begins g.id n ∷ []) ≡ begun id (lives g.events) =
-    lives_more [] g.events (Begins g.id n) ∙ ap (λ (k : ℕ). begun k (lives g.events)) t.same in
-    delivered_tail F id others (record {
-      id = g.id;
-      next = g.next;
-      live = Some n;
-      fin = g.fin;
-      held = g.held;
-      events = g.events ++ Begins g.id n ∷ [];
-    })
-    (without_first i q) o
+    let s : Flow = started g n in
+    let more : lives s.events ≡ begun id (lives g.events) =
+    lives_more [] g.events (Begins g.id (start_at g.since g.has_begun n))
+    ∙ ap (λ (k : ℕ). begun k (lives g.events)) t.same in
+    delivered_tail F id others s (without_first i q) o
     (record {
       same = t.same;
       tail =
@@ -216,13 +193,8 @@ begun_tail F id others g q (Some i) o t =
 
 from_tail : (id : ℕ) (others : List ℕ) (g : Flow) (p : Payload) → IsTail id others g →
     IsTail id others (told_from g p)
-unfolding told_from with_event behind
-from_tail id others g p t =
-    let more = lives_more [] g.events (OfCapture (ComesFrom p.arrival)) in
-    record {
-      same = t.same;
-      tail = elim t.tail [ inl e ↦ inl (more ∙ e) | inr e ↦ inr (more ∙ e) ];
-    }
+unfolding told_from
+from_tail id others g p t = capture_tail id others g (ComesFrom p.arrival) t
 
 taken_tail : (F : Reader) (id : ℕ) (others : List ℕ) (g : Flow) (p : Payload) → IsOther id others →
     IsTail id others g → IsTail id others (taken F g p)
@@ -257,14 +229,7 @@ gap_tail F id f l same live =
       none =
           none_left id (lives f.events) (lives_ids f.events).1;
     } in
-    let c : Flow = record {
-      id = f.id;
-      next = f.next;
-      live = None;
-      fin = f.fin;
-      held = f.held;
-      events = f.events ++ Closes f.id Gap ∷ [];
-    } in
+    let c : Flow = stopped f f.next Gap in
     let e : lives c.events ≡ others = lives_more [] f.events (Closes f.id Gap)
     ∙ ap (λ (n : ℕ). without n (lives f.events)) same in
     let t : IsTail id others c = record { same = same; tail = inl e } in

@@ -1,6 +1,6 @@
 -- The flows of a state follow payloads: what each delivers is of them, whatever comes for a flow,
 -- and where the capture ends.
-use Rattle.std.proofs.Common.{◌≡◌, ℕ, ◌<◌, ◌≤◌, ◌^◌, false, cond, List, [], ◌∷◌, ◌++◌, length, set, get_or, Option, Some, None, is_some, unwrap_or, refl, sym, ◌∙◌, ap, subst, arith, inl, inr, length-set, get_or-set_same, get_or-set_other}
+use Rattle.std.proofs.Common.{◌≡◌, ℕ, ◌<◌, ◌≤◌, ◌^◌, cond, List, [], ◌∷◌, ◌++◌, length, set, get_or, Option, Some, None, is_some, unwrap_or, refl, sym, ◌∙◌, ap, subst, arith, inl, inr, length-set, get_or-set_same, get_or-set_other}
 use Rattle.std.proofs.lemmas.Bool.{cases_eq}
 use Rattle.tcp_waiting.specs.Payload.{Payload, payload, blocks_of}
 use Rattle.tcp_waiting.proofs.Counts.{first_none}
@@ -254,7 +254,7 @@ closed_follow payloads w id cause h = by (flow_at w id) refl
         (record { same = own; told = tt })).same in
         subst (Follow payloads) (sym (closed_some w id cause s e))
         (flow_behind payloads w id (closed f cause) h (some_within w.flows id s e) same
-        ((true_keeps (λ events. false) payloads).closes f cause
+        ((true_keeps (λ events. None) payloads).closes f cause
         (flow_before payloads w id s h e)) (λ other apart.
         (closed_told (λ es. AllFollow payloads other None es (due_in (flow_at w other))) id
         (others_kept payloads id other (due_in (flow_at w other)) apart) f cause

@@ -10,14 +10,13 @@ use Rattle.tcp_waiting.specs.Numbers.{onward}
 use Rattle.tcp_waiting.specs.Payload.{Payload}
 use Rattle.tcp_waiting.specs.declared.arrival.Arrival as origin
 use Rattle.tcp_flow.specs.declared.flow.CloseCause.TheVariants.{Syn}
-use Rattle.tcp_flow.specs.Flow.{Event, OfCapture, CaptureEvent, Reader}
+use Rattle.tcp_flow.specs.Flow.{CaptureEvent, Reader}
 use Rattle.tcp_flow.specs.Laws.{AllFollow, AllArePartsOf}
-use Rattle.tcp_flow.proofs.Truth.{runs_more}
 use Rattle.tcp_streams.specs.declared.pair.EndpointPair.{EndpointPair}
 use Rattle.tcp_streams.specs.declared.pair.Side.{Side}
 use Rattle.tcp_streams.specs.Lives.{lives}
 use Rattle.tcp_streams.specs.Pairs.{compare_pairs, pair_of, opposite, flow_id, flow_from}
-use Rattle.tcp_connections.specs.Connections.{State, none_known, flow_at, began, syn_at, syn_kept, flow_of_side, place_of, room_at, ended_by, with_room, next_room, made_known, first_number, is_first, is_kept, is_anew, fin_taken, unknown_taken, acknowledgement_heard, payload_taken, reset_taken, known_taken, step, after, with_packet, with_capture_event, gaps_from, ended}
+use Rattle.tcp_connections.specs.Connections.{State, none_known, flow_at, began, syn_at, syn_kept, flow_of_side, place_of, room_at, ended_by, with_room, next_room, made_known, first_number, is_first, looked_through, is_kept, is_anew, fin_taken, unknown_taken, acknowledgement_heard, payload_taken, reset_taken, known_taken, step, after, with_packet, with_capture_event, gaps_from, ended}
 use Rattle.tcp_connections.specs.declared.syns.KeptSyn.{KeptSyn}
 use Rattle.tcp_connections.specs.Gapless.{IsOfSegment, AreGapless, AreWhole, HaveRooms}
 use Rattle.tcp_connections.specs.Owned.{AreOwned}
@@ -30,11 +29,11 @@ use Rattle.tcp_connections.proofs.Owners.{owner_of}
 use Rattle.tcp_connections.proofs.OwnersEnd.{end_owns}
 use Rattle.tcp_connections.proofs.Roomy.{rooms_in, after_rooms, ended_rooms, owned_rooms}
 use Rattle.tcp_connections.proofs.OwnersGrown.{slice_more, owns_grown, none_owns}
-use Rattle.tcp_connections.proofs.OwnersKnown.{told_owns, theirs_at, flow_of_pair}
+use Rattle.tcp_connections.proofs.OwnersKnown.{theirs_at, flow_of_pair}
 use Rattle.tcp_connections.proofs.OwnFlows.{either}
 use Rattle.tcp_connections.proofs.Search.{forgotten_unknown}
 pub use Rattle.tcp_connections.proofs.SegmentParts.{At}
-use Rattle.tcp_connections.proofs.SegmentParts.{IsIn, fin_at, heard_at, first_at, payload_at, id_within, shown_at, reset_at, with_room_at, made_owner, made_at}
+use Rattle.tcp_connections.proofs.SegmentParts.{IsIn, capture_at, looked_at, fin_at, heard_at, first_at, payload_at, id_within, shown_at, reset_at, with_room_at, made_owner, made_at}
 use Rattle.tcp_connections.proofs.Shown.{shown_known}
 use Rattle.tcp_connections.proofs.Sound.{IsApart, some_none, apart_taken, room_below, sound_seen}
 use Rattle.tcp_connections.proofs.Start.{none_sound}
@@ -71,8 +70,8 @@ unknown_at segments F w s among new h =
     ∙ ap Some (flow_of_pair s.flow) in
     let b : At segments began_there = first_at segments F made id s among own m
     (next_vacant v pair side roomy.sound enough.1) within apart in
-    either (At segments) (is_first w.ports s) (fin_taken F began_there id s) w
-    (fin_at segments F began_there id s b) h
+    either (At segments) (is_first w.ports s) (fin_taken F began_there id s) (looked_through w s)
+    (fin_at segments F began_there id s b) (looked_at segments w s h)
 
 seen_at : (segments : List Segment) (w : State) (lasts : List ℕ) (syns : List (Option KeptSyn))
     (count : ℕ) (arrival : origin.Arrival) → length lasts ≡ length w.lasts → At segments w →
@@ -253,25 +252,7 @@ packet_at segments w time h =
 -- the listener is told of the capture
 pub told_at : (segments : List Segment) (w : State) (event : CaptureEvent) → At segments w →
     At segments (with_capture_event w event)
-told_at segments w event h =
-    let events : List Event = w.events ++ OfCapture event ∷ [] in
-    record {
-      sound = sound_seen w w.lasts w.syns w.segments events w.arrival refl h.sound;
-      payloads = h.payloads;
-      came = h.came;
-      follow =
-          record {
-            own = h.follow.own;
-            held = h.follow.held;
-            events =
-                λ id.
-                runs_more h.payloads id None (due_in (flow_at w id)) (due_in (flow_at w id))
-                w.events (OfCapture event) (h.follow.events id)
-                (inr (λ o. true≢false (sym (ap is_some o)), refl));
-            few = h.follow.few;
-          };
-      owns = told_owns segments w event h.owns;
-    }
+told_at segments w event h = capture_at segments w event h
 
 -- no connection is known
 pub start_at : (ports : List ℕ) (blocks most : ℕ) → 1 ≤ most → most ≤ 65536 →

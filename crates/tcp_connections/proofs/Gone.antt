@@ -19,7 +19,7 @@ use Rattle.tcp_connections.specs.State.{IsSound}
 use Rattle.tcp_connections.proofs.Cases.{no_reset, a_reset, unknown_nothing, unknown_first, room_there, step_unknown, step_kept, step_anew, step_known}
 use Rattle.tcp_connections.proofs.Eldest.{eldest_makes_room}
 use Rattle.tcp_connections.proofs.Gapless.{place_within, start_at, after_at}
-use Rattle.tcp_connections.proofs.Kept.{began_kept, heard_kept, acknowledgement_kept, payload_kept, fin_kept}
+use Rattle.tcp_connections.proofs.Kept.{looked_kept, began_kept, heard_kept, acknowledgement_kept, payload_kept, fin_kept}
 use Rattle.tcp_connections.proofs.OwnersKnown.{equal_of}
 use Rattle.tcp_connections.proofs.SamePairs.{same_pair_of}
 use Rattle.tcp_connections.proofs.Search.{forgotten_unknown}
@@ -99,7 +99,8 @@ unfolding made_known
 unknown_gone F w s p some new k e =
     elim (cases_Bool (is_first w.ports s)) [
       | inr f ↦ absurd (both (place_of p w.known) k
-          (sym (ap (λ (u : State). place_of p u.known) (unknown_nothing F w s f)) ∙ e))
+          (sym (ap (place_of p) (ap (λ (u : State). u.known) (unknown_nothing F w s f)
+          ∙ (looked_kept w s).known)) ∙ e))
       | inl f ↦
           (let v : State = with_room F w in
           let pair : EndpointPair = (pair_of s.flow).0 in

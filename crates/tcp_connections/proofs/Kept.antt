@@ -2,12 +2,12 @@
 use Rattle.std.proofs.Common.{◌≡◌, ℕ, ◌/◌, Bool, true, false, cond, nat_lt, List, length, Option, Some, None, refl, sym, subst, arith, length-set}
 use Rattle.tcp_segment.specs.Segments.{Segment}
 use Rattle.tcp_flow.specs.declared.flow.FlowState.{FlowState}
-use Rattle.tcp_flow.specs.Flow.{Flow, Reader, Arrival, Octets, End, setting, step as flow_step, first_payload}
+use Rattle.tcp_flow.specs.Flow.{Flow, Passes, Reader, Arrival, Octets, End, setting, step as flow_step, first_payload}
 use Rattle.tcp_flow.specs.State.{state}
 use Rattle.tcp_streams.specs.declared.pair.Side.{Side}
 use Rattle.tcp_streams.specs.declared.pair.Side.TheVariants.{FromLesser, FromGreater}
 use Rattle.tcp_streams.specs.Pairs.{flow_id}
-use Rattle.tcp_connections.specs.Connections.{State, flow_at, flow_state, with_flow, arrived, began, heard, acknowledgement_heard, payload_taken, fin_taken, first_number, number_behind, is_first}
+use Rattle.tcp_connections.specs.Connections.{State, flow_at, flow_state, with_flow, arrived, began, heard, acknowledgement_heard, payload_taken, fin_taken, first_number, number_behind, is_first, is_looked_through, looked_through, with_capture_event}
 use Rattle.tcp_connections.proofs.Cases.{arrived_none, arrived_some}
 
 pub record IsKept (w v : State) : Type 0 where
@@ -67,6 +67,18 @@ pub acknowledgement_kept : (F : Reader) (w : State) (id : ℕ) (s : Segment) →
     IsKept w (acknowledgement_heard F w id s)
 acknowledgement_kept F w id s = heard_kept F w id s.acknowledgement (nat_lt 0 (length s.payload))
 
+pub looked_kept : (w : State) (s : Segment) → IsKept w (looked_through w s)
+unfolding looked_through
+looked_kept w s = either w (is_looked_through w.ports s)
+    (with_capture_event w (Passes s.payload)) w (record {
+      known = refl;
+      rooms = refl;
+      free = refl;
+      lasts = refl;
+      flows = refl;
+      segments = refl;
+    }) (kept_self w)
+
 pub payload_kept : (F : Reader) (w : State) (id : ℕ) (s : Segment) →
     IsKept w (payload_taken F w id s)
 unfolding payload_taken
@@ -74,12 +86,12 @@ payload_kept F w id s =
     elim (flow_at w id) as (λ (o : Option FlowState).
     IsKept w (elim o [
       | None ↦ cond (is_first w.ports s)
-          (began F w id (first_number s) s.payload) w
+          (began F w id (first_number s) s.payload) (looked_through w s)
       | Some f ↦ cond s.reset w
           (arrived F w id (Octets (first_number s) s.payload w.arrival))
     ])) [
-      | None ↦ either w (is_first w.ports s) (began F w id (first_number s) s.payload) w
-          (began_kept F w id (first_number s) s.payload) (kept_self w)
+      | None ↦ either w (is_first w.ports s) (began F w id (first_number s) s.payload)
+          (looked_through w s) (began_kept F w id (first_number s) s.payload) (looked_kept w s)
       | Some f ↦ either w s.reset w (arrived F w id (Octets (first_number s) s.payload w.arrival))
           (kept_self w) (arrived_kept F w id (Octets (first_number s) s.payload w.arrival))
     ]

@@ -7,7 +7,7 @@ use Rattle.tcp_flow.specs.declared.flow.CloseCause.TheVariants.{Fault}
 use Rattle.tcp_waiting.specs.Numbers.{onward, age}
 use Rattle.tcp_waiting.specs.declared.arrival.Arrival as origin
 use Rattle.tcp_waiting.specs.Payload.{without_first, Payload, payload, has_as_much, put}
-use Rattle.tcp_flow.specs.Flow.{Flow, Event, Opens, Begins, Delivers, Closes, OfCapture, ComesFrom, Reader, Setting, Arrival, Octets, End, Hears, left, with_event, delivered, begun as flow_begun, told_from, taken, stream_at, at, closed, holding, gone_on, within_bounds, payload_came, fin_came, gap, fresh, first_payload, step}
+use Rattle.tcp_flow.specs.Flow.{Flow, Event, Opens, Begins, Delivers, Closes, OfCapture, ComesFrom, Reader, Setting, Arrival, Octets, End, Hears, left, with_event, delivered, begun as flow_begun, told_from, taken, stream_at, at, closed, holding, gone_on, within_bounds, payload_came, fin_came, gap, fresh, first_payload, step, CaptureEvent, Passes, stopped, checked, number_after, handed, start_at, started}
 use Rattle.tcp_flow.proofs.Preserving.{Keeps, gone_on_keeps, relieved_keeps, heard_keeps, gap_keeps}
 use Rattle.tcp_streams.specs.Lives.{lives, lives_from, behind, begun, without, most_ids, AreIds}
 use Rattle.tcp_streams.proofs.Ids.{none_ids, begun_ids, without_ids, none_left}
@@ -105,18 +105,11 @@ either : {X : Type 0} (P : X → Type 0) (b : Bool) (x y : X) → P x → P y �
 either P true x y p q = p
 either P false x y p q = q
 
-closing_turn : {exact : Bool} (id : ℕ) (es : List Event) (g : Flow) (cause : CloseCause) →
+closing_turn : {exact : Bool} (id : ℕ) (es : List Event) (g : Flow) (n : ℕ) (cause : CloseCause) →
     IsTurn exact id es g
-    → IsTurn exact id es (record {
-      id = g.id;
-      next = g.next;
-      live = None;
-      fin = g.fin;
-      held = g.held;
-      events = g.events ++ Closes g.id cause ∷ [];
-    })
-unfolding behind
-closing_turn {exact} id es g cause t =
+    → IsTurn exact id es (stopped g n cause)
+unfolding with_event behind
+closing_turn {exact} id es g n cause t =
     record {
       same = t.same;
       own = told_off exact (times id (lives (g.events ++ Closes g.id cause ∷ [])))
@@ -129,19 +122,27 @@ closing_turn {exact} id es g cause t =
 
 pub closed_turn : {exact : Bool} (id : ℕ) (es : List Event) (g : Flow) (cause : CloseCause) →
     IsTurn exact id es g → IsTurn exact id es (closed g cause)
-unfolding closed with_event
+unfolding closed
 closed_turn {exact} id es g cause t =
-    either (IsTurn exact id es) (is_some g.live)
-    (record {
-      id = g.id;
-      next = g.next;
-      live = None;
-      fin = g.fin;
-      held = g.held;
-      events =
-          g.events ++ Closes g.id cause ∷ [];
-    }) g
-    (closing_turn id es g cause t) t
+    either (IsTurn exact id es) (is_some g.live) (stopped g g.next cause) g
+    (closing_turn id es g g.next cause t) t
+
+checked_turn : {exact : Bool} (id : ℕ) (es : List Event) (g : Flow) (r : Option ℕ) →
+    IsTurn exact id es g → IsTurn exact id es (checked g r)
+unfolding checked
+checked_turn {exact} id es g None t = t
+checked_turn {exact} id es g (Some at) t = closing_turn id es g (number_after g at) Fault t
+
+capture_turn : {exact : Bool} (id : ℕ) (es : List Event) (g : Flow) (e : CaptureEvent) →
+    IsTurn exact id es g → IsTurn exact id es (with_event g (OfCapture e))
+unfolding with_event behind
+capture_turn {exact} id es g e t =
+    let more = lives_more [] g.events (OfCapture e) in
+    record {
+      same = t.same;
+      own = subst (λ (xs : List ℕ). IsTold exact (is_some g.live) (times id xs)) (sym more) t.own;
+      beside = λ j n. ap (times j) more ∙ t.beside j n;
+    }
 
 delivered_turn : {exact : Bool} (F : Reader) (id : ℕ) (es : List Event) (g : Flow) (p : Payload) →
     IsTurn exact id es g →
@@ -149,49 +150,26 @@ delivered_turn : {exact : Bool} (F : Reader) (id : ℕ) (es : List Event) (g : F
 unfolding delivered with_event behind
 delivered_turn {exact} F id es g p t =
     let more = lives_more [] g.events (Delivers g.id p.octets) in
-    let d : Flow = record {
-      id = g.id;
-      next = onward p.number (length p.octets);
-      live = g.live;
-      fin = g.fin;
-      held = g.held;
-      events = g.events ++ Delivers g.id p.octets ∷ [];
-    } in
+    let d : Flow = handed g p in
     let u : IsTurn exact id es d =
     record {
       same = t.same;
       own = subst (λ (xs : List ℕ). IsTold exact (is_some g.live) (times id xs)) (sym more) t.own;
       beside = λ j n. ap (times j) more ∙ t.beside j n;
     } in
-    either (IsTurn exact id es) (F d.events) (record {
-      id = d.id;
-      next = d.next;
-      live = None;
-      fin = d.fin;
-      held = d.held;
-      events = d.events ++ Closes d.id Fault ∷ [];
-    }) d
-    (closing_turn id es d Fault u) u
+    checked_turn id es d (F d.events) u
 
 begun_turn : {exact : Bool} (F : Reader) (id : ℕ) (es : List Event) (g : Flow) (q : Payload)
     (r : Option ℕ) → id < most_ids → IsTurn exact id es g → IsTurn exact id es (flow_begun F g q r)
 unfolding flow_begun with_event behind
-begun_turn {exact} F id es g q None l t = t
+begun_turn {exact} F id es g q None l t = capture_turn id es g (Passes q.octets) t
 begun_turn {exact} F id es g q (Some i) l t =
     let n : ℕ = onward q.number i in
-    let more = lives_more [] g.events (Begins g.id n) in
-    delivered_turn F id es (record {
-      id = g.id;
-      next = g.next;
-      live = Some n;
-      fin = g.fin;
-      held =
-          g.held;
-      events = g.events ++ Begins g.id n ∷ [];
-    }) (without_first i q)
+    let more = lives_more [] g.events (Begins g.id (start_at g.since g.has_begun n)) in
+    delivered_turn F id es (started g n) (without_first i q)
     (record {
       same = t.same;
-      own = told_on exact (times id (lives (g.events ++ Begins g.id n ∷ [])))
+      own = told_on exact (times id (lives (started g n).events))
           (subst (λ (xs : List ℕ). 0 < times id xs)
           (sym (more ∙ ap (λ (k : ℕ). begun k (lives g.events)) t.same))
           (begun_own id (lives g.events) l));
@@ -201,14 +179,8 @@ begun_turn {exact} F id es g q (Some i) l t =
 
 from_turn : {exact : Bool} (id : ℕ) (es : List Event) (g : Flow) (p : Payload) →
     IsTurn exact id es g → IsTurn exact id es (told_from g p)
-unfolding told_from with_event behind
-from_turn {exact} id es g p t =
-    let more = lives_more [] g.events (OfCapture (ComesFrom p.arrival)) in
-    record {
-      same = t.same;
-      own = subst (λ (xs : List ℕ). IsTold exact (is_some g.live) (times id xs)) (sym more) t.own;
-      beside = λ j n. ap (times j) more ∙ t.beside j n;
-    }
+unfolding told_from
+from_turn {exact} id es g p t = capture_turn id es g (ComesFrom p.arrival) t
 
 taken_turn : {exact : Bool} (F : Reader) (id : ℕ) (es : List Event) (g : Flow) (p : Payload) →
     id < most_ids →

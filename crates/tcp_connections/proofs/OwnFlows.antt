@@ -12,7 +12,7 @@ use Rattle.tcp_waiting.specs.declared.arrival.Arrival as origin
 use Rattle.tcp_waiting.specs.Payload.{without_first, Payload, payload, no_payload, window, has_as_much, put, place_of, key_of}
 use Rattle.tcp_waiting.proofs.Held.{all_at, all_insert, all_remove}
 use Rattle.tcp_waiting.proofs.Order.{first_within, first_own}
-use Rattle.tcp_flow.specs.Flow.{Flow, Event, Begins, Delivers, Closes, OfCapture, ComesFrom, Reader, Setting, Arrival, Octets, End, Hears, left, with_event, delivered, begun as flow_begun, told_from, taken, stream_at, first_of, is_due, at, closed, holding, gone_on, within_bounds, payload_came, fin_came, gap, step}
+use Rattle.tcp_flow.specs.Flow.{Flow, Event, Begins, Delivers, Closes, OfCapture, ComesFrom, Reader, Setting, Arrival, Octets, End, Hears, left, with_event, delivered, begun as flow_begun, told_from, taken, stream_at, first_of, is_due, at, closed, holding, gone_on, within_bounds, payload_came, fin_came, gap, step, CaptureEvent, Passes, stopped, checked, number_after, handed, start_at, started}
 use Rattle.tcp_flow.proofs.Preserving.{Keeps, gone_on_keeps, relieved_keeps, heard_keeps, gap_keeps}
 use Rattle.tcp_flow.proofs.Truth.{reached}
 use Rattle.tcp_connections.specs.Owned.{IsPartOf, Standing, Unopened, Idle, Live, is_of, behind, MayCome, standing, AllMayCome}
@@ -137,44 +137,47 @@ all_push P (q ∷ ps) p h x = (h.0, all_push P ps p h.1 x)
 
 module _ (segments : List Segment) (owners : ℕ → Option Endpoints) (id : ℕ) (o : Endpoints)
     (own : owners id ≡ Some o) where
-  closing_own : (g : Flow) (cause : CloseCause) (n : ℕ) → g.id ≡ id → g.next < 2 ^ 32 →
-      AllByRecursion (IsPartOfOwn segments owners) g.held → Stands segments id g.events (Live o n)
-      → IsOwn segments owners id o (record {
-        id = g.id;
-        next = g.next;
-        live = None;
-        fin = g.fin;
-        held = g.held;
-        events = g.events ++ Closes g.id cause ∷ [];
-      })
-  closing_own g cause n same small held stands = record {
-    same = same;
-    next = small;
-    held = held;
-    stands = own_more segments id g.events (Live o n) (Closes g.id cause) (eq-eqb g.id id same) tt
-        stands;
-  }
-
   live_stands : (g : Flow) → is_some g.live ≡ true → IsOwn segments owners id o g →
       Stands segments id g.events (Live o g.next)
   live_stands g live t = subst (Stands segments id g.events)
       (cond-true (is_some g.live) (Live o g.next) (Idle o) live) t.stands
 
+  closing_own : (g : Flow) (n : ℕ) (cause : CloseCause) → is_some g.live ≡ true →
+      IsOwn segments owners id o g → IsOwn segments owners id o (stopped g n cause)
+  unfolding with_event
+  closing_own g n cause live t = record {
+    same = t.same;
+    next = t.next;
+    held = t.held;
+    stands = own_more segments id g.events (Live o g.next) (Closes g.id cause)
+        (eq-eqb g.id id t.same) tt (live_stands g live t);
+  }
+
+  checked_own : (g : Flow) (r : Option ℕ) → is_some g.live ≡ true →
+      IsOwn segments owners id o g → IsOwn segments owners id o (checked g r)
+  unfolding checked
+  checked_own g None live t = t
+  checked_own g (Some at) live t = closing_own g (number_after g at) Fault live t
+
+  capture_own : (g : Flow) (e : CaptureEvent) → IsOwn segments owners id o g →
+      IsOwn segments owners id o (with_event g (OfCapture e))
+  unfolding with_event
+  capture_own g e t = record {
+    same = t.same;
+    next = t.next;
+    held = t.held;
+    stands = other_more segments id g.events (stand_of o (is_some g.live) g.next)
+        (OfCapture e) refl t.stands;
+  }
+
   pub closed_own : (g : Flow) (cause : CloseCause) → IsOwn segments owners id o g →
       IsOwn segments owners id o (closed g cause)
-  unfolding closed with_event
+  unfolding closed
   closed_own g cause t =
-      let c : Flow = record {
-        id = g.id;
-        next = g.next;
-        live = None;
-        fin = g.fin;
-        held = g.held;
-        events = g.events ++ Closes g.id cause ∷ [];
-      } in
+      let c : Flow = stopped g g.next cause in
       elim (cases_Bool (is_some g.live)) [
         | inl e ↦ subst (IsOwn segments owners id o) (sym (cond-true (is_some g.live) c g e))
-            (closing_own g cause g.next t.same t.next t.held (live_stands g e t))
+            (closing_own g g.next cause e t)
         | inr e ↦ subst (IsOwn segments owners id o) (sym (cond-false (is_some g.live) c g e)) t
       ]
 
@@ -186,28 +189,12 @@ module _ (segments : List Segment) (owners : ℕ → Option Endpoints) (id : ℕ
   delivered_own F g p n same held stands part e live =
       let next : ℕ = onward p.number (length p.octets) in
       let small : next < 2 ^ 32 = omega arith in
-      let d : Flow = record {
-        id = g.id;
-        next = next;
-        live = g.live;
-        fin = g.fin;
-        held = g.held;
-        events = g.events ++ Delivers g.id p.octets ∷ [];
-      } in
+      let d : Flow = handed g p in
       let there : Stands segments id d.events (Live o next) =
       subst (λ (k : ℕ). Stands segments id d.events (Live o (onward k (length p.octets)))) (sym e)
       (own_more segments id g.events (Live o n) (Delivers g.id p.octets) (eq-eqb g.id id same) part
       stands) in
-      either (IsOwn segments owners id o) (F d.events)
-      (record {
-        id = d.id;
-        next = d.next;
-        live = None;
-        fin = d.fin;
-        held = d.held;
-        events = d.events ++ Closes d.id Fault ∷ [];
-      }) d
-      (closing_own d Fault next same small held there)
+      checked_own d (F d.events) live
       (record {
         same = same;
         next = small;
@@ -220,33 +207,21 @@ module _ (segments : List Segment) (owners : ℕ → Option Endpoints) (id : ℕ
       is_some g.live ≡ false → IsPartOf segments o q.number q.octets →
       IsOwn segments owners id o (flow_begun F g q r)
   unfolding flow_begun with_event
-  begun_own F g q None t dead part = t
+  begun_own F g q None t dead part = capture_own g (Passes q.octets) t
   begun_own F g q (Some i) t dead part =
       let n : ℕ = onward q.number i in
       let idle : Stands segments id g.events (Idle o) =
       subst (Stands segments id g.events)
       (cond-false (is_some g.live) (Live o g.next) (Idle o) dead) t.stands in
-      delivered_own F (record {
-        id = g.id;
-        next = g.next;
-        live = Some n;
-        fin = g.fin;
-        held = g.held;
-        events = g.events ++ Begins g.id n ∷ [];
-      }) (without_first i q) n t.same t.held
-      (own_more segments id g.events (Idle o) (Begins g.id n) (eq-eqb g.id id t.same) tt idle)
+      delivered_own F (started g n) (without_first i q) n t.same t.held
+      (own_more segments id g.events (Idle o) (Begins g.id (start_at g.since g.has_begun n))
+      (eq-eqb g.id id t.same) tt idle)
       (part_more segments o q.number i q.octets part) refl refl
 
   from_own : (g : Flow) (p : Payload) → IsOwn segments owners id o g →
       IsOwn segments owners id o (told_from g p)
-  unfolding told_from with_event
-  from_own g p t = record {
-    same = t.same;
-    next = t.next;
-    held = t.held;
-    stands = other_more segments id g.events (stand_of o (is_some g.live) g.next)
-        (OfCapture (ComesFrom p.arrival)) refl t.stands;
-  }
+  unfolding told_from
+  from_own g p t = capture_own g (ComesFrom p.arrival) t
 
   taken_own : (F : Reader) (f : Flow) (p : Payload) → IsOwn segments owners id o f →
       IsPartOf segments o p.number p.octets →

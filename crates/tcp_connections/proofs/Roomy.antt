@@ -12,11 +12,11 @@ use Rattle.tcp_streams.specs.Lives.{lives, elder_side}
 use Rattle.tcp_streams.specs.Pairs.{pair_of, opposite, flow_id}
 use Rattle.tcp_streams.specs.declared.pair.EndpointPair.{EndpointPair}
 use Rattle.tcp_streams.specs.declared.pair.Side.{Side}
-use Rattle.tcp_connections.specs.Connections.{State, flow_at, with_flow, gapped, closed_at, room_at, shown_by_age, ended_by, eldest, with_room, next_room, made_known, place_of, flow_of_side, syn_at, syn_kept, is_kept, is_anew, is_reset, is_first, first_number, began, fin_taken, acknowledgement_heard, payload_taken, reset_taken, unknown_taken, known_taken, step, after, gaps_from, ended}
+use Rattle.tcp_connections.specs.Connections.{State, flow_at, with_flow, gapped, closed_at, room_at, shown_by_age, ended_by, eldest, with_room, next_room, made_known, place_of, flow_of_side, syn_at, syn_kept, is_kept, is_anew, is_reset, is_first, looked_through, first_number, began, fin_taken, acknowledgement_heard, payload_taken, reset_taken, unknown_taken, known_taken, step, after, gaps_from, ended}
 use Rattle.tcp_connections.specs.Gapless.{HaveRooms}
 use Rattle.tcp_connections.specs.Owned.{Standing, Unopened, Idle, Live, owner, is_of, behind, MayCome, standing, AllMayCome}
 use Rattle.tcp_connections.proofs.Cases.{room_there, room_made, step_unknown, step_kept, step_anew, step_known}
-use Rattle.tcp_connections.proofs.Kept.{began_kept, heard_kept, acknowledgement_kept, payload_kept, fin_kept}
+use Rattle.tcp_connections.proofs.Kept.{began_kept, looked_kept, heard_kept, acknowledgement_kept, payload_kept, fin_kept}
 use Rattle.tcp_connections.proofs.Owners.{Owns}
 use Rattle.tcp_connections.proofs.Repeated.{gaps_keep, closes_keep}
 use Rattle.tcp_connections.proofs.Shown.{shown_lasts}
@@ -56,10 +56,10 @@ unknown_rooms F w s =
     let m : State = made_known v (pair_of s.flow).0 in
     let id : ℕ = flow_id (next_room v.free) (pair_of s.flow).1 in
     let b : State = began F m id (first_number s) s.payload in
-    either (rooms_in w) (is_first w.ports s) (fin_taken F b id s) w
+    either (rooms_in w) (is_first w.ports s) (fin_taken F b id s) (looked_through w s)
     (ap length (fin_kept F b id s).lasts
     ∙ ap length (began_kept F m id (first_number s) s.payload).lasts
-    ∙ made_rooms v (pair_of s.flow).0 ∙ room_rooms F w) refl
+    ∙ made_rooms v (pair_of s.flow).0 ∙ room_rooms F w) (ap length (looked_kept w s).lasts)
 
 reset_rooms : (F : Reader) (w : State) (place : ℕ) (side : Side) (s : Segment) →
     rooms_in (reset_taken F w place side s) ≡ rooms_in w

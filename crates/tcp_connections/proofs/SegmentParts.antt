@@ -12,7 +12,7 @@ use Rattle.tcp_flow.specs.declared.hearing.Heard.{Heard}
 use Rattle.tcp_flow.specs.declared.flow.CloseCause.{CloseCause}
 use Rattle.tcp_flow.specs.declared.flow.CloseCause.TheVariants.{Reset, Room}
 use Rattle.tcp_flow.specs.declared.flow.FlowState.{FlowState}
-use Rattle.tcp_flow.specs.Flow.{Flow, Event, Opens, Reader, Setting, Arrival, Octets, End, Hears, setting, payload_came, closed, step as flow_step, held_by_others}
+use Rattle.tcp_flow.specs.Flow.{Flow, Event, CaptureEvent, Opens, OfCapture, Passes, Reader, Setting, Arrival, Octets, End, Hears, setting, payload_came, closed, step as flow_step, held_by_others}
 use Rattle.tcp_flow.specs.Laws.{AllFollow, OwnMayFollow, AllArePartsOf, IsGapless, due_of}
 use Rattle.tcp_flow.specs.State.{state}
 use Rattle.tcp_flow.proofs.Room.{closed_dead}
@@ -23,7 +23,7 @@ use Rattle.tcp_streams.specs.declared.pair.Side.{Side}
 use Rattle.tcp_streams.specs.declared.pair.Side.TheVariants.{FromLesser, FromGreater}
 use Rattle.tcp_streams.specs.Lives.{lives, elder_side}
 use Rattle.tcp_streams.specs.Pairs.{opposite, flow_id, flow_from}
-use Rattle.tcp_connections.specs.Connections.{State, flow_at, arrived, began, flow_forgotten, place_of, room_at, gapped, shown, forgotten, shown_by_age, ended_by, eldest, with_room, next_room, rest_of_rooms, made_known, first_number, number_behind, is_first, fin_taken, heard, payload_taken, is_reset, flow_of_side, reset_taken}
+use Rattle.tcp_connections.specs.Connections.{State, flow_at, arrived, began, flow_forgotten, place_of, room_at, gapped, shown, forgotten, shown_by_age, ended_by, eldest, with_room, next_room, rest_of_rooms, made_known, first_number, number_behind, is_first, is_looked_through, looked_through, with_capture_event, fin_taken, heard, payload_taken, is_reset, flow_of_side, reset_taken}
 use Rattle.tcp_connections.specs.Gapless.{IsOfSegment}
 use Rattle.tcp_connections.specs.Owned.{IsPartOf}
 use Rattle.tcp_connections.specs.State.{IsSound, times}
@@ -32,10 +32,10 @@ use Rattle.tcp_connections.proofs.Changes.{opened}
 use Rattle.tcp_connections.proofs.Following.{due_in, Follow, others_kept, flow_before, Goes, arrived_both, began_both, follow_grown, gapped_follow, gapped_sound}
 use Rattle.tcp_connections.proofs.Forgotten.{forgot_either, both_forgotten, forgotten_sound}
 use Rattle.tcp_connections.proofs.Owners.{owner_of, Owns, arrived_owns, began_owns, gapped_owns}
-use Rattle.tcp_connections.proofs.OwnersKnown.{MadeKnown, forgot_owns, theirs_without, made_owns}
+use Rattle.tcp_connections.proofs.OwnersKnown.{MadeKnown, told_owns, forgot_owns, theirs_without, made_owns}
 use Rattle.tcp_connections.proofs.OwnFlows.{either, all_push}
 use Rattle.tcp_connections.proofs.Shown.{shown_kept, shown_keeps}
-use Rattle.tcp_connections.proofs.Sound.{IsApart, some_none, some_within, room_below, forgot_sound, known_sound}
+use Rattle.tcp_connections.proofs.Sound.{IsApart, some_none, some_within, room_below, sound_seen, forgot_sound, known_sound}
 use Rattle.tcp_connections.proofs.Unknown.{eldest_within, next_free, next_below}
 
 -- ---- What is so of a state, after these segments.
@@ -179,18 +179,49 @@ later_at segments F w id s among own h =
           (own_part segments w id s among own) h.owns;
     }
 
+-- the listener is told of the capture
+pub capture_at : (segments : List Segment) (w : State) (event : CaptureEvent) → At segments w →
+    At segments (with_capture_event w event)
+capture_at segments w event h =
+    let events : List Event = w.events ++ OfCapture event ∷ [] in
+    record {
+      sound = sound_seen w w.lasts w.syns w.segments events w.arrival refl h.sound;
+      payloads = h.payloads;
+      came = h.came;
+      follow =
+          record {
+            own = h.follow.own;
+            held = h.follow.held;
+            events =
+                λ id.
+                runs_more h.payloads id None (due_in (flow_at w id)) (due_in (flow_at w id))
+                w.events (OfCapture event) (h.follow.events id)
+                (inr (λ o. true≢false (sym (ap is_some o)), refl));
+            few = h.follow.few;
+          };
+      owns = told_owns segments w event h.owns;
+    }
+
+-- of octets in which no stream begins
+pub looked_at : (segments : List Segment) (w : State) (s : Segment) → At segments w →
+    At segments (looked_through w s)
+unfolding looked_through
+looked_at segments w s h = either (At segments) (is_looked_through w.ports s)
+    (with_capture_event w (Passes s.payload)) w (capture_at segments w (Passes s.payload) h) h
+
 pub payload_at : (segments : List Segment) (F : Reader) (w : State) (id : ℕ) (s : Segment) →
     IsIn segments s → owner_of w.events id ≡ Some s.flow → At segments w → id < length w.flows →
     IsApart w id → At segments (payload_taken F w id s)
 unfolding payload_taken
 payload_at segments F w id s among own h within apart =
     elim (flow_at w id) as (λ (o : Option FlowState). flow_at w id ≡ o → At segments (elim o [
-      | None ↦ cond (is_first w.ports s) (began F w id (first_number s) s.payload) w
+      | None ↦
+          cond (is_first w.ports s) (began F w id (first_number s) s.payload) (looked_through w s)
       | Some f ↦ cond s.reset w (arrived F w id (Octets (first_number s) s.payload w.arrival))
     ])) [
       | None ↦ (λ e. either (At segments) (is_first w.ports s)
-          (began F w id (first_number s) s.payload) w
-          (first_at segments F w id s among own h e within apart) h)
+          (began F w id (first_number s) s.payload) (looked_through w s)
+          (first_at segments F w id s among own h e within apart) (looked_at segments w s h))
       | Some f ↦ (λ e. either (At segments) s.reset w
           (arrived F w id (Octets (first_number s) s.payload w.arrival)) h
           (later_at segments F w id s among own h))
@@ -216,7 +247,7 @@ flow_forgotten_at segments w id cause h =
     let c : Flow = closed f cause in
     let own : s.id ≡ id = (h.follow.own id s e).0 in
     let within : id < length w.flows = some_within w.flows id s e in
-    let g : IsGapless h.payloads c = (true_keeps (λ events. false) h.payloads).closes f cause
+    let g : IsGapless h.payloads c = (true_keeps (λ events. None) h.payloads).closes f cause
     (flow_before h.payloads w id s h.follow e) in
     let same : c.id ≡ id = (closed_told (λ es. Unit {0}) id (λ es event of x. tt) f cause
     (record { same = own; told = tt })).same in

@@ -16,7 +16,7 @@ use tcp_waiting::onward;
 impl Connections {
     ghost use Rattle.tcp_connections.specs.Connections.{is_first, is_chosen, acknowledgement_heard, heard};
     ghost use Rattle.tcp_connections.specs.Connections.{payload_taken, began, arrived, fin_taken};
-    ghost use Rattle.tcp_connections.specs.Connections.{State, looked_through};
+    ghost use Rattle.tcp_connections.specs.Connections.{State, looked_through, is_looked_through};
     ghost use Rattle.tcp_flow.specs.Flow.{End};
     ghost use Rattle.tcp_connections.specs.State.{IsState, HasState, Makes, times};
 
@@ -127,16 +127,23 @@ impl Connections {
         self.begin(id, segment, to)
     }
 
-    /// No stream begins in a payload of a flow of which nothing came: it was looked through, where
-    /// it has octets and one of the ports is chosen.
+    /// No stream begins in a payload of a flow of which nothing came: that it was looked through is
+    /// told.
     pub(crate) fn pass<L: Listener + Drop>(&self, segment: Segment<'_>, to: &mut Streams<L>)
         ensures { (w : State) → IsState (L.observed to.old.listener) to.old.live.items self.now w
             → IsState (L.observed to.new.listener) to.new.live.items self.now
             (looked_through w (segment_view segment.entry)) }
     {
-        if !segment.reset && self.is_chosen(segment.flow) && !segment.payload.is_empty() {
+        if self.is_looked_through(segment) {
             to.passes(segment.payload);
         }
+    }
+
+    /// Whether a segment's payload is looked through where nothing of its flow came.
+    fn is_looked_through(&self, segment: Segment<'_>) -> bool
+        ensures { result ≡ is_looked_through self.now.ports.items (segment_view segment.entry) }
+    {
+        !segment.reset && self.is_chosen(segment.flow) && !segment.payload.is_empty()
     }
 
     /// The first stream of a flow begins.

@@ -6,7 +6,7 @@ use Rattle.tcp_flow.specs.declared.flow.CloseCause.{CloseCause}
 use Rattle.tcp_flow.specs.declared.flow.CloseCause.TheVariants.{Fault}
 use Rattle.tcp_waiting.specs.Numbers.{onward}
 use Rattle.tcp_waiting.specs.Payload.{without_first, Payload, has_as_much, put}
-use Rattle.tcp_flow.specs.Flow.{Flow, Event, Begins, Delivers, Closes, OfCapture, ComesFrom, Reader, Setting, left, with_event, delivered, begun, told_from, taken, stream_at, at as held_at, closed, holding, gone_on, within_bounds, payload_came}
+use Rattle.tcp_flow.specs.Flow.{Flow, Event, Begins, Delivers, Closes, OfCapture, ComesFrom, Passes, Reader, Setting, left, with_event, stopped, checked, handed, delivered, start_at, started, begun, told_from, taken, stream_at, at as held_at, closed, holding, gone_on, within_bounds, payload_came}
 use Rattle.tcp_flow.specs.Order.{octets_in, octets_of, closes_in, closes_of}
 use Rattle.tcp_flow.proofs.Preserving.{Keeps, gone_on_keeps, relieved_keeps}
 
@@ -35,47 +35,27 @@ either P false x y p q = q
 
 -- ---- Streams that have closed stay so.
 
+checked_more : (n id : ℕ) (g : Flow) (r : Option ℕ) → n < closes_of id g.events →
+    n < closes_of id (checked g r).events
+unfolding checked with_event
+checked_more n id g None l = l
+checked_more n id g (Some at) l = more_event n id g.events (Closes g.id Fault) l
+
 delivered_more : (F : Reader) (n id : ℕ) (g : Flow) (p : Payload) → n < closes_of id g.events →
     n < closes_of id (delivered F g p).events
 unfolding delivered with_event
 delivered_more F n id g p l =
-    let d : Flow = record {
-      id = g.id;
-      next = onward p.number (length p.octets);
-      live = g.live;
-      fin = g.fin;
-      held = g.held;
-      events = g.events ++ Delivers g.id p.octets ∷ [];
-    } in
-    let m : n < closes_of id d.events = more_event n id g.events (Delivers g.id p.octets) l in
-    either (λ (h : Flow). n < closes_of id h.events) (F d.events)
-    (record {
-      id = d.id;
-      next = d.next;
-      live = None;
-      fin = d.fin;
-      held = d.held;
-      events =
-          d.events ++ Closes d.id Fault ∷ [];
-    }) d
-    (more_event n id d.events (Closes d.id Fault) m) m
+    let d : Flow = handed g p in
+    checked_more n id d (F d.events) (more_event n id g.events (Delivers g.id p.octets) l)
 
 begun_more : (F : Reader) (n id : ℕ) (g : Flow) (p : Payload) (r : Option ℕ) →
     n < closes_of id g.events → n < closes_of id (begun F g p r).events
 unfolding begun with_event
-begun_more F n id g p None l = l
+begun_more F n id g p None l = more_event n id g.events (OfCapture (Passes p.octets)) l
 begun_more F n id g p (Some i) l =
     let k : ℕ = onward p.number i in
-    delivered_more F n id (record {
-      id = g.id;
-      next = g.next;
-      live = Some k;
-      fin = g.fin;
-      held =
-          g.held;
-      events = g.events ++ Begins g.id k ∷ [];
-    }) (without_first i p)
-    (more_event n id g.events (Begins g.id k) l)
+    delivered_more F n id (started g k) (without_first i p)
+    (more_event n id g.events (Begins g.id (start_at g.since g.has_begun k)) l)
 
 pub taken_more : (F : Reader) (n id : ℕ) (g : Flow) (p : Payload) → n < closes_of id g.events →
     n < closes_of id (taken F g p).events
@@ -96,16 +76,7 @@ pub closed_more : (n id : ℕ) (g : Flow) (cause : CloseCause) → n < closes_of
     n < closes_of id (closed g cause).events
 unfolding closed with_event
 closed_more n id g cause l =
-    either (λ (h : Flow). n < closes_of id h.events) (is_some g.live)
-    (record {
-      id = g.id;
-      next = g.next;
-      live = None;
-      fin = g.fin;
-      held = g.held;
-      events =
-          g.events ++ Closes g.id cause ∷ [];
-    }) g
+    either (λ (h : Flow). n < closes_of id h.events) (is_some g.live) (stopped g g.next cause) g
     (more_event n id g.events (Closes g.id cause) l) l
 
 more_keeps : (F : Reader) (n id : ℕ) → Keeps F (λ (g : Flow). n < closes_of id g.events)

@@ -1,6 +1,6 @@
 -- What has come of a content, while its stream lives: in whatever order, its octets up to the first
 -- place that no payload spans.
-use Rattle.std.proofs.Common.{◌≡◌, ◌⊎◌, ℕ, zero, suc, ◌+◌, ◌-◌, ◌^◌, ◌<◌, ◌≤◌, Bool, true, false, cond, not, nat_eq, nat_lt, ◌&&◌, List, [], ◌∷◌, ◌++◌, length, take, drop, get_or, Some, None, is_some, refl, sym, ◌∙◌, ap, subst, arith, inl, inr, true≢false, append-nil}
+use Rattle.std.proofs.Common.{◌≡◌, ◌⊎◌, ℕ, zero, suc, ◌+◌, ◌-◌, ◌^◌, ◌<◌, ◌≤◌, Bool, true, false, cond, not, nat_eq, nat_lt, ◌&&◌, List, [], ◌∷◌, ◌++◌, length, take, drop, get_or, Option, Some, None, is_some, refl, sym, ◌∙◌, ap, subst, arith, inl, inr, true≢false, append-nil}
 use Rattle.std.specs.List.{AllByRecursion, insert, remove}
 use Rattle.std.proofs.lemmas.Bool.{cases_Bool, cond-true, cond-false, and_cases, and_right, not-true, not_from_true, both_ways, eqb-true, eq-eqb}
 use Rattle.std.proofs.lemmas.List.{append_assoc, length-drop}
@@ -8,14 +8,13 @@ use Rattle.tcp_flow.specs.declared.flow.CloseCause.{CloseCause}
 use Rattle.tcp_flow.specs.declared.flow.CloseCause.TheVariants.{Fault}
 use Rattle.tcp_waiting.specs.Numbers.{onward, age, is_to_come}
 use Rattle.tcp_waiting.specs.Payload.{without_first, Payload, no_payload, window}
-use Rattle.tcp_flow.specs.Flow.{Flow, Event, Delivers, Closes, OfCapture, ComesFrom, Reader, left, with_event, delivered, told_from, taken, first_of, is_due, at as held_at, closed}
+use Rattle.tcp_flow.specs.Flow.{Flow, Delivers, Closes, OfCapture, ComesFrom, Reader, left, with_event, stopped, checked, number_after, handed, delivered, told_from, taken, first_of, is_due, at as held_at, closed}
 use Rattle.tcp_flow.specs.Order.{octets_of, closes_of, Agrees}
 use Rattle.tcp_waiting.proofs.Held.{all_at, all_remove}
 use Rattle.tcp_waiting.proofs.Order.{first_within, first_own}
 use Rattle.tcp_flow.proofs.Closings.{octets_more, closes_more, taken_more, closed_more}
 use Rattle.tcp_flow.proofs.Places.{place_due, age_before, same_place, goes_on}
 use Rattle.tcp_flow.proofs.Preserving.{Keeps}
-use Rattle.tcp_flow.proofs.States.{delivered_on, delivered_fault}
 use Rattle.tcp_flow.proofs.Steps.{taken_none, taken_live}
 
 -- ---- Lists.
@@ -156,6 +155,20 @@ pub some_octets : (n : ℕ) → nat_eq n 0 ≡ false → 0 < n
 some_octets zero h = absurd (true≢false h)
 some_octets (suc n) h = omega arith
 
+stopped_so : (x : Case) (U : ℕ → Type 0) (K : Type 0) (f : Flow) (n : ℕ) (cause : CloseCause) →
+    So x U K f → x.closings < closes_of x.id (stopped f n cause).events
+unfolding with_event
+stopped_so x U K f n cause so =
+    let own : nat_eq f.id x.id ≡ true = eq-eqb f.id x.id so.same in
+    let one : ◌≡◌ {A = ℕ} (cond (nat_eq f.id x.id) 1 0) 1 = rw own refl in
+    omega (arith, closes_more x.id f.events (Closes f.id cause), so.count, one)
+
+checked_so : (x : Case) (U : ℕ → Type 0) (K : Type 0) (f : Flow) (r : Option ℕ) → So x U K f →
+    HasGone x U K (checked f r)
+unfolding checked HasGone
+checked_so x U K f None so = inr so
+checked_so x U K f (Some at) so = inl (stopped_so x U K f (number_after f at) Fault so)
+
 -- the octets from a place on are delivered
 deliver_so : (F : Reader) (x : Case) (U : ℕ → Type 0) (K : Type 0) (g : Flow) (p : Payload)
     (r place k : ℕ) → is_some g.live ≡ true → g.id ≡ x.id
@@ -167,48 +180,36 @@ deliver_so : (F : Reader) (x : Case) (U : ℕ → Type 0) (K : Type 0) (g : Flow
     → AllByRecursion (λ q. q.flow ≡ x.id → Piece x U q) g.held →
     (K → Covered x (place + length p.octets) g.held)
     → HasGone x U K (delivered F g (without_first k p))
-unfolding HasGone
+unfolding delivered with_event
 deliver_so F x U K g p r place k live same agrees kis l m from said count least held covered =
     let q : Payload = without_first k p in
-    let es : List Event = g.events ++ Delivers g.id q.octets ∷ [] in
+    let d : Flow = handed g q in
     let own : nat_eq g.id x.id ≡ true = eq-eqb g.id x.id same in
-    let counted : closes_of x.id es ≡ x.closings =
-    closes_more x.id g.events (Delivers g.id q.octets) ∙ omega (arith, count) in
-    elim (cases_Bool (F es)) [
-      | inl e ↦
-          (let one : ◌≡◌ {A = ℕ} (cond (nat_eq g.id x.id) 1 0) 1 = rw own refl in
-          subst (λ (h : Flow). (x.closings < closes_of x.id h.events) ⊎ So x U K h)
-          (sym (delivered_fault F g q e))
-          (inl (omega (arith, closes_more x.id es (Closes g.id Fault), counted, one))))
-      | inr e ↦
-          (let long : length (drop k p.octets) ≡ length p.octets - k = length-drop k p.octets in
-          let octets : octets_of x.id es ≡ x.front
-          ++ take (place + length p.octets - x.at) (drop x.at x.content) =
-          octets_more x.id g.events (Delivers g.id q.octets)
-          ∙ ap (λ (xs : List ℕ). octets_of x.id g.events ++ xs)
-          (cond-true (nat_eq g.id x.id) q.octets [] own)
-          ∙ ap (λ (xs : List ℕ). xs ++ drop k p.octets) said
-          ∙ append_assoc x.front (take (r - x.at) (drop x.at x.content)) (drop k p.octets)
-          ∙ ap (λ (xs : List ℕ). x.front ++ xs)
-          (ap (λ (n : ℕ). take (r - x.at) (drop x.at x.content) ++ drop n p.octets) kis
-          ∙ goes_on x.at r place p.octets x.content from l (omega (arith, m)) agrees.octets_are)
-          in
-          subst (λ (h : Flow). (x.closings < closes_of x.id h.events) ⊎ So x U K h)
-          (sym (delivered_on F g q e))
-          (inr (record {
-            same = same;
-            live = live;
-            r = place + length p.octets;
-            next = omega (arith, long, agrees.number_is, kis, l, m);
-            from = omega (arith, from, m);
-            within = agrees.within;
-            said = octets;
-            count = counted;
-            least = least;
-            held = held;
-            covered = covered;
-          })))
-    ]
+    let long : length (drop k p.octets) ≡ length p.octets - k = length-drop k p.octets in
+    let octets : octets_of x.id d.events ≡ x.front
+    ++ take (place + length p.octets - x.at) (drop x.at x.content) =
+    octets_more x.id g.events (Delivers g.id q.octets)
+    ∙ ap (λ (xs : List ℕ). octets_of x.id g.events ++ xs)
+    (cond-true (nat_eq g.id x.id) q.octets [] own)
+    ∙ ap (λ (xs : List ℕ). xs ++ drop k p.octets) said
+    ∙ append_assoc x.front (take (r - x.at) (drop x.at x.content)) (drop k p.octets)
+    ∙ ap (λ (xs : List ℕ). x.front ++ xs)
+    (ap (λ (n : ℕ). take (r - x.at) (drop x.at x.content) ++ drop n p.octets) kis
+    ∙ goes_on x.at r place p.octets x.content from l (omega (arith, m)) agrees.octets_are)
+    in
+    checked_so x U K d (F d.events) (record {
+      same = same;
+      live = live;
+      r = place + length p.octets;
+      next = omega (arith, long, agrees.number_is, kis, l, m);
+      from = omega (arith, from, m);
+      within = agrees.within;
+      said = octets;
+      count = closes_more x.id g.events (Delivers g.id q.octets) ∙ omega (arith, count);
+      least = least;
+      held = held;
+      covered = covered;
+    })
 
 -- what is due and waited is taken
 take_so : (F : Reader) (x : Case) (U : ℕ → Type 0) (K : Type 0) (f : Flow) (i : ℕ) →
@@ -280,21 +281,11 @@ take_so F x U K f i small e d so =
 
 close_so : (x : Case) (U : ℕ → Type 0) (K : Type 0) (f : Flow) (cause : CloseCause) → So x U K f →
     x.closings < closes_of x.id (closed f cause).events
-unfolding closed with_event
+unfolding closed
 close_so x U K f cause so =
-    let c : Flow = record {
-      id = f.id;
-      next = f.next;
-      live = None;
-      fin = f.fin;
-      held = f.held;
-      events = f.events ++ Closes f.id cause ∷ [];
-    } in
-    let own : nat_eq f.id x.id ≡ true = eq-eqb f.id x.id so.same in
-    let one : ◌≡◌ {A = ℕ} (cond (nat_eq f.id x.id) 1 0) 1 = rw own refl in
     subst (λ (h : Flow). x.closings < closes_of x.id h.events)
-    (sym (cond-true (is_some f.live) c f so.live))
-    (omega (arith, closes_more x.id f.events (Closes f.id cause), so.count, one))
+    (sym (cond-true (is_some f.live) (stopped f f.next cause) f so.live))
+    (stopped_so x U K f f.next cause so)
 
 pub so_keeps : (F : Reader) (x : Case) (U : ℕ → Type 0) (K : Type 0) → length x.content < 2 ^ 31 →
     Keeps F (HasGone x U K)

@@ -1,17 +1,17 @@
 -- The pool's blocks suffice after each payload: the gaps end, and what other flows hold is left
 -- alone.
-use Rattle.std.proofs.Common.{◌≡◌, ℕ, zero, suc, ◌+◌, ◌-◌, ◌/◌, ◌<◌, ◌≤◌, Bool, true, false, cond, nat_eq, nat_lt, ◌&&◌, ◌||◌, not, List, [], ◌∷◌, ◌++◌, length, get_or, Option, Some, None, is_some, refl, sym, ◌∙◌, ap, subst, arith, inl, inr}
+use Rattle.std.proofs.Common.{◌≡◌, ℕ, zero, suc, ◌+◌, ◌-◌, ◌/◌, ◌<◌, ◌≤◌, Bool, true, false, cond, nat_eq, nat_lt, ◌&&◌, ◌||◌, not, List, [], ◌∷◌, length, get_or, Option, Some, None, is_some, refl, sym, ◌∙◌, ap, subst, arith, inl, inr}
 use Rattle.std.specs.List.{insert, remove}
 use Rattle.std.proofs.lemmas.Bool.{cases_Bool, and_cases, or_cases, or_parts, and_parts, ltb-false, true≢false, eq-eqb, or_left, or_right, cond-true, cond-false}
 use Rattle.std.proofs.lemmas.List.{nil_from_length}
 use Rattle.std.proofs.lemmas.List.Edits.{length-insert}
 use Rattle.tcp_flow.specs.declared.flow.CloseCause.{CloseCause}
-use Rattle.tcp_flow.specs.declared.flow.CloseCause.TheVariants.{Gap, Fault}
+use Rattle.tcp_flow.specs.declared.flow.CloseCause.TheVariants.{Gap}
 use Rattle.tcp_flow.specs.declared.hearing.Heard.{Heard}
 use Rattle.std.specs.Option.{option_map}
 use Rattle.tcp_waiting.specs.Numbers.{ahead, age, onward, rank}
 use Rattle.tcp_waiting.specs.Payload.{without_first, Payload, no_payload, window, earlier, first, blocks_of, is_far, has_as_much, put, place_of, key_of}
-use Rattle.tcp_flow.specs.Flow.{Flow, Event, Begins, Delivers, Closes, Reader, Setting, left, with_event, delivered, begun, told_from, taken, stream_at, first_of, at, drained_at_most, drained, closed, gone_on, gap, is_too_much, within_bounds, is_lost, heard, holding, payload_came, fin_came}
+use Rattle.tcp_flow.specs.Flow.{Flow, Reader, Setting, left, with_event, stopped, checked, handed, delivered, started, begun, told_from, taken, stream_at, first_of, at, drained_at_most, drained, closed, gone_on, gap, is_too_much, within_bounds, is_lost, heard, holding, payload_came, fin_came}
 use Rattle.tcp_waiting.proofs.Order.{first_within, first_own, place_within}
 use Rattle.tcp_flow.proofs.Steps.{length_remove, flowing_takes, due_now}
 use Rattle.tcp_flow.proofs.Preserving.{gap_keeps, Keeps, flowing_by, rest_keeps, gone_on_keeps, relieved_keeps, heard_keeps}
@@ -30,35 +30,21 @@ stays_either : (f : Flow) (b : Bool) (g h : Flow) → Stays f g → Stays f h �
 stays_either f true g h s t = s
 stays_either f false g h s t = t
 
+stays_checked : (f g : Flow) (r : Option ℕ) → Stays f g → Stays f (checked g r)
+unfolding checked with_event
+stays_checked f g None s = s
+stays_checked f g (Some at) s = record { held = s.held; id = s.id }
+
 delivered_stays : (F : Reader) (f : Flow) (p : Payload) → Stays f (delivered F f p)
 unfolding delivered with_event
 delivered_stays F f p =
-    let events : List Event = f.events ++ Delivers f.id p.octets ∷ [] in
-    let next : ℕ = onward p.number (length p.octets) in
-    stays_either f (F events) (record {
-      id = f.id;
-      next = next;
-      live = None;
-      fin = f.fin;
-      held =
-          f.held;
-      events = events ++ Closes f.id Fault ∷ [];
-    })
-    (record { id = f.id; next = next; live = f.live; fin = f.fin; held = f.held; events = events })
-    (record { held = refl; id = refl }) (record { held = refl; id = refl })
+    stays_checked f (handed f p) (F (handed f p).events) (record { held = refl; id = refl })
 
 begun_stays : (F : Reader) (f : Flow) (p : Payload) (r : Option ℕ) → Stays f (begun F f p r)
 unfolding begun with_event
 begun_stays F f p None = record { held = refl; id = refl }
 begun_stays F f p (Some i) =
-    let g : Flow = record {
-      id = f.id;
-      next = f.next;
-      live = Some (onward p.number i);
-      fin = f.fin;
-      held = f.held;
-      events = f.events ++ Begins f.id (onward p.number i) ∷ [];
-    } in
+    let g : Flow = started f (onward p.number i) in
     let s : Stays g (delivered F g (without_first i p)) =
     delivered_stays F g (without_first i p) in
     record { held = s.held; id = s.id }
@@ -82,14 +68,7 @@ taken_stays F f p =
 closed_stays : (f : Flow) (cause : CloseCause) → Stays f (closed f cause)
 unfolding closed with_event
 closed_stays f cause =
-    stays_either f (is_some f.live) (record {
-      id = f.id;
-      next = f.next;
-      live = None;
-      fin = f.fin;
-      held = f.held;
-      events = f.events ++ Closes f.id cause ∷ [];
-    }) f
+    stays_either f (is_some f.live) (stopped f f.next cause) f
     (record { held = refl; id = refl }) (record { held = refl; id = refl })
 
 -- what removing own payloads keeps, a flow keeps
@@ -231,38 +210,15 @@ unfolding closed with_event
 closed_dead f cause =
     elim (cases_Bool (is_some f.live)) [
       | inl e ↦ ap (λ (g : Flow). (is_some g.live))
-          (cond-true (is_some f.live) (record {
-            id = f.id;
-            next = f.next;
-            live = None;
-            fin = f.fin;
-            held = f.held;
-            events = f.events ++ Closes f.id cause ∷ [];
-          }) f e)
+          (cond-true (is_some f.live) (stopped f f.next cause) f e)
       | inr e ↦ ap (λ (g : Flow). (is_some g.live))
-          (cond-false (is_some f.live) (record {
-            id = f.id;
-            next = f.next;
-            live = None;
-            fin = f.fin;
-            held = f.held;
-            events = f.events ++ Closes f.id cause ∷ [];
-          }) f e) ∙ e
+          (cond-false (is_some f.live) (stopped f f.next cause) f e) ∙ e
     ]
 
 closed_next : (f : Flow) (cause : CloseCause) → (closed f cause).next ≡ f.next
 unfolding closed with_event
 closed_next f cause =
-    same (λ (g : Flow). g.next) (is_some f.live)
-    (record {
-      id = f.id;
-      next = f.next;
-      live = None;
-      fin = f.fin;
-      held = f.held;
-      events =
-          f.events ++ Closes f.id cause ∷ [];
-    }) f f.next refl refl
+    same (λ (g : Flow). g.next) (is_some f.live) (stopped f f.next cause) f f.next refl refl
 
 -- a flow without a live stream takes one at least
 dead_shrinks : (F : Reader) (c : Flow) (i m : ℕ) → (is_some c.live) ≡ false → first_of c ≡ Some i →

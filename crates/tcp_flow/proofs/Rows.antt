@@ -1,17 +1,17 @@
 -- Worked cases of a flow, by computation.
-use Rattle.std.proofs.Common.{◌≡◌, ℕ, Bool, false, nat_eq, List, [], ◌∷◌, ◌++◌, Option, Some, None, true, refl}
+use Rattle.std.proofs.Common.{◌≡◌, ℕ, Bool, false, cond, nat_eq, List, [], ◌∷◌, ◌++◌, Option, Some, None, true, refl}
 use Rattle.tcp_flow.specs.declared.flow.CloseCause.TheVariants.{Fin, Gap, Fault}
 use Rattle.tcp_waiting.specs.declared.arrival.Arrival as origin
 use Rattle.tcp_waiting.specs.Payload.{earlier, first, blocks_of, is_far, has_as_much, place_of}
-use Rattle.tcp_flow.specs.Flow.{Event, Begins, Delivers, Closes, OfCapture, ComesFrom, Setting, Arrival, Octets, End, Hears, header_at, chain_from, stream_at, left, with_event, delivered, begun, told_from, taken, first_of, at, is_due, drained_at_most, drained, fin_is_reached, closed, without_stale_fin, ended, gone_on, gap, is_too_much, within_bounds, holding, payload_came, fin_came, is_lost, heard, step, after, first_payload}
+use Rattle.tcp_flow.specs.Flow.{Event, Begins, Delivers, Closes, OfCapture, ComesFrom, Passes, Setting, Arrival, Octets, End, Hears, header_at, chain_from, stream_at, left, with_event, checked, delivered, begun, told_from, taken, first_of, at, is_due, drained_at_most, drained, fin_is_reached, closed, without_stale_fin, ended, gone_on, gap, is_too_much, within_bounds, holding, payload_came, fin_came, is_lost, heard, step, after, first_payload}
 
--- the reader is at a fault where what it was handed last begins with an octet 255
-unfoldable is_bad : Event → Bool
-is_bad (Delivers id (x ∷ xs)) = nat_eq x 255
-is_bad h = false
+-- the reader is at a fault at its 7th octet where what it was handed last begins with an octet 255
+unfoldable is_bad : Event → Option ℕ
+is_bad (Delivers id (x ∷ xs)) = cond (nat_eq x 255) (Some 7) None
+is_bad h = None
 
-unfoldable any_bad : List Event → Bool
-any_bad [] = false
+unfoldable any_bad : List Event → Option ℕ
+any_bad [] = None
 any_bad (h ∷ []) = is_bad h
 any_bad (h ∷ k ∷ hs) = any_bad (k ∷ hs)
 
@@ -51,83 +51,103 @@ heard_at number answers time = Hears (record {
 unfoldable events : List Arrival → ℕ → List Event
 events cs n = (after setting (first_payload setting 7 n header (packet n) [] []) cs).events
 
--- without what is told of packets
+-- the beginning of a stream at a number, behind so many octets that are in none
+unfoldable begins_at : ℕ → ℕ → Bool → Event
+begins_at n passed found = Begins 7 (record { number = n; passed = passed; is_found = found })
+
+unfoldable first_begins : Event
+first_begins = begins_at 1000 0 false
+
+-- without what is told of packets and of octets in vain
 unfoldable in_flows : List Event → List Event
 in_flows [] = []
 in_flows (OfCapture e ∷ es) = in_flows es
 in_flows (e ∷ es) = e ∷ in_flows es
 
 record Rows : Type 0 where
-  begins : in_flows (events ([]) 1000) ≡ Begins 7 1000 ∷ Delivers 7 header ∷ []
+  begins : in_flows (events ([]) 1000) ≡ first_begins ∷ Delivers 7 header ∷ []
   retransmission-falls-away : in_flows (events (octets 1000 header ∷ []) 1000)
-      ≡ Begins 7 1000 ∷ Delivers 7 header ∷ []
+      ≡ first_begins ∷ Delivers 7 header ∷ []
   overlap : in_flows (events (octets 1004 (1 ∷ 0 ∷ 7 ∷ 8 ∷ []) ∷ []) 1000)
-      ≡ Begins 7 1000 ∷ Delivers 7 header ∷ Delivers 7 (7 ∷ 8 ∷ []) ∷ []
+      ≡ first_begins ∷ Delivers 7 header ∷ Delivers 7 (7 ∷ 8 ∷ []) ∷ []
   reordered : in_flows (events (octets 1008 (9 ∷ 10 ∷ []) ∷ octets 1006 (7 ∷ 8 ∷ []) ∷ []) 1000)
-      ≡ Begins 7 1000 ∷ Delivers 7 header ∷ Delivers 7 (7 ∷ 8 ∷ []) ∷ Delivers 7 (9 ∷ 10 ∷ []) ∷ []
+      ≡ first_begins ∷ Delivers 7 header ∷ Delivers 7 (7 ∷ 8 ∷ []) ∷ Delivers 7 (9 ∷ 10 ∷ []) ∷ []
   held-keep-their-packets :
       events (octets 1008 (9 ∷ 10 ∷ []) ∷ octets 1006 (7 ∷ 8 ∷ []) ∷ []) 1000
-      ≡ OfCapture (ComesFrom (packet 1000)) ∷ Begins 7 1000 ∷ Delivers 7 header
+      ≡ OfCapture (ComesFrom (packet 1000)) ∷ first_begins ∷ Delivers 7 header
       ∷ OfCapture (ComesFrom (packet 1006)) ∷ Delivers 7 (7 ∷ 8 ∷ [])
       ∷ OfCapture (ComesFrom (packet 1008)) ∷ Delivers 7 (9 ∷ 10 ∷ []) ∷ []
   by-place-then-by-coming : in_flows (events (octets 1009 (1 ∷ 1 ∷ []) ∷ octets 1008
       (2 ∷ 2 ∷ []) ∷ octets
       1008 (3 ∷ 3 ∷ 3 ∷ 3 ∷ []) ∷ octets 1006 (7 ∷ 8 ∷ []) ∷ []) 1000)
-      ≡ Begins 7 1000 ∷ Delivers 7 header ∷ Delivers 7 (7 ∷ 8 ∷ []) ∷ Delivers 7 (2 ∷ 2 ∷ []) ∷
+      ≡ first_begins ∷ Delivers 7 header ∷ Delivers 7 (7 ∷ 8 ∷ []) ∷ Delivers 7 (2 ∷ 2 ∷ []) ∷
       Delivers 7 (3 ∷ 3 ∷ []) ∷ []
   wraps : in_flows (events (octets 5 (9 ∷ []) ∷ octets 3 (7 ∷ 8 ∷ []) ∷ []) 4294967293)
-      ≡ Begins 7 4294967293 ∷ Delivers 7 header ∷ Delivers 7 (7 ∷ 8 ∷ []) ∷ Delivers 7 (9 ∷ []) ∷ []
+      ≡ begins_at 4294967293 0 false ∷ Delivers 7 header ∷ Delivers 7 (7 ∷ 8 ∷ [])
+      ∷ Delivers 7 (9 ∷ []) ∷ []
   window-edge-is-held : in_flows (events (octets 1049580 (1 ∷ 2 ∷ []) ∷ []) 1000)
-      ≡ Begins 7 1000 ∷ Delivers 7 header ∷ []
+      ≡ first_begins ∷ Delivers 7 header ∷ []
   one-more-is-a-gap : in_flows (events (octets 1049581 (1 ∷ 2 ∷ []) ∷ []) 1000)
-      ≡ Begins 7 1000 ∷ Delivers 7 header ∷ Closes 7 Gap ∷ []
+      ≡ first_begins ∷ Delivers 7 header ∷ Closes 7 Gap ∷ []
   gap-by-acknowledgement-the-held-begins : in_flows (events (octets 1010 header ∷ acknowledged
       1020 ∷ [])
-      1000) ≡ Begins 7 1000 ∷ Delivers 7 header ∷ Closes 7 Gap ∷ Begins 7 1010
+      1000) ≡ first_begins ∷ Delivers 7 header ∷ Closes 7 Gap ∷ begins_at 1010 4 true
       ∷ Delivers 7 header ∷ []
   behind-the-front-no-message-is-whole : in_flows (events (octets 1010 (5 ∷ header)
-      ∷ acknowledged 1020 ∷ []) 1000) ≡ Begins 7 1000 ∷ Delivers 7 header ∷ Closes 7 Gap ∷ []
+      ∷ acknowledged 1020 ∷ []) 1000) ≡ first_begins ∷ Delivers 7 header ∷ Closes 7 Gap ∷ []
   behind-the-front-a-message-is-whole :
       in_flows (events (octets 1010 (5 ∷ message) ∷ acknowledged 1030 ∷ []) 1000)
-      ≡ Begins 7 1000 ∷ Delivers 7 header ∷ Closes 7 Gap ∷ Begins 7 1011 ∷ Delivers 7 message
+      ≡ first_begins ∷ Delivers 7 header ∷ Closes 7 Gap ∷ begins_at 1011 5 true ∷ Delivers 7 message
       ∷ []
   behind-the-front-an-octet-too-many : in_flows (events (octets 1010 ((5 ∷ message) ++ 5 ∷ [])
-      ∷ acknowledged 1030 ∷ []) 1000) ≡ Begins 7 1000 ∷ Delivers 7 header ∷ Closes 7 Gap ∷ []
+      ∷ acknowledged 1030 ∷ []) 1000) ≡ first_begins ∷ Delivers 7 header ∷ Closes 7 Gap ∷ []
   acknowledgement-of-next : in_flows (events (octets 1010 (5 ∷ []) ∷ acknowledged 1006 ∷ []) 1000)
-      ≡ Begins 7 1000 ∷ Delivers 7 header ∷ []
+      ≡ first_begins ∷ Delivers 7 header ∷ []
   half-a-second-is-too-soon : in_flows (events (held_at 70 ∷ heard_at (Some 1020) false 500000070
-      ∷ []) 1000) ≡ Begins 7 1000 ∷ Delivers 7 header ∷ []
+      ∷ []) 1000) ≡ first_begins ∷ Delivers 7 header ∷ []
   a-second-after-it : in_flows (events (held_at 70 ∷ heard_at (Some 1020) false 1000000070 ∷ [])
       1000)
-      ≡ Begins 7 1000 ∷ Delivers 7 header ∷ Closes 7 Gap ∷ Begins 7 1010 ∷ Delivers 7 header ∷ []
+      ≡ first_begins ∷ Delivers 7 header ∷ Closes 7 Gap ∷ begins_at 1010 4 true
+      ∷ Delivers 7 header ∷ []
   at-once-with-octets : in_flows (events (held_at 70 ∷ heard_at (Some 1020) true 60 ∷ []) 1000)
-      ≡ Begins 7 1000 ∷ Delivers 7 header ∷ Closes 7 Gap ∷ Begins 7 1010 ∷ Delivers 7 header ∷ []
+      ≡ first_begins ∷ Delivers 7 header ∷ Closes 7 Gap ∷ begins_at 1010 4 true
+      ∷ Delivers 7 header ∷ []
   octets-alone-acknowledge-nothing : in_flows (events (held_at 70 ∷ heard_at None true 29999999999
-      ∷ []) 1000) ≡ Begins 7 1000 ∷ Delivers 7 header ∷ []
+      ∷ []) 1000) ≡ first_begins ∷ Delivers 7 header ∷ []
   thirty-seconds-after-it : in_flows (events (held_at 70 ∷ heard_at None false 30000000070 ∷ [])
       1000)
-      ≡ Begins 7 1000 ∷ Delivers 7 header ∷ Closes 7 Gap ∷ Begins 7 1010 ∷ Delivers 7 header ∷ []
+      ≡ first_begins ∷ Delivers 7 header ∷ Closes 7 Gap ∷ begins_at 1010 4 true
+      ∷ Delivers 7 header ∷ []
   fault-and-the-next-begins : in_flows (events (octets 1006 (255 ∷ []) ∷ octets 1007 header ∷
       []) 1000)
-      ≡ Begins 7 1000 ∷ Delivers 7 header ∷ Delivers 7 (255 ∷ []) ∷ Closes 7 Fault ∷ Begins 7 1007 ∷
-      Delivers 7 header ∷ []
+      ≡ first_begins ∷ Delivers 7 header ∷ Delivers 7 (255 ∷ []) ∷ Closes 7 Fault
+      ∷ begins_at 1007 0 true ∷ Delivers 7 header ∷ []
+  behind-a-fault-the-rest-falls-away : in_flows (events (octets 1006 (255 ∷ 1 ∷ 2 ∷ [])
+      ∷ octets 1009 header ∷ []) 1000)
+      ≡ first_begins ∷ Delivers 7 header ∷ Delivers 7 (255 ∷ 1 ∷ 2 ∷ []) ∷ Closes 7 Fault
+      ∷ begins_at 1009 2 true ∷ Delivers 7 header ∷ []
+  in-a-first-payload-is-found : in_flows (first_payload setting 7 1000 (5 ∷ message)
+      (packet 1) [] []).events ≡ begins_at 1001 1 true ∷ Delivers 7 message ∷ []
+  in-vain-is-told-once : events (End 1006 ∷ octets 1006 (9 ∷ []) ∷ []) 1000
+      ≡ OfCapture (ComesFrom (packet 1000)) ∷ first_begins ∷ Delivers 7 header ∷ Closes 7 Fin
+      ∷ OfCapture (ComesFrom (packet 1006)) ∷ OfCapture (Passes (9 ∷ [])) ∷ []
   fin-to-come : in_flows (events (End 1008 ∷ octets 1006 (7 ∷ 8 ∷ []) ∷ []) 1000)
-      ≡ Begins 7 1000 ∷ Delivers 7 header ∷ Delivers 7 (7 ∷ 8 ∷ []) ∷ Closes 7 Fin ∷ []
+      ≡ first_begins ∷ Delivers 7 header ∷ Delivers 7 (7 ∷ 8 ∷ []) ∷ Closes 7 Fin ∷ []
   fin-before-next-is-nothing : in_flows (events (End 1005 ∷ []) 1000)
-      ≡ Begins 7 1000 ∷ Delivers 7 header ∷ []
+      ≡ first_begins ∷ Delivers 7 header ∷ []
   fin-at-once : in_flows (events (End 1006 ∷ octets 1006 (9 ∷ []) ∷ octets 1007 header ∷ []) 1000)
-      ≡ Begins 7 1000 ∷ Delivers 7 header ∷ Closes 7 Fin ∷ Begins 7 1007 ∷ Delivers 7 header ∷ []
+      ≡ first_begins ∷ Delivers 7 header ∷ Closes 7 Fin ∷ begins_at 1007 1 true
+      ∷ Delivers 7 header ∷ []
   pool-of-three : in_flows (events (octets 1008 (1 ∷ []) ∷ octets 1010 (2 ∷ []) ∷ octets 1012
       (3 ∷ []) ∷
-      octets 1014 (4 ∷ []) ∷ []) 1000) ≡ Begins 7 1000 ∷ Delivers 7 header ∷ Closes 7 Gap ∷ []
+      octets 1014 (4 ∷ []) ∷ []) 1000) ≡ first_begins ∷ Delivers 7 header ∷ Closes 7 Gap ∷ []
 
 rows : Rows
-unfolding header_at chain_from stream_at left with_event delivered begun told_from taken earlier
-    first
-    first_of at is_due drained_at_most drained fin_is_reached closed without_stale_fin ended
+unfolding header_at chain_from stream_at left with_event checked delivered begun told_from taken
+    earlier first first_of at is_due drained_at_most drained fin_is_reached closed without_stale_fin ended
     gone_on gap blocks_of is_far is_too_much within_bounds has_as_much holding place_of payload_came
     fin_came is_lost heard step after first_payload events in_flows setting packet octets
-    acknowledged held_at heard_at header message any_bad is_bad
+    acknowledged held_at heard_at header message begins_at first_begins any_bad is_bad
 rows = record {
   begins = refl;
   retransmission-falls-away = refl;
@@ -149,6 +169,9 @@ rows = record {
   octets-alone-acknowledge-nothing = refl;
   thirty-seconds-after-it = refl;
   fault-and-the-next-begins = refl;
+  behind-a-fault-the-rest-falls-away = refl;
+  in-a-first-payload-is-found = refl;
+  in-vain-is-told-once = refl;
   fin-to-come = refl;
   fin-before-next-is-nothing = refl;
   fin-at-once = refl;

@@ -1,12 +1,11 @@
 -- What is shown of the state that the code has, is shown of the flow.
-use Rattle.std.proofs.Common.{◌≡◌, ◌<◌, ◌^◌, ◌++◌, ◌∷◌, [], ℕ, List, Bool, true, false, cond, is_some, Option, length, None, refl, subst, sym, ap, ◌∙◌}
+use Rattle.std.proofs.Common.{◌≡◌, ◌<◌, ◌^◌, [], ℕ, List, Bool, true, false, cond, is_some, Option, Some, None, refl, subst, sym, ap, ◌∙◌}
 use Rattle.std.specs.Prelude.{Result, OnOk}
 use Rattle.std.proofs.lemmas.Result.{on_ok_weaker}
 use Rattle.tcp_waiting.specs.Payload.{Payload}
-use Rattle.tcp_waiting.specs.Numbers.{onward}
 use Rattle.tcp_flow.specs.declared.flow.CloseCause.TheVariants.{Fault}
 use Rattle.tcp_flow.specs.declared.flow.FlowState.{FlowState}
-use Rattle.tcp_flow.specs.Flow.{Flow, Event, Delivers, Closes, Reader, with_event, delivered, without_stale_fin, first_of, held_by_others}
+use Rattle.tcp_flow.specs.Flow.{Flow, Event, Reader, stopped, checked, number_after, handed, delivered, without_stale_fin, first_of, held_by_others}
 use Rattle.tcp_flow.specs.Laws.{IsSettled}
 use Rattle.tcp_flow.specs.State.{state, IsState}
 
@@ -22,38 +21,21 @@ pub on_ok_equal : {T E : Type 0} (r : Result T E) (O : List Event → Type 0) (s
     OnOk r (IsState O s held g)
 on_ok_equal r O s held f g e t = on_ok_weaker r (subst (IsState O s held) e) t
 
-pub delivered_on : (F : Reader) (f : Flow) (p : Payload) →
-    F (f.events ++ Delivers f.id p.octets ∷ []) ≡ false
-    → delivered F f p ≡ record {
-      id = f.id;
-      next = onward p.number (length p.octets);
-      live = f.live;
-      fin = f.fin;
-      held = f.held;
-      events = f.events ++ Delivers f.id p.octets ∷ [];
-    }
-unfolding delivered with_event
+pub delivered_on : (F : Reader) (f : Flow) (p : Payload) → F (handed f p).events ≡ None →
+    delivered F f p ≡ handed f p
+unfolding delivered checked
 delivered_on F f p e = rw e refl
 
-pub delivered_fault : (F : Reader) (f : Flow) (p : Payload) →
-    F (f.events ++ Delivers f.id p.octets ∷ []) ≡ true
-    → delivered F f p ≡ record {
-      id = f.id;
-      next = onward p.number (length p.octets);
-      live = None;
-      fin = f.fin;
-      held = f.held;
-      events =
-          (f.events ++ Delivers f.id p.octets ∷ []) ++ Closes f.id Fault ∷ [];
-    }
-unfolding delivered with_event
-delivered_fault F f p e = rw e refl
+pub delivered_fault : (F : Reader) (f : Flow) (p : Payload) (at : ℕ) →
+    F (handed f p).events ≡ Some at
+    → delivered F f p ≡ stopped (handed f p) (number_after (handed f p) at) Fault
+unfolding delivered checked
+delivered_fault F f p at e = rw e refl
 
 -- a FIN is kept or dropped
 pub with_fin : (O : List Event → Type 0) (s : FlowState) (held : List Payload) (f : Flow)
     (n : Option ℕ) → IsState O s held f
-    → IsState O (record { id = s.id; next = s.next; live = s.live; fin = n }) held
-    (record f { fin = n })
+    → IsState O (record s { fin = n }) held (record f { fin = n })
 with_fin O s held f n h = record {
   observed = h.observed;
   same =

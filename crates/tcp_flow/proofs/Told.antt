@@ -5,7 +5,7 @@ use Rattle.tcp_flow.specs.declared.flow.CloseCause.{CloseCause}
 use Rattle.tcp_flow.specs.declared.flow.CloseCause.TheVariants.{Fault}
 use Rattle.tcp_waiting.specs.Numbers.{onward, age}
 use Rattle.tcp_waiting.specs.Payload.{without_first, Payload, payload, has_as_much, put}
-use Rattle.tcp_flow.specs.Flow.{Flow, Event, Begins, Delivers, Closes, flow_of, OfCapture, ComesFrom, Reader, Setting, Arrival, Octets, End, Hears, left, with_event, delivered, begun, told_from, taken, stream_at, at, closed, holding, gone_on, within_bounds, payload_came, fin_came, gap, step}
+use Rattle.tcp_flow.specs.Flow.{Flow, Event, Begins, Delivers, Closes, flow_of, OfCapture, ComesFrom, Passes, CaptureEvent, Reader, Setting, Arrival, Octets, End, Hears, left, with_event, stopped, checked, number_after, handed, delivered, start_at, started, begun, told_from, taken, stream_at, at, closed, holding, gone_on, within_bounds, payload_came, fin_came, gap, step}
 use Rattle.tcp_flow.proofs.Preserving.{Keeps, cond_keeps, gone_on_keeps, relieved_keeps, heard_keeps, gap_keeps}
 
 -- it is so of all that has happened, after a flow of this id
@@ -25,93 +25,57 @@ of_capture : (id j : ℕ) → ◌≡◌ {A = Option ℕ} None (Some j) → j ≡
 of_capture id j e = absurd (true≢false (sym (ap is_some e)))
 
 module _ (Q : List Event → Type 0) (id : ℕ) (more : IsKept Q id) where
-  closing_told : (f : Flow) (cause : CloseCause) → Told Q id f
-      → Told Q id (record {
-        id = f.id;
-        next = f.next;
-        live = None;
-        fin = f.fin;
-        held = f.held;
-        events = f.events ++ Closes f.id cause ∷ [];
-      })
-  closing_told f cause t = record {
+  stopped_told : (f : Flow) (n : ℕ) (cause : CloseCause) → Told Q id f →
+      Told Q id (stopped f n cause)
+  unfolding with_event
+  stopped_told f n cause t = record {
     same = t.same;
-    told =
-        more f.events (Closes f.id cause) (same_flow f.id id t.same) t.told;
+    told = more f.events (Closes f.id cause) (same_flow f.id id t.same) t.told;
+  }
+
+  checked_told : (f : Flow) (r : Option ℕ) → Told Q id f → Told Q id (checked f r)
+  unfolding checked
+  checked_told f None t = t
+  checked_told f (Some at) t = stopped_told f (number_after f at) Fault t
+
+  capture_told : (f : Flow) (e : CaptureEvent) → Told Q id f →
+      Told Q id (with_event f (OfCapture e))
+  unfolding with_event
+  capture_told f e t = record {
+    same = t.same;
+    told = more f.events (OfCapture e) (of_capture id) t.told;
   }
 
   pub closed_told : (f : Flow) (cause : CloseCause) → Told Q id f → Told Q id (closed f cause)
-  unfolding closed with_event
-  closed_told f cause t =
-      cond_keeps (Told Q id) (is_some f.live)
-      (record {
-        id = f.id;
-        next = f.next;
-        live = None;
-        fin = f.fin;
-        held = f.held;
-        events =
-            f.events ++ Closes f.id cause ∷ [];
-      }) f
-      (closing_told f cause t) t
+  unfolding closed
+  closed_told f cause t = cond_keeps (Told Q id) (is_some f.live) (stopped f f.next cause) f
+      (stopped_told f f.next cause t) t
 
   delivered_told : (F : Reader) (f : Flow) (p : Payload) → Told Q id f → Told Q id (delivered F f p)
   unfolding delivered with_event
   delivered_told F f p t =
-      let d : Flow =
-      record {
-        id = f.id;
-        next = onward p.number (length p.octets);
-        live = f.live;
-        fin = f.fin;
-        held = f.held;
-        events = f.events ++ Delivers f.id p.octets ∷ [];
-      } in
-      let u : Told Q id d = record {
+      let d : Flow = handed f p in
+      checked_told d (F d.events) (record {
         same = t.same;
-        told =
-            more f.events (Delivers f.id p.octets) (same_flow f.id id t.same) t.told;
-      } in
-      cond_keeps (Told Q id) (F d.events)
-      (record {
-        id = d.id;
-        next = d.next;
-        live = None;
-        fin = d.fin;
-        held = d.held;
-        events =
-            d.events ++ Closes d.id Fault ∷ [];
-      }) d
-      (closing_told d Fault u) u
+        told = more f.events (Delivers f.id p.octets) (same_flow f.id id t.same) t.told;
+      })
 
   begun_told : (F : Reader) (f : Flow) (q : Payload) (r : Option ℕ) → Told Q id f →
       Told Q id (begun F f q r)
   unfolding begun with_event
-  begun_told F f q None t = t
+  begun_told F f q None t = capture_told f (Passes q.octets) t
   begun_told F f q (Some i) t =
       let n : ℕ = onward q.number i in
-      delivered_told F (record {
-        id = f.id;
-        next = f.next;
-        live = Some n;
-        fin = f.fin;
-        held =
-            f.held;
-        events = f.events ++ Begins f.id n ∷ [];
-      })
-      (without_first i q)
+      delivered_told F (started f n) (without_first i q)
       (record {
         same = t.same;
-        told = more f.events (Begins f.id n) (same_flow f.id id t.same)
-            t.told;
+        told = more f.events (Begins f.id (start_at f.since f.has_begun n))
+            (same_flow f.id id t.same) t.told;
       })
 
   from_told : (f : Flow) (p : Payload) → Told Q id f → Told Q id (told_from f p)
-  unfolding told_from with_event
-  from_told f p t = record {
-    same = t.same;
-    told = more f.events (OfCapture (ComesFrom p.arrival)) (of_capture id) t.told;
-  }
+  unfolding told_from
+  from_told f p t = capture_told f (ComesFrom p.arrival) t
 
   taken_told : (F : Reader) (f : Flow) (p : Payload) → Told Q id f → Told Q id (taken F f p)
   unfolding taken

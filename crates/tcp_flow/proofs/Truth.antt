@@ -4,10 +4,11 @@ use Rattle.std.specs.List.{insert, remove}
 use Rattle.std.proofs.lemmas.Bool.{cases_lt, cases_Bool, lt-ltb, le-ltb, ltb-false, and_cases, cond-true, cond-false, not-true, and_right, not_from_true, both_ways}
 use Rattle.std.proofs.lemmas.List.{drop-drop, get_or-append_right, get_or_append_left, length-append}
 use Rattle.tcp_flow.specs.declared.hearing.Heard.{Heard}
+use Rattle.tcp_flow.specs.declared.flow.CloseCause.{CloseCause}
 use Rattle.tcp_flow.specs.declared.flow.CloseCause.TheVariants.{Fault}
 use Rattle.tcp_waiting.specs.Numbers.{ahead, onward, age, is_to_come}
 use Rattle.tcp_waiting.specs.Payload.{without_first, Payload, no_payload, window, has_as_much, put, place_of, key_of}
-use Rattle.tcp_flow.specs.Flow.{gap, Flow, Event, Begins, Delivers, Closes, Reader, Setting, left, with_event, delivered, begun, told_from, OfCapture, ComesFrom, taken, stream_at, first_of, is_due, at, closed, payload_came, holding, within_bounds, gone_on, fin_came, heard}
+use Rattle.tcp_flow.specs.Flow.{gap, Flow, Event, CaptureEvent, Begins, Delivers, Closes, Reader, Setting, left, with_event, stopped, checked, number_after, handed, delivered, start_at, started, begun, told_from, OfCapture, ComesFrom, Passes, taken, stream_at, first_of, is_due, at, closed, payload_came, holding, within_bounds, gone_on, fin_came, heard}
 use Rattle.tcp_flow.specs.Laws.{IsPartOf, OwnMayFollow, MayFollow, AllFollow, AllArePartsOf, due_of, IsGapless}
 use Rattle.tcp_waiting.proofs.Order.{first_within, first_own}
 use Rattle.tcp_flow.proofs.Preserving.{gap_keeps, Keeps, relieved_keeps, gone_on_keeps, heard_keeps}
@@ -110,73 +111,76 @@ left_due next live p small l h =
     (and_right (nat_lt window (age next p.number)) (not live) (not_from_true live l))
     (reached next p.number small h)
 
+stopped_true : (payloads : List Payload) (f : Flow) (n : ℕ) (cause : CloseCause) →
+    IsGapless payloads f → (is_some f.live) ≡ true → IsGapless payloads (stopped f n cause)
+unfolding with_event OwnMayFollow
+stopped_true payloads f n cause t live =
+    let runs : AllFollow payloads f.id None f.events (Some f.next) =
+    subst (AllFollow payloads f.id None f.events)
+    (cond-true (is_some f.live) (Some f.next) None live) t.events in
+    record {
+      next = t.next;
+      held = t.held;
+      events = runs_more payloads f.id None (Some f.next) None f.events (Closes f.id cause) runs
+          (inl (refl, tt));
+    }
+
+checked_true : (payloads : List Payload) (f : Flow) (r : Option ℕ) → IsGapless payloads f →
+    (is_some f.live) ≡ true → IsGapless payloads (checked f r)
+unfolding checked
+checked_true payloads f None t live = t
+checked_true payloads f (Some at) t live =
+    stopped_true payloads f (number_after f at) Fault t live
+
+capture_true : (payloads : List Payload) (f : Flow) (e : CaptureEvent) → IsGapless payloads f →
+    IsGapless payloads (with_event f (OfCapture e))
+unfolding with_event
+capture_true payloads f e t = record {
+  next = t.next;
+  held = t.held;
+  events = runs_more payloads f.id None (due_of f) (due_of f) f.events (OfCapture e) t.events
+      (inr (λ o. true≢false (sym (ap is_some o)), refl));
+}
+
 delivered_true : (F : Reader) (payloads : List Payload) (g : Flow) (p : Payload) (n : ℕ) →
     AllArePartsOf payloads g.held → AllFollow payloads g.id None g.events (Some n) →
     IsPartOf payloads g.id n p.octets → p.number ≡ n → (is_some g.live) ≡ true
     → IsGapless payloads (delivered F g p)
 unfolding delivered with_event OwnMayFollow
 delivered_true F payloads g p n held runs has e live =
-    let next : ℕ = onward p.number (length p.octets) in
-    let events : List Event = g.events ++ Delivers g.id p.octets ∷ [] in
-    let more : AllFollow payloads g.id None events (Some next) =
-    runs_more payloads g.id None (Some n) (Some next) g.events (Delivers g.id p.octets) runs
+    let d : Flow = handed g p in
+    let more : AllFollow payloads g.id None d.events (Some d.next) =
+    runs_more payloads g.id None (Some n) (Some d.next) g.events (Delivers g.id p.octets) runs
     (inl (refl, (has, ap (λ (k : ℕ). onward k (length p.octets)) e))) in
-    let closes : AllFollow payloads g.id None (events ++ Closes g.id Fault ∷ []) None =
-    runs_more payloads g.id None (Some next) None events (Closes g.id Fault) more
-    (inl (refl, tt)) in
-    either (IsGapless payloads) (F events)
-    (record {
-      id = g.id;
-      next = next;
-      live = None;
-      fin = g.fin;
-      held = g.held;
-      events =
-          events ++ Closes g.id Fault ∷ [];
-    })
-    (record { id = g.id; next = next; live = g.live; fin = g.fin; held = g.held; events = events })
-    (record { next = onward_small p.number (length p.octets); held = held; events = closes })
+    checked_true payloads d (F d.events)
     (record {
       next = onward_small p.number (length p.octets);
       held = held;
       events =
-          when_true (AllFollow payloads g.id None events) (is_some g.live) (Some next) None live
-          more;
-    })
+          when_true (AllFollow payloads g.id None d.events) (is_some g.live) (Some d.next) None
+          live more;
+    }) live
 
 begun_true : (F : Reader) (payloads : List Payload) (g : Flow) (q : Payload) (r : Option ℕ) →
     IsGapless payloads g → (is_some g.live) ≡ false → IsPartOf payloads g.id q.number q.octets →
     IsGapless payloads (begun F g q r)
 unfolding begun with_event OwnMayFollow
-begun_true F payloads g q None t dead has = t
+begun_true F payloads g q None t dead has = capture_true payloads g (Passes q.octets) t
 begun_true F payloads g q (Some i) t dead has =
     let n : ℕ = onward q.number i in
     let none : due_of g ≡ None = cond-false (is_some g.live) (Some g.next) None dead in
-    let begins : AllFollow payloads g.id None (g.events ++ Begins g.id n ∷ []) (Some n) =
-    runs_more payloads g.id None None (Some n) g.events (Begins g.id n)
+    let s : Flow = started g n in
+    let begins : AllFollow payloads g.id None s.events (Some n) =
+    runs_more payloads g.id None None (Some n) g.events
+    (Begins g.id (start_at g.since g.has_begun n))
     (subst (AllFollow payloads g.id None g.events) none t.events) (inl (refl, refl)) in
-    delivered_true F payloads (record {
-      id = g.id;
-      next = g.next;
-      live = Some n;
-      fin = g.fin;
-      held =
-          g.held;
-      events = g.events ++ Begins g.id n ∷ [];
-    }) (without_first i q) n
-    t.held begins
+    delivered_true F payloads s (without_first i q) n t.held begins
     (has_more payloads g.id q.number i q.octets has) refl refl
 
 from_true : (payloads : List Payload) (f : Flow) (p : Payload) → IsGapless payloads f →
     IsGapless payloads (told_from f p)
-unfolding told_from with_event
-from_true payloads f p t = record {
-  next = t.next;
-  held = t.held;
-  events = runs_more payloads f.id None (due_of f) (due_of f) f.events
-      (OfCapture (ComesFrom p.arrival)) t.events
-      (inr (λ o. true≢false (sym (ap is_some o)), refl));
-}
+unfolding told_from
+from_true payloads f p t = capture_true payloads f (ComesFrom p.arrival) t
 
 pub taken_true : (F : Reader) (payloads : List Payload) (f : Flow) (p : Payload) →
     IsGapless payloads f → IsPartOf payloads f.id p.number p.octets →
@@ -207,7 +211,7 @@ taken_true F payloads f p t has reach =
     either (IsGapless payloads) (nat_eq (length q.octets) 0) f (cond (is_some f.live) d b) t live
 
 pub true_keeps : (F : Reader) (payloads : List Payload) → Keeps F (IsGapless payloads)
-unfolding first_of is_due at closed with_event OwnMayFollow
+unfolding first_of is_due at closed
 true_keeps F payloads =
     record {
       takes =
@@ -235,27 +239,10 @@ true_keeps F payloads =
           ]);
       closes =
           λ f cause t.
-          let c : Flow = record {
-            id = f.id;
-            next = f.next;
-            live = None;
-            fin = f.fin;
-            held = f.held;
-            events = f.events ++ Closes f.id cause ∷ [];
-          } in
+          let c : Flow = stopped f f.next cause in
           elim (cases_Bool (is_some f.live)) [
-            | inl e ↦
-                (let runs : AllFollow payloads f.id None f.events (Some f.next) =
-                subst (AllFollow payloads f.id None f.events)
-                (cond-true (is_some f.live) (Some f.next) None e) t.events in
-                when_true (IsGapless payloads) (is_some f.live) c f e
-                (record {
-                  next = t.next;
-                  held = t.held;
-                  events =
-                      runs_more payloads f.id None (Some f.next) None f.events (Closes f.id cause)
-                      runs (inl (refl, tt));
-                }))
+            | inl e ↦ when_true (IsGapless payloads) (is_some f.live) c f e
+                (stopped_true payloads f f.next cause t e)
             | inr e ↦ when_false (IsGapless payloads) (is_some f.live) c f e t
           ];
       fins = λ f n t. record { next = t.next; held = t.held; events = t.events };

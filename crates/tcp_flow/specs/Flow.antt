@@ -11,9 +11,9 @@ use Rattle.tcp_waiting.specs.declared.arrival.Arrival as origin
 use Rattle.tcp_waiting.specs.Payload.{Payload, payload, no_payload, without_first, window, first, blocks_of, is_far, has_as_much, put}
 use Rattle.tcp_waiting.specs.Numbers.{ahead, onward, age, is_to_come}
 
--- what happens in a capture beside its flows: what is delivered next came in this packet; octets were
--- looked through, and no stream begins in them; it has a fault, of this word, at the octet of this
--- number
+-- what happens in a capture beside its flows: what is delivered next came in this packet; these
+-- octets were looked through, and no stream begins in them; it has a fault, of this word, at the
+-- octet of this number
 pub data CaptureEvent : Type 0 where
   ComesFrom : origin.Arrival → CaptureEvent
   Passes : List ℕ → CaptureEvent
@@ -136,7 +136,7 @@ unfoldable pub with_event : Flow → Event → Flow
 with_event f h = record f { events = f.events ++ h ∷ [] }
 
 -- the live stream closes, and octets are in no stream from a number on
-unfoldable pub stopped : Flow → ℕ → CloseCause → Flow
+abbrev pub stopped : Flow → ℕ → CloseCause → Flow
 stopped f since cause = with_event (record f { live = None; since = since }) (Closes f.id cause)
 
 -- the number after an octet of the live stream, which is counted from 1
@@ -148,12 +148,14 @@ unfoldable pub checked : Flow → Option ℕ → Flow
 checked f None = f
 checked f (Some at) = stopped f (number_after f at) Fault
 
--- octets are delivered to the live stream, whose reader may come to a fault
+-- octets are delivered to the live stream
+abbrev pub handed : Flow → Payload → Flow
+handed f p =
+    with_event (record f { next = onward p.number (length p.octets) }) (Delivers f.id p.octets)
+
+-- its reader may come to a fault
 unfoldable pub delivered : Reader → Flow → Payload → Flow
-delivered F f p =
-    let g : Flow =
-    with_event (record f { next = onward p.number (length p.octets) }) (Delivers f.id p.octets) in
-    checked g (F g.events)
+delivered F f p = checked (handed f p) (F (handed f p).events)
 
 -- the beginning of a stream at a number: it is found where octets are in no stream before it, or a
 -- stream of the flow came before it
@@ -165,7 +167,7 @@ start_at since has_begun n = record {
 }
 
 -- a stream begins at a number
-unfoldable pub started : Flow → ℕ → Flow
+abbrev pub started : Flow → ℕ → Flow
 started f n =
     with_event (record f { live = Some n; has_begun = true })
     (Begins f.id (start_at f.since f.has_begun n))
@@ -179,7 +181,7 @@ begun F f p (Some i) = delivered F (started f (onward p.number i)) (without_firs
 unfoldable pub told_from : Flow → Payload → Flow
 told_from f p = with_event f (OfCapture (ComesFrom p.arrival))
 
--- a payload is taken: delivered, or a stream begins in it, or none begins in what was looked through
+-- a payload is taken: delivered, or looked through for the beginning of a stream
 unfoldable pub taken : Reader → Flow → Payload → Flow
 taken F f p =
     let q : Payload = left f.next (is_some f.live) p in

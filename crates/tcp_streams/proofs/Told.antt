@@ -1,5 +1,4 @@
 -- What a listener was told beside the streams that live.
-use Rattle.std.proofs.Common.{Bool}
 use Rattle.std.specs.Prelude.{Result, Ok, Err, OnOk, IfOk}
 use Rattle.tcp_flow.specs.declared.flow.ListenerFault.{ListenerFault}
 
@@ -7,7 +6,7 @@ pub told : {X : Type 0} (r : Result X ListenerFault) (P Q : Type 0) → OnOk r P
 told (Ok x) P Q p q = (p, q)
 told (Err e) P Q p q = tt
 
-pub told_if : (r : Result Bool ListenerFault) (P S : Bool → Type 0) (Q : Type 0) →
-    IfOk r (λ b. P b × S b) → Q → IfOk r (λ b. (P b × Q) × S b)
-told_if (Ok b) P S Q p q = ((p.0, q), p.1)
+pub told_if : {X : Type 0} (r : Result X ListenerFault) (P S : X → Type 0) (Q : Type 0) →
+    IfOk r (λ x. P x × S x) → Q → IfOk r (λ x. (P x × Q) × S x)
+told_if (Ok x) P S Q p q = ((p.0, q), p.1)
 told_if (Err e) P S Q p q = tt

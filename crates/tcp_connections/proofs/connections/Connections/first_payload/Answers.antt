@@ -10,7 +10,7 @@ returns-then-not-is_first-clause-does g c w h =
     moved _ _ _ _ _ (payload_nothing g.L.Listener.faulted w c.args.id (segment_view c.args.segment)
     (sym (ap (λ (u : State). flow_at u c.args.id) h.same) ∙ c.requires.vacant)
     (sym (ap (λ (u : State). is_first u.ports (segment_view c.args.segment)) h.same)
-    ∙ sym c.is_first.ensures ∙ c.if-not-is_first.true)) h
+    ∙ sym c.is_first.ensures ∙ c.if-not-is_first.true)) (c.pass.ensures w h)
 
 pub returns-clause-does : goal.returns-clause-does
 returns-clause-does g c w h =

@@ -13,7 +13,7 @@ pub returns-then-not-is_first-clause-does : goal.returns-then-not-is_first-claus
 returns-then-not-is_first-clause-does g c w h =
     moved _ _ _ _ _ (unknown_nothing g.L.Listener.faulted w (segment_view c.args.segment)
     (sym (ap (λ (u : State). is_first u.ports (segment_view c.args.segment)) h.same)
-    ∙ sym c.is_first.ensures ∙ c.if-not-is_first.true)) h
+    ∙ sym c.is_first.ensures ∙ c.if-not-is_first.true)) (c.pass.ensures w h)
 
 pub make_known-requires-clause-state : goal.make_known-requires-clause-state
 make_known-requires-clause-state g c = (

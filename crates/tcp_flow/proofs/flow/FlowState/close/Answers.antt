@@ -1,6 +1,6 @@
-use Rattle.std.proofs.Common.{None, is_some, refl, sym, subst, ◌∙◌}
+use Rattle.std.proofs.Common.{is_some, refl, sym, subst, ◌∙◌}
 use Rattle.std.proofs.lemmas.Bool.{cond-true, cond-false}
-use Rattle.tcp_flow.specs.Flow.{Closes, with_event, closed}
+use Rattle.tcp_flow.specs.Flow.{with_event, stopped, closed}
 use Rattle.tcp_flow.specs.State.{state, IsState}
 use Rattle.tcp_flow.proofs.States.{by_state}
 use Rattle.tcp_flow.proofs.Truth.{true_keeps}
@@ -12,8 +12,7 @@ returns-in_ok-closes-clause-does g c held f h =
     let G = IsState (g.T.Listener.observed c.closes.new.self) _ held in
     by_state (λ f. G (closed f c.args.cause)) _ c.args.self.now held f h (λ events o.
     let s = state c.args.self.now held events in
-    subst G (sym (cond-true (is_some c.args.self.now.live)
-    (with_event (record s { live = None }) (Closes c.args.self.now.id c.args.cause)) s
+    subst G (sym (cond-true (is_some c.args.self.now.live) (stopped s s.next c.args.cause) s
     (sym c.is_live.ensures ∙ c.if-is_live.true)))
     (record { observed = c.in_ok-closes.ensures.does events o; same = refl }))
 
@@ -23,8 +22,7 @@ returns-else-is_live-clause-does g c held f h =
     let G = IsState (g.T.Listener.observed c.args.to.now) c.args.self.now held in
     by_state (λ f. G (closed f c.args.cause)) _ c.args.self.now held f h (λ events o.
     let s = state c.args.self.now held events in
-    subst G (sym (cond-false (is_some c.args.self.now.live)
-    (with_event (record s { live = None }) (Closes c.args.self.now.id c.args.cause)) s
+    subst G (sym (cond-false (is_some c.args.self.now.live) (stopped s s.next c.args.cause) s
     (sym c.is_live.ensures ∙ c.if-is_live.false)))
     (record { observed = o; same = refl }))
 

@@ -55,6 +55,7 @@ returns-in-Some-clause-does g c held f h =
     (sym (e ∙ rw (
       sym c.stream_at.ensures.at ∙ c.in-Some.is,
       whole_tail c.left-number.result.1.now c.in-Some.at,
+      c.start_at.ensures,
       c.onward-number.ensures,
     ) refl))
     (c.deliver-in-Some.ensures.does held _ c.args.arrival
@@ -70,11 +71,11 @@ returns-clause-does g c held f h =
     let p = payload c.args.self.now.id c.args.number c.args.octets.now c.args.arrival in
     let q = payload c.args.self.now.id c.left-number.result.0 c.left-number.result.1.now
     c.args.arrival in
-    let G = IsState (g.T.Listener.observed c.comes_from.new.self) c.args.self.now held in
+    let G = IsState (g.T.Listener.observed c.passes.new.self) c.args.self.now held in
     by_state (λ f. G (taken F f p)) _ c.args.self.now held f h (λ events o.
     let e = taken_dead F (state c.args.self.now held events) p q
     (c.left-number.ensures.left c.args.arrival)
     (sym c.is_empty.ensures ∙ c.if-is_empty.false) (sym c.is_live.ensures ∙ c.if-is_live.false)
     in
     subst G (sym (e ∙ rw (sym c.stream_at.ensures.at ∙ c.in_default.is) refl))
-    (record { observed = c.comes_from.ensures events o; same = refl }))
+    (record { observed = c.passes.ensures _ (c.comes_from.ensures events o); same = refl }))

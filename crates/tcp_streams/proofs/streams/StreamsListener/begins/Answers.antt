@@ -15,4 +15,4 @@ unfolding behind
 returns-clause-does g c events o =
     told c.begins.result _ _ (c.begins.ensures.does events o.0)
     (c.begin.ensures.items ∙ ap (begun c.args.flow) o.1
-    ∙ sym (lives_more [] events (Begins c.args.flow c.args.number)))
+    ∙ sym (lives_more [] events (Begins c.args.flow c.args.start)))
