@@ -237,9 +237,10 @@ pub octets_told : {E : Type 0} (r : Result (Option ℕ) E) (rooms : List Convers
     direction (other (side_of flow)) new ≡ direction (other (side_of flow)) old →
     IfOk r (λ at. HaveFollowed (set rooms (flow / 2) new) (events ++ Delivers flow octets ∷ [])
     × (at ≡ reader_faulted (events ++ Delivers flow octets ∷ [])))
-octets_told (Ok at) rooms events flow octets old new follows here reads tells stays =
-    (octets_read rooms events flow octets old new follows here reads stays,
-    at_fault rooms events flow octets old at follows here tells)
+octets_told (Ok at) rooms events flow octets old new follows here reads tells stays = (
+  octets_read rooms events flow octets old new follows here reads stays,
+  at_fault rooms events flow octets old at follows here tells,
+)
 octets_told (Err e) rooms events flow octets old new follows here reads tells stays = tt
 
 pub on_ok : {A E : Type 0} (r : Result A E) (P : Type 0) → P → OnOk r P

@@ -89,7 +89,8 @@ module _ (S : Setup) (h : History) (due behind : ℕ → Option ℕ) (k : AreNum
           t.live f (lives_still x.0 f (Opens id flow) (due f) (behind f) (other_flow f id apart) x.1
           lives) number
 
-  begun_ends : (id : ℕ) (n : Start) (b : Bool) → (b ≡ false → h.stream_of id ≡ 0) → FollowsBy (Begins id n) →
+  begun_ends : (id : ℕ) (n : Start) (b : Bool) →
+      (b ≡ false → h.stream_of id ≡ 0) → FollowsBy (Begins id n) →
       EndOnce (with_begun h id (number_in S h.begun) b) behind
   begun_ends id n true room follows = record {
     ends = t.ends;

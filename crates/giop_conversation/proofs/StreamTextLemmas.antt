@@ -139,7 +139,7 @@ module _ (S : Setup) (written : List ℕ)
   on_begun : (h : History) (d : Dump) (id : ℕ) (start : Start) (o : Option Connection) →
       slice_get d.connections (id / 2) ≡ o →
       AreShown S written h d → AreShown S written
-      (with_begun h id (number_in S h.begun) (nat_lt (id / 2) S.connections)) 
+      (with_begun h id (number_in S h.begun) (nat_lt (id / 2) S.connections))
       (begun_in S d id start o)
   on_begun h d id start None is b =
       let past = no_room d.connections (id / 2) is in

@@ -134,7 +134,7 @@ module _ (S : Setup) (written : List ℕ) (events : List Event) where
 
     -- ---- a stream begins
 
-    pub begun_told : {A E : Type 0} (r : Result A E) (flow : ℕ) (first_octet : Start) (own next : ℕ)
+    pub begun_told : {A E : Type 0} (r : Result A E) (flow : ℕ) (s : Start) (own next : ℕ)
         (old new : Conversation) (out' : Tagging) →
         own ≡ sum_within first totals.streams → next ≡ sum_within totals.streams 1 → Before →
         slice_get rooms (flow / 2) ≡ Some old →
@@ -142,12 +142,12 @@ module _ (S : Setup) (written : List ℕ) (events : List Event) where
         HoldsConnection S new (begun (side_of flow) own c)) →
         ((c : Connection) (w : List ℕ) → HoldsConnection S old c → IsReady out w →
         WritesTagged r out' w (stream_tag own) (begin_lines (half (side_of flow) c).flow
-        (opening (side_of flow) arrival.time first_octet c))) →
+        (opening (side_of flow) arrival.time s c))) →
         MatchResult r
-        (λ _. HasTold S written (events ++ Begins flow first_octet ∷ []) (set rooms (flow / 2) new) out'
+        (λ _. HasTold S written (events ++ Begins flow s ∷ []) (set rooms (flow / 2) new) out'
         arrival first (with_streams totals next) cut)
-        (λ _. HasToldFront S written (events ++ Begins flow first_octet ∷ []) out')
-    begun_told r flow first_octet own next old new out' own_is is b here begins writes =
+        (λ _. HasToldFront S written (events ++ Begins flow s ∷ []) out')
+    begun_told r flow s own next old new out' own_is is b here begins writes =
         let d = b.dump in
         let h = b.holds in
         let has : own ≡ number_in S d.streams =
@@ -155,9 +155,9 @@ module _ (S : Setup) (written : List ℕ) (events : List Event) where
         ∙ ap (λ n. sum_within S.first n) h.streams_are) in
         let at = held_at S rooms d.connections (flow / 2) old h.connections here in
         let endpoints = (half (side_of flow) at.connection).flow in
-        let opens : Option ℕ → Opening = λ time. opening (side_of flow) time first_octet at.connection in
-        let step : Step S d (Begins flow first_octet) (begun_in S d flow first_octet (Some at.connection)) =
-        record { answers = no_answers; answered = tt; is = ap (begun_in S d flow first_octet) (sym at.is) } in
+        let opens : Option ℕ → Opening = λ time. opening (side_of flow) time s at.connection in
+        let step : Step S d (Begins flow s) (begun_in S d flow s (Some at.connection)) =
+        record { answers = no_answers; answered = tt; is = ap (begun_in S d flow s) (sym at.is) } in
         let holds = subst (λ n. HoldsConnection S new (begun (side_of flow) n at.connection))
         has (begins at.connection at.holds) in
         let lines = subst (λ n. WritesTagged r out' d.text (stream_tag n)
@@ -165,7 +165,7 @@ module _ (S : Setup) (written : List ℕ) (events : List Event) where
         (subst (λ (t : Option ℕ). WritesTagged r out' d.text (stream_tag own)
         (begin_lines endpoints (opens t))) (ap (λ (x : Arrival). x.time) h.arrival_is)
         (writes at.connection d.text at.holds h.ready)) in
-        told_or_front r d (begun_in S d flow first_octet (Some at.connection)) (Begins flow first_octet)
+        told_or_front r d (begun_in S d flow s (Some at.connection)) (Begins flow s)
         (set rooms (flow / 2) new) out' arrival first (with_streams totals next) cut
         (stream_tag (number_in S d.streams)) (begin_lines endpoints (opens d.arrival.time)) b.leads
         step
@@ -179,26 +179,28 @@ module _ (S : Setup) (written : List ℕ) (events : List Event) where
           streams_are = is ∙ (ap (λ n. sum_within n 1) h.streams_are ∙ counted_is d.streams);
           messages_are = h.messages_are;
           faults_are = h.faults_are;
-            others_are = h.others_are;
+          others_are = h.others_are;
           cut_is = h.cut_is;
         }) lines
 
-    pub begun_beyond : (flow : ℕ) (first_octet : Start) (next : ℕ) → next ≡ sum_within totals.streams 1 → Before →
+    pub begun_beyond : (flow : ℕ) (s : Start) (next : ℕ) →
+        next ≡ sum_within totals.streams 1 → Before →
         slice_get rooms (flow / 2) ≡ None →
-        HasTold S written (events ++ Begins flow first_octet ∷ []) rooms out arrival first (with_streams totals next) cut
-    begun_beyond flow first_octet next is b beyond =
+        HasTold S written (events ++ Begins flow s ∷ []) rooms out arrival first
+        (with_streams totals next) cut
+    begun_beyond flow s next is b beyond =
         let d = b.dump in
         let h = b.holds in
         let none = none_at S rooms d.connections (flow / 2) h.connections beyond in
         record {
-          dump = begun_in S d flow first_octet None;
-          leads = leads_more S events (start S written) (Begins flow first_octet) d
-              (begun_in S d flow first_octet None) b.leads
+          dump = begun_in S d flow s None;
+          leads = leads_more S events (start S written) (Begins flow s) d
+              (begun_in S d flow s None) b.leads
               (record {
                 answers = no_answers;
                 answered = tt;
                 is =
-                    ap (begun_in S d flow first_octet) (sym none);
+                    ap (begun_in S d flow s) (sym none);
               });
           holds = record {
             connections = h.connections;
@@ -253,7 +255,7 @@ module _ (S : Setup) (written : List ℕ) (events : List Event) where
           streams_are = h.streams_are;
           messages_are = h.messages_are;
           faults_are = h.faults_are;
-            others_are = h.others_are;
+          others_are = h.others_are;
           cut_is = h.cut_is;
         })
       where
@@ -443,7 +445,8 @@ module _ (S : Setup) (written : List ℕ) (events : List Event) where
         let h = b.holds in
         let line = capture_fault_line word place in
         let behind = record d { is_cut = true; text = d.text ++ line } in
-        told_or_front r d behind (OfCapture (HasFault word place)) rooms out' arrival first totals true [] line b.leads
+        told_or_front r d behind (OfCapture (HasFault word place)) rooms out' arrival first totals
+        true [] line b.leads
         (record { answers = no_answers; answered = tt; is = refl })
         (ap (λ (t : List ℕ). d.text ++ t) (sym (no_tag_is line)))
         (λ ready. record {
@@ -454,7 +457,7 @@ module _ (S : Setup) (written : List ℕ) (events : List Event) where
           streams_are = h.streams_are;
           messages_are = h.messages_are;
           faults_are = h.faults_are;
-            others_are = h.others_are;
+          others_are = h.others_are;
           cut_is = refl;
         })
         (below_tag r out set_out out' d.text line tag [] h.ready sets none
@@ -504,7 +507,8 @@ module _ (S : Setup) (written : List ℕ) (events : List Event) where
         let text : finished_text d packets octets ≡ d.text ++ with_tags [] line =
         ap (λ (t : List ℕ). d.text ++ t) (sym (no_tag_is line)) in
         let faulted : (cut || nat_lt 0 totals.faults) ≡ (d.is_cut || nat_lt 0 d.faults) =
-        ap (λ c. c || nat_lt 0 totals.faults) h.cut_is ∙ ap (λ n. d.is_cut || nat_lt 0 n) h.faults_are in
+        ap (λ c. c || nat_lt 0 totals.faults) h.cut_is
+        ∙ ap (λ n. d.is_cut || nat_lt 0 n) h.faults_are in
         by r d line b.leads text faulted
         (below_tag r out set_out out' d.text line tag [] h.ready sets none
         (capture_total_ends all)

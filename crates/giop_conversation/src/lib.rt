@@ -22,8 +22,8 @@ pub use laws::{
 };
 pub use limits::{Limits, NoMemory};
 pub use lines::{
-    CaptureTotals, Opening, answers_line, capture_fault_line, capture_total_line, closed_line, raises_line,
-    stream_line, time_line,
+    CaptureTotals, Opening, answers_line, capture_fault_line, capture_total_line, closed_line,
+    raises_line, stream_line, time_line,
 };
 pub use tag::{Tag, no_tag, stream_tag};
 pub use tagged::Tagged;

@@ -3,8 +3,8 @@
 use arrayvec::ArrayVec;
 use giop_calls::Call;
 use giop_conversation::{
-    CaptureTotals, Opening, answers_line, capture_fault_line, capture_total_line, closed_line, raises_line,
-    stream_line, time_line,
+    CaptureTotals, Opening, answers_line, capture_fault_line, capture_total_line, closed_line,
+    raises_line, stream_line, time_line,
 };
 use giop_print::{OutFault, Sheet};
 use std::test::Fail;
@@ -56,7 +56,11 @@ fn opening(time: Option<u128>, partner: Option<u64>, passed: u32, is_found: bool
 fn lines(sheet: &mut Sheet) -> Result<(), OutFault> {
     stream_line(sheet, FLOW, opening(Some(TIME), None, 0, false))?;
     stream_line(sheet, FLOW.opposite(), opening(None, Some(3), 12, true))?;
-    stream_line(sheet, FLOW.opposite(), opening(None, Some(u64::MAX), 0, true))?;
+    stream_line(
+        sheet,
+        FLOW.opposite(),
+        opening(None, Some(u64::MAX), 0, true),
+    )?;
     stream_line(sheet, FLOW.opposite(), opening(None, None, u32::MAX, false))?;
     let arrival = Arrival {
         time: Some(TIME),
