@@ -11,12 +11,16 @@
 //! that it acknowledges, `syn`, `fin` and `rst` for its flags, and `time` and that of its packet in nanoseconds, and `octets` and
 //! its payload in hexadecimal text, where it has these.
 //!
-//! What happens to the flow of an id: `opens` and between whom it goes, `begins` and the number of a stream's first octet, `delivers`
-//! and the next octets of the stream, `closes` and why. A flow's id is twice the room of its connection, and 1 more where the
-//! greater endpoint sends; of the free rooms the one that was given back last is taken first, and the greatest where none was.
+//! What happens to the flow of an id: `opens` and between whom it goes, `begins` and the number of a stream's first octet, with
+//! `passed` and how many octets before it are in no stream, where there are any, and `found` where its place was looked for,
+//! `delivers` and the next octets of the stream, `closes` and why. And `passes` and octets that were looked through, in which no
+//! stream begins. The reader of a stream is at a fault at its 13th octet where what it is given begins with `ff`. A flow's id is
+//! twice the room of its connection, and 1 more where the greater endpoint sends; of the free rooms the one that was given back
+//! last is taken first, and the greatest where none was.
 //!
 //! Each row is told to a listener that goes on to the end, and to one that fails at the first thing that happens, at the second,
-//! and so on: it is told what is in front of that, and nothing more. What has to happen is from a reference that is independent of
+//! and so on: it is told what is in front of that, and nothing more. (Of octets in which no stream begins it can't say that it
+//! fails: it says so of what happens next.) What has to happen is from a reference that is independent of
 //! the code; the rows that are named `generated` are random.
 //!
 //! The output has a line for each row, and at the end how many rows and listeners there were, and how many rows differ. For one that

@@ -1,6 +1,7 @@
 //! A listener that writes what it is told, a line each.
 
-ghost use Rattle.std.specs.Prelude.{◌≡◌, OnErr, true, None};
+ghost use Rattle.std.specs.Prelude.{◌≡◌, OnErr, true};
+ghost use Rattle.tcp_connections_tests.specs.Readers.{fault_in, last_fault};
 
 use crate::endpoint::shown;
 use std::fmt;
@@ -73,7 +74,17 @@ fn cause_word(cause: CloseCause) -> &'static str {
     }
 }
 
-/// Writes what it is told. Its readers are never at a fault. It fails where it may be told no more, or has no memory.
+/// Where a reader of a stream is at a fault: at its 13th octet, where what it is given begins with the octet 255.
+fn fault_at(octets: &[u8]) -> Option<u64>
+    ensures { result ≡ fault_in octets.now }
+{
+    if !octets.is_empty() && octets[0] == 255 {
+        return Some(13);
+    }
+    None
+}
+
+/// Writes what it is told. It fails where it may be told no more, or has no memory.
 #[derive(Drop)]
 pub struct Teller {
     pub told: String,
@@ -99,7 +110,7 @@ impl Listener for Teller {
 
     ghost failed = { λ s. s.has_failed ≡ true };
 
-    ghost faulted = { λ events. None };
+    ghost faulted = { last_fault };
 
     fn opens(&mut self, flow: u32, endpoints: Flow) -> Result<(), ListenerFault> {
         self.tell(Told::Opens(flow, endpoints))
@@ -118,7 +129,7 @@ impl Listener for Teller {
 
     fn delivers(&mut self, flow: u32, octets: &[u8]) -> Result<Option<u64>, ListenerFault> {
         self.tell(Told::Delivers(flow, octets))?;
-        Ok(None)
+        Ok(fault_at(octets))
     }
 
     fn closes(&mut self, flow: u32, cause: CloseCause) -> Result<(), ListenerFault> {

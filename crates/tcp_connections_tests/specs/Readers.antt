@@ -1,0 +1,22 @@
+-- Readers of streams that come to a fault by a rule that is easily told (meaning).
+use Rattle.std.specs.Prelude.{ℕ, cond, nat_eq, List, [], ◌∷◌, Option, Some, None}
+use Rattle.tcp_flow.specs.Flow.{Event, Opens, Begins, Delivers, Closes, OfCapture, Reader}
+
+-- a reader is at a fault at its 13th octet where what it is given begins with the octet 255
+abbrev pub fault_in : List ℕ → Option ℕ
+fault_in [] = None
+fault_in (x ∷ xs) = cond (nat_eq x 255) (Some 13) None
+
+-- by one event
+abbrev pub fault_of : Event → Option ℕ
+fault_of (Opens id flow) = None
+fault_of (Begins id start) = None
+fault_of (Delivers id octets) = fault_in octets
+fault_of (Closes id cause) = None
+fault_of (OfCapture event) = None
+
+-- by the last event of all
+unfoldable pub last_fault : Reader
+last_fault [] = None
+last_fault (e ∷ []) = fault_of e
+last_fault (e ∷ d ∷ es) = last_fault (d ∷ es)
