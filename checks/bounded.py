@@ -1,4 +1,4 @@
-"""How much memory giopcap maps: as much after a long capture as after a short one, less than 64 MB without options, and
+"""How much memory giopcap maps: as much after a long capture as after a short one, less than 139 MB without options, and
 with options what docs/FORMATS.md and the manual page say. It is looked at while the program, which has read all that it was
 given, waits for more."""
 
@@ -13,9 +13,9 @@ from typing import List, Sequence, Tuple
 from captures import waiting
 from failing import EXAMPLES, GIOPCAP, SECONDS, TOP
 
-MOST = 64_000_000
+MOST = 139_000_000
 STACK = 65_536
-WITHOUT = (256, 16, 128, 16_384)  # connections, open messages, calls and blocks without options
+WITHOUT = (1024, 16, 128, 16_384)  # connections, open messages, calls and blocks without options
 TRIED = (
     WITHOUT,
     (1, 1, 1, 1024),

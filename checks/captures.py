@@ -32,7 +32,8 @@ from calls import fail_all
 from failing import EXAMPLES, GIOPCAP, SECONDS, TOP, Case, Differences, Ended
 from memory import refuse_each
 
-from reference.rows import REFUSED, octets_of, told_rows  # on the path by failing
+from reference.captures import hint_of  # on the path by failing
+from reference.rows import REFUSED, octets_of, told_rows
 
 DATA = TOP / "checks/data"
 ROWS = ("captures-worked.json", "captures-generated.json.xz", "captures-real.json.xz")
@@ -43,7 +44,7 @@ MOST_PIECES = 400  # of a capture
 @dataclass(frozen=True)
 class Row:
     """A capture with its words and signatures. `due` has the numbers of its octets with which lines are due, each with all that
-    is due up to there; `lines` is all that is written, `unread` are the link types that are told."""
+    is due up to there; `lines` is all that is written, `notices` are told beside them."""
 
     name: str
     words: Tuple[str, ...]
@@ -51,7 +52,7 @@ class Row:
     capture: bytes
     due: Tuple[Tuple[int, bytes], ...]
     lines: bytes
-    unread: Tuple[int, ...]
+    notices: Tuple[str, ...]
     status: int
 
     def due_after(self, octets: int) -> bytes:
@@ -68,9 +69,9 @@ class Row:
             return said.startswith(b"error: ")
         if self.status == 3:
             return bool(re.fullmatch(rf"giopcap: {re.escape(str(signatures))}:\d+: [a-z-]+\n".encode(), said))
-        texts = [f"giopcap: link type {link} isn't read\n" for link in self.unread]
+        texts = [f"giopcap: {notice}\n" for notice in self.notices]
         if self.lines.startswith(b"capture fault magic "):
-            texts.append(f"giopcap: {capture or 'standard input'}: not a capture\n")
+            texts.append(f"giopcap: {capture or 'standard input'}: {hint_of(self.capture)}\n")
         return said == "".join(texts).encode()
 
 
@@ -81,9 +82,9 @@ def row_of(told: Dict[str, Any]) -> Row:
         text += "".join(f"{line}\n" for line in lines).encode()
         if at != "end":
             due.append((int(at), text))
-    words, unread = tuple(told["words"]), tuple(told["unread"])
+    words, notices = tuple(told["words"]), tuple(told["notices"])
     octets = octets_of(told["capture"])
-    return Row(told["name"], words, told["signatures"], octets, tuple(due), text, unread, told["status"])
+    return Row(told["name"], words, told["signatures"], octets, tuple(due), text, notices, told["status"])
 
 
 def rows_of(name: str) -> List[Row]:

@@ -20,7 +20,7 @@ from typing import List, Tuple
 from failing import EXAMPLES, SECONDS
 from generated import changed, messages
 
-from reference.captures import dump_capture, words_of  # on the path by failing
+from reference.captures import dump_capture, hint_of, words_of  # on the path by failing
 
 FIN, SYN, RESET, ACK = 1, 2, 4, 16
 SERVER_PORT = 2809
@@ -198,9 +198,9 @@ def differs(program: str, seed: int, known: Messages) -> List[str]:
     octets = capture_of(seed, known)
     dumped = dump_capture(octets, words_of([*words, "capture"])[0])
     ran = subprocess.run([program, *words], input=octets, capture_output=True, timeout=SECONDS)
-    said = "".join(f"giopcap: link type {link} isn't read\n" for link in dumped.unread)
+    said = "".join(f"giopcap: {notice}\n" for notice in dumped.notices)
     if dumped.lines and dumped.lines[0][1].startswith("capture fault magic "):
-        said += "giopcap: standard input: not a capture\n"
+        said += f"giopcap: standard input: {hint_of(octets)}\n"
     lines = ran.stdout.decode("latin-1").splitlines()
     wanted = [line for _, line in dumped.lines]
     if (lines, ran.stderr.decode(), ran.returncode) == (wanted, said, int(dumped.is_faulted)):

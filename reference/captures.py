@@ -19,6 +19,16 @@ from .stream import MOST_OPEN, STREAM, Dump, HeaderEnd, Known
 
 MOST_CALLS = 128
 MOST_LINKS = 16  # that aren't read and are told
+# What is said of a file that begins like no capture, by its first octets.
+HINTS = (
+    ("1f8b", "compressed: zcat FILE | giopcap"),
+    ("28b52ffd", "compressed: zstdcat FILE | giopcap"),
+    ("fd377a58", "compressed: xzcat FILE | giopcap"),
+    ("736e6f6f", "snoop: tshark -r FILE -w - | giopcap"),
+    ("a1b2cd34", "modified pcap: tshark -r FILE -w - | giopcap"),
+    ("34cdb2a1", "modified pcap: tshark -r FILE -w - | giopcap"),
+    ("", "not a capture"),
+)
 # The lines of an octet that only a capture has stand after those of its stream, in this order.
 TIME, ANSWERS, RAISES = range(STREAM + 1, STREAM + 4)
 
@@ -55,10 +65,11 @@ class Due(NamedTuple):
 @dataclass
 class Dumped:
     """All that is said of a capture: each line with the octet of the capture with which it is due, None for its end; the
-    link types that aren't read; whether a fault was counted, or a stream closed with `gap` or `room`."""
+    notices on standard error, without the program's name; whether a fault was counted, or a stream closed with `gap` or
+    `room`."""
 
     lines: List[Tuple[Optional[int], str]]
-    unread: List[int]
+    notices: List[str]
     is_faulted: bool
 
 
@@ -115,13 +126,18 @@ class Reading:
     def dumped(self) -> Dumped:
         """All that is said."""
         unread: List[int] = []
+        notices: List[str] = []
+        no_room = f"more than {self._words.limits.connections} connections: --connections"
         for self._capture.packet, packet in enumerate(self._packets):
             self._capture.time = packet.time
             if not is_read(packet.link) and packet.link not in unread and len(unread) < MOST_LINKS:
                 unread.append(packet.link)
+                notices.append(f"link type {packet.link} isn't read")
             segment = segment_of(packet)
             if segment:
                 self._capture.take(segment)
+            if "room" in self._capture.causes and no_room not in notices:
+                notices.append(no_room)
         end = self._capture.happened()
         self._capture.end()
         self._match_calls()
@@ -135,7 +151,7 @@ class Reading:
         rest = f"packets {len(self._packets)} octets {self._octets} other {self._capture.others}"
         lines.append((self._end(), f"{total} {rest}"))
         is_cut = any(stream.closed[0] in ("gap", "room") for stream in self._capture.streams)
-        return Dumped(lines, unread, is_cut or faults > 0 or self._fault is not None)
+        return Dumped(lines, notices, is_cut or faults > 0 or self._fault is not None)
 
     def _end(self) -> Optional[int]:
         """The octet of a fault that isn't the end of the capture."""
@@ -212,6 +228,11 @@ class Reading:
 def when(stream: Stream, place: int) -> Delivery:
     """How an octet of a stream came."""
     return next(came for came in stream.deliveries if came.end >= place)
+
+
+def hint_of(octets: bytes) -> str:
+    """What is said of a file that begins like no capture."""
+    return next(hint for front, hint in HINTS if octets.hex().startswith(front))
 
 
 def dump_capture(capture: bytes, words: Words) -> Dumped:

@@ -3,7 +3,7 @@
 from __future__ import annotations
 
 from dataclasses import dataclass, field
-from typing import Dict, FrozenSet, List, NamedTuple, Optional, Tuple
+from typing import Dict, FrozenSet, List, NamedTuple, Optional, Set, Tuple
 
 from .encoding import HEADER
 from .packets import Endpoint, Flow, Segment
@@ -20,7 +20,7 @@ class Limits:
     number of the first stream."""
 
     ports: FrozenSet[int] = frozenset()
-    connections: int = 256
+    connections: int = 1024
     blocks: int = 16384
     first: int = 1
 
@@ -274,6 +274,7 @@ class Capture:
         self._connections = 0
         self._segments = 0
         self._happened = 0
+        self.causes: Set[str] = set()  # of the streams that have closed
 
     def happened(self) -> int:
         """The number of what happens now, in the order of the capture."""
@@ -291,6 +292,7 @@ class Capture:
         stream.deliveries.append(Delivery(self.happened(), self.packet, packet, len(stream.octets)))
 
     def closed(self, stream: Stream, word: str) -> None:
+        self.causes.add(word)
         stream.closed = (word, self.happened(), self.packet)
 
     def _states(self) -> List[FlowState]:

@@ -38,13 +38,13 @@ def dumped_row(row: Dict[str, Any]) -> Dumped:
     return dump_capture(octets_of(row["capture"]), words)
 
 
-def said_of(row: Dict[str, Any]) -> Tuple[Dict[str, List[str]], List[int], int]:
-    """The lines of a row by the octet with which they are due, the link types that aren't read, and the status."""
+def said_of(row: Dict[str, Any]) -> Tuple[Dict[str, List[str]], List[str], int]:
+    """The lines of a row by the octet with which they are due, the notices on standard error, and the status."""
     dumped = dumped_row(row)
     lines: Dict[str, List[str]] = {}
     for at, line in dumped.lines:
         lines.setdefault("end" if at is None else str(at), []).append(line)
-    return lines, dumped.unread, int(dumped.is_faulted)
+    return lines, dumped.notices, int(dumped.is_faulted)
 
 
 def made_anew(file: Path) -> None:
@@ -52,7 +52,7 @@ def made_anew(file: Path) -> None:
     rows = told_rows(file)
     for row in rows:
         if row["status"] not in REFUSED:
-            row["lines"], row["unread"], row["status"] = said_of(row)
+            row["lines"], row["notices"], row["status"] = said_of(row)
     if file.suffix == ".xz":
         file.write_bytes(lzma.compress(json.dumps(rows).encode()))
     else:

@@ -95,7 +95,7 @@ class Captures(unittest.TestCase):
         told = [row for file in CAPTURES for row in told_rows(file) if row["status"] not in REFUSED]
         for row in told:
             with self.subTest(row["name"]):
-                self.assertEqual(said_of(row), (row["lines"], row["unread"], row["status"]))
+                self.assertEqual(said_of(row), (row["lines"], row["notices"], row["status"]))
         self.assertGreater(len(told), 500)
         print(f"{len(told)} captures")
 

@@ -4,7 +4,7 @@ use Rattle.capture_file.specs.declared.fault.FaultKind.{FaultKind}
 use Rattle.capture_file.specs.declared.fault.FaultKind.TheVariants.{Magic, Format, Length, Version, Interface, Truncated}
 
 abbrev pub fault_word : FaultKind → List ℕ
-fault_word Magic = codes "magic"
+fault_word (Magic file) = codes "magic"
 fault_word Format = codes "format"
 fault_word Length = codes "length"
 fault_word Version = codes "version"

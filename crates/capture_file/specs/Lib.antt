@@ -7,6 +7,7 @@ pub mod Format
 pub mod Window
 pub mod Laws
 pub mod Numbers
+pub mod OtherFiles
 pub mod Parts
 pub mod PcapFiles
 pub mod Reading

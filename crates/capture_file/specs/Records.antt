@@ -9,6 +9,7 @@ use Rattle.capture_file.specs.declared.part.Part.TheVariants as parts
 use Rattle.capture_file.specs.declared.part.Outcome.{Outcome}
 use Rattle.capture_file.specs.declared.part.Outcome.TheVariants.{Continues, EndsPacket, Fails}
 use Rattle.capture_file.specs.Numbers.{two_at, four_at}
+use Rattle.capture_file.specs.OtherFiles.{other_file}
 
 -- a packet has at most so many octets
 abbrev pub most_captured : ℕ
@@ -28,7 +29,7 @@ beginning octets =
     (if four_at Little 0 octets == 0xa1b23c4d
     then Continues (parts.FileVersion (record { order = Little; unit = 1 })) else
     (if four_at Big 0 octets == 0x0a0d0d0a then Continues parts.SectionLength
-    else Fails faults.Magic))))
+    else Fails (faults.Magic (other_file octets))))))
 
 -- the major version, and the minor, which may be any
 unfoldable pub file_version : Magic → List ℕ → Outcome

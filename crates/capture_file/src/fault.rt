@@ -3,14 +3,15 @@
 ghost use Rattle.std.specs.Prelude.{◌≡◌};
 ghost use Rattle.capture_file.specs.FaultWords.{fault_word};
 
+use crate::others::OtherFile;
 use std::fmt::{self, Display, Formatter, Write};
 use thiserror::Error;
 
 /// The rule that a capture breaks.
 #[derive(Clone, Copy, Debug, PartialEq, Eq)]
 pub enum FaultKind {
-    /// It begins neither as pcap nor as pcapng.
-    Magic,
+    /// It begins neither as pcap nor as pcapng, but like this.
+    Magic(OtherFile),
     /// A byte-order magic of neither order, a unit of times out of range, or a block whose two lengths differ.
     Format,
     /// A length that its block can't have, or a packet of more octets than are read or than its block has room for.
@@ -29,7 +30,7 @@ impl FaultKind {
         ensures { result.now ≡ fault_word self }
     {
         match self {
-            FaultKind::Magic => "magic",
+            FaultKind::Magic(_) => "magic",
             FaultKind::Format => "format",
             FaultKind::Length => "length",
             FaultKind::Version => "version",

@@ -5,6 +5,7 @@ ghost use Rattle.capture_file.specs.Records.{beginning, file_version, file_rest,
 ghost use Rattle.capture_file.specs.Fits.{Fits};
 
 use crate::fault::FaultKind;
+use crate::others::other_file;
 use crate::part::{ByteOrder, FileHeader, Head, Magic, Outcome, Part};
 
 /// A packet has at most so many octets.
@@ -41,7 +42,7 @@ pub fn beginning(octets: &[u8]) -> Outcome
     } else if big == SECTION {
         Outcome::Continues(Part::SectionLength)
     } else {
-        Outcome::Fails(FaultKind::Magic)
+        Outcome::Fails(FaultKind::Magic(other_file(octets)))
     }
 }
 

@@ -3,7 +3,7 @@
 use crate::capture_rows::CAPTURES;
 use crate::real_rows::REAL;
 use crate::spelled::{is_row, octets_of, outcome_of};
-use capture_file::{Capture, CaptureFault, FaultKind, Progress, packets_begin};
+use capture_file::{Capture, CaptureFault, FaultKind, OtherFile, Progress, packets_begin};
 use std::test::Fail;
 
 #[test]
@@ -54,7 +54,7 @@ fn a_fault_is_answered_again_and_nothing_is_taken(rt: HostRuntime) -> Result<(),
     packets_begin();
     let mut capture = Capture::new(rt.alloc())?;
     let fault = CaptureFault {
-        kind: FaultKind::Magic,
+        kind: FaultKind::Magic(OtherFile::Unknown),
         place: 4,
     };
     assert_eq!(rt; capture.take(b"GIOP\x01"), (4, Progress::Fault(fault)));

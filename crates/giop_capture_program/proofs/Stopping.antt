@@ -1,5 +1,5 @@
 -- What was put where the run over a capture failed.
-use Rattle.std.proofs.Common.{◌≡◌, ◌<◌, ◌∙◌, ℕ, List, [], Option, Some, Err, refl}
+use Rattle.std.proofs.Common.{◌≡◌, ◌<◌, ◌∙◌, ℕ, Bool, List, [], Option, Some, Err, refl}
 use Rattle.std.specs.Io.KnownBytes.{Consumes}
 use Rattle.capture_file.specs.declared.capture.Capture.{Capture}
 use Rattle.tcp_flow.specs.Flow.{Event}
@@ -18,16 +18,19 @@ use Rattle.giop_run.specs.declared.fault.ProgramFault.{ProgramFault}
 use Rattle.giop_run.specs.declared.fault.ProgramFault.TheVariants as faults
 use Rattle.giop_capture_run.specs.declared.arguments.Arguments.{Arguments}
 use Rattle.giop_capture_run.specs.Packets.{HandedOn, Ran}
+use Rattle.giop_capture_run.specs.Notices.{made_room}
+use Rattle.giop_capture_run.specs.declared.notices.Notice.{Notice}
 use Rattle.giop_capture_run.specs.PacketState.{HasRead}
 use Rattle.giop_capture_program.specs.Text.{HasTextSoFar}
 use Rattle.giop_capture_program.specs.Steps.{ReadInPart, RunFailed}
 
 -- the conversations have followed events, and told them
-abbrev pub Observed : {O : Type 0} → (Setup → List ℕ → Type 0) → Conversations O → List Event → Type
-    0
-Observed begins c events =
+abbrev pub Observed : {O : Type 0} → (Setup → List ℕ → Type 0) → Conversations O → Bool →
+    List Event → Type 0
+Observed begins c made events =
     Follows c events
     × ((S : Setup) (written : List ℕ) → begins S written → Told S written events c)
+    × (made ≡ made_room events)
 
 so_far : {O : Type 0} (c : Conversations O) (S : Setup) (written : List ℕ) (events : List Event)
     (put : Option (List ℕ)) → put ≡ c.out.whole → Told S written events c
@@ -38,14 +41,16 @@ so_far c S written events put same told = record {
   text = same ∙ told.holds.ready.known;
 }
 
-in_part : {O : Type 0} (begins : Setup → List ℕ → Type 0) (c : Conversations O)
-    (Told : List ℕ → Type 0) (asked : Arguments) (connections : Connections) (live links : List ℕ)
+in_part : {O : Type 0} (begins : Setup → List ℕ → Type 0) (c : Conversations O) (made : Bool)
+    (Told : List Notice → Type 0) (asked : Arguments) (connections : Connections)
+    (live links : List ℕ)
     (capture : Capture) (s : List ℕ) (before after : SourceLog) (put : Option (List ℕ))
     → put ≡ c.out.whole → Consumes before.left after.left s
-    → HandedOn (HasRead (Observed begins c) Told reader_faulted connections live links
+    → HandedOn (HasRead (Observed begins c made) Told reader_faulted connections live links
     (none_known asked.ports.items asked.pool asked.connections [])) capture [] s s []
     → ReadInPart begins asked before.left put
-in_part begins c Told asked connections live links capture s before after put same given handed =
+in_part begins c made Told asked connections live links capture s before after put same given
+    handed =
     record {
       left = after.left;
       octets = s;
@@ -55,25 +60,26 @@ in_part begins c Told asked connections live links capture s before after put sa
     }
 
 pub stopped : {O : Type 0} (fault : RunFault) (begins : Setup → List ℕ → Type 0)
-    (c : Conversations O) (Told : List ℕ → Type 0) (asked : Arguments) (connections : Connections)
+    (c : Conversations O) (made : Bool) (Told : List Notice → Type 0) (asked : Arguments)
+    (connections : Connections)
     (live links : List ℕ) (capture : Capture) (s : List ℕ) (before after : SourceLog)
     (log : OutLog) → log.written ≡ c.out.whole → (fault ≡ runs.Out → 0 < log.failures)
-    → Ran (Err fault) (HasRead (Observed begins c) Told reader_faulted connections live links
+    → Ran (Err fault) (HasRead (Observed begins c made) Told reader_faulted connections live links
     (none_known asked.ports.items asked.pool asked.connections [])) capture s before after
     → RunFailed begins asked before.left (faults.Run fault) (Some log)
 unfolding in_part
-stopped runs.Read begins c Told asked connections live links capture s before after log same out
-    ran =
-    in_part begins c Told asked connections live links capture s before after log.written
+stopped runs.Read begins c made Told asked connections live links capture s before after log same
+    out ran =
+    in_part begins c made Told asked connections live links capture s before after log.written
     same ran.given ran.handed
-stopped runs.Turns begins c Told asked connections live links capture s before after log same out
-    ran = (
-      in_part begins c Told asked connections live links capture s before after log.written same
-          ran.0.given ran.0.handed,
+stopped runs.Turns begins c made Told asked connections live links capture s before after log same
+    out ran = (
+      in_part begins c made Told asked connections live links capture s before after log.written
+          same ran.0.given ran.0.handed,
       ran.1,
     )
-stopped runs.Out begins c Told asked connections live links capture s before after log same out
-    ran =
+stopped runs.Out begins c made Told asked connections live links capture s before after log same
+    out ran =
     out refl
-stopped runs.Failed begins c Told asked connections live links capture s before after log same out
-    ran = absurd ran
+stopped runs.Failed begins c made Told asked connections live links capture s before after log same
+    out ran = absurd ran

@@ -1,5 +1,6 @@
 -- What the conversations of a capture have followed and told stays where nothing happens in a flow.
-use Rattle.std.proofs.Common.{◌≡◌, ℕ, Bool, List, [], ◌∷◌, ◌++◌, Option, Some, None, refl, ◌∙◌, ap, subst, sym}
+use Rattle.std.proofs.Common.{◌≡◌, ◌||◌, ℕ, Bool, true, false, List, [], ◌∷◌, ◌++◌, Option, Some, None, refl, ◌∙◌, ap, subst, sym}
+use Rattle.std.proofs.lemmas.List.Folds.{list_any-append}
 use Rattle.std.specs.Io.KnownBytes.{Keeps}
 use Rattle.tcp_flow.specs.Flow.{Event, CaptureEvent, OfCapture}
 use Rattle.giop_conversation.specs.declared.conversation.Conversation.{Conversation}
@@ -8,7 +9,12 @@ use Rattle.giop_conversation.specs.Captured.{Setup, finished_text}
 use Rattle.giop_conversation.specs.DumpTold.{Told}
 use Rattle.giop_conversation.specs.Follows.{Follows}
 use Rattle.giop_conversation.specs.Followed.{octets_behind, octets_from, HaveFollowed}
+use Rattle.giop_capture_run.specs.Notices.{makes_room, made_room}
 use Rattle.giop_capture_program.specs.Text.{HasText}
+
+or_false : (b : Bool) → (b || false) ≡ b
+or_false true = refl
+or_false false = refl
 
 same_octets : (flow : ℕ) (p : List ℕ) (events : List Event) (event : CaptureEvent)
     → octets_from flow p (events ++ OfCapture event ∷ []) ≡ octets_from flow p events
@@ -19,6 +25,26 @@ same_octets flow p (e ∷ es) event = same_octets flow (octets_behind flow p e) 
 pub followed_on : (rooms : List Conversation) (events : List Event) (event : CaptureEvent)
     → HaveFollowed rooms events → HaveFollowed rooms (events ++ OfCapture event ∷ [])
 followed_on rooms events event h = λ flow. rw (same_octets flow [] events event) (h flow)
+
+-- ---- Whether a connection made room.
+
+room_more : (events : List Event) (e : Event) → made_room (events ++ e ∷ [])
+    ≡ (made_room events || makes_room e)
+room_more events e =
+    list_any-append makes_room events (e ∷ [])
+    ∙ ap (λ b. made_room events || b) (or_false (makes_room e))
+
+-- what is known of all events is known after one more
+pub room_on : (events : List Event) (e : Event) (before after : Bool) → before ≡ made_room events →
+    after ≡ (before || makes_room e) → after ≡ made_room (events ++ e ∷ [])
+room_on events e before after same now =
+    now ∙ ap (λ b. b || makes_room e) same ∙ sym (room_more events e)
+
+-- an event that makes no room changes nothing
+pub room_stays : (events : List Event) (e : Event) (made : Bool) → makes_room e ≡ false →
+    made ≡ made_room events → made ≡ made_room (events ++ e ∷ [])
+room_stays events e made none same =
+    room_on events e made made same (sym (or_false made) ∙ ap (λ b. made || b) (sym none))
 
 -- ---- What was put stays over a flush.
 
@@ -64,7 +90,7 @@ told_on c put below failures S written events none kept told =
     }
 
 pub kept_on : {O : Type 0} (begins : Setup → List ℕ → Type 0) (c d : Conversations O)
-    (events : List Event)
+    (events : List Event) (made : Bool)
     → d ≡ record c {
       out = record c.out {
         whole = d.out.whole;
@@ -74,14 +100,15 @@ pub kept_on : {O : Type 0} (begins : Setup → List ℕ → Type 0) (c d : Conve
     }
     → d.out.failures ≡ c.out.failures → Keeps c.out.whole d.out.whole
     → Follows c events × ((S : Setup) (written : List ℕ) → begins S written →
-    Told S written events c)
+    Told S written events c) × (made ≡ made_room events)
     → Follows d events × ((S : Setup) (written : List ℕ) → begins S written →
-    Told S written events d)
-kept_on begins c d events same none kept h = (
+    Told S written events d) × (made ≡ made_room events)
+kept_on begins c d events made same none kept h = (
   subst (λ x. Follows x events) (sym same) h.0,
   λ S written b. subst (λ x. Told S written events x) (sym same)
       (told_on c d.out.whole d.out.below d.out.failures S written events none kept
       (h.1 S written b)),
+  h.2,
 )
 
 -- a text that was put stays

@@ -25,7 +25,7 @@ use Rattle.giop_capture_program.specs.Text.{HasText, HasTextSoFar, HasStreams}
 abbrev pub capture_status : Result Ending ProgramFault → ℕ
 capture_status (Ok endings.Whole) = 0
 capture_status (Ok endings.Faulty) = 1
-capture_status (Ok endings.NoCapture) = 1
+capture_status (Ok (endings.NoCapture file)) = 1
 capture_status (Err fault) = fault_status fault
 
 -- the names of the files that are asked for

@@ -6,9 +6,10 @@ ghost use Rattle.giop_capture_program.specs.Failures.{fault_of};
 ghost use Rattle.giop_capture_program.specs.Steps.{HasStatus, IsStatus, capture_status as spec_status};
 
 use crate::failure::Failure;
+use crate::hints::hint;
 use crate::steps::perform_capture;
 use crate::teller::Unknown;
-use giop_capture_run::{Arguments, Ending, Notices};
+use giop_capture_run::{Arguments, Ending, Notice, Notices};
 use giop_run::{
     Lines, ProgramFault, Reason, Retrying, RunFault, ShownName, Watched, explained, failed,
     refused, words,
@@ -23,14 +24,24 @@ const PROGRAM: &str = "giopcap";
 #[derive(Drop)]
 struct Console<'a> {
     rt: &'a HostRuntime,
+    /// How many connections are known at once.
+    connections: u32,
 }
 
 /// It remembers nothing of what it is told.
 impl Notices for Console<'_> {
     ghost told = { λ _ _. Unit {0} };
 
-    fn link_is_unread(&mut self, link: u16) {
-        let _ = eprintln!(self.rt; "{PROGRAM}: link type {link} isn't read");
+    fn tell(&mut self, notice: Notice) {
+        let _ = match notice {
+            Notice::UnreadLink(link) => {
+                eprintln!(self.rt; "{PROGRAM}: link type {link} isn't read")
+            }
+            Notice::NoRoom => {
+                let connections = self.connections;
+                eprintln!(self.rt; "{PROGRAM}: more than {connections} connections: --connections")
+            }
+        };
     }
 }
 
@@ -55,29 +66,30 @@ fn print_capture(rt: &HostRuntime, asked: Arguments) -> u8
     ensures status { HasStatus asked.entry result }
 {
     let name = asked.capture;
+    let console = Console {
+        rt,
+        connections: asked.connections,
+    };
     let stdout = Watched::new(Retrying::new(rt.stdout()));
     let Ok(lines) = Lines::new(rt.alloc(), stdout) else {
         return failed(rt, PROGRAM, &ProgramFault::OutOfMemory);
     };
-    match perform_capture::<_, _, _, Unknown>(rt, asked, lines, Console { rt }) {
+    match perform_capture::<_, _, _, Unknown>(rt, asked, lines, console) {
         Ok((ending, _)) => report_ending(rt, name, ending),
         Err(failure) => report_failure(rt, name, &failure),
     }
 }
 
-/// Says of a capture that was read to its end whether it is none, and returns the program's status.
+/// Says of a file that was read to its end and is no capture what it is, and returns the program's status.
 fn report_ending(rt: &HostRuntime, name: Option<&str>, ending: Ending) -> u8
     ensures { result ≡ spec_status (Ok ending) }
 {
-    if ending == Ending::NoCapture {
-        match name {
-            None => {
-                let _ = eprintln!(rt; "{PROGRAM}: standard input: not a capture");
-            }
-            Some(name) => {
-                let _ = eprintln!(rt; "{PROGRAM}: {}: not a capture", ShownName(name));
-            }
-        }
+    if let Ending::NoCapture(file) = ending {
+        let hint = hint(file);
+        let _ = match name {
+            None => eprintln!(rt; "{PROGRAM}: standard input: {hint}"),
+            Some(name) => eprintln!(rt; "{PROGRAM}: {}: {hint}", ShownName(name)),
+        };
     }
     capture_status(&Ok(ending))
 }

@@ -1,6 +1,7 @@
 //! The conversations of a capture, as they are told what happens in its flows.
 
-ghost use Rattle.std.specs.Prelude.{◌≡◌, ◌<◌, ◌⊎◌, ◌||◌, true, nat_lt};
+ghost use Rattle.std.specs.Prelude.{◌≡◌, ◌<◌, ◌⊎◌, ◌||◌, true, false, nat_lt};
+ghost use Rattle.giop_capture_run.specs.Notices.{is_room};
 
 use capture_file::CaptureFault;
 use giop_capture_run::CaptureListener;
@@ -32,16 +33,20 @@ impl Beginning for Unknown {
 #[derive(Drop)]
 pub struct Teller<'a, O: Flush + Drop, B: Beginning> {
     conversations: Conversations<'a, O>,
+    /// Whether a stream closed because its connection made room for another.
+    made_room: bool,
     beginning: PhantomData<B>,
 }
 
 impl<'a, O: Flush + Drop, B: Beginning> Teller<'a, O, B> {
     /// Tells these conversations.
     pub fn new(conversations: Conversations<'a, O>) -> Teller<'a, O, B>
-        ensures { result.conversations ≡ conversations.entry }
+        ensures conversations { result.conversations ≡ conversations.entry }
+        ensures none { result.made_room ≡ false }
     {
         Teller {
             conversations,
+            made_room: false,
             beginning: PhantomData,
         }
     }
@@ -64,9 +69,25 @@ impl<'a, O: Flush + Drop, B: Beginning> Teller<'a, O, B> {
     }
 }
 
+/// Whether a connection has made room for another once a stream closes: whether one had, or it is for this that the stream does.
+fn has_made_room(before: bool, cause: CloseCause) -> bool
+    ensures { result ≡ (before || is_room cause) }
+{
+    match cause {
+        CloseCause::Room => true,
+        CloseCause::Fin
+        | CloseCause::Reset
+        | CloseCause::Syn
+        | CloseCause::Fault
+        | CloseCause::Gap
+        | CloseCause::End => before,
+    }
+}
+
 impl<'a, O: Flush + Drop, B: Beginning> Listener for Teller<'a, O, B> {
-    ghost use Rattle.std.specs.Prelude.{◌<◌, List, ℕ};
+    ghost use Rattle.std.specs.Prelude.{◌≡◌, ◌<◌, List, ℕ};
     ghost use Rattle.giop_conversation.specs.Captured.{Setup};
+    ghost use Rattle.giop_capture_run.specs.Notices.{made_room};
     ghost use Rattle.giop_conversation.specs.Follows.{Follows};
     ghost use Rattle.giop_conversation.specs.Followed.{reader_faulted};
     ghost use Rattle.giop_conversation.specs.DumpTold.{Told};
@@ -74,7 +95,8 @@ impl<'a, O: Flush + Drop, B: Beginning> Listener for Teller<'a, O, B> {
     // The streams are those of the events, and below stands their text.
     ghost observed = { λ t events. Follows t.conversations events
         × ((S : Setup) (written : List ℕ) → B.begins S written
-        → Told S written events t.conversations) };
+        → Told S written events t.conversations)
+        × (t.made_room ≡ made_room events) };
 
     ghost failed = { λ t. 0 < t.conversations.out.failures };
 
@@ -108,6 +130,7 @@ impl<'a, O: Flush + Drop, B: Beginning> Listener for Teller<'a, O, B> {
     }
 
     fn closes(&mut self, flow: u32, cause: CloseCause) -> Result<(), ListenerFault> {
+        self.made_room = has_made_room(self.made_room, cause);
         match self.conversations.closes(flow, cause) {
             Ok(()) => Ok(()),
             Err(_) => Err(ListenerFault),
@@ -130,6 +153,10 @@ impl<'a, O: Flush + Drop, B: Beginning> CaptureListener for Teller<'a, O, B> {
     ghost finished = { λ t events packets octets faulty. (S : Setup) (written : List ℕ) →
         B.begins S written
         → HasText S written events packets octets faulty t.conversations.out.whole };
+
+    fn made_room(&self) -> bool {
+        self.made_room
+    }
 
     fn has_fault(&mut self, fault: CaptureFault) -> Result<(), ListenerFault> {
         match self.conversations.fault(fault.kind.word(), fault.place) {

@@ -1,5 +1,5 @@
 -- What one packet more does.
-use Rattle.std.proofs.Common.{◌≡◌, ◌∙◌, ℕ, ◌+◌, ◌≤◌, List, [], ◌∷◌, ◌++◌, Option, Some, Ok, Err, length, subst, sym, ap, refl, arith}
+use Rattle.std.proofs.Common.{◌≡◌, ◌∙◌, ℕ, Bool, true, false, ◌+◌, ◌≤◌, List, [], ◌∷◌, ◌++◌, append-nil, append_assoc, Option, Some, None, Ok, Err, length, subst, sym, ap, refl, arith}
 use Rattle.std.specs.Prelude.{Result, OnOk}
 use Rattle.std.proofs.lemmas.List.{length-append}
 use Rattle.std.specs.Option.{option_map}
@@ -12,7 +12,10 @@ use Rattle.tcp_connections.specs.Connections.{State, with_packet}
 use Rattle.tcp_connections.specs.State.{IsState}
 use Rattle.giop_print.specs.declared.sink.OutFault.{OutFault}
 use Rattle.giop_capture_run.specs.Packets.{Taken}
-use Rattle.giop_capture_run.specs.Arrivals.{with_segment, packet_arrived, after_packets, links_noted, links_from}
+use Rattle.giop_capture_run.specs.Arrivals.{with_segment, packet_arrived, after_packets, links_noted, links_from, link_notices, room_notices, notices_from, notices_told}
+use Rattle.giop_capture_run.specs.Notices.{once, made_room}
+use Rattle.giop_capture_run.specs.declared.notices.Notice.{Notice}
+use Rattle.giop_capture_run.specs.declared.notices.Notice.TheVariants.{NoRoom}
 use Rattle.giop_capture_run.specs.PacketState.{HasRead}
 use Rattle.giop_capture_run.proofs.ShortSegments.{short}
 
@@ -22,6 +25,13 @@ pub answered : {A B : Type 0} (a : Result (Unit {0}) ListenerFault) (r : Result 
     OnOk r B
 answered (Ok value) r e h f = rw e (f h)
 answered (Err fault) r e h f = rw e tt
+
+-- what came where no listener failed
+pub heard_ok : (A : Type 0) (a : Result (Unit {0}) ListenerFault) (r : Result (Unit {0}) OutFault)
+    (u : Unit {0}) → r ≡ (elim a [ Ok value ↦ Ok value | Err fault ↦ Err (record {}) ]) → r ≡ Ok u
+    → OnOk a A → A
+heard_ok A (Ok value) r u e is h = h
+heard_ok A (Err fault) r u e is h = cc
 
 pub after_more : (F : Reader) (w : State) (ps : List Taken) (p : Taken)
     → after_packets F w (ps ++ p ∷ []) ≡ packet_arrived F (after_packets F w ps) p
@@ -34,6 +44,48 @@ pub links_more : (told : List ℕ) (ps : List Taken) (p : Taken)
 unfolding links_from
 links_more told [] p = refl
 links_more told (q ∷ ps) p = links_more (links_noted told q.head.link) ps p
+
+pub notices_more : (F : Reader) (w : State) (told : List ℕ) (ps : List Taken) (p : Taken)
+    → notices_from F w told (ps ++ p ∷ [])
+    ≡ notices_from F w told ps ++ (link_notices (links_from told ps) p.head.link
+    ++ room_notices (after_packets F w ps).events
+    (packet_arrived F (after_packets F w ps) p).events)
+unfolding after_packets links_from notices_from
+notices_more F w told [] p = append-nil _
+notices_more F w told (q ∷ ps) p =
+    let due : List Notice = link_notices told q.head.link
+    ++ room_notices w.events (packet_arrived F w q).events in
+    ap (λ v. due ++ v)
+    (notices_more F (packet_arrived F w q) (links_noted told q.head.link) ps p)
+    ∙ sym (append_assoc due _ _)
+
+-- ---- What one packet more tells.
+
+nothing_new : (b : Bool) → once NoRoom b b ≡ []
+nothing_new true = refl
+nothing_new false = refl
+
+-- without a segment: its link type alone
+pub told_link : (T : List Notice → Type 0) (F : Reader) (start : State) (ps : List Taken)
+    (p : Taken) (told due : List Notice) → segment p.head.link p.octets ≡ None → T (told ++ due)
+    → T (told ++ (due ++ room_notices (after_packets F start ps).events
+    (packet_arrived F (after_packets F start ps) p).events))
+unfolding packet_arrived
+told_link T F start ps p told due none h =
+    let w = after_packets F start ps in
+    let quiet : room_notices w.events (packet_arrived F w p).events ≡ [] =
+    ap (λ (s : Option Segment).
+    room_notices w.events (with_segment F (with_packet w p.head.time) s).events) none
+    ∙ nothing_new (made_room w.events) in
+    rw (quiet, append-nil due) h
+
+-- with one: whether its flows made room too
+pub told_room : (T : List Notice → Type 0) (told due : List Notice) (before after : Bool)
+    (first next : List Event) → before ≡ made_room first → after ≡ made_room next
+    → T ((told ++ due) ++ once NoRoom before after)
+    → T (told ++ (due ++ room_notices first next))
+told_room T told due before after first next b a h =
+    rw (← b, ← a, ← append_assoc told due (once NoRoom before after)) h
 
 -- its segment came, or it has none
 pub segment_came : (O : List Event → Type 0) (live : List ℕ) (c : Connections) (F : Reader)
@@ -62,17 +114,20 @@ both A B (Ok value) a b = (a, b)
 both A B (Err fault) a b = tt
 
 -- one packet more was read, of which the connections have what it makes of them
-pub read_more : (O O' : List Event → Type 0) (T T' : List ℕ → Type 0) (F : Reader)
+pub read_more : (O O' : List Event → Type 0) (T T' : List Notice → Type 0) (F : Reader)
     (c c' : Connections)
     (live live' links links' : List ℕ) (start : State) (ps : List Taken) (p : Taken)
     → HasRead O T F c live links start ps
     → IsState O' live' c' (after_packets F start (ps ++ p ∷ [])) → c'.segments ≤ c.segments + 1
-    → links' ≡ links_noted links p.head.link → (T links → T' links')
+    → links' ≡ links_noted links p.head.link
+    → ((told : List Notice) → T told → T' (told ++ (link_notices links p.head.link
+    ++ room_notices (after_packets F start ps).events
+    (packet_arrived F (after_packets F start ps) p).events)))
     → HasRead O' T' F c' live' links' start (ps ++ p ∷ [])
 read_more O O' T T' F c c' live live' links links' start ps p h state few same told =
     record {
       state = state;
       few = let n = length-append ps (p ∷ []) in let before = h.few in omega arith;
       all = same ∙ (ap (λ v. links_noted v p.head.link) h.all ∙ sym (links_more [] ps p));
-      told = told h.told;
+      told = rw (notices_more F start [] ps p, ← h.all) (told (notices_told F start ps) h.told);
     }

@@ -1,14 +1,16 @@
--- What the packets of a capture do to its connections, and which link types are told of them
--- (meaning).
-use Rattle.std.specs.Prelude.{ℕ, List, [], ◌∷◌, flat_map, Option, Some, None, if◌then◌else◌}
+-- What the packets of a capture do to its connections, and what is told of them (meaning).
+use Rattle.std.specs.Prelude.{ℕ, List, [], ◌∷◌, ◌++◌, flat_map, cond, Option, Some, None, if◌then◌else◌}
 use Rattle.capture_file.specs.declared.fault.CaptureFault.{CaptureFault}
 use Rattle.capture_file.specs.FaultWords.{fault_word}
 use Rattle.capture_file.specs.Reading.{final_fault}
 use Rattle.tcp_segment.specs.Links.{is_link_read}
 use Rattle.tcp_segment.specs.Segments.{Segment, segment}
-use Rattle.tcp_flow.specs.Flow.{Reader, HasFault}
+use Rattle.tcp_flow.specs.Flow.{Event, Reader, HasFault}
 use Rattle.tcp_connections.specs.Connections.{State, with_packet, with_capture_event, step, ended}
-use Rattle.giop_capture_run.specs.Links.{told_after}
+use Rattle.giop_capture_run.specs.Links.{is_new, told_after}
+use Rattle.giop_capture_run.specs.Notices.{once, made_room}
+use Rattle.giop_capture_run.specs.declared.notices.Notice.{Notice}
+use Rattle.giop_capture_run.specs.declared.notices.Notice.TheVariants.{UnreadLink, NoRoom}
 use Rattle.giop_capture_run.specs.Packets.{Taken, taken_of}
 
 -- a packet's segment comes, where it has one
@@ -45,7 +47,7 @@ with_fault w (Some fault) = with_capture_event w (HasFault (fault_word fault.kin
 unfoldable pub capture_ended : Reader → State → List ℕ → State
 capture_ended F w p = ended F (with_fault (after_packets F w (taken_of p)) (final_fault p))
 
--- ---- Link types.
+-- ---- Notices.
 
 -- how many link types are told
 abbrev pub most_links : ℕ
@@ -63,3 +65,22 @@ links_from told (p ∷ ps) = links_from (links_noted told p.head.link) ps
 
 abbrev pub links_told : List Taken → List ℕ
 links_told packets = links_from [] packets
+
+-- the notice of a packet of this link type: of the first of each
+abbrev pub link_notices : List ℕ → ℕ → List Notice
+link_notices told link =
+    if is_link_read link then [] else cond (is_new most_links told link) (UnreadLink link ∷ []) []
+
+-- that of what a packet does: of the first stream that closes because its connection makes room
+abbrev pub room_notices : List Event → List Event → List Notice
+room_notices before after = once NoRoom (made_room before) (made_room after)
+
+-- the notices of packets that come to a state, after these link types were told
+unfoldable pub notices_from : Reader → State → List ℕ → List Taken → List Notice
+notices_from F w told [] = []
+notices_from F w told (p ∷ ps) =
+    (link_notices told p.head.link ++ room_notices w.events (packet_arrived F w p).events)
+    ++ notices_from F (packet_arrived F w p) (links_noted told p.head.link) ps
+
+abbrev pub notices_told : Reader → State → List Taken → List Notice
+notices_told F w packets = notices_from F w [] packets

@@ -17,12 +17,13 @@ use Rattle.capture_file.specs.declared.fault.FaultKind.TheVariants as kinds
 use Rattle.giop_capture_run.specs.declared.ending.Ending.{Ending}
 use Rattle.giop_capture_run.specs.declared.ending.Ending.TheVariants as endings
 use Rattle.giop_capture_run.specs.Packets.{Taken, taken_of, Ran}
-use Rattle.giop_capture_run.specs.Arrivals.{capture_ended, links_told}
+use Rattle.giop_capture_run.specs.Arrivals.{capture_ended, notices_told}
+use Rattle.giop_capture_run.specs.declared.notices.Notice.{Notice}
 
 -- A capture was read to its end, or to its fault, after which nothing was read; the source gave
 -- the octets s, and no read failed. All that its packets, its fault and its end do to the
--- connections was told, and the link types of those that aren't read.
-pub record ReadWhole (O : List Event → Type 0) (Told : List ℕ → Type 0) (F : Reader)
+-- connections was told, and each notice that is due of them.
+pub record ReadWhole (O : List Event → Type 0) (Told : List Notice → Type 0) (F : Reader)
     (connections : Connections) (live : List ℕ)
     (c : Capture) (start : State) (s : List ℕ) (before after : SourceLog)
     (found : Option CaptureFault) : Type 0 where
@@ -35,38 +36,39 @@ pub record ReadWhole (O : List Event → Type 0) (Told : List ℕ → Type 0) (F
   pub reads : Reads c read
   pub fault : found ≡ final_fault read
   pub ended : IsAt O live connections (capture_ended F start read)
-  pub told : Told (links_told (taken_of read))
+  pub told : Told (notices_told F start (taken_of read))
 
 -- What a run did, by its result. Where it failed its source or the reads were used up, packets came
 -- as always, and the capture has not ended.
 abbrev pub CaptureRan : Result (Option CaptureFault) RunFault → (List Taken → Type 0)
-    → (List Event → Type 0) → (List ℕ → Type 0) → Reader → Connections → List ℕ → Capture → State →
-    List ℕ → SourceLog → SourceLog
-    → Type 0
+    → (List Event → Type 0) → (List Notice → Type 0) → Reader → Connections → List ℕ → Capture
+    → State → List ℕ → SourceLog → SourceLog → Type 0
 CaptureRan (Ok found) HasTaken O Told F connections live c start s before after =
     ReadWhole O Told F connections live c start s before after found
 CaptureRan (Err failed) HasTaken O Told F connections live c start s before after =
     Ran (Err failed) HasTaken c s before after
 
--- what was read begins like no capture
-abbrev pub is_magic : FaultKind → Bool
-is_magic kinds.Magic = true
-is_magic _ = false
+-- how the dump of a capture ended, by whether its listener was told of a fault
+abbrev pub ending_by : Bool → Ending
+ending_by faulty = if faulty then endings.Faulty else endings.Whole
+
+-- how a dump ended, by the rule that the capture breaks: what begins like no capture is none
+abbrev pub ending_at : FaultKind → Bool → Ending
+ending_at (kinds.Magic file) faulty = endings.NoCapture file
+ending_at _ faulty = ending_by faulty
 
 -- how a dump ended, by the fault of the capture and whether its listener was told of one
 abbrev pub ending_of : Option CaptureFault → Bool → Ending
-ending_of (Some fault) faulty =
-    if is_magic fault.kind then endings.NoCapture else
-    (if faulty then endings.Faulty else endings.Whole)
-ending_of None faulty = if faulty then endings.Faulty else endings.Whole
+ending_of (Some fault) faulty = ending_at fault.kind faulty
+ending_of None faulty = ending_by faulty
 
 -- A capture was read whole, and all that is due of it was written: its listener was told of all
 -- before the last lines, which say whether it was told of a fault. It has finished after all of
 -- that.
 pub record Dumped {L : Type 0} (ending : Ending) (observed : L → List Event → Type 0)
     (finished : L → List Event → ℕ → ℕ → Bool → Type 0) (faulty : L → Bool) (F : Reader)
-    (Told : List ℕ → Type 0) (c : Capture) (start : State) (before after : SourceLog) (behind : L) :
-    Type 0 where
+    (Told : List Notice → Type 0) (c : Capture) (start : State) (before after : SourceLog)
+    (behind : L) : Type 0 where
   pub listener : L
   pub connections : Connections
   pub live : List ℕ

@@ -1,4 +1,5 @@
 pub mod Links
+pub mod Notices
 pub mod Packets
 pub mod Arrivals
 pub mod PacketState

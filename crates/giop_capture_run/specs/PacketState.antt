@@ -5,14 +5,14 @@ use Rattle.tcp_connections.specs.declared.connections.Connections.{Connections}
 use Rattle.tcp_connections.specs.Connections.{State}
 use Rattle.tcp_connections.specs.State.{IsState}
 use Rattle.giop_capture_run.specs.Packets.{Taken}
-use Rattle.giop_capture_run.specs.Arrivals.{after_packets, links_told}
+use Rattle.giop_capture_run.specs.Arrivals.{after_packets, links_told, notices_told}
+use Rattle.giop_capture_run.specs.declared.notices.Notice.{Notice}
 
--- The connections have the state that these packets make of one, and the link types of those that
--- aren't read were told.
-pub record HasRead (O : List Event → Type 0) (Told : List ℕ → Type 0) (F : Reader) (c : Connections)
-    (live links : List ℕ)
+-- The connections have the state that these packets make of one, and what is due of them was told.
+pub record HasRead (O : List Event → Type 0) (Told : List Notice → Type 0) (F : Reader)
+    (c : Connections) (live links : List ℕ)
     (start : State) (packets : List Taken) : Type 0 where
   pub state : IsState O live c (after_packets F start packets)
   pub few : c.segments ≤ length packets
   pub all : links ≡ links_told packets
-  pub told : Told links
+  pub told : Told (notices_told F start packets)

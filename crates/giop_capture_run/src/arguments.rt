@@ -28,7 +28,7 @@ const MOST_POOL: u32 = 1_048_576;
 /// The greatest number of a first stream: 10^18. A capture has at most 2^63 streams, so their numbers stay below 2^64.
 const MOST_FIRST: u64 = 1_000_000_000_000_000_000;
 
-const DEFAULT_CONNECTIONS: u32 = 256;
+const DEFAULT_CONNECTIONS: u32 = 1_024;
 
 const DEFAULT_OPEN: u32 = 16;
 
@@ -158,7 +158,7 @@ fn command<'a>(alloc: Global) -> Result<Command<'a>, AllocError> {
             "connections",
             CONNECTIONS_HELP,
             (1, MOST_KNOWN),
-            "256",
+            "1024",
         ))?
         .arg(number_option(alloc, "open", OPEN_HELP, (1, MOST_OPEN), "16"))?
         .arg(number_option(alloc, "calls", CALLS_HELP, (1, MOST_KNOWN), "128"))?

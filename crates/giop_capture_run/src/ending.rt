@@ -15,7 +15,7 @@ use crate::listening::CaptureListener;
 use crate::notices::Notices;
 use crate::packets::PacketReader;
 use crate::reading::read_packets;
-use capture_file::{Capture, CaptureFault, FaultKind};
+use capture_file::{Capture, CaptureFault, FaultKind, OtherFile};
 use giop_print::OutFault;
 use giop_run::{RunFault, Source};
 
@@ -58,8 +58,8 @@ pub enum Ending {
     Whole,
     /// A fault of a message, a stream or the capture was counted, or a stream was cut.
     Faulty,
-    /// What was read begins like no capture.
-    NoCapture,
+    /// What was read begins like no capture, but like this.
+    NoCapture(OtherFile),
 }
 
 /// Reads a capture of which nothing was read from a source, up to its end, and writes all that is due of it. Answers how it ended.
@@ -127,7 +127,12 @@ fn ending_of(fault: Option<CaptureFault>, is_faulty: bool) -> Ending
     ensures { result ≡ ending_of fault is_faulty }
 {
     match fault {
-        Some(fault) if fault.kind == FaultKind::Magic => Ending::NoCapture,
+        Some(
+            CaptureFault {
+                kind: FaultKind::Magic(file),
+                ..
+            },
+        ) => Ending::NoCapture(file),
         _ if is_faulty => Ending::Faulty,
         _ => Ending::Whole,
     }

@@ -43,6 +43,7 @@ pub trait PacketListener {
 pub trait CaptureListener: Listener {
     ghost use Rattle.tcp_flow.specs.Flow.{Event, OfCapture, HasFault};
     ghost use Rattle.capture_file.specs.FaultWords.{fault_word};
+    ghost use Rattle.giop_capture_run.specs.Notices.{made_room};
 
     /// All that it has written is to be seen.
     ghost flushed: { Self → Type 0 };
@@ -53,6 +54,11 @@ pub trait CaptureListener: Listener {
     /// It has observed these events, and the capture has ended after them, with so many packets and octets; and whether there
     /// was a fault, or a stream that was cut.
     ghost finished: { Self → List Event → ℕ → ℕ → Bool → Type 0 };
+
+    /// Whether a stream closed so far because its connection made room for another.
+    fn made_room(&self) -> bool
+        ensures { (events : List Event) → Self.observed self.now events
+            → result ≡ made_room events };
 
     /// The capture has a fault, and ends there.
     fn has_fault(&mut self, fault: CaptureFault) -> Result<(), ListenerFault>

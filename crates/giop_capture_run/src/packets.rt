@@ -8,12 +8,13 @@ ghost use Rattle.tcp_flow.specs.Flow.{Event, HasFault};
 ghost use Rattle.tcp_connections.specs.Connections.{State, with_capture_event, step, ended};
 ghost use Rattle.tcp_connections.specs.State.{IsState, IsAt, HasState, Makes};
 ghost use Rattle.giop_capture_run.specs.Packets.{Taken};
-ghost use Rattle.giop_capture_run.specs.Arrivals.{links_noted};
+ghost use Rattle.giop_capture_run.specs.Arrivals.{link_notices, links_noted};
+ghost use Rattle.giop_capture_run.specs.declared.notices.Notice.{Notice};
 ghost use Rattle.giop_capture_run.specs.PacketState.{HasRead};
 
 use crate::links::UnreadLinks;
 use crate::listening::{CaptureListener, PacketListener};
-use crate::notices::Notices;
+use crate::notices::{Notice, Notices, tell_once};
 use capture_file::{CaptureFault, Packet};
 use giop_print::OutFault;
 use tcp_connections::Connections;
@@ -22,7 +23,7 @@ use tcp_segment::{is_link_read, segment};
 use tcp_streams::Streams;
 
 /// Reads the packets of a capture: a listener is told of their times and of what their segments do to the connections, and
-/// another of the link types that aren't read.
+/// another of what isn't read, and of what there is no room for.
 #[derive(Drop)]
 pub struct PacketReader<L: CaptureListener + Drop, N: Notices + Drop> {
     connections: Connections,
@@ -44,16 +45,16 @@ fn heard(answer: Result<(), ListenerFault>) -> Result<(), OutFault>
 /// The first packet of a link type that isn't read is told.
 fn note_link<N: Notices>(unread: &mut UnreadLinks, notices: &mut N, link: u16)
     ensures items { unread.new.told.items ≡ links_noted unread.old.told.items link }
-    ensures told { N.told notices.old unread.old.told.items
-        → N.told notices.new unread.new.told.items }
+    ensures told { (told : List Notice) → N.told notices.old told
+        → N.told notices.new (told ++ link_notices unread.old.told.items link) }
 {
     if !is_link_read(link) && unread.is_new(link) {
-        notices.link_is_unread(link);
+        notices.tell(Notice::UnreadLink(link));
     }
 }
 
 impl<L: CaptureListener + Drop, N: Notices + Drop> PacketReader<L, N> {
-    /// No packet was read, and no link type told.
+    /// No packet was read, and nothing told.
     pub fn new(connections: Connections, streams: Streams<L>, notices: N) -> PacketReader<L, N>
         ensures { (w : State) → IsState (L.observed streams.listener) streams.live.items connections
             w
@@ -141,7 +142,11 @@ impl<L: CaptureListener + Drop, N: Notices + Drop> PacketListener for PacketRead
         let Some(segment) = segment(packet.link, packet.octets) else {
             return Ok(());
         };
-        heard(self.connections.take(segment, &mut self.streams))
+        let before = self.streams.listener.made_room();
+        heard(self.connections.take(segment, &mut self.streams))?;
+        let after = self.streams.listener.made_room();
+        tell_once(Notice::NoRoom, before, after, &mut self.notices);
+        Ok(())
     }
 
     fn flush(&mut self) -> Result<(), OutFault> {

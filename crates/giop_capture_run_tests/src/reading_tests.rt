@@ -1,7 +1,7 @@
 //! A capture of two packets, read in pieces of some sizes.
 
 use super::counter::Counter;
-use capture_file::{Capture, CaptureFault, FaultKind};
+use capture_file::{Capture, CaptureFault, FaultKind, OtherFile};
 use giop_capture_run::read_packets;
 use giop_run::{Piecewise, RunFault};
 use std::test::Fail;
@@ -53,7 +53,7 @@ fn a_fault_ends_the_reading(rt: HostRuntime) -> Result<(), Fail> {
         "{counter:?}"
     );
     let magic = CaptureFault {
-        kind: FaultKind::Magic,
+        kind: FaultKind::Magic(OtherFile::Unknown),
         place: 4,
     };
     assert!(rt; capture.finish() == Some(magic));

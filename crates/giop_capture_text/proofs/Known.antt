@@ -49,7 +49,7 @@ held put items kept text known seen none =
 -- the text of a capture where streams begin at these ports
 abbrev pub TextAt : (ports read : List ℕ) (faulty : Bool) (put : Option (List ℕ)) → Type 0
 TextAt ports read faulty put =
-    HasText plain_setup [] (capture_ended reader_faulted (none_known ports 16384 256 [])
+    HasText plain_setup [] (capture_ended reader_faulted (none_known ports 16384 1024 [])
     read).events
     (length (packets read)) (length read) faulty put
 

@@ -11,9 +11,9 @@ use Rattle.giop_capture_run.specs.Arrivals.{capture_ended}
 use Rattle.giop_capture_run.specs.CaptureRun.{ending_of}
 use Rattle.giop_capture_program.specs.Text.{HasText}
 
--- 16 open messages a stream, 128 outstanding calls a flow, 256 connections
+-- 16 open messages a stream, 128 outstanding calls a flow, 1,024 connections
 abbrev pub plain_setup : Setup
-plain_setup = setup builtin_table 16 128 256 1
+plain_setup = setup builtin_table 16 128 1024 1
 
 -- A text is that of what a capture's packets, its fault and its end do to no known connections,
 -- with its last line, and no more;
@@ -27,5 +27,5 @@ pub record IsDumpOf (capture : List ℕ) (ending : Ending) (text : List ℕ) : T
   pub faulty : Bool
   pub ends : ending ≡ ending_of (final_fault read) faulty
   pub is : HasText plain_setup []
-      (capture_ended reader_faulted (none_known [] 16384 256 []) read).events
+      (capture_ended reader_faulted (none_known [] 16384 1024 []) read).events
       (length (packets read)) (length read) faulty (Some text)

@@ -27,7 +27,7 @@ pub fn text_of(alloc: Global, capture: &[u8]) -> Option<(Ending, Vec<u8>)>
     let asked = Arguments {
         ports: ArrayVec::new(),
         signatures: ArrayVec::new(),
-        connections: 256,
+        connections: 1_024,
         messages: 16,
         calls: 128,
         pool: 16_384,

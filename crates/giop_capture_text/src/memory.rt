@@ -1,9 +1,9 @@
-//! What the steps of `giopcap` are handed in place of the system: a capture in memory, and nobody who is told of link types.
+//! What the steps of `giopcap` are handed in place of the system: a capture in memory, and nobody who is told what isn't in its lines.
 
 ghost use Rattle.std.specs.Prelude.{◌≡◌, None, Some};
 ghost use Rattle.std.specs.declared.io.ErrorKind.TheVariants.{NotFound};
 
-use giop_capture_run::Notices;
+use giop_capture_run::{Notice, Notices};
 use giop_run::{Inputs, Reading};
 use std::alloc::Global;
 use std::io;
@@ -44,12 +44,12 @@ impl<'a> Inputs for Memory<'a> {
     }
 }
 
-/// Nobody is told of link types that aren't read.
+/// Nobody is told what isn't in the lines.
 #[derive(Drop)]
 pub struct Nobody;
 
 impl Notices for Nobody {
     ghost told = { λ _ _. Unit {0} };
 
-    fn link_is_unread(&mut self, _link: u16) {}
+    fn tell(&mut self, _notice: Notice) {}
 }

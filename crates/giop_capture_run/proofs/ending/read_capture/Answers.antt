@@ -31,6 +31,6 @@ returns-in-Ok-clause-ran g c =
         reads = handed.reads;
         fault = e.0;
         ended = e.1;
-        told = rw (c.in-Ok.ensures.notices, ← handed.taken.all) handed.taken.told;
+        told = rw c.in-Ok.ensures.notices handed.taken.told;
       },
     )

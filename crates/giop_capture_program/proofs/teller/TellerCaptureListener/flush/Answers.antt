@@ -4,5 +4,5 @@ use Rattle.giop_capture_program.proofs.teller.TellerCaptureListener.flush.Goals 
 
 pub returns-in-Ok-clause-does : goal.returns-in-Ok-clause-does
 returns-in-Ok-clause-does g c =
-    λ events h. kept_on _ _ _ events c.in-Ok.ensures.same c.in-Ok.ensures.none c.in-Ok.ensures.put
+    λ events h. kept_on _ _ _ events _ c.in-Ok.ensures.same c.in-Ok.ensures.none c.in-Ok.ensures.put
     h

@@ -1,10 +1,17 @@
 -- The lines of the octets are written.
+use Rattle.std.proofs.Common.{refl}
+use Rattle.tcp_flow.specs.Flow.{Delivers}
+use Rattle.giop_capture_program.proofs.TellerLemmas.{room_stays}
 use Rattle.giop_capture_program.proofs.teller.TellerListener.delivers.Goals as goal
 
 pub returns-in-Ok-clause-does : goal.returns-in-Ok-clause-does
 returns-in-Ok-clause-does g c =
     λ events h.
     let follows = c.in-Ok.ensures.follows events h.0 in (
-      (follows.0, λ S written begins. c.in-Ok.ensures.told S written events (h.1 S written begins)),
+      (
+        follows.0,
+        λ S written begins. c.in-Ok.ensures.told S written events (h.1 S written begins),
+        room_stays events (Delivers c.args.flow c.args.octets.now) _ refl h.2,
+      ),
       follows.1,
     )

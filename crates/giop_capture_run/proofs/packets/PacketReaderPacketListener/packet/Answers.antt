@@ -5,8 +5,8 @@ use Rattle.tcp_segment.specs.Segments.{segment, segment_view}
 use Rattle.tcp_connections.specs.Connections.{State, with_packet}
 use Rattle.tcp_connections.proofs.States.{packet_read}
 use Rattle.giop_capture_run.specs.Packets.{packet_view}
-use Rattle.giop_capture_run.specs.Arrivals.{after_packets}
-use Rattle.giop_capture_run.proofs.Arriving.{answered, both, read_more, segment_came, segment_of, payload_short}
+use Rattle.giop_capture_run.specs.Arrivals.{after_packets, packet_arrived}
+use Rattle.giop_capture_run.proofs.Arriving.{after_more, both, heard_ok, read_more, segment_came, segment_of, payload_short, told_link, told_room}
 use Rattle.giop_capture_run.proofs.packets.PacketReaderPacketListener.packet.Goals as goal
 
 pub take-requires-clause-state : goal.take-requires-clause-state
@@ -42,7 +42,9 @@ returns-in_default-clause-does g c =
     (segment_came _ _ _ _ start packets p None none
     (packet_read _ _ _ _ w c.args.packet.time c.read.ensures.does c.read.ensures.free
     c.read.ensures.room h.state)) (omega (arith, few))
-    c.note_link.ensures.items c.note_link.ensures.told
+    c.note_link.ensures.items
+    (λ told before. told_link (g.N.Notices.told c.note_link.new.notices) g.L.Listener.faulted start
+    packets p told _ none (c.note_link.ensures.told told before))
 
 pub returns-clause-does : goal.returns-clause-does
 returns-clause-does g c =
@@ -54,7 +56,15 @@ returns-clause-does g c =
     let some = segment_of _ _ _ c.in-Some.segment c.segment.ensures c.in-Some.is in
     let came = c.take.ensures.does v (packet_read _ _ _ _ w c.args.packet.time c.read.ensures.does
     c.read.ensures.free c.read.ensures.room h.state) in
-    answered _ _ c.heard.ensures (both _ _ c.take.result came c.take.ensures.count)
-    (λ k. read_more _ _ _ _ _ _ _ _ _ _ _ start packets p h
-    (segment_came _ _ _ _ start packets p (Some (segment_view c.in-Some.segment)) some k.0)
-    (let n = k.1 in omega (arith, few)) c.note_link.ensures.items c.note_link.ensures.told)
+    let k = heard_ok _ _ c.heard.result _ c.heard.ensures c.in_ok-heard.was
+    (both _ _ c.take.result came c.take.ensures.count) in
+    let state = segment_came _ _ _ _ start packets p (Some (segment_view c.in-Some.segment)) some
+    k.0 in
+    let next = packet_arrived g.L.Listener.faulted w p in
+    let observed = rw (after_more g.L.Listener.faulted start packets p) at state.observed in
+    read_more _ _ _ _ _ _ _ _ _ _ _ start packets p h state
+    (let n = k.1 in omega (arith, few)) c.note_link.ensures.items
+    (λ told before. told_room (g.N.Notices.told c.tell_once.new.notices) told _ _ _
+    w.events next.events (c.made_room-before.ensures w.events h.state.observed)
+    (c.made_room-after.ensures next.events observed)
+    (c.tell_once.ensures _ (c.note_link.ensures.told told before)))

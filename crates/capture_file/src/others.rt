@@ -1,0 +1,58 @@
+//! Files that are no captures, and are often given as ones.
+
+ghost use Rattle.std.specs.Prelude.{◌≡◌, ◌≤◌, length};
+ghost use Rattle.capture_file.specs.OtherFiles.{other_file};
+
+use crate::part::ByteOrder;
+
+const GZIP: u16 = 0x1f8b;
+
+const ZSTANDARD: u32 = 0x28b5_2ffd;
+
+const XZ: u32 = 0xfd37_7a58;
+
+const SNOOP: u32 = 0x736e_6f6f;
+
+const MODIFIED_PCAP: u32 = 0xa1b2_cd34;
+
+/// What a file is that begins like no capture.
+#[derive(Clone, Copy, Debug, PartialEq, Eq)]
+pub enum OtherFile {
+    /// It is compressed by gzip.
+    Gzip,
+    /// It is compressed by zstd.
+    Zstandard,
+    /// It is compressed by xz.
+    Xz,
+    /// A capture of snoop (RFC 1761).
+    Snoop,
+    /// A pcap file whose records have more fields, in either byte order.
+    ModifiedPcap,
+    /// None of these.
+    Unknown,
+}
+
+/// What a file is that begins like no capture, by its first four octets.
+#[tactic(auto, unfolding(crate::specs::OtherFiles::other_file))]
+pub fn other_file(octets: &[u8]) -> OtherFile
+    requires { 4 ≤ length octets.now }
+    ensures { result ≡ other_file octets.now }
+{
+    let big = ByteOrder::Big.four_at(octets, 0);
+    let little = ByteOrder::Little.four_at(octets, 0);
+    if ByteOrder::Big.two_at(octets, 0) == GZIP {
+        OtherFile::Gzip
+    } else if big == ZSTANDARD {
+        OtherFile::Zstandard
+    } else if big == XZ {
+        OtherFile::Xz
+    } else if big == SNOOP {
+        OtherFile::Snoop
+    } else if big == MODIFIED_PCAP {
+        OtherFile::ModifiedPcap
+    } else if little == MODIFIED_PCAP {
+        OtherFile::ModifiedPcap
+    } else {
+        OtherFile::Unknown
+    }
+}

@@ -1,0 +1,21 @@
+//! What is said of a file that is no capture.
+
+ghost use Rattle.std.specs.Prelude.{◌≡◌};
+ghost use Rattle.giop_capture_program.specs.Hints.{hint};
+
+use capture_file::OtherFile;
+
+/// What the program says after the name of a file that is no capture: by which command it is read, if one reads it. FILE stands
+/// there for the name.
+pub fn hint(file: OtherFile) -> &'static str
+    ensures { result.now ≡ hint file }
+{
+    match file {
+        OtherFile::Gzip => "compressed: zcat FILE | giopcap",
+        OtherFile::Zstandard => "compressed: zstdcat FILE | giopcap",
+        OtherFile::Xz => "compressed: xzcat FILE | giopcap",
+        OtherFile::Snoop => "snoop: tshark -r FILE -w - | giopcap",
+        OtherFile::ModifiedPcap => "modified pcap: tshark -r FILE -w - | giopcap",
+        OtherFile::Unknown => "not a capture",
+    }
+}
