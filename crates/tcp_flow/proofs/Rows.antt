@@ -145,9 +145,10 @@ record Rows : Type 0 where
 rows : Rows
 unfolding header_at chain_from stream_at left with_event checked delivered begun told_from taken
     earlier first first_of at is_due drained_at_most drained fin_is_reached closed
-    without_stale_fin ended gone_on gap blocks_of is_far is_too_much within_bounds has_as_much holding place_of payload_came
-    fin_came is_lost heard step after first_payload events in_flows setting packet octets
-    acknowledged held_at heard_at header message begins_at first_begins any_bad is_bad
+    without_stale_fin ended gone_on gap blocks_of is_far is_too_much within_bounds has_as_much
+    holding place_of payload_came fin_came is_lost heard step after first_payload events in_flows
+    setting packet octets acknowledged held_at heard_at header message begins_at first_begins
+    any_bad is_bad
 rows = record {
   begins = refl;
   retransmission-falls-away = refl;
