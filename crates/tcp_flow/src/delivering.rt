@@ -1,7 +1,7 @@
 //! What a flow delivers of its payloads, as they are due: to its live stream, or to one that begins
 //! in them.
 
-ghost use Rattle.std.specs.Prelude.{◌≡◌, ◌≤◌, List, OnOk, OnErr, is_some, length};
+ghost use Rattle.std.specs.Prelude.{◌≡◌, ◌≤◌, [], List, OnOk, OnErr, is_some, length, Some, true};
 
 use crate::flow::{CloseCause, FlowState, Listener, ListenerFault, Start};
 use crate::looking::stream_at;
@@ -10,8 +10,9 @@ use tcp_waiting::{Arrival, Pool, WINDOW, age, ahead, is_to_come, onward};
 impl FlowState {
     ghost use Rattle.tcp_waiting.specs.Payload.{Payload, payload};
     ghost use Rattle.tcp_flow.specs.Flow.{Flow, left, delivered, taken, drained};
-    ghost use Rattle.tcp_flow.specs.Flow.{start_at as spec_start_at};
-    ghost use Rattle.tcp_flow.specs.State.{IsState};
+    ghost use Rattle.tcp_flow.specs.Flow.{Event, start_at as spec_start_at};
+    ghost use Rattle.tcp_flow.specs.Flow.{number_after as spec_number_after};
+    ghost use Rattle.tcp_flow.specs.State.{state, IsState};
 
     /// What is left of a payload: what is before the number that is due falls away.
     pub(crate) fn left<'a>(&self, number: u32, octets: &'a [u8]) -> (u32, &'a [u8])
@@ -44,11 +45,18 @@ impl FlowState {
     {
         self.next = onward(number, octets.len());
         if let Some(at) = to.delivers(self.id, octets)? {
-            self.since = onward(self.live.unwrap_or(self.next), at as usize);
+            self.since = self.number_after(at);
             self.live = None;
             to.closes(self.id, CloseCause::Fault)?;
         }
         Ok(())
+    }
+
+    /// The number after an octet of the live stream, which is counted from 1.
+    fn number_after(&self, at: u64) -> u32
+        ensures { result ≡ spec_number_after (state self.now [] []) at }
+    {
+        onward(self.live.unwrap_or(self.next), at as usize)
     }
 
     /// The beginning of a stream at a number.
@@ -61,6 +69,16 @@ impl FlowState {
             passed,
             is_found: self.has_begun || 0 < passed,
         }
+    }
+
+    /// A stream that begins at a number is live from now on.
+    fn go_live(&mut self, number: u32)
+        ensures is { (held : List Payload) (events : List Event) → state self.new held events
+            ≡ (record (state self.old held events) { live = Some number; has_begun = true }) }
+        ensures id { self.new.id ≡ self.old.id }
+    {
+        self.live = Some(number);
+        self.has_begun = true;
     }
 
     /// A payload is taken: delivered, or a stream begins in it, or none begins in what was looked
@@ -91,8 +109,7 @@ impl FlowState {
         if let Some(at) = stream_at(octets) {
             let number = onward(number, at);
             to.begins(self.id, self.start_at(number))?;
-            self.live = Some(number);
-            self.has_begun = true;
+            self.go_live(number);
             return self.deliver(number, &octets[at..], to);
         }
         to.passes(octets);

@@ -56,12 +56,13 @@ returns-in-Some-clause-does g c held f h =
       sym c.stream_at.ensures.at ∙ c.in-Some.is,
       whole_tail c.left-number.result.1.now c.in-Some.at,
       c.start_at.ensures,
+      c.go_live.ensures.id,
       c.onward-number.ensures,
     ) refl))
     (c.deliver-in-Some.ensures.does held _ c.args.arrival
     (record {
       observed = c.in_ok-begins.ensures.does _ (c.comes_from.ensures events o);
-      same = refl;
+      same = c.go_live.ensures.is held _;
     })))
 
 pub returns-clause-does : goal.returns-clause-does
