@@ -24,7 +24,7 @@ from dataclasses import dataclass
 from fcntl import ioctl
 from pathlib import Path
 from random import Random
-from struct import unpack
+from struct import pack, unpack
 from termios import FIONREAD
 from typing import Any, Dict, Iterator, List, Optional, Tuple
 
@@ -300,8 +300,32 @@ WORDS: List[Tuple[Tuple[str, ...], int, str, str]] = [
 ]
 
 
+# Files that are no captures, by the octets that they begin with and are named for, and what is said of them.
+OTHERS = (
+    ("1f8b0800", "compressed: zcat FILE | giopcap"),
+    ("1f8c0800", "not a capture"),
+    ("28b52ffd", "compressed: zstdcat FILE | giopcap"),
+    ("fd377a58", "compressed: xzcat FILE | giopcap"),
+    ("736e6f6f", "snoop: tshark -r FILE -w - | giopcap"),
+    ("a1b2cd34", "modified pcap: tshark -r FILE -w - | giopcap"),
+    ("34cdb2a1", "modified pcap: tshark -r FILE -w - | giopcap"),
+    ("cd34a1b2", "not a capture"),
+)
+WORDS += [
+    (
+        (octets,),
+        1,
+        "capture fault magic at 4\n" + "total streams 0 messages 0 faults 0 packets 0 octets 4\n",
+        f"giopcap: {octets}: {hint}\n",
+    )
+    for octets, hint in OTHERS
+]
+
+
 def files_of_words(folder: Path) -> None:
     """Makes the files that the words name."""
+    for octets, _ in OTHERS:
+        (folder / octets).write_bytes(bytes.fromhex(octets) + b"more")
     (folder / "wrong.sig").write_text("signatures 1;\nstruct A { B b; };\n")
     (folder / "one.sig").write_text(
         "signatures 1;\nstruct A {\n  long x;\n};\noperation boolean _is_a(in string id);\n"
@@ -330,6 +354,7 @@ def run_words(folder: Path, seen: Differences) -> None:
     as_wanted = (run.status, run.lines, run.said) == (5, b"", b"giopcap: out of memory\n")
     seen.note(as_wanted, "without enough memory", run)
     run_unread(folder, seen)
+    run_many(seen)
     run_as_nobody(folder, seen)
 
 
@@ -343,6 +368,25 @@ def run_unread(folder: Path, seen: Differences) -> None:
             done = subprocess.run(words, cwd=folder, stdout=out, stderr=subprocess.PIPE, timeout=SECONDS)
         as_wanted = (done.returncode, done.stderr) == (4, said)
         seen.note(as_wanted, f"lines to {out.name}", ended(b"", done.stderr, done.returncode))
+
+
+def many(count: int) -> bytes:
+    """A capture of so many connections, each with a stream of one message."""
+    capture, message = octets_of("a1b2c3d4 00020004 00*8 00040000 00000065"), b"GIOP" + bytes((1, 0, 0, 5, 0, 0, 0, 0))
+    for number in range(count):
+        segment = pack(">HHIIBBHHH", 10_000 + number, 2809, 1, 1, 0x50, 0x18, 1024, 0, 0) + message
+        packet = pack(">BBHHHBBHII", 0x45, 0, 20 + len(segment), 0, 0, 64, 6, 0, 0x0A000001, 0x0A000002) + segment
+        capture += pack(">IIII", number, 0, len(packet), len(packet)) + packet
+    return capture
+
+
+def run_many(seen: Differences) -> None:
+    """Runs the program over as many connections as are known without a word, and over more."""
+    for count, said in ((1024, b""), (1030, b"giopcap: more than 1024 connections: --connections\n")):
+        done = subprocess.run([str(GIOPCAP)], input=many(count), capture_output=True, timeout=SECONDS)
+        told = (done.returncode, done.stderr, done.stdout.count(b" closed room\n"))
+        as_wanted = told == (int(count > 1024), said, count - 1024)
+        seen.note(as_wanted, f"{count} connections", ended(b"", done.stderr, done.returncode))
 
 
 def run_as_nobody(folder: Path, seen: Differences) -> None:

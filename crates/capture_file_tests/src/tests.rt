@@ -63,3 +63,30 @@ fn a_fault_is_answered_again_and_nothing_is_taken(rt: HostRuntime) -> Result<(),
     assert_eq!(rt; capture.finish(), Some(fault));
     Ok(())
 }
+
+/// The first octets of files that are no captures, and what they are.
+const OTHERS: [(&[u8], OtherFile); 9] = [
+    (b"\x1f\x8b\x08\x00", OtherFile::Gzip),
+    (b"\x1f\x8c\x08\x00", OtherFile::Unknown),
+    (b"\x28\xb5\x2f\xfd", OtherFile::Zstandard),
+    (b"\xfd\x37\x7a\x58", OtherFile::Xz),
+    (b"\xfd7zY", OtherFile::Unknown),
+    (b"snoo", OtherFile::Snoop),
+    (b"\xa1\xb2\xcd\x34", OtherFile::ModifiedPcap),
+    (b"\x34\xcd\xb2\xa1", OtherFile::ModifiedPcap),
+    (b"\xb2\xa1\x34\xcd", OtherFile::Unknown),
+];
+
+#[test]
+fn what_a_file_is_that_is_no_capture(rt: HostRuntime) -> Result<(), Fail> {
+    for (octets, file) in OTHERS {
+        let mut capture = Capture::new(rt.alloc())?;
+        let fault = CaptureFault {
+            kind: FaultKind::Magic(file),
+            place: 4,
+        };
+        let taken = capture.take(octets);
+        assert!(rt; taken == (4, Progress::Fault(fault)), "{file:?}: {taken:?}");
+    }
+    Ok(())
+}

@@ -8,5 +8,5 @@ returns-in-Ok-clause-does g c =
     λ events h. (
       c.in-Ok.ensures.follows events h.0,
       λ S written begins. c.in-Ok.ensures.told S written events (h.1 S written begins),
-      room_on events (Closes c.args.flow c.args.cause) _ _ h.2 c.has_made_room.ensures,
+      room_on events (Closes c.args.flow c.args.cause) _ _ h.2 c.has_made_room-self.ensures,
     )
