@@ -85,6 +85,7 @@ told_on c put below failures S written events none kept told =
         streams_are = h.streams_are;
         messages_are = h.messages_are;
         faults_are = h.faults_are;
+        others_are = h.others_are;
         cut_is = h.cut_is;
       };
     }
