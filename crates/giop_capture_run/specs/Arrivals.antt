@@ -75,7 +75,8 @@ link_notices told link =
 unfoldable pub notices_from : Reader → State → List ℕ → List Taken → List Notice
 notices_from F w told [] = []
 notices_from F w told (p ∷ ps) =
-    (link_notices told p.head.link ++ new_notices (seen w.events) (seen (packet_arrived F w p).events))
+    (link_notices told p.head.link
+    ++ new_notices (seen w.events) (seen (packet_arrived F w p).events))
     ++ notices_from F (packet_arrived F w p) (links_noted told p.head.link) ps
 
 abbrev pub notices_told : Reader → State → List Taken → List Notice

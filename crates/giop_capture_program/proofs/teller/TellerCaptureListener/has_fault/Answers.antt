@@ -12,5 +12,6 @@ returns-in-Ok-clause-does g c =
       λ S written begins. rw (← c.word.ensures)
           (c.in-Ok.ensures.told S written events (h.1 S written begins)),
       seen_stays events
-          (OfCapture (HasFault (fault_word c.args.fault.kind) c.args.fault.place)) _ refl refl refl h.2,
+          (OfCapture (HasFault (fault_word c.args.fault.kind) c.args.fault.place)) _ refl refl
+          refl h.2,
     )

@@ -8,5 +8,5 @@ returns g c =
     λ events h. (
       c.passes.ensures.follows events _ h.0,
       λ S written begins. c.passes.ensures.told S written events _ (h.1 S written begins),
-      seen_on events (OfCapture (Passes c.args.octets.now)) _ _ h.2 c.seen_in.ensures,
+      seen_on events (OfCapture (Passes c.args.octets.now)) _ _ h.2 c.seen_in-self.ensures,
     )
