@@ -127,7 +127,6 @@ class Reading:
         """All that is said."""
         unread: List[int] = []
         notices: List[str] = []
-        no_room = f"more than {self._words.limits.connections} connections: --connections"
         for self._capture.packet, packet in enumerate(self._packets):
             self._capture.time = packet.time
             if not is_read(packet.link) and packet.link not in unread and len(unread) < MOST_LINKS:
@@ -136,8 +135,7 @@ class Reading:
             segment = segment_of(packet)
             if segment:
                 self._capture.take(segment)
-            if "room" in self._capture.causes and no_room not in notices:
-                notices.append(no_room)
+            notices += [notice for notice in self._seen() if notice not in notices]
         end = self._capture.happened()
         self._capture.end()
         self._match_calls()
@@ -152,6 +150,12 @@ class Reading:
         lines.append((self._end(), f"{total} {rest}"))
         is_cut = any(stream.closed[0] in ("gap", "room") for stream in self._capture.streams)
         return Dumped(lines, notices, is_cut or faults > 0 or self._fault is not None)
+
+    def _seen(self) -> List[str]:
+        """The notices of what was seen so far."""
+        room = [f"more than {self._words.limits.connections} connections: --connections"]
+        fronts = [f"{name} isn't read" for name in sorted(self._capture.fronts)]
+        return room * ("room" in self._capture.causes) + fronts
 
     def _end(self) -> Optional[int]:
         """The octet of a fault that isn't the end of the capture."""

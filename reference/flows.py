@@ -2,6 +2,7 @@
 
 from __future__ import annotations
 
+import re
 from dataclasses import dataclass, field
 from typing import Dict, FrozenSet, List, NamedTuple, Optional, Set, Tuple
 
@@ -171,7 +172,7 @@ class FlowState:
         if self.live is None:
             found = stream_at(held.octets)
             if found is None:
-                self._capture.others += 1
+                self._capture.passed(held.octets)
                 return
             begin = found
             self._began = (held.number + begin) % 2**32
@@ -206,6 +207,8 @@ class FlowState:
         self.close("end" if self._fin is None else "gap")
 
 
+# What isn't read, and how it begins.
+UNREAD = (("TLS", re.compile(b"[\x14-\x17]\3[\0-\4]")), ("ZIOP", re.compile(b"ZIOP")))
 FRONTS = tuple(b"GIOP\1" + bytes([minor]) for minor in range(3))  # the six octets of a header
 
 
@@ -268,6 +271,7 @@ class Capture:
         self.limits = limits
         self.streams: List[Stream] = []
         self.others = 0  # payloads that were looked through and in which no stream begins
+        self.fronts: Set[str] = set()  # what of UNREAD stood at their fronts
         self.packet = -1  # the packet that is read
         self.time: Optional[int] = None  # of that packet, in nanoseconds
         self._known: Dict[FrozenSet[Endpoint], Connection] = {}
@@ -294,6 +298,11 @@ class Capture:
     def closed(self, stream: Stream, word: str) -> None:
         self.causes.add(word)
         stream.closed = (word, self.happened(), self.packet)
+
+    def passed(self, octets: bytes) -> None:
+        """A payload was looked through, and no stream begins in it."""
+        self.others += 1
+        self.fronts |= {name for name, front in UNREAD if front.match(octets)}
 
     def _states(self) -> List[FlowState]:
         return [state for connection in self._known.values() for state in connection.flows.values()]
@@ -341,7 +350,7 @@ class Capture:
         if segment.is_reset or not is_chosen or not segment.payload:
             return False
         if stream_at(segment.payload) is None:
-            self.others += 1
+            self.passed(segment.payload)
             return False
         return True
 

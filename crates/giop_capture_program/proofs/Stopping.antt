@@ -18,19 +18,20 @@ use Rattle.giop_run.specs.declared.fault.ProgramFault.{ProgramFault}
 use Rattle.giop_run.specs.declared.fault.ProgramFault.TheVariants as faults
 use Rattle.giop_capture_run.specs.declared.arguments.Arguments.{Arguments}
 use Rattle.giop_capture_run.specs.Packets.{HandedOn, Ran}
-use Rattle.giop_capture_run.specs.Notices.{made_room}
+use Rattle.giop_capture_run.specs.Notices.{seen}
+use Rattle.giop_capture_run.specs.declared.notices.Seen.{Seen}
 use Rattle.giop_capture_run.specs.declared.notices.Notice.{Notice}
 use Rattle.giop_capture_run.specs.PacketState.{HasRead}
 use Rattle.giop_capture_program.specs.Text.{HasTextSoFar}
 use Rattle.giop_capture_program.specs.Steps.{ReadInPart, RunFailed}
 
 -- the conversations have followed events, and told them
-abbrev pub Observed : {O : Type 0} → (Setup → List ℕ → Type 0) → Conversations O → Bool →
+abbrev pub Observed : {O : Type 0} → (Setup → List ℕ → Type 0) → Conversations O → Seen →
     List Event → Type 0
-Observed begins c made events =
+Observed begins c s events =
     Follows c events
     × ((S : Setup) (written : List ℕ) → begins S written → Told S written events c)
-    × (made ≡ made_room events)
+    × (s ≡ seen events)
 
 so_far : {O : Type 0} (c : Conversations O) (S : Setup) (written : List ℕ) (events : List Event)
     (put : Option (List ℕ)) → put ≡ c.out.whole → Told S written events c
@@ -41,7 +42,7 @@ so_far c S written events put same told = record {
   text = same ∙ told.holds.ready.known;
 }
 
-in_part : {O : Type 0} (begins : Setup → List ℕ → Type 0) (c : Conversations O) (made : Bool)
+in_part : {O : Type 0} (begins : Setup → List ℕ → Type 0) (c : Conversations O) (made : Seen)
     (Told : List Notice → Type 0) (asked : Arguments) (connections : Connections)
     (live links : List ℕ)
     (capture : Capture) (s : List ℕ) (before after : SourceLog) (put : Option (List ℕ))
@@ -60,7 +61,7 @@ in_part begins c made Told asked connections live links capture s before after p
     }
 
 pub stopped : {O : Type 0} (fault : RunFault) (begins : Setup → List ℕ → Type 0)
-    (c : Conversations O) (made : Bool) (Told : List Notice → Type 0) (asked : Arguments)
+    (c : Conversations O) (made : Seen) (Told : List Notice → Type 0) (asked : Arguments)
     (connections : Connections)
     (live links : List ℕ) (capture : Capture) (s : List ℕ) (before after : SourceLog)
     (log : OutLog) → log.written ≡ c.out.whole → (fault ≡ runs.Out → 0 < log.failures)

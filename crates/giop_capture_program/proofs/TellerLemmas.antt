@@ -2,14 +2,17 @@
 use Rattle.std.proofs.Common.{◌≡◌, ◌||◌, ℕ, Bool, true, false, List, [], ◌∷◌, ◌++◌, Option, Some, None, refl, ◌∙◌, ap, subst, sym}
 use Rattle.std.proofs.lemmas.List.Folds.{list_any-append}
 use Rattle.std.specs.Io.KnownBytes.{Keeps}
-use Rattle.tcp_flow.specs.Flow.{Event, CaptureEvent, OfCapture}
+use Rattle.std.specs.List.{list_any}
+use Rattle.tcp_flow.specs.declared.flow.CloseCause.{CloseCause}
+use Rattle.tcp_flow.specs.Flow.{Event, CaptureEvent, Closes, OfCapture}
 use Rattle.giop_conversation.specs.declared.conversation.Conversation.{Conversation}
 use Rattle.giop_conversation.specs.declared.conversations.Conversations.{Conversations}
 use Rattle.giop_conversation.specs.Captured.{Setup, finished_text}
 use Rattle.giop_conversation.specs.DumpTold.{Told}
 use Rattle.giop_conversation.specs.Follows.{Follows}
 use Rattle.giop_conversation.specs.Followed.{octets_behind, octets_from, HaveFollowed}
-use Rattle.giop_capture_run.specs.Notices.{makes_room, made_room}
+use Rattle.giop_capture_run.specs.declared.notices.Seen.{Seen}
+use Rattle.giop_capture_run.specs.Notices.{is_room, is_tls, is_ziop, makes_room, passes_by, seen, seen_after}
 use Rattle.giop_capture_program.specs.Text.{HasText}
 
 or_false : (b : Bool) → (b || false) ≡ b
@@ -26,25 +29,41 @@ pub followed_on : (rooms : List Conversation) (events : List Event) (event : Cap
     → HaveFollowed rooms events → HaveFollowed rooms (events ++ OfCapture event ∷ [])
 followed_on rooms events event h = λ flow. rw (same_octets flow [] events event) (h flow)
 
--- ---- Whether a connection made room.
+-- ---- What was seen.
 
-room_more : (events : List Event) (e : Event) → made_room (events ++ e ∷ [])
-    ≡ (made_room events || makes_room e)
-room_more events e =
-    list_any-append makes_room events (e ∷ [])
-    ∙ ap (λ b. made_room events || b) (or_false (makes_room e))
+any_more : (f : Event → Bool) (events : List Event) (e : Event) →
+    list_any f (events ++ e ∷ []) ≡ (list_any f events || f e)
+any_more f events e =
+    list_any-append f events (e ∷ []) ∙ ap (λ b. list_any f events || b) (or_false (f e))
+
+-- after one more event
+seen_more : (events : List Event) (e : Event) → seen (events ++ e ∷ []) ≡ seen_after (seen events) e
+seen_more events e =
+    rw (
+      any_more makes_room events e,
+      any_more (passes_by is_tls) events e,
+      any_more (passes_by is_ziop) events e,
+    ) refl
 
 -- what is known of all events is known after one more
-pub room_on : (events : List Event) (e : Event) (before after : Bool) → before ≡ made_room events →
-    after ≡ (before || makes_room e) → after ≡ made_room (events ++ e ∷ [])
-room_on events e before after same now =
-    now ∙ ap (λ b. b || makes_room e) same ∙ sym (room_more events e)
+pub seen_on : (events : List Event) (e : Event) (before after : Seen) → before ≡ seen events →
+    after ≡ seen_after before e → after ≡ seen (events ++ e ∷ [])
+seen_on events e before after same now =
+    now ∙ ap (λ (s : Seen). seen_after s e) same ∙ sym (seen_more events e)
 
--- an event that makes no room changes nothing
-pub room_stays : (events : List Event) (e : Event) (made : Bool) → makes_room e ≡ false →
-    made ≡ made_room events → made ≡ made_room (events ++ e ∷ [])
-room_stays events e made none same =
-    room_on events e made made same (sym (or_false made) ∙ ap (λ b. made || b) (sym none))
+-- an event of which no notice is told changes nothing
+pub seen_stays : (events : List Event) (e : Event) (s : Seen) → makes_room e ≡ false →
+    passes_by is_tls e ≡ false → passes_by is_ziop e ≡ false →
+    s ≡ seen events → s ≡ seen (events ++ e ∷ [])
+seen_stays events e s room tls ziop same =
+    seen_on events e s s same
+    (rw (room, tls, ziop, or_false s.room, or_false s.tls, or_false s.ziop) refl)
+
+-- a stream that closes
+pub seen_closed : (s : Seen) (flow : ℕ) (cause : CloseCause) (room : Bool) →
+    room ≡ (s.room || is_room cause) →
+    record s { room = room } ≡ seen_after s (Closes flow cause)
+seen_closed s flow cause room is = rw (is, or_false s.tls, or_false s.ziop) refl
 
 -- ---- What was put stays over a flush.
 
@@ -91,7 +110,7 @@ told_on c put below failures S written events none kept told =
     }
 
 pub kept_on : {O : Type 0} (begins : Setup → List ℕ → Type 0) (c d : Conversations O)
-    (events : List Event) (made : Bool)
+    (events : List Event) (made : Seen)
     → d ≡ record c {
       out = record c.out {
         whole = d.out.whole;
@@ -101,9 +120,9 @@ pub kept_on : {O : Type 0} (begins : Setup → List ℕ → Type 0) (c d : Conve
     }
     → d.out.failures ≡ c.out.failures → Keeps c.out.whole d.out.whole
     → Follows c events × ((S : Setup) (written : List ℕ) → begins S written →
-    Told S written events c) × (made ≡ made_room events)
+    Told S written events c) × (made ≡ seen events)
     → Follows d events × ((S : Setup) (written : List ℕ) → begins S written →
-    Told S written events d) × (made ≡ made_room events)
+    Told S written events d) × (made ≡ seen events)
 kept_on begins c d events made same none kept h = (
   subst (λ x. Follows x events) (sym same) h.0,
   λ S written b. subst (λ x. Told S written events x) (sym same)

@@ -41,6 +41,8 @@ impl Notices for Console<'_> {
                 let connections = self.connections;
                 eprintln!(self.rt; "{PROGRAM}: more than {connections} connections: --connections")
             }
+            Notice::Tls => eprintln!(self.rt; "{PROGRAM}: TLS isn't read"),
+            Notice::Ziop => eprintln!(self.rt; "{PROGRAM}: ZIOP isn't read"),
         };
     }
 }

@@ -12,7 +12,7 @@ ghost use Rattle.giop_conversation.specs.Follows.{Follows};
 ghost use Rattle.giop_conversation.specs.Followed.{reader_faulted};
 ghost use Rattle.giop_run.specs.Files.{NoStream, stream_of};
 ghost use Rattle.giop_run.specs.Joint.{CataloguesOf};
-ghost use Rattle.giop_capture_run.specs.Notices.{made_room};
+ghost use Rattle.giop_capture_run.specs.Notices.{seen};
 ghost use Rattle.giop_capture_run.specs.PacketState.{HasRead};
 ghost use Rattle.giop_capture_program.specs.Failures.{fault_of, log_of};
 ghost use Rattle.giop_capture_program.specs.Seen.{SeenWhereReadingFailed};
@@ -158,7 +158,7 @@ fn reader<'c, O: Flush + Drop, N: Notices + Drop, B: Beginning>(
     ensures { IfOk result (λ r. HasRead (λ events. Follows r.streams.listener.conversations events
         × ((S : Setup) (written : List ℕ) → B.begins S written
         → Told S written events r.streams.listener.conversations)
-        × (r.streams.listener.made_room ≡ made_room events)) (N.told r.notices)
+        × (r.streams.listener.seen ≡ seen events)) (N.told r.notices)
         reader_faulted r.connections r.streams.live.items r.unread.told.items
         (none_known asked.entry.ports.items asked.entry.pool asked.entry.connections []) []) }
 {

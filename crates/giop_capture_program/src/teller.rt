@@ -1,10 +1,11 @@
 //! The conversations of a capture, as they are told what happens in its flows.
 
-ghost use Rattle.std.specs.Prelude.{◌≡◌, ◌<◌, ◌⊎◌, ◌||◌, true, false, nat_lt};
-ghost use Rattle.giop_capture_run.specs.Notices.{is_room};
+ghost use Rattle.std.specs.Prelude.{◌≡◌, ◌<◌, ◌⊎◌, ◌||◌, [], true, nat_lt};
+ghost use Rattle.tcp_flow.specs.Flow.{OfCapture, Passes};
+ghost use Rattle.giop_capture_run.specs.Notices.{is_room, seen, seen_after};
 
 use capture_file::CaptureFault;
-use giop_capture_run::CaptureListener;
+use giop_capture_run::{CaptureListener, Seen, is_tls, is_ziop};
 use giop_conversation::Conversations;
 use giop_run::Flush;
 use std::marker::PhantomData;
@@ -33,8 +34,8 @@ impl Beginning for Unknown {
 #[derive(Drop)]
 pub struct Teller<'a, O: Flush + Drop, B: Beginning> {
     conversations: Conversations<'a, O>,
-    /// Whether a stream closed because its connection made room for another.
-    made_room: bool,
+    /// Of which notices are told.
+    seen: Seen,
     beginning: PhantomData<B>,
 }
 
@@ -42,11 +43,15 @@ impl<'a, O: Flush + Drop, B: Beginning> Teller<'a, O, B> {
     /// Tells these conversations.
     pub fn new(conversations: Conversations<'a, O>) -> Teller<'a, O, B>
         ensures conversations { result.conversations ≡ conversations.entry }
-        ensures none { result.made_room ≡ false }
+        ensures none { result.seen ≡ seen [] }
     {
         Teller {
             conversations,
-            made_room: false,
+            seen: Seen {
+                room: false,
+                tls: false,
+                ziop: false,
+            },
             beginning: PhantomData,
         }
     }
@@ -84,10 +89,21 @@ fn has_made_room(before: bool, cause: CloseCause) -> bool
     }
 }
 
+/// What was seen after a payload in which no stream begins.
+fn seen_in(before: Seen, octets: &[u8]) -> Seen
+    ensures { result ≡ seen_after before (OfCapture (Passes octets.now)) }
+{
+    Seen {
+        room: before.room,
+        tls: before.tls || is_tls(octets),
+        ziop: before.ziop || is_ziop(octets),
+    }
+}
+
 impl<'a, O: Flush + Drop, B: Beginning> Listener for Teller<'a, O, B> {
     ghost use Rattle.std.specs.Prelude.{◌≡◌, ◌<◌, List, ℕ};
     ghost use Rattle.giop_conversation.specs.Captured.{Setup};
-    ghost use Rattle.giop_capture_run.specs.Notices.{made_room};
+    ghost use Rattle.giop_capture_run.specs.Notices.{seen};
     ghost use Rattle.giop_conversation.specs.Follows.{Follows};
     ghost use Rattle.giop_conversation.specs.Followed.{reader_faulted};
     ghost use Rattle.giop_conversation.specs.DumpTold.{Told};
@@ -96,7 +112,7 @@ impl<'a, O: Flush + Drop, B: Beginning> Listener for Teller<'a, O, B> {
     ghost observed = { λ t events. Follows t.conversations events
         × ((S : Setup) (written : List ℕ) → B.begins S written
         → Told S written events t.conversations)
-        × (t.made_room ≡ made_room events) };
+        × (t.seen ≡ seen events) };
 
     ghost failed = { λ t. 0 < t.conversations.out.failures };
 
@@ -111,7 +127,8 @@ impl<'a, O: Flush + Drop, B: Beginning> Listener for Teller<'a, O, B> {
         self.conversations.comes_from(arrival);
     }
 
-    fn passes(&mut self, _octets: &[u8]) {
+    fn passes(&mut self, octets: &[u8]) {
+        self.seen = seen_in(self.seen, octets);
         self.conversations.passes();
     }
 
@@ -130,7 +147,7 @@ impl<'a, O: Flush + Drop, B: Beginning> Listener for Teller<'a, O, B> {
     }
 
     fn closes(&mut self, flow: u32, cause: CloseCause) -> Result<(), ListenerFault> {
-        self.made_room = has_made_room(self.made_room, cause);
+        self.seen.room = has_made_room(self.seen.room, cause);
         match self.conversations.closes(flow, cause) {
             Ok(()) => Ok(()),
             Err(_) => Err(ListenerFault),
@@ -154,8 +171,8 @@ impl<'a, O: Flush + Drop, B: Beginning> CaptureListener for Teller<'a, O, B> {
         B.begins S written
         → HasText S written events packets octets faulty t.conversations.out.whole };
 
-    fn made_room(&self) -> bool {
-        self.made_room
+    fn seen(&self) -> Seen {
+        self.seen
     }
 
     fn has_fault(&mut self, fault: CaptureFault) -> Result<(), ListenerFault> {

@@ -12,10 +12,11 @@ use Rattle.tcp_connections.specs.Connections.{State, with_packet}
 use Rattle.tcp_connections.specs.State.{IsState}
 use Rattle.giop_print.specs.declared.sink.OutFault.{OutFault}
 use Rattle.giop_capture_run.specs.Packets.{Taken}
-use Rattle.giop_capture_run.specs.Arrivals.{with_segment, packet_arrived, after_packets, links_noted, links_from, link_notices, room_notices, notices_from, notices_told}
-use Rattle.giop_capture_run.specs.Notices.{once, made_room}
+use Rattle.giop_capture_run.specs.Arrivals.{with_segment, packet_arrived, after_packets, links_noted, links_from, link_notices, notices_from, notices_told}
+use Rattle.giop_capture_run.specs.Notices.{once, seen, new_notices}
 use Rattle.giop_capture_run.specs.declared.notices.Notice.{Notice}
-use Rattle.giop_capture_run.specs.declared.notices.Notice.TheVariants.{NoRoom}
+use Rattle.giop_capture_run.specs.declared.notices.Notice.TheVariants.{NoRoom, Tls, Ziop}
+use Rattle.giop_capture_run.specs.declared.notices.Seen.{Seen}
 use Rattle.giop_capture_run.specs.PacketState.{HasRead}
 use Rattle.giop_capture_run.proofs.ShortSegments.{short}
 
@@ -48,44 +49,50 @@ links_more told (q ∷ ps) p = links_more (links_noted told q.head.link) ps p
 pub notices_more : (F : Reader) (w : State) (told : List ℕ) (ps : List Taken) (p : Taken)
     → notices_from F w told (ps ++ p ∷ [])
     ≡ notices_from F w told ps ++ (link_notices (links_from told ps) p.head.link
-    ++ room_notices (after_packets F w ps).events
-    (packet_arrived F (after_packets F w ps) p).events)
+    ++ new_notices (seen (after_packets F w ps).events)
+    (seen (packet_arrived F (after_packets F w ps) p).events))
 unfolding after_packets links_from notices_from
 notices_more F w told [] p = append-nil _
 notices_more F w told (q ∷ ps) p =
     let due : List Notice = link_notices told q.head.link
-    ++ room_notices w.events (packet_arrived F w q).events in
+    ++ new_notices (seen w.events) (seen (packet_arrived F w q).events) in
     ap (λ v. due ++ v)
     (notices_more F (packet_arrived F w q) (links_noted told q.head.link) ps p)
     ∙ sym (append_assoc due _ _)
 
 -- ---- What one packet more tells.
 
-nothing_new : (b : Bool) → once NoRoom b b ≡ []
-nothing_new true = refl
-nothing_new false = refl
+seen_before : (n : Notice) (b : Bool) → once n b b ≡ []
+seen_before n true = refl
+seen_before n false = refl
+
+nothing_new : (s : Seen) → new_notices s s ≡ []
+nothing_new s = rw (seen_before NoRoom s.room, seen_before Tls s.tls, seen_before Ziop s.ziop) refl
 
 -- without a segment: its link type alone
 pub told_link : (T : List Notice → Type 0) (F : Reader) (start : State) (ps : List Taken)
     (p : Taken) (told due : List Notice) → segment p.head.link p.octets ≡ None → T (told ++ due)
-    → T (told ++ (due ++ room_notices (after_packets F start ps).events
-    (packet_arrived F (after_packets F start ps) p).events))
+    → T (told ++ (due ++ new_notices (seen (after_packets F start ps).events)
+    (seen (packet_arrived F (after_packets F start ps) p).events)))
 unfolding packet_arrived
 told_link T F start ps p told due none h =
     let w = after_packets F start ps in
-    let quiet : room_notices w.events (packet_arrived F w p).events ≡ [] =
+    let quiet : new_notices (seen w.events) (seen (packet_arrived F w p).events) ≡ [] =
     ap (λ (s : Option Segment).
-    room_notices w.events (with_segment F (with_packet w p.head.time) s).events) none
-    ∙ nothing_new (made_room w.events) in
+    new_notices (seen w.events)
+    (seen (with_segment F (with_packet w p.head.time) s).events)) none
+    ∙ nothing_new (seen w.events) in
     rw (quiet, append-nil due) h
 
--- with one: whether its flows made room too
-pub told_room : (T : List Notice → Type 0) (told due : List Notice) (before after : Bool)
-    (first next : List Event) → before ≡ made_room first → after ≡ made_room next
-    → T ((told ++ due) ++ once NoRoom before after)
-    → T (told ++ (due ++ room_notices first next))
-told_room T told due before after first next b a h =
-    rw (← b, ← a, ← append_assoc told due (once NoRoom before after)) h
+-- with one: what was seen in its flows too
+pub told_seen : (T : List Notice → Type 0) (told due : List Notice) (before after : Seen)
+    (first next : List Event) → before ≡ seen first → after ≡ seen next
+    → T ((told ++ due) ++ new_notices before after)
+    → T (told ++ (due ++ new_notices (seen first) (seen next)))
+told_seen T told due before after first next b a h =
+    subst (λ (y : Seen). T (told ++ (due ++ new_notices (seen first) y))) a
+    (subst (λ (x : Seen). T (told ++ (due ++ new_notices x after))) b
+    (subst T (append_assoc told due (new_notices before after)) h))
 
 -- its segment came, or it has none
 pub segment_came : (O : List Event → Type 0) (live : List ℕ) (c : Connections) (F : Reader)
@@ -121,8 +128,8 @@ pub read_more : (O O' : List Event → Type 0) (T T' : List Notice → Type 0) (
     → IsState O' live' c' (after_packets F start (ps ++ p ∷ [])) → c'.segments ≤ c.segments + 1
     → links' ≡ links_noted links p.head.link
     → ((told : List Notice) → T told → T' (told ++ (link_notices links p.head.link
-    ++ room_notices (after_packets F start ps).events
-    (packet_arrived F (after_packets F start ps) p).events)))
+    ++ new_notices (seen (after_packets F start ps).events)
+    (seen (packet_arrived F (after_packets F start ps) p).events))))
     → HasRead O' T' F c' live' links' start (ps ++ p ∷ [])
 read_more O O' T T' F c c' live live' links links' start ps p h state few same told =
     record {

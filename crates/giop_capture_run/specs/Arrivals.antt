@@ -8,9 +8,9 @@ use Rattle.tcp_segment.specs.Segments.{Segment, segment}
 use Rattle.tcp_flow.specs.Flow.{Event, Reader, HasFault}
 use Rattle.tcp_connections.specs.Connections.{State, with_packet, with_capture_event, step, ended}
 use Rattle.giop_capture_run.specs.Links.{is_new, told_after}
-use Rattle.giop_capture_run.specs.Notices.{once, made_room}
+use Rattle.giop_capture_run.specs.Notices.{seen, new_notices}
 use Rattle.giop_capture_run.specs.declared.notices.Notice.{Notice}
-use Rattle.giop_capture_run.specs.declared.notices.Notice.TheVariants.{UnreadLink, NoRoom}
+use Rattle.giop_capture_run.specs.declared.notices.Notice.TheVariants.{UnreadLink}
 use Rattle.giop_capture_run.specs.Packets.{Taken, taken_of}
 
 -- a packet's segment comes, where it has one
@@ -71,15 +71,12 @@ abbrev pub link_notices : List ℕ → ℕ → List Notice
 link_notices told link =
     if is_link_read link then [] else cond (is_new most_links told link) (UnreadLink link ∷ []) []
 
--- that of what a packet does: of the first stream that closes because its connection makes room
-abbrev pub room_notices : List Event → List Event → List Notice
-room_notices before after = once NoRoom (made_room before) (made_room after)
-
 -- the notices of packets that come to a state, after these link types were told
 unfoldable pub notices_from : Reader → State → List ℕ → List Taken → List Notice
 notices_from F w told [] = []
 notices_from F w told (p ∷ ps) =
-    (link_notices told p.head.link ++ room_notices w.events (packet_arrived F w p).events)
+    (link_notices told p.head.link
+    ++ new_notices (seen w.events) (seen (packet_arrived F w p).events))
     ++ notices_from F (packet_arrived F w p) (links_noted told p.head.link) ps
 
 abbrev pub notices_told : Reader → State → List Taken → List Notice

@@ -16,7 +16,7 @@ pub use ending::{Ending, dump_capture, read_capture};
 pub use laws::no_stream_of_a_capture_has_a_gap;
 pub use links::UnreadLinks;
 pub use listening::{CaptureListener, PacketListener};
-pub use notices::{Notice, Notices};
+pub use notices::{Notice, Notices, Seen, is_tls, is_ziop};
 pub use packets::PacketReader;
 pub use reading::read_packets;
 pub use room::packet_reader;

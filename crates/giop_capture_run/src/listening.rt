@@ -2,6 +2,7 @@
 
 ghost use Rattle.std.specs.Prelude.{◌≡◌, ◌<◌, ◌≤◌, ◌^◌, List, ℕ, [], ◌∷◌, ◌++◌, length, Bool, IfOk, OnOk, OnErr};
 
+use crate::notices::Seen;
 use capture_file::{CaptureFault, Packet};
 use giop_print::OutFault;
 use tcp_flow::{Listener, ListenerFault};
@@ -43,7 +44,7 @@ pub trait PacketListener {
 pub trait CaptureListener: Listener {
     ghost use Rattle.tcp_flow.specs.Flow.{Event, OfCapture, HasFault};
     ghost use Rattle.capture_file.specs.FaultWords.{fault_word};
-    ghost use Rattle.giop_capture_run.specs.Notices.{made_room};
+    ghost use Rattle.giop_capture_run.specs.Notices.{seen};
 
     /// All that it has written is to be seen.
     ghost flushed: { Self → Type 0 };
@@ -55,10 +56,10 @@ pub trait CaptureListener: Listener {
     /// was a fault, or a stream that was cut.
     ghost finished: { Self → List Event → ℕ → ℕ → Bool → Type 0 };
 
-    /// Whether a stream closed so far because its connection made room for another.
-    fn made_room(&self) -> bool
+    /// What was seen so far of which notices are told.
+    fn seen(&self) -> Seen
         ensures { (events : List Event) → Self.observed self.now events
-            → result ≡ made_room events };
+            → result ≡ seen events };
 
     /// The capture has a fault, and ends there.
     fn has_fault(&mut self, fault: CaptureFault) -> Result<(), ListenerFault>

@@ -14,7 +14,7 @@ ghost use Rattle.giop_capture_run.specs.PacketState.{HasRead};
 
 use crate::links::UnreadLinks;
 use crate::listening::{CaptureListener, PacketListener};
-use crate::notices::{Notice, Notices, tell_once};
+use crate::notices::{Notice, Notices, tell_new};
 use capture_file::{CaptureFault, Packet};
 use giop_print::OutFault;
 use tcp_connections::Connections;
@@ -142,10 +142,10 @@ impl<L: CaptureListener + Drop, N: Notices + Drop> PacketListener for PacketRead
         let Some(segment) = segment(packet.link, packet.octets) else {
             return Ok(());
         };
-        let before = self.streams.listener.made_room();
+        let before = self.streams.listener.seen();
         heard(self.connections.take(segment, &mut self.streams))?;
-        let after = self.streams.listener.made_room();
-        tell_once(Notice::NoRoom, before, after, &mut self.notices);
+        let after = self.streams.listener.seen();
+        tell_new(before, after, &mut self.notices);
         Ok(())
     }
 

@@ -71,7 +71,7 @@ returns-clause-refused g c =
     let log = g.O.Out.log c.into_out-out.result in
     inr (stopped c.in-Err-2.fault g.B.Beginning.begins
     c.dump_capture-ended.new.reader.streams.listener.conversations
-    c.dump_capture-ended.new.reader.streams.listener.made_room _ asked _ _ _ _ s.0 _ _ log
+    c.dump_capture-ended.new.reader.streams.listener.seen _ asked _ _ _ _ s.0 _ _ log
     same
     (λ o. by_put _ _ _ c.is_full-is_full.ensures c.if-is_full.false
     (c.into_out-out.ensures.cause

@@ -2,7 +2,7 @@
 use Rattle.std.proofs.Common.{refl}
 use Rattle.capture_file.specs.FaultWords.{fault_word}
 use Rattle.tcp_flow.specs.Flow.{OfCapture, HasFault}
-use Rattle.giop_capture_program.proofs.TellerLemmas.{followed_on, room_stays}
+use Rattle.giop_capture_program.proofs.TellerLemmas.{followed_on, seen_stays}
 use Rattle.giop_capture_program.proofs.teller.TellerCaptureListener.has_fault.Goals as goal
 
 pub returns-in-Ok-clause-does : goal.returns-in-Ok-clause-does
@@ -11,6 +11,7 @@ returns-in-Ok-clause-does g c =
       followed_on c.fault.new.self.rooms.items events _ (c.in-Ok.ensures.follows events h.0),
       λ S written begins. rw (← c.word.ensures)
           (c.in-Ok.ensures.told S written events (h.1 S written begins)),
-      room_stays events
-          (OfCapture (HasFault (fault_word c.args.fault.kind) c.args.fault.place)) _ refl h.2,
+      seen_stays events
+          (OfCapture (HasFault (fault_word c.args.fault.kind) c.args.fault.place)) _ refl refl
+          refl h.2,
     )

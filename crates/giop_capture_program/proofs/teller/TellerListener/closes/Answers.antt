@@ -1,6 +1,6 @@
 -- The last lines of the stream are written.
 use Rattle.tcp_flow.specs.Flow.{Closes}
-use Rattle.giop_capture_program.proofs.TellerLemmas.{room_on}
+use Rattle.giop_capture_program.proofs.TellerLemmas.{seen_on, seen_closed}
 use Rattle.giop_capture_program.proofs.teller.TellerListener.closes.Goals as goal
 
 pub returns-in-Ok-clause-does : goal.returns-in-Ok-clause-does
@@ -8,5 +8,6 @@ returns-in-Ok-clause-does g c =
     λ events h. (
       c.in-Ok.ensures.follows events h.0,
       λ S written begins. c.in-Ok.ensures.told S written events (h.1 S written begins),
-      room_on events (Closes c.args.flow c.args.cause) _ _ h.2 c.has_made_room-self.ensures,
+      seen_on events (Closes c.args.flow c.args.cause) _ _ h.2
+          (seen_closed _ c.args.flow c.args.cause _ c.has_made_room-self-seen.ensures),
     )

@@ -1,7 +1,7 @@
 -- A packet changes no stream.
 use Rattle.std.proofs.Common.{refl}
 use Rattle.tcp_flow.specs.Flow.{OfCapture, ComesFrom}
-use Rattle.giop_capture_program.proofs.TellerLemmas.{followed_on, room_stays}
+use Rattle.giop_capture_program.proofs.TellerLemmas.{followed_on, seen_stays}
 use Rattle.giop_capture_program.proofs.teller.TellerListener.comes_from.Goals as goal
 
 pub returns : goal.returns
@@ -10,5 +10,5 @@ returns g c =
       rw c.comes_from.ensures.value (followed_on c.args.self.now.conversations.rooms.items
           events _ h.0),
       λ S written begins. c.comes_from.ensures.told S written events (h.1 S written begins),
-      room_stays events (OfCapture (ComesFrom c.args.arrival)) _ refl h.2,
+      seen_stays events (OfCapture (ComesFrom c.args.arrival)) _ refl refl refl h.2,
     )

@@ -1,7 +1,7 @@
 -- The lines of the octets are written.
 use Rattle.std.proofs.Common.{refl}
 use Rattle.tcp_flow.specs.Flow.{Delivers}
-use Rattle.giop_capture_program.proofs.TellerLemmas.{room_stays}
+use Rattle.giop_capture_program.proofs.TellerLemmas.{seen_stays}
 use Rattle.giop_capture_program.proofs.teller.TellerListener.delivers.Goals as goal
 
 pub returns-in-Ok-clause-does : goal.returns-in-Ok-clause-does
@@ -11,7 +11,7 @@ returns-in-Ok-clause-does g c =
       (
         follows.0,
         λ S written begins. c.in-Ok.ensures.told S written events (h.1 S written begins),
-        room_stays events (Delivers c.args.flow c.args.octets.now) _ refl h.2,
+        seen_stays events (Delivers c.args.flow c.args.octets.now) _ refl refl refl h.2,
       ),
       follows.1,
     )

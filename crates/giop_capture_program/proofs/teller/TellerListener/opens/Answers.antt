@@ -1,7 +1,7 @@
 -- Who sends to whom is known, and nothing is written.
 use Rattle.std.proofs.Common.{refl}
 use Rattle.tcp_flow.specs.Flow.{Opens}
-use Rattle.giop_capture_program.proofs.TellerLemmas.{room_stays}
+use Rattle.giop_capture_program.proofs.TellerLemmas.{seen_stays}
 use Rattle.giop_capture_program.proofs.teller.TellerListener.opens.Goals as goal
 
 pub returns-clause-does : goal.returns-clause-does
@@ -9,5 +9,5 @@ returns-clause-does g c =
     λ events h. (
       c.opens.ensures.follows events h.0,
       λ S written begins. c.opens.ensures.told S written events (h.1 S written begins),
-      room_stays events (Opens c.args.flow c.args.endpoints) _ refl h.2,
+      seen_stays events (Opens c.args.flow c.args.endpoints) _ refl refl refl h.2,
     )

@@ -1,7 +1,6 @@
 -- A payload in which no stream begins is counted.
-use Rattle.std.proofs.Common.{refl}
 use Rattle.tcp_flow.specs.Flow.{OfCapture, Passes}
-use Rattle.giop_capture_program.proofs.TellerLemmas.{room_stays}
+use Rattle.giop_capture_program.proofs.TellerLemmas.{seen_on}
 use Rattle.giop_capture_program.proofs.teller.TellerListener.passes.Goals as goal
 
 pub returns : goal.returns
@@ -9,5 +8,5 @@ returns g c =
     λ events h. (
       c.passes.ensures.follows events _ h.0,
       λ S written begins. c.passes.ensures.told S written events _ (h.1 S written begins),
-      room_stays events (OfCapture (Passes c.args._octets.now)) _ refl h.2,
+      seen_on events (OfCapture (Passes c.args.octets.now)) _ _ h.2 c.seen_in-self.ensures,
     )

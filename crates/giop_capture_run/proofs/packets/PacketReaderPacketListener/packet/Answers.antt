@@ -6,7 +6,7 @@ use Rattle.tcp_connections.specs.Connections.{State, with_packet}
 use Rattle.tcp_connections.proofs.States.{packet_read}
 use Rattle.giop_capture_run.specs.Packets.{packet_view}
 use Rattle.giop_capture_run.specs.Arrivals.{after_packets, packet_arrived}
-use Rattle.giop_capture_run.proofs.Arriving.{after_more, both, heard_ok, read_more, segment_came, segment_of, payload_short, told_link, told_room}
+use Rattle.giop_capture_run.proofs.Arriving.{after_more, both, heard_ok, read_more, segment_came, segment_of, payload_short, told_link, told_seen}
 use Rattle.giop_capture_run.proofs.packets.PacketReaderPacketListener.packet.Goals as goal
 
 pub take-requires-clause-state : goal.take-requires-clause-state
@@ -64,7 +64,7 @@ returns-clause-does g c =
     let observed = rw (after_more g.L.Listener.faulted start packets p) at state.observed in
     read_more _ _ _ _ _ _ _ _ _ _ _ start packets p h state
     (let n = k.1 in omega (arith, few)) c.note_link.ensures.items
-    (λ told before. told_room (g.N.Notices.told c.tell_once.new.notices) told _ _ _
-    w.events next.events (c.made_room-before.ensures w.events h.state.observed)
-    (c.made_room-after.ensures next.events observed)
-    (c.tell_once.ensures _ (c.note_link.ensures.told told before)))
+    (λ told before. told_seen (g.N.Notices.told c.tell_new.new.notices) told _ _ _
+    w.events next.events (c.seen-before.ensures w.events h.state.observed)
+    (c.seen-after.ensures next.events observed)
+    (c.tell_new.ensures _ (c.note_link.ensures.told told before)))

@@ -1,5 +1,0 @@
--- It is known of all events.
-use Rattle.giop_capture_program.proofs.teller.TellerCaptureListener.made_room.Goals as goal
-
-pub returns : goal.returns
-returns g c = λ events h. h.2

@@ -1,0 +1,5 @@
+-- It is known of all events.
+use Rattle.giop_capture_program.proofs.teller.TellerCaptureListener.seen.Goals as goal
+
+pub returns : goal.returns
+returns g c = λ events h. h.2
