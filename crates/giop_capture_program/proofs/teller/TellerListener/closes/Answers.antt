@@ -9,5 +9,5 @@ returns-in-Ok-clause-does g c =
       c.in-Ok.ensures.follows events h.0,
       λ S written begins. c.in-Ok.ensures.told S written events (h.1 S written begins),
       seen_on events (Closes c.args.flow c.args.cause) _ _ h.2
-          (seen_closed _ c.args.flow c.args.cause _ c.has_made_room-self-seen.ensures),
+          (seen_closed _ c.args.flow c.args.cause _ c.has_made_room-self.ensures),
     )
