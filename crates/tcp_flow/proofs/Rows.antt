@@ -3,7 +3,7 @@ use Rattle.std.proofs.Common.{◌≡◌, ℕ, Bool, false, cond, nat_eq, List, [
 use Rattle.tcp_flow.specs.declared.flow.CloseCause.TheVariants.{Fin, Gap, Fault}
 use Rattle.tcp_waiting.specs.declared.arrival.Arrival as origin
 use Rattle.tcp_waiting.specs.Payload.{earlier, first, blocks_of, is_far, has_as_much, place_of}
-use Rattle.tcp_flow.specs.Flow.{Event, Begins, Delivers, Closes, OfCapture, ComesFrom, Passes, Setting, Arrival, Octets, End, Hears, header_at, chain_from, stream_at, left, with_event, checked, delivered, begun, told_from, taken, first_of, at, is_due, drained_at_most, drained, fin_is_reached, closed, without_stale_fin, ended, gone_on, gap, is_too_much, within_bounds, holding, payload_came, fin_came, is_lost, heard, step, after, first_payload}
+use Rattle.tcp_flow.specs.Flow.{Event, Begins, Delivers, Closes, OfCapture, ComesFrom, Passes, Setting, Arrival, Octets, End, Hears, header_at, chain_from, stream_at, left, with_event, checked, delivered, cut_up, tail_before, begun, all_delivered, rejoined, looked_through, told_from, taken, first_of, at, is_due, drained_at_most, drained, fin_is_reached, closed, without_stale_fin, ended, gone_on, gap, is_too_much, within_bounds, holding, payload_came, fin_came, is_lost, heard, step, after, first_payload}
 
 -- the reader is at a fault at its 7th octet where what it was handed last begins with an octet 255
 unfoldable is_bad : Event → Option ℕ
@@ -143,8 +143,8 @@ record Rows : Type 0 where
       octets 1014 (4 ∷ []) ∷ []) 1000) ≡ first_begins ∷ Delivers 7 header ∷ Closes 7 Gap ∷ []
 
 rows : Rows
-unfolding header_at chain_from stream_at left with_event checked delivered begun told_from taken
-    earlier first first_of at is_due drained_at_most drained fin_is_reached closed without_stale_fin ended
+unfolding header_at chain_from stream_at left with_event checked delivered begun cut_up tail_before
+    all_delivered rejoined looked_through told_from taken earlier first first_of at is_due drained_at_most drained fin_is_reached closed without_stale_fin ended
     gone_on gap blocks_of is_far is_too_much within_bounds has_as_much holding place_of payload_came
     fin_came is_lost heard step after first_payload events in_flows setting packet octets
     acknowledged held_at heard_at header message begins_at first_begins any_bad is_bad
