@@ -364,13 +364,17 @@ runs_grow payloads p id before (h ∷ hs) behind r = (
   ),
 )
 
+pub tail_grows : (payloads : List Payload) (p : Payload) (id : ℕ) (t : Tail) →
+    IsTailOf (IsPartOf payloads id) t → IsTailOf (IsPartOf (payloads ++ p ∷ []) id) t
+tail_grows payloads p id t h = tail_map (IsPartOf payloads id) (IsPartOf (payloads ++ p ∷ []) id) t
+    (λ n xs h. has_grow payloads p id n xs h) h
+
 pub true_grows : (payloads : List Payload) (p : Payload) (f : Flow) → IsGapless payloads f →
     IsGapless (payloads ++ p ∷ []) f
 true_grows payloads p f t = record {
   next = t.next;
   held = all_grow payloads p f.held t.held;
-  tail = λ u e. tail_map (IsPartOf payloads f.id) (IsPartOf (payloads ++ p ∷ []) f.id) u
-      (λ n xs h. has_grow payloads p f.id n xs h) (t.tail u e);
+  tail = λ u e. tail_grows payloads p f.id u (t.tail u e);
   events = runs_grow payloads p f.id None f.events (due_of f) t.events;
 }
 
