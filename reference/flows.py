@@ -3,7 +3,7 @@
 from __future__ import annotations
 
 from dataclasses import dataclass, field
-from typing import Dict, FrozenSet, List, NamedTuple, Optional, Tuple
+from typing import Dict, FrozenSet, List, NamedTuple, Optional, Set, Tuple
 
 from .encoding import HEADER
 from .packets import Endpoint, Flow, Segment
@@ -20,7 +20,7 @@ class Limits:
     number of the first stream."""
 
     ports: FrozenSet[int] = frozenset()
-    connections: int = 256
+    connections: int = 1024
     blocks: int = 16384
     first: int = 1
 
@@ -35,15 +35,25 @@ class Delivery(NamedTuple):
     end: int
 
 
+class Start(NamedTuple):
+    """What is known of a stream where it begins: the number of the opposite flow's live stream, 0 if none lives; how many
+    octets of its own flow are in no stream before it; and whether it was looked for."""
+
+    partner: int
+    passed: int
+    is_found: bool
+
+
 @dataclass
 class Stream:
-    """A stream: the flow and the packet in which it began, its octets, how they came, and the word with which it closed, when,
-    and the packet that was read then."""
+    """A stream: the flow and the packet in which it began, what is known of its beginning, its octets, how they came, and the
+    word with which it closed, when, and the packet that was read then."""
 
     number: int
     flow: Flow
     connection: int
     packet: int
+    start: Start
     octets: bytearray = field(default_factory=bytearray)
     deliveries: List[Delivery] = field(default_factory=list)
     closed: Tuple[str, int, int] = ("", 0, 0)
@@ -59,7 +69,7 @@ class Held(NamedTuple):
 
 
 class FlowState:
-    """One flow of a known connection, from its first payload with a stream on."""
+    """One flow of a known connection, from its first payload on."""
 
     def __init__(self, flow: Flow, due: int, capture: Capture, connection: Connection) -> None:
         self._flow = flow
@@ -69,6 +79,9 @@ class FlowState:
         self._fin: Optional[int] = None
         self._next_message = 0  # of the live stream: after how many of its octets its next message begins
         self._began = 0
+        self._since = due  # from where on octets are in no stream, while none lives
+        self._has_begun = False  # a stream of the flow
+        self._tail: Optional[Held] = None  # what was looked through last and may begin a header
         self.live: Optional[Stream] = None
         self.held: List[Held] = []
 
@@ -157,27 +170,51 @@ class FlowState:
         """Delivers octets, or those from a header on to a stream that begins."""
         begin = 0
         if self.live is None:
+            held = self._after_tail(held)
             found = stream_at(held.octets)
             if found is None:
+                self._capture.others += 1
+                if is_beginning(held.octets):
+                    self._tail = held
                 return
             begin = found
+            self._tail = None
             self._began = (held.number + begin) % 2**32
             self._next_message = 0
-            self.live = self._capture.begun(self._flow, self._connection, held.packet)
+            self.live = self._capture.begun(self._flow, self._connection, held.packet, self._start())
+            self._has_begun = True
         self._capture.delivered(self.live, held.octets[begin:], held.packet)
         self._due = (held.number + len(held.octets)) % 2**32
         while header := bytes(self.live.octets[self._next_message : self._next_message + HEADER]):
-            if header_fault(header):
+            if fault := header_fault(header):
                 self.close("fault")
+                self._since = (self._began + self._next_message + fault[1]) % 2**32
                 return
             if len(header) < HEADER:
                 return
             self._next_message += HEADER + size_of(header)
 
+    def _after_tail(self, held: Held) -> Held:
+        """What is looked through of a payload: after the tail that it goes on, if there is one."""
+        tail = self._tail
+        if tail is None or (tail.number + len(tail.octets)) % 2**32 != held.number:
+            return held
+        both = tail.octets + held.octets
+        if not is_beginning(both) and not both.startswith(FRONTS):
+            return held
+        return held._replace(number=tail.number, octets=both)
+
+    def _start(self) -> Start:
+        """What is known of a stream that begins."""
+        passed = (self._began - self._since) % 2**32
+        opposite = self._connection.flows.get(self._flow.opposite())
+        return Start(number_of(opposite) if opposite else 0, passed, self._has_begun or passed > 0)
+
     def close(self, word: str) -> None:
         if self.live:
             self._capture.closed(self.live, word)
             self.live = None
+            self._since = self._due
 
     def end(self) -> None:
         """The end of the capture."""
@@ -192,6 +229,11 @@ def stream_at(octets: bytes) -> Optional[int]:
     six octets."""
     place = min((place for place in map(octets.find, FRONTS) if place >= 0), default=None)
     return place if place is None or place == 0 or is_chain(octets[place:]) else None
+
+
+def is_beginning(octets: bytes) -> bool:
+    """Whether octets are a beginning of the six: one to five of them."""
+    return 0 < len(octets) < 6 and FRONTS[0].startswith(octets)
 
 
 def is_chain(octets: bytes) -> bool:
@@ -245,21 +287,23 @@ class Capture:
     def __init__(self, limits: Limits) -> None:
         self.limits = limits
         self.streams: List[Stream] = []
+        self.others = 0  # payloads that were looked through and in which no stream begins
         self.packet = -1  # the packet that is read
         self.time: Optional[int] = None  # of that packet, in nanoseconds
         self._known: Dict[FrozenSet[Endpoint], Connection] = {}
         self._connections = 0
         self._segments = 0
         self._happened = 0
+        self.causes: Set[str] = set()  # of the streams that have closed
 
     def happened(self) -> int:
         """The number of what happens now, in the order of the capture."""
         self._happened += 1
         return self._happened
 
-    def begun(self, flow: Flow, connection: Connection, packet: int) -> Stream:
+    def begun(self, flow: Flow, connection: Connection, packet: int, start: Start) -> Stream:
         self.happened()
-        self.streams.append(Stream(self.limits.first + len(self.streams), flow, connection.number, packet))
+        self.streams.append(Stream(self.limits.first + len(self.streams), flow, connection.number, packet, start))
         self.streams[-1].deliveries.append(Delivery(self._happened, self.packet, packet, 0))
         return self.streams[-1]
 
@@ -268,6 +312,7 @@ class Capture:
         stream.deliveries.append(Delivery(self.happened(), self.packet, packet, len(stream.octets)))
 
     def closed(self, stream: Stream, word: str) -> None:
+        self.causes.add(word)
         stream.closed = (word, self.happened(), self.packet)
 
     def _states(self) -> List[FlowState]:
@@ -292,6 +337,7 @@ class Capture:
             if not self._may_begin(segment):
                 return
             connection = self._made_known(ends)
+            connection.flows[segment.flow] = FlowState(segment.flow, segment.number, self, connection)
         connection.last = self._segments
         opposite = connection.flows.get(segment.flow.opposite())
         if opposite:
@@ -310,9 +356,14 @@ class Capture:
             state.packet_came(None, False)
 
     def _may_begin(self, segment: Segment) -> bool:
-        """Whether a segment has the first stream of its flow."""
+        """Whether a segment has the first payload of its flow: a stream begins in it, or it is a beginning of a header."""
         is_chosen = not self.limits.ports or bool(self.limits.ports & set(segment.flow.ports()))
-        return not segment.is_reset and is_chosen and stream_at(segment.payload) is not None
+        if segment.is_reset or not is_chosen or not segment.payload:
+            return False
+        if stream_at(segment.payload) is None and not is_beginning(segment.payload):
+            self.others += 1
+            return False
+        return True
 
     def _made_known(self, ends: FrozenSet[Endpoint]) -> Connection:
         if len(self._known) == self.limits.connections:

@@ -203,7 +203,8 @@ began_owns segments F w id n octets o small e within own part h =
     let A : Setting = setting F w.blocks in
     let before : Flow = fresh id n w.held w.events in
     let idle : stands_for w.events id ≡ Idle o =
-    idle_of (stands_for w.events id) o (subst (StandsAs segments (stands_for w.events id)) e (h.flows id))
+    idle_of (stands_for w.events id) o
+    (subst (StandsAs segments (stands_for w.events id)) e (h.flows id))
     own in
     owned_flow segments w id o (payload_came A before (payload id n octets w.arrival)) h within own
     (came_own segments (owner_of w.events) id o own A before (payload id n octets w.arrival)

@@ -131,7 +131,8 @@ told_owns segments w event h =
     (stands_now segments w j h) in
     record {
       come = λ j. (all j).come;
-      flows = λ j. subst (λ (s : Standing). StandsAs segments s (flow_at w j)) (sym (all j).is) (h.flows j);
+      flows = λ j. subst (λ (s : Standing). StandsAs segments s (flow_at w j)) (sym (all j).is)
+          (h.flows j);
       held = held_same segments (owner_of w.events) (owner_of events) w.held
           (λ j. ap owner (all j).is) h.held;
       known = theirs_same (owner_of w.events) (owner_of events) w.known w.rooms

@@ -263,8 +263,8 @@ is_chosen ports flow =
     nat_eq (length ports) 0 || list_any (λ port. port == flow.from.port) ports
     || list_any (λ port. port == flow.to.port) ports
 
--- whether a segment's payload is the first of its flow, of which nothing came: a stream begins in it,
--- or it is a beginning of the six octets
+-- whether a segment's payload is the first of its flow, of which nothing came: a stream begins in
+-- it, or it is a beginning of the six octets
 abbrev pub is_first : List ℕ → Segment → Bool
 is_first ports s =
     not s.reset && is_chosen ports s.flow

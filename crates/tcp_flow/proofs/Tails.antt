@@ -262,7 +262,8 @@ last_live F f a xs e = all_live F f a xs [] e
 
 -- ---- What is so of each payload, of which the flow's tail is.
 
-parts_new : (xs : List ℕ) → is_beginning xs ≡ true → (length xs ≤ 5) × (xs ≡ take (length xs) first_five)
+parts_new : (xs : List ℕ) → is_beginning xs ≡ true →
+    (length xs ≤ 5) × (xs ≡ take (length xs) first_five)
 parts_new xs h =
     let few : length xs ≤ 5 = grind arith in
     let front : is_front xs ≡ true = grind arith in
@@ -316,7 +317,8 @@ longer P t n xs h g l few p =
     }
 
 pub tail_longer : (P : ℕ → List ℕ → Type 0) (t : Tail) (n : ℕ) (xs : List ℕ) → IsTailOf P t →
-    goes_on t n xs ≡ true → t.octets + length xs ≤ 5 → P n xs → IsTailOf P (lengthened t (length xs))
+    goes_on t n xs ≡ true → t.octets + length xs ≤ 5 → P n xs →
+    IsTailOf P (lengthened t (length xs))
 tail_longer P t n xs h g l p =
     let more : Tail = record t {
       octets = t.octets + length xs;
@@ -324,9 +326,11 @@ tail_longer P t n xs h g l p =
       parts = set t.parts t.count (length xs);
     } in
     elim (cases_lt t.count 5) [
-      | inl few ↦ subst (IsTailOf P) (sym (cond-true (nat_lt t.count 5) more t (lt-ltb t.count 5 few)))
+      | inl few ↦ subst (IsTailOf P)
+          (sym (cond-true (nat_lt t.count 5) more t (lt-ltb t.count 5 few)))
           (longer P t n xs h g l few p)
-      | inr many ↦ subst (IsTailOf P) (sym (cond-false (nat_lt t.count 5) more t (le-ltb t.count 5 many))) h
+      | inr many ↦ subst (IsTailOf P)
+          (sym (cond-false (nat_lt t.count 5) more t (le-ltb t.count 5 many))) h
     ]
 
 -- so it is of a tail and of what goes on it

@@ -148,7 +148,8 @@ capture_true payloads f e t = record {
 
 delivered_true : (F : Reader) (payloads : List Payload) (g : Flow) (p : Payload) (n : ℕ) →
     AllArePartsOf payloads g.held
-    → ((t : Tail) → g.tail ≡ Some t → IsTailOf (IsPartOf payloads g.id) t) → AllFollow payloads g.id None g.events (Some n) →
+    → ((t : Tail) → g.tail ≡ Some t → IsTailOf (IsPartOf payloads g.id) t)
+    → AllFollow payloads g.id None g.events (Some n) →
     IsPartOf payloads g.id n p.octets → p.number ≡ n → (is_some g.live) ≡ true
     → IsGapless payloads (delivered F g p)
 unfolding delivered with_event OwnMayFollow

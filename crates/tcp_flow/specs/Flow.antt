@@ -52,8 +52,8 @@ setting faulted blocks = record { faulted = faulted; blocks = blocks }
 
 -- a flow: its id, the number that is due, the number that its live stream began with, a FIN to
 -- come; from which number on octets are in no stream, while none lives, and whether one has begun;
--- its tail, which is none while a stream lives; what this and other flows hold, in its order; and
--- what has happened in all of them
+-- its tail: what was looked through last and may begin a header, none while a stream lives; what
+-- this and other flows hold, in its order; and what has happened in all of them
 pub record Flow : Type 0 where
   pub id : ℕ
   pub next : ℕ
@@ -168,8 +168,8 @@ lengthened t count =
       parts = set t.parts t.count count;
     }) t
 
--- whether octets at a number go on a tail, which ends there: both together begin with the six octets,
--- or are a beginning of them
+-- whether octets at a number go on a tail, which ends there: both together begin with the six
+-- octets, or are a beginning of them
 abbrev pub goes_on : Tail → ℕ → List ℕ → Bool
 goes_on t n xs = nat_eq (onward t.number t.octets) n && is_front (octets_of t ++ xs)
 
@@ -224,8 +224,8 @@ started f n =
     with_event (record f { next = n; live = Some n; has_begun = true; tail = None })
     (Begins f.id (start_at f.since f.has_begun n))
 
--- the octets from a header on are delivered to a new stream, if they have one; else they were looked
--- through in vain, and are the flow's tail from now on if they are a beginning of the six octets
+-- the octets from a header on are delivered to a new stream, if they have one; else they were
+-- looked through in vain, and are the flow's tail from now on if they are a beginning of the six
 unfoldable pub begun : Reader → Flow → Payload → Option ℕ → Flow
 begun F f p None =
     with_event (record f {

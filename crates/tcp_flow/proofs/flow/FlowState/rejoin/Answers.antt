@@ -53,7 +53,8 @@ returns-then-is_live-clause-does g c held f arrival h =
     let live : is_some D.live ≡ true =
     subst (λ (f : Flow). is_some f.live ≡ true) is.same
     (sym c.is_live.ensures ∙ c.if-is_live.true) in
-    on_ok_equal r _ _ held _ _ (ap (λ (f : Flow). delivered F D (payload f.id f.next xs arrival)) is.same
+    on_ok_equal r _ _ held _ _
+    (ap (λ (f : Flow). delivered F D (payload f.id f.next xs arrival)) is.same
     ∙ sym (rejoined_begun F S p t many ∙ last_live F D arrival xs live))
     (c.deliver.ensures.does held D arrival is))
 
