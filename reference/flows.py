@@ -70,7 +70,7 @@ class Held(NamedTuple):
 
 
 class FlowState:
-    """One flow of a known connection, from its first payload with a stream on."""
+    """One flow of a known connection, from its first payload on."""
 
     def __init__(self, flow: Flow, due: int, capture: Capture, connection: Connection) -> None:
         self._flow = flow
@@ -82,6 +82,7 @@ class FlowState:
         self._began = 0
         self._since = due  # from where on octets are in no stream, while none lives
         self._has_begun = False  # a stream of the flow
+        self._tail: Optional[Held] = None  # what was looked through last and may begin a header
         self.live: Optional[Stream] = None
         self.held: List[Held] = []
 
@@ -170,11 +171,15 @@ class FlowState:
         """Delivers octets, or those from a header on to a stream that begins."""
         begin = 0
         if self.live is None:
+            held = self._after_tail(held)
             found = stream_at(held.octets)
             if found is None:
                 self._capture.passed(held.octets)
+                if is_beginning(held.octets):
+                    self._tail = held
                 return
             begin = found
+            self._tail = None
             self._began = (held.number + begin) % 2**32
             self._next_message = 0
             self.live = self._capture.begun(self._flow, self._connection, held.packet, self._start())
@@ -189,6 +194,16 @@ class FlowState:
             if len(header) < HEADER:
                 return
             self._next_message += HEADER + size_of(header)
+
+    def _after_tail(self, held: Held) -> Held:
+        """What is looked through of a payload: after the tail that it goes on, if there is one."""
+        tail = self._tail
+        if tail is None or (tail.number + len(tail.octets)) % 2**32 != held.number:
+            return held
+        both = tail.octets + held.octets
+        if not is_beginning(both) and not both.startswith(FRONTS):
+            return held
+        return held._replace(number=tail.number, octets=both)
 
     def _start(self) -> Start:
         """What is known of a stream that begins."""
@@ -217,6 +232,11 @@ def stream_at(octets: bytes) -> Optional[int]:
     six octets."""
     place = min((place for place in map(octets.find, FRONTS) if place >= 0), default=None)
     return place if place is None or place == 0 or is_chain(octets[place:]) else None
+
+
+def is_beginning(octets: bytes) -> bool:
+    """Whether octets are a beginning of the six: one to five of them."""
+    return 0 < len(octets) < 6 and FRONTS[0].startswith(octets)
 
 
 def is_chain(octets: bytes) -> bool:
@@ -345,11 +365,11 @@ class Capture:
             state.packet_came(None, False)
 
     def _may_begin(self, segment: Segment) -> bool:
-        """Whether a segment has the first stream of its flow, which is looked for in its octets."""
+        """Whether a segment has the first payload of its flow: a stream begins in it, or it is a beginning of a header."""
         is_chosen = not self.limits.ports or bool(self.limits.ports & set(segment.flow.ports()))
         if segment.is_reset or not is_chosen or not segment.payload:
             return False
-        if stream_at(segment.payload) is None:
+        if stream_at(segment.payload) is None and not is_beginning(segment.payload):
             self.passed(segment.payload)
             return False
         return True

@@ -7,10 +7,11 @@ use Rattle.std.proofs.lemmas.Map.Keys.{apart_from_distinct}
 use Rattle.tcp_flow.specs.declared.flow.CloseCause.{CloseCause}
 use Rattle.tcp_flow.specs.declared.flow.CloseCause.TheVariants.{Fault, Gap}
 use Rattle.tcp_flow.specs.declared.flow.FlowState.{FlowState}
-use Rattle.tcp_waiting.specs.Numbers.{onward}
-use Rattle.tcp_waiting.specs.Payload.{without_first, Payload, first, count_of}
-use Rattle.tcp_flow.specs.Flow.{Flow, Begins, Delivers, Closes, OfCapture, ComesFrom, Reader, left, with_event, delivered, begun as flow_begun, told_from, taken, stream_at, at, closed, gap, first_of, held_by_others, CaptureEvent, Passes, stopped, checked, number_after, handed, start_at, started}
+use Rattle.tcp_waiting.specs.Payload.{Payload, first, count_of}
+use Rattle.tcp_flow.specs.Flow.{Flow, Begins, Delivers, Closes, OfCapture, ComesFrom, Reader, left, with_event, delivered, looked_through as flow_looked, tail_before, told_from, taken, at, closed, gap, first_of, held_by_others, CaptureEvent, Passes, stopped, checked, number_after, handed, start_at, started}
 use Rattle.tcp_flow.specs.State.{state}
+use Rattle.tcp_flow.specs.declared.tail.Tail.{Tail}
+use Rattle.tcp_flow.proofs.Tails.{looked_by}
 use Rattle.tcp_flow.proofs.Preserving.{Keeps, gone_on_keeps}
 use Rattle.tcp_flow.proofs.Room.{gap_fewer}
 use Rattle.tcp_flow.proofs.Others.{gap_others, others_all}
@@ -169,18 +170,14 @@ unfolding begun
 begun_last id others xs o e = cond-true (nat_lt id most_ids) (without id xs ++ id ∷ []) xs
     (lt-ltb id most_ids o.small) ∙ ap (λ (ys : List ℕ). ys ++ id ∷ []) e
 
-begun_tail : (F : Reader) (id : ℕ) (others : List ℕ) (g : Flow) (q : Payload) (r : Option ℕ) →
-    IsOther id others → IsTail id others g → IsTail id others (flow_begun F g q r)
-unfolding flow_begun with_event behind
-begun_tail F id others g q None o t = capture_tail id others g (Passes q.octets) t
-begun_tail F id others g q (Some i) o t =
-    let n : ℕ = onward q.number i in
-    let s : Flow = started g n in
-    let more : lives s.events ≡ begun id (lives g.events) =
+started_tail : (id : ℕ) (others : List ℕ) (g : Flow) (n : ℕ) → IsOther id others →
+    IsTail id others g → IsTail id others (started g n)
+unfolding with_event behind
+started_tail id others g n o t =
+    let more : lives (started g n).events ≡ begun id (lives g.events) =
     lives_more [] g.events (Begins g.id (start_at g.since g.has_begun n))
     ∙ ap (λ (k : ℕ). begun k (lives g.events)) t.same in
-    delivered_tail F id others s (without_first i q) o
-    (record {
+    record {
       same = t.same;
       tail =
           elim t.tail [
@@ -189,7 +186,15 @@ begun_tail F id others g q (Some i) o t =
             | inr e ↦ inr (more ∙ ap (begun id) e
                 ∙ begun_last id others (others ++ id ∷ []) o (without_last id others o.none))
           ];
-    })
+    }
+
+looked_tail : (F : Reader) (id : ℕ) (others : List ℕ) (g : Flow) (q : Payload) (r : Option Tail) →
+    IsOther id others → IsTail id others g → IsTail id others (flow_looked F g q r)
+looked_tail F id others g q r o t =
+    looked_by F (IsTail id others) (λ g p t. delivered_tail F id others g p o t)
+    (λ g n t. started_tail id others g n o t)
+    (λ g u xs t. capture_tail id others (record g { tail = u }) (Passes xs)
+    (record { same = t.same; tail = t.tail })) g q r t
 
 from_tail : (id : ℕ) (others : List ℕ) (g : Flow) (p : Payload) → IsTail id others g →
     IsTail id others (told_from g p)
@@ -204,10 +209,11 @@ taken_tail F id others g p o t =
     let h : Flow = told_from g p in
     let u : IsTail id others h = from_tail id others g p t in
     let d : Flow = delivered F h q in
-    let b : Flow = flow_begun F h q (stream_at q.octets) in
+    let r : Option Tail = tail_before g.tail q.number q.octets in
+    let b : Flow = flow_looked F h q r in
     either (IsTail id others) (nat_eq (length q.octets) 0) g (cond (is_some g.live) d b) t
     (either (IsTail id others) (is_some g.live) d b (delivered_tail F id others h q o u)
-    (begun_tail F id others h q (stream_at q.octets) o u))
+    (looked_tail F id others h q r o u))
 
 tail_keeps : (F : Reader) (id : ℕ) (others : List ℕ) → IsOther id others →
     Keeps F (IsTail id others)

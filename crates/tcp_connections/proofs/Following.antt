@@ -1,19 +1,20 @@
 -- The flows of a state follow payloads: what each delivers is of them, whatever comes for a flow,
 -- and where the capture ends.
-use Rattle.std.proofs.Common.{◌≡◌, ℕ, ◌<◌, ◌≤◌, ◌^◌, cond, List, [], ◌∷◌, ◌++◌, length, set, get_or, Option, Some, None, is_some, unwrap_or, refl, sym, ◌∙◌, ap, subst, arith, inl, inr, length-set, get_or-set_same, get_or-set_other}
+use Rattle.std.proofs.Common.{◌≡◌, ℕ, ◌<◌, ◌≤◌, ◌^◌, cond, List, [], ◌∷◌, ◌++◌, length, set, get_or, Option, Some, None, is_some, unwrap_or, refl, sym, ◌∙◌, ap, subst, arith, inl, inr, true≢false, length-set, get_or-set_same, get_or-set_other}
 use Rattle.std.proofs.lemmas.Bool.{cases_eq}
 use Rattle.tcp_waiting.specs.Payload.{Payload, payload, blocks_of}
 use Rattle.tcp_waiting.proofs.Counts.{first_none}
 use Rattle.tcp_flow.specs.declared.flow.CloseCause.{CloseCause}
 use Rattle.tcp_flow.specs.declared.flow.FlowState.{FlowState}
+use Rattle.tcp_flow.specs.declared.tail.Tail.{Tail}
 use Rattle.tcp_flow.specs.Flow.{Flow, Reader, Setting, Arrival, Octets, End, Hears, setting, fresh, first_of, payload_came, closed, gap, step as flow_step, first_payload}
-use Rattle.tcp_flow.specs.Laws.{AllFollow, AllArePartsOf, IsGapless, IsSettled, due_of}
+use Rattle.tcp_flow.specs.Laws.{AllFollow, AllArePartsOf, IsPartOf, IsTailOf, IsGapless, IsSettled, due_of}
 use Rattle.tcp_flow.specs.State.{state}
 use Rattle.tcp_flow.proofs.Direct.{came_settled, fin_settled, heard_settled, gap_settled, fresh_settled}
 use Rattle.tcp_flow.proofs.Others.{step_others, gap_others}
 use Rattle.tcp_flow.proofs.Room.{room_after, fin_blocks, gap_blocks, heard_blocks}
 use Rattle.tcp_flow.proofs.States.{settled_whatever}
-use Rattle.tcp_flow.proofs.Truth.{runs_more, runs_grow, all_grow, came_true, gap_true, true_keeps}
+use Rattle.tcp_flow.proofs.Truth.{runs_more, runs_grow, all_grow, tail_grows, came_true, gap_true, true_keeps}
 use Rattle.tcp_flow.proofs.Told.{IsKept, closed_told, came_told, step_told, gap_told}
 use Rattle.tcp_streams.specs.Lives.{most_ids}
 use Rattle.tcp_connections.specs.Connections.{State, flow_at, flow_state, with_flow, arrived, began, gapped, closed_at, gaps_from, all_closed}
@@ -38,6 +39,8 @@ pub record Follow (payloads : List Payload) (w : State) : Type 0 where
   pub own : (id : ℕ) (s : FlowState) → flow_at w id ≡ Some s → (s.id ≡ id) × (s.next < 2 ^ 32)
   pub held : AllArePartsOf payloads w.held
   pub events : (id : ℕ) → AllFollow payloads id None w.events (due_in (flow_at w id))
+  pub tails : (id : ℕ) (s : FlowState) → flow_at w id ≡ Some s → (t : Tail) → s.tail ≡ Some t →
+      IsTailOf (IsPartOf payloads id) t
   pub few : length w.flows ≤ most_ids
 
 -- what a flow does is nothing to another
@@ -55,6 +58,8 @@ flow_before payloads w id s h e =
     record {
       next = own.1;
       held = h.held;
+      tail = λ t d. subst (λ (n : ℕ). IsTailOf (IsPartOf payloads n) t) (sym own.0)
+          (h.tails id s e t d);
       events =
           subst (λ (n : ℕ). AllFollow payloads n None w.events (due_in (Some s))) (sym own.0)
           (subst (λ (o : Option FlowState). AllFollow payloads id None w.events (due_in o)) e
@@ -97,6 +102,15 @@ flow_behind payloads w id f h l own g beside =
                 g.events)
             | inr n ↦ subst (λ (p : Option FlowState).
                 AllFollow payloads j None f.events (due_in p)) (sym (there j n)) (beside j n)
+          ];
+      tails =
+          λ j s e.
+          elim (cases_eq j id) [
+            | inl y ↦
+                (let same : flow_state f ≡ s = some_same (flow_state f) s (sym (here j y) ∙ e) in
+                λ t d. subst (λ (n : ℕ). IsTailOf (IsPartOf payloads n) t) (own ∙ sym y)
+                (g.tail t (ap (λ (u : FlowState). u.tail) same ∙ d)))
+            | inr n ↦ h.tails j s (sym (there j n) ∙ e)
           ];
       few = omega (arith, h.few, length-set w.flows id o);
     }
@@ -173,7 +187,12 @@ began_both payloads F w id n octets small h t u e within apart =
     subst (λ (o : Option FlowState). AllFollow payloads id None w.events (due_in o)) e
     (t.events id) in
     let g : IsGapless more f = came_true A payloads before p small
-    (record { next = small; held = t.held; events = none }) in
+    (record {
+      next = small;
+      held = t.held;
+      tail = λ u d. absurd (true≢false (sym (ap is_some d)));
+      events = none;
+    }) in
     let same : f.id ≡ id = (came_told (λ es. Unit {0}) id (λ es event of x. tt) A before p
     (record { same = refl; told = tt })).same in
     let idle : IsSettled before = fresh_settled before refl
@@ -196,6 +215,7 @@ follow_grown payloads p w t =
       own = t.own;
       held = all_grow payloads p w.held t.held;
       events = λ id. runs_grow payloads p id None w.events (due_in (flow_at w id)) (t.events id);
+      tails = λ id s e u d. tail_grows payloads p id u (t.tails id s e u d);
       few = t.few;
     }
 

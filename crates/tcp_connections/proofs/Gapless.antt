@@ -85,6 +85,7 @@ seen_at segments w lasts syns count arrival e h =
         own = h.follow.own;
         held = h.follow.held;
         events = h.follow.events;
+        tails = h.follow.tails;
         few = h.follow.few;
       };
       owns = record {
@@ -269,6 +270,8 @@ start_at ports blocks most some few =
                 (none_there (2 * most) id));
             held = tt;
             events = λ id. sym (ap due_in (none_there (2 * most) id));
+            tails = λ id s e. absurd (some_none (flow_at (none_known ports blocks most []) id) s e
+                (none_there (2 * most) id));
             few = omega (arith, few, length-replicate (2 * most) no_flow);
           };
       owns = none_owns ports blocks most;

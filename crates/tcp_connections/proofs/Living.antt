@@ -4,10 +4,12 @@ use Rattle.std.specs.List.{AllByRecursion, IsDistinct, remove}
 use Rattle.std.proofs.lemmas.Bool.{cases_Bool, cond-true, cond-false, eqb-true, eq-eqb, ne_eqb, lt-ltb}
 use Rattle.tcp_flow.specs.declared.flow.CloseCause.{CloseCause}
 use Rattle.tcp_flow.specs.declared.flow.CloseCause.TheVariants.{Fault}
-use Rattle.tcp_waiting.specs.Numbers.{onward, age}
+use Rattle.tcp_waiting.specs.Numbers.{age}
 use Rattle.tcp_waiting.specs.declared.arrival.Arrival as origin
-use Rattle.tcp_waiting.specs.Payload.{without_first, Payload, payload, has_as_much, put}
-use Rattle.tcp_flow.specs.Flow.{Flow, Event, Opens, Begins, Delivers, Closes, OfCapture, ComesFrom, Reader, Setting, Arrival, Octets, End, Hears, left, with_event, delivered, begun as flow_begun, told_from, taken, stream_at, at, closed, holding, gone_on, within_bounds, payload_came, fin_came, gap, fresh, first_payload, step, CaptureEvent, Passes, stopped, checked, number_after, handed, start_at, started}
+use Rattle.tcp_waiting.specs.Payload.{Payload, payload, has_as_much, put}
+use Rattle.tcp_flow.specs.Flow.{Flow, Event, Opens, Begins, Delivers, Closes, OfCapture, ComesFrom, Reader, Setting, Arrival, Octets, End, Hears, left, with_event, delivered, looked_through as flow_looked, tail_before, told_from, taken, at, closed, holding, gone_on, within_bounds, payload_came, fin_came, gap, fresh, first_payload, step, CaptureEvent, Passes, stopped, checked, number_after, handed, start_at, started}
+use Rattle.tcp_flow.specs.declared.tail.Tail.{Tail}
+use Rattle.tcp_flow.proofs.Tails.{looked_by}
 use Rattle.tcp_flow.proofs.Preserving.{Keeps, gone_on_keeps, relieved_keeps, heard_keeps, gap_keeps}
 use Rattle.tcp_streams.specs.Lives.{lives, lives_from, behind, begun, without, most_ids, AreIds}
 use Rattle.tcp_streams.proofs.Ids.{none_ids, begun_ids, without_ids, none_left}
@@ -159,15 +161,12 @@ delivered_turn {exact} F id es g p t =
     } in
     checked_turn id es d (F d.events) u
 
-begun_turn : {exact : Bool} (F : Reader) (id : ℕ) (es : List Event) (g : Flow) (q : Payload)
-    (r : Option ℕ) → id < most_ids → IsTurn exact id es g → IsTurn exact id es (flow_begun F g q r)
-unfolding flow_begun with_event behind
-begun_turn {exact} F id es g q None l t = capture_turn id es g (Passes q.octets) t
-begun_turn {exact} F id es g q (Some i) l t =
-    let n : ℕ = onward q.number i in
+started_turn : {exact : Bool} (id : ℕ) (es : List Event) (g : Flow) (n : ℕ) → id < most_ids →
+    IsTurn exact id es g → IsTurn exact id es (started g n)
+unfolding with_event behind
+started_turn {exact} id es g n l t =
     let more = lives_more [] g.events (Begins g.id (start_at g.since g.has_begun n)) in
-    delivered_turn F id es (started g n) (without_first i q)
-    (record {
+    record {
       same = t.same;
       own = told_on exact (times id (lives (started g n).events))
           (subst (λ (xs : List ℕ). 0 < times id xs)
@@ -175,7 +174,16 @@ begun_turn {exact} F id es g q (Some i) l t =
           (begun_own id (lives g.events) l));
       beside = λ j k. ap (times j) more ∙ begun_beside g.id j (lives g.events) (λ o. k (o ∙ t.same))
           ∙ t.beside j k;
-    })
+    }
+
+looked_turn : {exact : Bool} (F : Reader) (id : ℕ) (es : List Event) (g : Flow) (q : Payload)
+    (o : Option Tail) → id < most_ids → IsTurn exact id es g →
+    IsTurn exact id es (flow_looked F g q o)
+looked_turn {exact} F id es g q o l t =
+    looked_by F (IsTurn exact id es) (λ g p t. delivered_turn F id es g p t)
+    (λ g n t. started_turn id es g n l t)
+    (λ g u xs t. capture_turn id es (record g { tail = u }) (Passes xs)
+    (record { same = t.same; own = t.own; beside = t.beside })) g q o t
 
 from_turn : {exact : Bool} (id : ℕ) (es : List Event) (g : Flow) (p : Payload) →
     IsTurn exact id es g → IsTurn exact id es (told_from g p)
@@ -191,10 +199,11 @@ taken_turn {exact} F id es g p l t =
     let h : Flow = told_from g p in
     let u : IsTurn exact id es h = from_turn id es g p t in
     let d : Flow = delivered F h q in
-    let b : Flow = flow_begun F h q (stream_at q.octets) in
+    let o : Option Tail = tail_before g.tail q.number q.octets in
+    let b : Flow = flow_looked F h q o in
     either (IsTurn exact id es) (nat_eq (length q.octets) 0) g (cond (is_some g.live) d b) t
     (either (IsTurn exact id es) (is_some g.live) d b (delivered_turn F id es h q u)
-    (begun_turn F id es h q (stream_at q.octets) l u))
+    (looked_turn F id es h q o l u))
 
 pub turn_keeps : {exact : Bool} (F : Reader) (id : ℕ) (es : List Event) → id < most_ids →
     Keeps F (IsTurn exact id es)

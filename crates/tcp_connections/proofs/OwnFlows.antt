@@ -6,15 +6,19 @@ use Rattle.std.proofs.lemmas.List.{drop-drop}
 use Rattle.tcp_segment.specs.declared.endpoint.Flow.{Flow as Endpoints}
 use Rattle.tcp_segment.specs.Segments.{Segment}
 use Rattle.tcp_flow.specs.declared.flow.CloseCause.{CloseCause}
+use Rattle.tcp_flow.specs.declared.tail.Tail.{Tail}
 use Rattle.tcp_flow.specs.declared.flow.CloseCause.TheVariants.{Fault}
 use Rattle.tcp_waiting.specs.Numbers.{onward, age, is_to_come}
 use Rattle.tcp_waiting.specs.declared.arrival.Arrival as origin
 use Rattle.tcp_waiting.specs.Payload.{without_first, Payload, payload, no_payload, window, has_as_much, put, place_of, key_of}
 use Rattle.tcp_waiting.proofs.Held.{all_at, all_insert, all_remove}
 use Rattle.tcp_waiting.proofs.Order.{first_within, first_own}
-use Rattle.tcp_flow.specs.Flow.{Flow, Event, Begins, Delivers, Closes, OfCapture, ComesFrom, Reader, Setting, Arrival, Octets, End, Hears, left, with_event, delivered, begun as flow_begun, told_from, taken, stream_at, first_of, is_due, at, closed, holding, gone_on, within_bounds, payload_came, fin_came, gap, step, CaptureEvent, Passes, stopped, checked, number_after, handed, start_at, started}
+use Rattle.tcp_flow.specs.Flow.{Flow, Event, Begins, Delivers, Closes, OfCapture, ComesFrom, Reader, Setting, Arrival, Octets, End, Hears, left, with_event, delivered, looked_through, tail_before, told_from, taken, first_of, is_due, at, closed, holding, gone_on, within_bounds, payload_came, fin_came, gap, step, CaptureEvent, Passes, stopped, checked, number_after, handed, start_at, started}
 use Rattle.tcp_flow.proofs.Preserving.{Keeps, gone_on_keeps, relieved_keeps, heard_keeps, gap_keeps}
+use Rattle.tcp_flow.specs.Laws.{IsTailOf}
+use Rattle.tcp_flow.proofs.Tails.{Looks, looked_keeps, in_vain}
 use Rattle.tcp_flow.proofs.Truth.{reached}
+use Rattle.tcp_connections.specs.Connections.{first_number}
 use Rattle.tcp_connections.specs.Owned.{IsPartOf, Standing, Unopened, Idle, Live, is_of, behind, MayCome, standing, AllMayCome}
 
 -- ---- One more event.
@@ -122,12 +126,23 @@ IsPartOfOwn segments owners p =
 abbrev pub stand_of : Endpoints → Bool → ℕ → Standing
 stand_of o live next = cond live (Live o next) (Idle o)
 
+-- a tail is of segments of the flow
+abbrev pub HasOwnTail : List Segment → Endpoints → Option Tail → Type 0
+HasOwnTail segments o tail = (t : Tail) → tail ≡ Some t → IsTailOf (IsPartOf segments o) t
+
+part_small : (segments : List Segment) (o : Endpoints) (n : ℕ) (xs : List ℕ) →
+    IsPartOf segments o n xs → n < 2 ^ 32
+part_small segments o n xs h =
+    let small : onward (first_number h.segment) h.skipped < 2 ^ 32 = omega arith in
+    subst (λ (m : ℕ). m < 2 ^ 32) (sym h.number_is) small
+
 -- a flow between these endpoints
 pub record IsOwn (segments : List Segment) (owners : ℕ → Option Endpoints) (id : ℕ)
     (o : Endpoints) (f : Flow) : Type 0 where
   pub same : f.id ≡ id
   pub next : f.next < 2 ^ 32
   pub held : AllByRecursion (IsPartOfOwn segments owners) f.held
+  pub tail : HasOwnTail segments o f.tail
   pub stands : Stands segments id f.events (stand_of o (is_some f.live) f.next)
 
 pub all_push : (P : Payload → Type 0) (ps : List Payload) (p : Payload) → AllByRecursion P ps →
@@ -149,6 +164,7 @@ module _ (segments : List Segment) (owners : ℕ → Option Endpoints) (id : ℕ
     same = t.same;
     next = t.next;
     held = t.held;
+    tail = t.tail;
     stands = own_more segments id g.events (Live o g.next) (Closes g.id cause)
         (eq-eqb g.id id t.same) tt (live_stands g live t);
   }
@@ -166,6 +182,7 @@ module _ (segments : List Segment) (owners : ℕ → Option Endpoints) (id : ℕ
     same = t.same;
     next = t.next;
     held = t.held;
+    tail = t.tail;
     stands = other_more segments id g.events (stand_of o (is_some g.live) g.next)
         (OfCapture e) refl t.stands;
   }
@@ -182,11 +199,12 @@ module _ (segments : List Segment) (owners : ℕ → Option Endpoints) (id : ℕ
       ]
 
   delivered_own : (F : Reader) (g : Flow) (p : Payload) (n : ℕ) → g.id ≡ id →
-      AllByRecursion (IsPartOfOwn segments owners) g.held → Stands segments id g.events (Live o n)
+      AllByRecursion (IsPartOfOwn segments owners) g.held → HasOwnTail segments o g.tail →
+      Stands segments id g.events (Live o n)
       → IsPartOf segments o n p.octets → p.number ≡ n → is_some g.live ≡ true
       → IsOwn segments owners id o (delivered F g p)
   unfolding delivered with_event
-  delivered_own F g p n same held stands part e live =
+  delivered_own F g p n same held tail stands part e live =
       let next : ℕ = onward p.number (length p.octets) in
       let small : next < 2 ^ 32 = omega arith in
       let d : Flow = handed g p in
@@ -199,24 +217,53 @@ module _ (segments : List Segment) (owners : ℕ → Option Endpoints) (id : ℕ
         same = same;
         next = small;
         held = held;
+        tail = tail;
         stands = subst (Stands segments id d.events)
             (sym (cond-true (is_some g.live) (Live o next) (Idle o) live)) there;
       })
 
-  begun_own : (F : Reader) (g : Flow) (q : Payload) (r : Option ℕ) → IsOwn segments owners id o g →
-      is_some g.live ≡ false → IsPartOf segments o q.number q.octets →
-      IsOwn segments owners id o (flow_begun F g q r)
-  unfolding flow_begun with_event
-  begun_own F g q None t dead part = capture_own g (Passes q.octets) t
-  begun_own F g q (Some i) t dead part =
-      let n : ℕ = onward q.number i in
+  delivered_live : (F : Reader) (g : Flow) (p : Payload) → IsOwn segments owners id o g →
+      is_some g.live ≡ true → p.number ≡ g.next → IsPartOf segments o p.number p.octets →
+      IsOwn segments owners id o (delivered F g p)
+  delivered_live F g p t live due part =
+      delivered_own F g p g.next t.same t.held t.tail (live_stands g live t)
+      (subst (λ (n : ℕ). IsPartOf segments o n p.octets) due part) due live
+
+  started_own : (g : Flow) (n : ℕ) → n < 2 ^ 32 → is_some g.live ≡ false →
+      IsOwn segments owners id o g → IsOwn segments owners id o (started g n)
+  unfolding with_event
+  started_own g n small dead t =
       let idle : Stands segments id g.events (Idle o) =
       subst (Stands segments id g.events)
       (cond-false (is_some g.live) (Live o g.next) (Idle o) dead) t.stands in
-      delivered_own F (started g n) (without_first i q) n t.same t.held
-      (own_more segments id g.events (Idle o) (Begins g.id (start_at g.since g.has_begun n))
-      (eq-eqb g.id id t.same) tt idle)
-      (part_more segments o q.number i q.octets part) refl refl
+      record {
+        same = t.same;
+        next = small;
+        held = t.held;
+        tail = λ u e. absurd (true≢false (sym (ap is_some e)));
+        stands = own_more segments id g.events (Idle o)
+            (Begins g.id (start_at g.since g.has_begun n)) (eq-eqb g.id id t.same) tt idle;
+      }
+
+  passed_own : (g : Flow) (t : Option Tail) (xs : List ℕ) → HasOwnTail segments o t →
+      IsOwn segments owners id o g → IsOwn segments owners id o (in_vain g t xs)
+  passed_own g t xs tail h = capture_own (record g { tail = t }) (Passes xs) (record {
+    same = h.same;
+    next = h.next;
+    held = h.held;
+    tail = tail;
+    stands = h.stands;
+  })
+
+  looks_own : (F : Reader) → Looks F (IsPartOf segments o) (IsOwn segments owners id o)
+  looks_own F = record {
+    delivers = λ g p t live due part. delivered_live F g p t live due part;
+    starts = λ g n small dead t. started_own g n small dead t;
+    passes = λ g u xs tail t. passed_own g u xs tail t;
+    tail = λ g u t e. t.tail u e;
+    skips = λ n i xs h. part_more segments o n i xs h;
+    small = λ n xs h. part_small segments o n xs h;
+  }
 
   from_own : (g : Flow) (p : Payload) → IsOwn segments owners id o g →
       IsOwn segments owners id o (told_from g p)
@@ -235,16 +282,17 @@ module _ (segments : List Segment) (owners : ℕ → Option Endpoints) (id : ℕ
       let g : Flow = told_from f p in
       let u : IsOwn segments owners id o g = from_own f p t in
       let d : Flow = delivered F g q in
-      let b : Flow = flow_begun F g q (stream_at q.octets) in
+      let b : Flow = looked_through F g q (tail_before f.tail q.number q.octets) in
       let all : IsOwn segments owners id o (cond (is_some f.live) d b) =
       elim (cases_Bool (is_some f.live)) [
         | inl e ↦
             (let due : q.number ≡ f.next = due_left f.next (is_some f.live) p t.next e (reach e) in
             subst (IsOwn segments owners id o) (sym (cond-true (is_some f.live) d b e))
-            (delivered_own F g q f.next t.same t.held (live_stands g e u)
+            (delivered_own F g q f.next t.same t.held t.tail (live_stands g e u)
             (subst (λ (n : ℕ). IsPartOf segments o n q.octets) due has) due e))
         | inr e ↦ subst (IsOwn segments owners id o) (sym (cond-false (is_some f.live) d b e))
-            (begun_own F g q (stream_at q.octets) u e has)
+            (looked_keeps F (IsPartOf segments o) (IsOwn segments owners id o) (looks_own F) g q e
+            has u)
       ] in
       either (IsOwn segments owners id o) (nat_eq (length q.octets) 0) f (cond (is_some f.live) d b)
       t all
@@ -266,6 +314,7 @@ module _ (segments : List Segment) (owners : ℕ → Option Endpoints) (id : ℕ
               same = t.same;
               next = t.next;
               held = all_remove (IsPartOfOwn segments owners) f.held i t.held;
+              tail = t.tail;
               stands = t.stands;
             }) part
             (λ l.
@@ -279,6 +328,7 @@ module _ (segments : List Segment) (owners : ℕ → Option Endpoints) (id : ℕ
           same = t.same;
           next = t.next;
           held = t.held;
+          tail = t.tail;
           stands = t.stands;
         };
       }
@@ -301,6 +351,7 @@ module _ (segments : List Segment) (owners : ℕ → Option Endpoints) (id : ℕ
         next = t.next;
         held = all_insert (IsPartOfOwn segments owners) f.held (place_of (key_of q) f.held) q
             t.held has;
+        tail = t.tail;
         stands = t.stands;
       } in
       either (IsOwn segments owners id o) (nat_eq (length q.octets) 0

@@ -17,7 +17,7 @@ use Rattle.tcp_streams.specs.Pairs.{flow_from}
 use Rattle.tcp_connections.specs.Connections.{State, flow_at, flow_state, with_flow, arrived, began, gapped, closed_at}
 use Rattle.tcp_connections.specs.Owned.{IsPartOf, Standing, Unopened, Idle, Live, owner, is_of, standing, AllMayCome}
 use Rattle.tcp_connections.proofs.Cases.{arrived_none, arrived_some, gapped_none, gapped_some, closed_none, closed_some}
-use Rattle.tcp_connections.proofs.OwnFlows.{Stands, other_more, IsPartOfOwn, stand_of, IsOwn, closed_own, came_own, step_own, gap_own}
+use Rattle.tcp_connections.proofs.OwnFlows.{Stands, other_more, IsPartOfOwn, stand_of, HasOwnTail, IsOwn, closed_own, came_own, step_own, gap_own}
 use Rattle.tcp_connections.proofs.Sound.{some_within}
 
 -- an event of another flow
@@ -47,10 +47,12 @@ owner_of es id = owner (stands_for es id)
 abbrev pub IsQuiet : Standing → Type 0
 IsQuiet s = (o : Endpoints) (n : ℕ) → s ≡ Live o n → ⊥
 
--- a flow stands where its id does
-abbrev pub StandsAs : Standing → Option FlowState → Type 0
-StandsAs s None = IsQuiet s
-StandsAs s (Some f) = (o : Endpoints) × (s ≡ stand_of o (is_some f.live) f.next)
+-- a flow stands where its id does, and its tail is of its own segments
+abbrev pub StandsAs : List Segment → Standing → Option FlowState → Type 0
+StandsAs segments s None = IsQuiet s
+StandsAs segments s (Some f) =
+    (o : Endpoints)
+    × ((s ≡ stand_of o (is_some f.live) f.next) × HasOwnTail segments o f.tail)
 
 -- the flows of the connections that are known are theirs
 abbrev pub AreTheirs : (ℕ → Option Endpoints) → List EndpointPair → List ℕ → Type 0
@@ -62,7 +64,7 @@ AreTheirs owners (p ∷ ps) (r ∷ rs) =
 
 pub record Owns (segments : List Segment) (w : State) : Type 0 where
   pub come : (id : ℕ) → AllMayCome segments id Unopened w.events
-  pub flows : (id : ℕ) → StandsAs (stands_for w.events id) (flow_at w id)
+  pub flows : (id : ℕ) → StandsAs segments (stands_for w.events id) (flow_at w id)
   pub held : AllByRecursion (IsPartOfOwn segments (owner_of w.events)) w.held
   pub known : AreTheirs (owner_of w.events) w.known w.rooms
   pub beyond : (id : ℕ) → 2 * length w.lasts ≤ id → owner_of w.events id ≡ None
@@ -128,10 +130,10 @@ owned_flow segments w id o f h l own t others =
       flows =
           λ j.
           elim (cases_eq j id) [
-            | inl y ↦ subst (StandsAs (stands_for f.events j)) (sym (here j y))
-                (o, ap (stands_for f.events) y ∙ t.stands.is)
-            | inr n ↦ subst (StandsAs (stands_for f.events j)) (sym (there j n))
-                (subst (λ (s : Standing). StandsAs s (flow_at w j)) (sym (others j n).is)
+            | inl y ↦ subst (StandsAs segments (stands_for f.events j)) (sym (here j y))
+                (o, (ap (stands_for f.events) y ∙ t.stands.is, t.tail))
+            | inr n ↦ subst (StandsAs segments (stands_for f.events j)) (sym (there j n))
+                (subst (λ (s : Standing). StandsAs segments s (flow_at w j)) (sym (others j n).is)
                 (h.flows j))
           ];
       held = held_same segments (owner_of w.events) (owner_of f.events) f.held same t.held;
@@ -142,12 +144,13 @@ owned_flow segments w id o f h l own t others =
 -- a flow that there is, before it does anything
 pub own_before : (segments : List Segment) (w : State) (id : ℕ) (s : FlowState) (o : Endpoints) →
     Owns segments w → s.id ≡ id → s.next < 2 ^ 32 →
-    stands_for w.events id ≡ stand_of o (is_some s.live) s.next →
+    stands_for w.events id ≡ stand_of o (is_some s.live) s.next → HasOwnTail segments o s.tail →
     IsOwn segments (owner_of w.events) id o (state s w.held w.events)
-own_before segments w id s o h same small is = record {
+own_before segments w id s o h same small is tail = record {
   same = same;
   next = small;
   held = h.held;
+  tail = tail;
   stands = record { come = h.come id; is = is };
 }
 
@@ -171,13 +174,13 @@ arrived_owns segments F w id a numbers part h = by (flow_at w id) refl
     by (Some s) e =
         let A : Setting = setting F w.blocks in
         let f : Flow = state s w.held w.events in
-        let st = subst (StandsAs (stands_for w.events id)) e (h.flows id) in
+        let st = subst (StandsAs segments (stands_for w.events id)) e (h.flows id) in
         let o : Endpoints = st.0 in
         let own : owner_of w.events id ≡ Some o =
-        ap owner st.1 ∙ owner_stand o (is_some s.live) s.next in
+        ap owner st.1.0 ∙ owner_stand o (is_some s.live) s.next in
         let same : s.id ≡ id = (numbers id s e).0 in
         let t : IsOwn segments (owner_of w.events) id o f =
-        own_before segments w id s o h same (numbers id s e).1 st.1 in
+        own_before segments w id s o h same (numbers id s e).1 st.1.0 st.1.1 in
         subst (Owns segments) (sym (arrived_some F w id a s e))
         (owned_flow segments w id o (flow_step A f a) h (some_within w.flows id s e) own
         (step_own segments (owner_of w.events) id o own A f a (part o own) t)
@@ -200,7 +203,8 @@ began_owns segments F w id n octets o small e within own part h =
     let A : Setting = setting F w.blocks in
     let before : Flow = fresh id n w.held w.events in
     let idle : stands_for w.events id ≡ Idle o =
-    idle_of (stands_for w.events id) o (subst (StandsAs (stands_for w.events id)) e (h.flows id))
+    idle_of (stands_for w.events id) o
+    (subst (StandsAs segments (stands_for w.events id)) e (h.flows id))
     own in
     owned_flow segments w id o (payload_came A before (payload id n octets w.arrival)) h within own
     (came_own segments (owner_of w.events) id o own A before (payload id n octets w.arrival)
@@ -209,6 +213,7 @@ began_owns segments F w id n octets o small e within own part h =
       same = refl;
       next = small;
       held = h.held;
+      tail = λ u d. absurd (true≢false (sym (ap is_some d)));
       stands = record { come = h.come id; is = idle };
     }))
     (λ j m. (came_told (λ es. Stands segments j es (stands_for w.events j)) id
@@ -223,13 +228,13 @@ gapped_owns segments F w id numbers h = by (flow_at w id) refl
     by None e = subst (Owns segments) (sym (gapped_none F w id e)) h
     by (Some s) e =
         let f : Flow = state s w.held w.events in
-        let st = subst (StandsAs (stands_for w.events id)) e (h.flows id) in
+        let st = subst (StandsAs segments (stands_for w.events id)) e (h.flows id) in
         let o : Endpoints = st.0 in
         let own : owner_of w.events id ≡ Some o =
-        ap owner st.1 ∙ owner_stand o (is_some s.live) s.next in
+        ap owner st.1.0 ∙ owner_stand o (is_some s.live) s.next in
         let same : s.id ≡ id = (numbers id s e).0 in
         let t : IsOwn segments (owner_of w.events) id o f =
-        own_before segments w id s o h same (numbers id s e).1 st.1 in
+        own_before segments w id s o h same (numbers id s e).1 st.1.0 st.1.1 in
         subst (Owns segments) (sym (gapped_some F w id s e))
         (owned_flow segments w id o (gap F f) h (some_within w.flows id s e) own
         (gap_own segments (owner_of w.events) id o own F f t)
@@ -245,13 +250,13 @@ closed_owns segments w id cause numbers h = by (flow_at w id) refl
     by None e = subst (Owns segments) (sym (closed_none w id cause e)) h
     by (Some s) e =
         let f : Flow = state s w.held w.events in
-        let st = subst (StandsAs (stands_for w.events id)) e (h.flows id) in
+        let st = subst (StandsAs segments (stands_for w.events id)) e (h.flows id) in
         let o : Endpoints = st.0 in
         let own : owner_of w.events id ≡ Some o =
-        ap owner st.1 ∙ owner_stand o (is_some s.live) s.next in
+        ap owner st.1.0 ∙ owner_stand o (is_some s.live) s.next in
         let same : s.id ≡ id = (numbers id s e).0 in
         let t : IsOwn segments (owner_of w.events) id o f =
-        own_before segments w id s o h same (numbers id s e).1 st.1 in
+        own_before segments w id s o h same (numbers id s e).1 st.1.0 st.1.1 in
         subst (Owns segments) (sym (closed_some w id cause s e))
         (owned_flow segments w id o (closed f cause) h (some_within w.flows id s e) own
         (closed_own segments (owner_of w.events) id o own f cause t)

@@ -1,12 +1,14 @@
 -- Whose flows are, where no connection is known, and where one segment more has come.
-use Rattle.std.proofs.Common.{◌≡◌, ℕ, zero, suc, ◌*◌, Bool, true, false, cond, List, [], ◌∷◌, ◌++◌, Some, is_some, refl, sym, ap, subst, true≢false}
+use Rattle.std.proofs.Common.{◌≡◌, ℕ, zero, suc, ◌*◌, Bool, true, false, cond, List, [], ◌∷◌, ◌++◌, Option, Some, None, is_some, refl, sym, ap, subst, true≢false}
 use Rattle.std.specs.Prelude.{slice_get}
 use Rattle.tcp_segment.specs.declared.endpoint.Flow.{Flow as Endpoints}
 use Rattle.tcp_segment.specs.Segments.{Segment}
+use Rattle.tcp_flow.specs.declared.flow.FlowState.{FlowState}
+use Rattle.tcp_flow.proofs.Tails.{tail_map}
 use Rattle.tcp_flow.specs.Flow.{Event, Opens, Begins, Delivers, Closes, OfCapture, CaptureEvent}
-use Rattle.tcp_connections.specs.Connections.{State, none_known}
+use Rattle.tcp_connections.specs.Connections.{State, flow_at, none_known}
 use Rattle.tcp_connections.specs.Owned.{IsPartOf, Standing, Unopened, Idle, Live, is_of, behind, MayCome, standing, AllMayCome}
-use Rattle.tcp_connections.proofs.Owners.{all_map, owner_of, StandsAs, Owns}
+use Rattle.tcp_connections.proofs.Owners.{all_map, stands_for, owner_of, StandsAs, Owns}
 use Rattle.tcp_connections.proofs.OwnFlows.{IsPartOfOwn}
 use Rattle.tcp_connections.proofs.Times.{none_there}
 
@@ -21,7 +23,7 @@ pub none_owns : (ports : List ℕ) (blocks most : ℕ) → Owns [] (none_known p
 unfolding AllMayCome standing
 none_owns ports blocks most = record {
   come = λ id. tt;
-  flows = λ id. subst (StandsAs Unopened) (sym (none_there (2 * most) id)) unopened;
+  flows = λ id. subst (StandsAs [] Unopened) (sym (none_there (2 * most) id)) unopened;
   held = tt;
   known = tt;
   beyond = λ id many. refl;
@@ -76,11 +78,23 @@ all_grown segments s id x (e ∷ es) h = (
   all_grown segments s id (cond (is_of id e) (behind x e) x) es h.1,
 )
 
+stands_grown : (segments : List Segment) (s : Segment) (x : Standing) (f : Option FlowState) →
+    StandsAs segments x f → StandsAs (segments ++ s ∷ []) x f
+stands_grown segments s x None h = h
+stands_grown segments s x (Some f) h = (
+  h.0,
+  (
+    h.1.0,
+    λ t e. tail_map (IsPartOf segments h.0) (IsPartOf (segments ++ s ∷ []) h.0) t
+        (λ n xs part. part_grown segments s h.0 n xs part) (h.1.1 t e),
+  ),
+)
+
 pub owns_grown : (segments : List Segment) (s : Segment) (w : State) → Owns segments w →
     Owns (segments ++ s ∷ []) w
 owns_grown segments s w h = record {
   come = λ id. all_grown segments s id Unopened w.events (h.come id);
-  flows = h.flows;
+  flows = λ id. stands_grown segments s (stands_for w.events id) (flow_at w id) (h.flows id);
   held = all_map (IsPartOfOwn segments (owner_of w.events))
       (IsPartOfOwn (segments ++ s ∷ []) (owner_of w.events)) w.held
       (λ p part o e. part_grown segments s o p.number p.octets (part o e)) h.held;

@@ -48,14 +48,14 @@ forgot_owns segments w id cause numbers h =
     (λ s e.
     let f : Flow = state s w.held w.events in
     let c : Flow = closed f cause in
-    let st = subst (StandsAs (stands_for w.events id)) e (h.flows id) in
+    let st = subst (StandsAs segments (stands_for w.events id)) e (h.flows id) in
     let o : Endpoints = st.0 in
     let own : owner_of w.events id ≡ Some o =
-    ap owner st.1 ∙ owner_stand o (is_some s.live) s.next in
+    ap owner st.1.0 ∙ owner_stand o (is_some s.live) s.next in
     let same : s.id ≡ id = (numbers id s e).0 in
     let t : IsOwn segments (owner_of w.events) id o c =
     closed_own segments (owner_of w.events) id o own f cause
-    (own_before segments w id s o h same (numbers id s e).1 st.1) in
+    (own_before segments w id s o h same (numbers id s e).1 st.1.0 st.1.1) in
     let idle : stands_for c.events id ≡ Idle o =
     t.stands.is
     ∙ cond-false (is_some c.live) (Live o c.next) (Idle o) (closed_dead f cause) in
@@ -80,13 +80,13 @@ forgot_owns segments w id cause numbers h =
       flows =
           λ j.
           elim (cases_eq j id) [
-            | inl y ↦ subst (StandsAs (stands_for c.events j))
+            | inl y ↦ subst (StandsAs segments (stands_for c.events j))
                 (sym (ap (λ (k : ℕ). get_or (set w.flows id None) k None) y
                 ∙ get_or-set_same w.flows id None None (some_within w.flows id s e)))
                 (λ x n l. quiet_idle o x n (sym (ap (stands_for c.events) y ∙ idle) ∙ l))
-            | inr n ↦ subst (StandsAs (stands_for c.events j))
+            | inr n ↦ subst (StandsAs segments (stands_for c.events j))
                 (sym (get_or-set_other w.flows id j None None n))
-                (subst (λ (x : Standing). StandsAs x (flow_at w j)) (sym (others j n).is)
+                (subst (λ (x : Standing). StandsAs segments x (flow_at w j)) (sym (others j n).is)
                 (h.flows j))
           ];
       held = held_same segments (owner_of w.events) (owner_of c.events)
@@ -131,7 +131,8 @@ told_owns segments w event h =
     (stands_now segments w j h) in
     record {
       come = λ j. (all j).come;
-      flows = λ j. subst (λ (s : Standing). StandsAs s (flow_at w j)) (sym (all j).is) (h.flows j);
+      flows = λ j. subst (λ (s : Standing). StandsAs segments s (flow_at w j)) (sym (all j).is)
+          (h.flows j);
       held = held_same segments (owner_of w.events) (owner_of events) w.held
           (λ j. ap owner (all j).is) h.held;
       known = theirs_same (owner_of w.events) (owner_of events) w.known w.rooms
@@ -161,7 +162,7 @@ all_beside P Q id (p ∷ ps) none f h = (
 pub record OwnsFlows (segments : List Segment) (kept : List (Option FlowState))
     (waiting : List Payload) (events : List Event) : Type 0 where
   pub come : (id : ℕ) → AllMayCome segments id Unopened events
-  pub flows : (id : ℕ) → StandsAs (stands_for events id) (get_or kept id None)
+  pub flows : (id : ℕ) → StandsAs segments (stands_for events id) (get_or kept id None)
   pub held : AllByRecursion (IsPartOfOwn segments (owner_of events)) waiting
 
 -- an id opens, of which nothing is held, and the others stand as they did
@@ -177,7 +178,7 @@ pub opens_owns : (segments : List Segment) (flows : List (Option FlowState)) (he
 opens_owns segments flows held events id o e none h =
     let all : List Event = events ++ Opens id o ∷ [] in
     let quiet : IsQuiet (stands_for events id) =
-    subst (StandsAs (stands_for events id)) e (h.flows id) in
+    subst (StandsAs segments (stands_for events id)) e (h.flows id) in
     let here : Stands segments id all (Idle o) =
     own_more segments id events (stands_for events id) (Opens id o) (eq-eqb id id refl)
     (may_open segments (stands_for events id) id o quiet)
@@ -195,10 +196,10 @@ opens_owns segments flows held events id o e none h =
         flows =
             λ j.
             elim (cases_eq j id) [
-              | inl y ↦ subst (StandsAs (stands_for all j))
+              | inl y ↦ subst (StandsAs segments (stands_for all j))
                   (sym (ap (λ (k : ℕ). get_or flows k None) y ∙ e))
                   (λ x n l. quiet_idle o x n (sym (ap (stands_for all) y ∙ here.is) ∙ l))
-              | inr n ↦ subst (λ (s : Standing). StandsAs s (get_or flows j None))
+              | inr n ↦ subst (λ (s : Standing). StandsAs segments s (get_or flows j None))
                   (sym (there j n).is) (h.flows j)
             ];
         held = all_beside (IsPartOfOwn segments (owner_of events))

@@ -197,6 +197,7 @@ capture_at segments w event h =
                 runs_more h.payloads id None (due_in (flow_at w id)) (due_in (flow_at w id))
                 w.events (OfCapture event) (h.follow.events id)
                 (inr (λ o. true≢false (sym (ap is_some o)), refl));
+            tails = h.follow.tails;
             few = h.follow.few;
           };
       owns = told_owns segments w event h.owns;
@@ -285,6 +286,14 @@ flow_forgotten_at segments w id cause h =
                       (others_kept h.payloads id j (due_in (flow_at w j)) n) f cause
                       (record { same = own; told = h.follow.events j })).told
                 ];
+            tails =
+                λ j t d.
+                elim (cases_eq j id) [
+                  | inl y ↦ absurd (some_none (get_or (set w.flows id None) j None) t d
+                      (gone w id j within y))
+                  | inr n ↦ h.follow.tails j t
+                      (sym (get_or-set_other w.flows id j None None n) ∙ d)
+                ];
             few = omega (arith, h.follow.few, length-set w.flows id None);
           };
       owns = subst (Owns segments) (forgot_some w id cause s e)
@@ -319,6 +328,7 @@ forgotten_at segments w place side cause l h =
         own = v.follow.own;
         held = v.follow.held;
         events = v.follow.events;
+        tails = v.follow.tails;
         few = v.follow.few;
       };
       owns = record {
@@ -440,6 +450,7 @@ made_at segments w p l new h =
                 (flow_id room FromGreater) id (flow_from p FromGreater) none.1
                 (opens_more h.payloads w w.events (flow_id room FromLesser) id
                 (flow_from p FromLesser) none.0 (h.follow.events id));
+            tails = h.follow.tails;
             few = h.follow.few;
           };
       owns = (made_owner segments w p l h.sound h.owns).owns;

@@ -12,7 +12,7 @@ use Rattle.tcp_waiting.specs.Payload.{Payload, first}
 use Rattle.tcp_flow.specs.declared.flow.CloseCause.{CloseCause}
 use Rattle.tcp_flow.specs.declared.flow.CloseCause.TheVariants.{Reset, Syn, Room, Gap, End as CaptureEnd}
 use Rattle.tcp_flow.specs.declared.flow.FlowState.{FlowState}
-use Rattle.tcp_flow.specs.Flow.{Flow, Event, CaptureEvent, Opens, OfCapture, Passes, Reader, Arrival, Octets, End, Hears, setting, is_near, stream_at, closed, gap, step as flow_step, first_payload, held_by_others}
+use Rattle.tcp_flow.specs.Flow.{Flow, Event, CaptureEvent, Opens, OfCapture, Passes, Reader, Arrival, Octets, End, Hears, setting, is_near, stream_at, is_beginning, closed, gap, step as flow_step, first_payload, held_by_others}
 use Rattle.tcp_flow.specs.State.{state}
 use Rattle.tcp_connections.specs.declared.syns.KeptSyn.{KeptSyn}
 use Rattle.tcp_rooms.specs.Rooms.{rooms_below}
@@ -76,6 +76,7 @@ flow_state f = record {
   fin = f.fin;
   since = f.since;
   has_begun = f.has_begun;
+  tail = f.tail;
 }
 
 -- a flow is so from now on
@@ -83,7 +84,7 @@ unfoldable pub with_flow : State → ℕ → Flow → State
 with_flow w id f =
     record w { flows = set w.flows id (Some (flow_state f)); held = f.held; events = f.events }
 
--- something comes for a flow: nothing happens before its first stream
+-- something comes for a flow: nothing happens before its first payload
 unfoldable pub arrived : Reader → State → ℕ → Arrival → State
 arrived F w id arrival =
     elim (flow_at w id) [
@@ -91,7 +92,7 @@ arrived F w id arrival =
       | Some s ↦ with_flow w id (flow_step (setting F w.blocks) (state s w.held w.events) arrival)
     ]
 
--- the first payload with a header comes for a flow
+-- the first payload comes for a flow
 unfoldable pub began : Reader → State → ℕ → ℕ → List ℕ → State
 began F w id number octets =
     with_flow w id (first_payload (setting F w.blocks) id number octets w.arrival w.held w.events)
@@ -262,9 +263,12 @@ is_chosen ports flow =
     nat_eq (length ports) 0 || list_any (λ port. port == flow.from.port) ports
     || list_any (λ port. port == flow.to.port) ports
 
--- whether a segment's payload may begin the first stream of its flow
+-- whether a segment's payload is the first of its flow, of which nothing came: a stream begins in
+-- it, or it is a beginning of the six octets
 abbrev pub is_first : List ℕ → Segment → Bool
-is_first ports s = not s.reset && is_chosen ports s.flow && is_some (stream_at s.payload)
+is_first ports s =
+    not s.reset && is_chosen ports s.flow
+    && (is_some (stream_at s.payload) || is_beginning s.payload)
 
 -- whether a segment's payload is looked through where nothing of its flow came
 abbrev pub is_looked_through : List ℕ → Segment → Bool

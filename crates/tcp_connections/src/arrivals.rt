@@ -8,7 +8,7 @@ ghost use Rattle.tcp_connections.specs.Connections.{first_number as spec_first_n
 ghost use Rattle.tcp_connections.specs.Connections.{number_behind as spec_number_behind};
 
 use crate::connections::Connections;
-use tcp_flow::{FlowState, Heard, Listener, ListenerFault, stream_at};
+use tcp_flow::{FlowState, Heard, Listener, ListenerFault, is_beginning, stream_at};
 use tcp_segment::{Flow, Segment};
 use tcp_streams::Streams;
 use tcp_waiting::onward;
@@ -70,7 +70,7 @@ impl Connections {
         Ok(())
     }
 
-    /// A payload comes: the first of its flow with a header, or a later one.
+    /// A payload comes: the first of its flow, or a later one.
     pub(crate) fn payload<L: Listener + Drop>(
         &mut self,
         id: u32,
@@ -103,7 +103,7 @@ impl Connections {
         Ok(())
     }
 
-    /// A payload of a flow without a stream so far comes.
+    /// A payload comes of a flow of which nothing came.
     fn first_payload<L: Listener + Drop>(
         &mut self,
         id: u32,
@@ -146,7 +146,7 @@ impl Connections {
         !segment.reset && self.is_chosen(segment.flow) && !segment.payload.is_empty()
     }
 
-    /// The first stream of a flow begins.
+    /// The first payload of a flow comes.
     pub(crate) fn begin<L: Listener + Drop>(
         &mut self,
         id: u32,
@@ -177,11 +177,14 @@ impl Connections {
         Ok(())
     }
 
-    /// Whether a segment's payload may begin the first stream of its flow.
+    /// Whether a segment's payload is the first of its flow, of which nothing came: a stream begins in it, or
+    /// it is a beginning of a header.
     pub(crate) fn is_first(&self, segment: Segment<'_>) -> bool
         ensures { result ≡ is_first self.now.ports.items (segment_view segment.entry) }
     {
-        !segment.reset && self.is_chosen(segment.flow) && stream_at(segment.payload).is_some()
+        !segment.reset
+            && self.is_chosen(segment.flow)
+            && (stream_at(segment.payload).is_some() || is_beginning(segment.payload))
     }
 
     /// Whether one of a flow's ports is chosen.
@@ -214,7 +217,7 @@ impl Connections {
     }
 
     /// A FIN of a flow comes, with the number after the payload: nothing happens before its first
-    /// stream.
+    /// payload.
     #[inline(never)]
     fn fin_of_flow<L: Listener + Drop>(
         &mut self,

@@ -4,10 +4,11 @@ use Rattle.std.specs.List.{remove}
 use Rattle.std.proofs.lemmas.List.{append_assoc}
 use Rattle.tcp_flow.specs.declared.flow.CloseCause.{CloseCause}
 use Rattle.tcp_flow.specs.declared.flow.CloseCause.TheVariants.{Fault}
-use Rattle.tcp_waiting.specs.Numbers.{onward}
-use Rattle.tcp_waiting.specs.Payload.{without_first, Payload, has_as_much, put}
-use Rattle.tcp_flow.specs.Flow.{Flow, Event, Begins, Delivers, Closes, OfCapture, ComesFrom, Passes, Reader, Setting, left, with_event, stopped, checked, handed, delivered, start_at, started, begun, told_from, taken, stream_at, at as held_at, closed, holding, gone_on, within_bounds, payload_came}
+use Rattle.tcp_flow.specs.declared.tail.Tail.{Tail}
+use Rattle.tcp_waiting.specs.Payload.{Payload, has_as_much, put}
+use Rattle.tcp_flow.specs.Flow.{Flow, Event, Begins, Delivers, Closes, OfCapture, ComesFrom, Passes, Reader, Setting, left, with_event, stopped, checked, handed, delivered, start_at, looked_through, tail_before, told_from, taken, at as held_at, closed, holding, gone_on, within_bounds, payload_came}
 use Rattle.tcp_flow.specs.Order.{octets_in, octets_of, closes_in, closes_of}
+use Rattle.tcp_flow.proofs.Tails.{looked_by}
 use Rattle.tcp_flow.proofs.Preserving.{Keeps, gone_on_keeps, relieved_keeps}
 
 -- ---- One more event.
@@ -48,14 +49,14 @@ delivered_more F n id g p l =
     let d : Flow = handed g p in
     checked_more n id d (F d.events) (more_event n id g.events (Delivers g.id p.octets) l)
 
-begun_more : (F : Reader) (n id : ℕ) (g : Flow) (p : Payload) (r : Option ℕ) →
-    n < closes_of id g.events → n < closes_of id (begun F g p r).events
-unfolding begun with_event
-begun_more F n id g p None l = more_event n id g.events (OfCapture (Passes p.octets)) l
-begun_more F n id g p (Some i) l =
-    let k : ℕ = onward p.number i in
-    delivered_more F n id (started g k) (without_first i p)
-    (more_event n id g.events (Begins g.id (start_at g.since g.has_begun k)) l)
+looked_more : (F : Reader) (n id : ℕ) (g : Flow) (p : Payload) (o : Option Tail) →
+    n < closes_of id g.events → n < closes_of id (looked_through F g p o).events
+unfolding with_event
+looked_more F n id g p o l =
+    looked_by F (λ (g : Flow). n < closes_of id g.events)
+    (λ g p l. delivered_more F n id g p l)
+    (λ g k l. more_event n id g.events (Begins g.id (start_at g.since g.has_begun k)) l)
+    (λ g t xs l. more_event n id g.events (OfCapture (Passes xs)) l) g p o l
 
 pub taken_more : (F : Reader) (n id : ℕ) (g : Flow) (p : Payload) → n < closes_of id g.events →
     n < closes_of id (taken F g p).events
@@ -66,11 +67,12 @@ taken_more F n id g p l =
     let m : n < closes_of id h.events =
     more_event n id g.events (OfCapture (ComesFrom p.arrival)) l in
     let d : Flow = delivered F h q in
-    let b : Flow = begun F h q (stream_at q.octets) in
+    let o : Option Tail = tail_before g.tail q.number q.octets in
+    let b : Flow = looked_through F h q o in
     either (λ (h : Flow). n < closes_of id h.events) (nat_eq (length q.octets) 0) g
     (cond (is_some g.live) d b) l
     (either (λ (h : Flow). n < closes_of id h.events) (is_some g.live) d b
-    (delivered_more F n id h q m) (begun_more F n id h q (stream_at q.octets) m))
+    (delivered_more F n id h q m) (looked_more F n id h q o m))
 
 pub closed_more : (n id : ℕ) (g : Flow) (cause : CloseCause) → n < closes_of id g.events →
     n < closes_of id (closed g cause).events

@@ -12,5 +12,6 @@ pub mod Room
 mod Rows
 pub mod States
 pub mod Steps
+pub mod Tails
 pub mod Told
 pub mod Truth

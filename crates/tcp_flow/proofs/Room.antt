@@ -8,11 +8,13 @@ use Rattle.std.proofs.lemmas.List.Edits.{length-insert}
 use Rattle.tcp_flow.specs.declared.flow.CloseCause.{CloseCause}
 use Rattle.tcp_flow.specs.declared.flow.CloseCause.TheVariants.{Gap}
 use Rattle.tcp_flow.specs.declared.hearing.Heard.{Heard}
+use Rattle.tcp_flow.specs.declared.tail.Tail.{Tail}
 use Rattle.std.specs.Option.{option_map}
-use Rattle.tcp_waiting.specs.Numbers.{ahead, age, onward, rank}
+use Rattle.tcp_waiting.specs.Numbers.{ahead, age, rank}
 use Rattle.tcp_waiting.specs.Payload.{without_first, Payload, no_payload, window, earlier, first, blocks_of, is_far, has_as_much, put, place_of, key_of}
-use Rattle.tcp_flow.specs.Flow.{Flow, Reader, Setting, left, with_event, stopped, checked, handed, delivered, started, begun, told_from, taken, stream_at, first_of, at, drained_at_most, drained, closed, gone_on, gap, is_too_much, within_bounds, is_lost, heard, holding, payload_came, fin_came}
+use Rattle.tcp_flow.specs.Flow.{Flow, Reader, Setting, left, with_event, stopped, checked, handed, delivered, looked_through, tail_before, told_from, taken, first_of, at, drained_at_most, drained, closed, gone_on, gap, is_too_much, within_bounds, is_lost, heard, holding, payload_came, fin_came}
 use Rattle.tcp_waiting.proofs.Order.{first_within, first_own, place_within}
+use Rattle.tcp_flow.proofs.Tails.{looked_by}
 use Rattle.tcp_flow.proofs.Steps.{length_remove, flowing_takes, due_now}
 use Rattle.tcp_flow.proofs.Preserving.{gap_keeps, Keeps, flowing_by, rest_keeps, gone_on_keeps, relieved_keeps, heard_keeps}
 
@@ -40,14 +42,17 @@ unfolding delivered with_event
 delivered_stays F f p =
     stays_checked f (handed f p) (F (handed f p).events) (record { held = refl; id = refl })
 
-begun_stays : (F : Reader) (f : Flow) (p : Payload) (r : Option ℕ) → Stays f (begun F f p r)
-unfolding begun with_event
-begun_stays F f p None = record { held = refl; id = refl }
-begun_stays F f p (Some i) =
-    let g : Flow = started f (onward p.number i) in
-    let s : Stays g (delivered F g (without_first i p)) =
-    delivered_stays F g (without_first i p) in
-    record { held = s.held; id = s.id }
+-- a step after others
+stays_on : (f g h : Flow) → Stays f g → Stays g h → Stays f h
+stays_on f g h s t = record { held = t.held ∙ s.held; id = t.id ∙ s.id }
+
+looked_stays : (F : Reader) (f : Flow) (p : Payload) (o : Option Tail) →
+    Stays f (looked_through F f p o)
+unfolding with_event
+looked_stays F f p o =
+    looked_by F (Stays f) (λ g q s. stays_on f g (delivered F g q) s (delivered_stays F g q))
+    (λ g n s. record { held = s.held; id = s.id }) (λ g t xs s. record { held = s.held; id = s.id })
+    f p o (record { held = refl; id = refl })
 
 stays_from : (f : Flow) (p : Payload) (g : Flow) → Stays (told_from f p) g → Stays f g
 unfolding told_from with_event
@@ -59,11 +64,11 @@ taken_stays F f p =
     let q : Payload = left f.next (is_some f.live) p in
     let g : Flow = told_from f p in
     let d : Flow = delivered F g q in
-    let b : Flow = begun F g q (stream_at q.octets) in
+    let b : Flow = looked_through F g q (tail_before f.tail q.number q.octets) in
     stays_either f (nat_eq (length q.octets) 0) f (cond (is_some f.live) d b)
     (record { held = refl; id = refl })
     (stays_either f (is_some f.live) d b (stays_from f p d (delivered_stays F g q))
-    (stays_from f p b (begun_stays F g q (stream_at q.octets))))
+    (stays_from f p b (looked_stays F g q (tail_before f.tail q.number q.octets))))
 
 closed_stays : (f : Flow) (cause : CloseCause) → Stays f (closed f cause)
 unfolding closed with_event

@@ -3,7 +3,7 @@ use Rattle.std.proofs.Common.{◌≡◌, ℕ, Bool, false, cond, nat_eq, List, [
 use Rattle.tcp_flow.specs.declared.flow.CloseCause.TheVariants.{Fin, Gap, Fault}
 use Rattle.tcp_waiting.specs.declared.arrival.Arrival as origin
 use Rattle.tcp_waiting.specs.Payload.{earlier, first, blocks_of, is_far, has_as_much, place_of}
-use Rattle.tcp_flow.specs.Flow.{Event, Begins, Delivers, Closes, OfCapture, ComesFrom, Passes, Setting, Arrival, Octets, End, Hears, header_at, chain_from, stream_at, left, with_event, checked, delivered, begun, told_from, taken, first_of, at, is_due, drained_at_most, drained, fin_is_reached, closed, without_stale_fin, ended, gone_on, gap, is_too_much, within_bounds, holding, payload_came, fin_came, is_lost, heard, step, after, first_payload}
+use Rattle.tcp_flow.specs.Flow.{Event, Begins, Delivers, Closes, OfCapture, ComesFrom, Passes, Setting, Arrival, Octets, End, Hears, header_at, chain_from, stream_at, left, with_event, checked, delivered, cut_up, tail_before, begun, all_delivered, rejoined, looked_through, told_from, taken, first_of, at, is_due, drained_at_most, drained, fin_is_reached, closed, without_stale_fin, ended, gone_on, gap, is_too_much, within_bounds, holding, payload_came, fin_came, is_lost, heard, step, after, first_payload}
 
 -- the reader is at a fault at its 7th octet where what it was handed last begins with an octet 255
 unfoldable is_bad : Event → Option ℕ
@@ -50,6 +50,10 @@ heard_at number answers time = Hears (record {
 
 unfoldable events : List Arrival → ℕ → List Event
 events cs n = (after setting (first_payload setting 7 n header (packet n) [] []) cs).events
+
+-- what happens by a first payload of these octets, at 1000, and what comes after it
+unfoldable events_from : List ℕ → List Arrival → List Event
+events_from xs cs = (after setting (first_payload setting 7 1000 xs (packet 1000) [] []) cs).events
 
 -- the beginning of a stream at a number, behind so many octets that are in none
 unfoldable begins_at : ℕ → ℕ → Bool → Event
@@ -131,6 +135,23 @@ record Rows : Type 0 where
   in-vain-is-told-once : events (End 1006 ∷ octets 1006 (9 ∷ []) ∷ []) 1000
       ≡ OfCapture (ComesFrom (packet 1000)) ∷ first_begins ∷ Delivers 7 header ∷ Closes 7 Fin
       ∷ OfCapture (ComesFrom (packet 1006)) ∷ OfCapture (Passes (9 ∷ [])) ∷ []
+  five-octets-then-the-others : in_flows (events_from (71 ∷ 73 ∷ 79 ∷ 80 ∷ 1 ∷ [])
+      (octets 1005 (0 ∷ 0 ∷ []) ∷ []))
+      ≡ first_begins ∷ Delivers 7 (71 ∷ 73 ∷ 79 ∷ 80 ∷ 1 ∷ []) ∷ Delivers 7 (0 ∷ 0 ∷ []) ∷ []
+  octet-by-octet : in_flows (events_from (71 ∷ []) (octets 1001 (73 ∷ []) ∷ octets 1002 (79 ∷ [])
+      ∷ octets 1003 (80 ∷ []) ∷ octets 1004 (1 ∷ []) ∷ octets 1005 (2 ∷ []) ∷ []))
+      ≡ first_begins ∷ Delivers 7 (71 ∷ []) ∷ Delivers 7 (73 ∷ []) ∷ Delivers 7 (79 ∷ [])
+      ∷ Delivers 7 (80 ∷ []) ∷ Delivers 7 (1 ∷ []) ∷ Delivers 7 (2 ∷ []) ∷ []
+  both-are-told-in-vain : events_from (71 ∷ []) (octets 1001 (73 ∷ []) ∷ [])
+      ≡ OfCapture (ComesFrom (packet 1000)) ∷ OfCapture (Passes (71 ∷ []))
+      ∷ OfCapture (ComesFrom (packet 1001)) ∷ OfCapture (Passes (71 ∷ 73 ∷ [])) ∷ []
+  a-tail-ends-at-its-number : in_flows (events_from (71 ∷ 73 ∷ 79 ∷ 80 ∷ 1 ∷ [])
+      (octets 1006 (0 ∷ 0 ∷ []) ∷ [])) ≡ []
+  what-goes-on-no-tail-stands-alone : in_flows (events_from (71 ∷ []) (octets 1001 header ∷ []))
+      ≡ begins_at 1001 1 true ∷ Delivers 7 header ∷ []
+  a-tail-outlives-others : in_flows (events_from (71 ∷ 73 ∷ []) (octets 1050 (9 ∷ [])
+      ∷ octets 1002 (79 ∷ 80 ∷ 1 ∷ 0 ∷ []) ∷ []))
+      ≡ first_begins ∷ Delivers 7 (71 ∷ 73 ∷ []) ∷ Delivers 7 (79 ∷ 80 ∷ 1 ∷ 0 ∷ []) ∷ []
   fin-to-come : in_flows (events (End 1008 ∷ octets 1006 (7 ∷ 8 ∷ []) ∷ []) 1000)
       ≡ first_begins ∷ Delivers 7 header ∷ Delivers 7 (7 ∷ 8 ∷ []) ∷ Closes 7 Fin ∷ []
   fin-before-next-is-nothing : in_flows (events (End 1005 ∷ []) 1000)
@@ -143,12 +164,12 @@ record Rows : Type 0 where
       octets 1014 (4 ∷ []) ∷ []) 1000) ≡ first_begins ∷ Delivers 7 header ∷ Closes 7 Gap ∷ []
 
 rows : Rows
-unfolding header_at chain_from stream_at left with_event checked delivered begun told_from taken
-    earlier first first_of at is_due drained_at_most drained fin_is_reached closed
-    without_stale_fin ended gone_on gap blocks_of is_far is_too_much within_bounds has_as_much
-    holding place_of payload_came fin_came is_lost heard step after first_payload events in_flows
-    setting packet octets acknowledged held_at heard_at header message begins_at first_begins
-    any_bad is_bad
+unfolding header_at chain_from stream_at left with_event checked delivered begun cut_up
+    tail_before all_delivered rejoined looked_through told_from taken earlier first first_of
+    at is_due drained_at_most drained fin_is_reached closed without_stale_fin ended gone_on
+    gap blocks_of is_far is_too_much within_bounds has_as_much holding place_of payload_came
+    fin_came is_lost heard step after first_payload events events_from in_flows setting packet
+    octets acknowledged held_at heard_at header message begins_at first_begins any_bad is_bad
 rows = record {
   begins = refl;
   retransmission-falls-away = refl;
@@ -173,6 +194,12 @@ rows = record {
   behind-a-fault-the-rest-falls-away = refl;
   in-a-first-payload-is-found = refl;
   in-vain-is-told-once = refl;
+  five-octets-then-the-others = refl;
+  octet-by-octet = refl;
+  both-are-told-in-vain = refl;
+  a-tail-ends-at-its-number = refl;
+  what-goes-on-no-tail-stands-alone = refl;
+  a-tail-outlives-others = refl;
   fin-to-come = refl;
   fin-before-next-is-nothing = refl;
   fin-at-once = refl;

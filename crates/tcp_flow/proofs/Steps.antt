@@ -6,7 +6,7 @@ use Rattle.tcp_waiting.specs.Numbers.{is_to_come}
 use Rattle.tcp_waiting.proofs.Order.{first_within, first_own}
 use Rattle.tcp_waiting.specs.Payload.{Payload, payload, no_payload, first, has_as_much}
 use Rattle.tcp_flow.specs.declared.hearing.Heard.{Heard}
-use Rattle.tcp_flow.specs.Flow.{Flow, Reader, left, delivered, begun, told_from, taken, stream_at, first_of, is_due, at, drained_at_most, Setting, is_too_much, within_bounds, gap, is_lost, heard, payload_came, gone_on, holding}
+use Rattle.tcp_flow.specs.Flow.{Flow, Reader, left, delivered, looked_through, tail_before, told_from, taken, first_of, is_due, at, drained_at_most, Setting, is_too_much, within_bounds, gap, is_lost, heard, payload_came, gone_on, holding}
 
 pub taken_none : (F : Reader) (f : Flow) (p q : Payload) → q ≡ left f.next (is_some f.live) p →
     nat_eq (length q.octets) 0 ≡ true → taken F f p ≡ f
@@ -18,14 +18,14 @@ pub taken_live : (F : Reader) (f : Flow) (p q : Payload) → q ≡ left f.next (
     taken F f p ≡ delivered F (told_from f p) q
 unfolding taken
 taken_live F f p q e z l = rw (← e, z) (cond-true (is_some f.live) (delivered F (told_from f p) q)
-    (begun F (told_from f p) q (stream_at q.octets)) l)
+    (looked_through F (told_from f p) q (tail_before f.tail q.number q.octets)) l)
 
 pub taken_dead : (F : Reader) (f : Flow) (p q : Payload) → q ≡ left f.next (is_some f.live) p →
     nat_eq (length q.octets) 0 ≡ false → (is_some f.live) ≡ false →
-    taken F f p ≡ begun F (told_from f p) q (stream_at q.octets)
+    taken F f p ≡ looked_through F (told_from f p) q (tail_before f.tail q.number q.octets)
 unfolding taken
 taken_dead F f p q e z l = rw (← e, z) (cond-false (is_some f.live) (delivered F (told_from f p) q)
-    (begun F (told_from f p) q (stream_at q.octets)) l)
+    (looked_through F (told_from f p) q (tail_before f.tail q.number q.octets)) l)
 
 -- a payload is taken while it is due
 pub flowing_none : (F : Reader) (count : ℕ) (f : Flow) → first_of f ≡ None →

@@ -3,9 +3,11 @@ use Rattle.std.proofs.Common.{◌≡◌, ℕ, cond, nat_eq, ◌&&◌, ◌||◌, 
 use Rattle.std.specs.List.{remove}
 use Rattle.tcp_flow.specs.declared.flow.CloseCause.{CloseCause}
 use Rattle.tcp_flow.specs.declared.flow.CloseCause.TheVariants.{Fault}
-use Rattle.tcp_waiting.specs.Numbers.{onward, age}
-use Rattle.tcp_waiting.specs.Payload.{without_first, Payload, payload, has_as_much, put}
-use Rattle.tcp_flow.specs.Flow.{Flow, Event, Begins, Delivers, Closes, flow_of, OfCapture, ComesFrom, Passes, CaptureEvent, Reader, Setting, Arrival, Octets, End, Hears, left, with_event, stopped, checked, number_after, handed, delivered, start_at, started, begun, told_from, taken, stream_at, at, closed, holding, gone_on, within_bounds, payload_came, fin_came, gap, step}
+use Rattle.tcp_flow.specs.declared.tail.Tail.{Tail}
+use Rattle.tcp_waiting.specs.Numbers.{age}
+use Rattle.tcp_waiting.specs.Payload.{Payload, payload, has_as_much, put}
+use Rattle.tcp_flow.specs.Flow.{Flow, Event, Begins, Delivers, Closes, flow_of, OfCapture, ComesFrom, Passes, CaptureEvent, Reader, Setting, Arrival, Octets, End, Hears, left, with_event, stopped, checked, number_after, handed, delivered, start_at, looked_through, tail_before, told_from, taken, at, closed, holding, gone_on, within_bounds, payload_came, fin_came, gap, step}
+use Rattle.tcp_flow.proofs.Tails.{looked_by}
 use Rattle.tcp_flow.proofs.Preserving.{Keeps, cond_keeps, gone_on_keeps, relieved_keeps, heard_keeps, gap_keeps}
 
 -- it is so of all that has happened, after a flow of this id
@@ -60,18 +62,18 @@ module _ (Q : List Event → Type 0) (id : ℕ) (more : IsKept Q id) where
         told = more f.events (Delivers f.id p.octets) (same_flow f.id id t.same) t.told;
       })
 
-  begun_told : (F : Reader) (f : Flow) (q : Payload) (r : Option ℕ) → Told Q id f →
-      Told Q id (begun F f q r)
-  unfolding begun with_event
-  begun_told F f q None t = capture_told f (Passes q.octets) t
-  begun_told F f q (Some i) t =
-      let n : ℕ = onward q.number i in
-      delivered_told F (started f n) (without_first i q)
-      (record {
+  looked_told : (F : Reader) (f : Flow) (q : Payload) (o : Option Tail) → Told Q id f →
+      Told Q id (looked_through F f q o)
+  unfolding with_event
+  looked_told F f q o t =
+      looked_by F (Told Q id) (delivered_told F)
+      (λ g n t. record {
         same = t.same;
-        told = more f.events (Begins f.id (start_at f.since f.has_begun n))
-            (same_flow f.id id t.same) t.told;
+        told = more g.events (Begins g.id (start_at g.since g.has_begun n))
+            (same_flow g.id id t.same) t.told;
       })
+      (λ g u xs t. capture_told (record g { tail = u }) (Passes xs)
+      (record { same = t.same; told = t.told })) f q o t
 
   from_told : (f : Flow) (p : Payload) → Told Q id f → Told Q id (told_from f p)
   unfolding told_from
@@ -84,10 +86,11 @@ module _ (Q : List Event → Type 0) (id : ℕ) (more : IsKept Q id) where
       let g : Flow = told_from f p in
       let u : Told Q id g = from_told f p t in
       let d : Flow = delivered F g q in
-      let b : Flow = begun F g q (stream_at q.octets) in
+      let o : Option Tail = tail_before f.tail q.number q.octets in
+      let b : Flow = looked_through F g q o in
       cond_keeps (Told Q id) (nat_eq (length q.octets) 0) f (cond (is_some f.live) d b) t
       (cond_keeps (Told Q id) (is_some f.live) d b (delivered_told F g q u)
-      (begun_told F g q (stream_at q.octets) u))
+      (looked_told F g q o u))
 
   told_keeps : (F : Reader) → Keeps F (Told Q id)
   told_keeps F =

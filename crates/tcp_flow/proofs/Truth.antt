@@ -4,13 +4,15 @@ use Rattle.std.specs.List.{insert, remove}
 use Rattle.std.proofs.lemmas.Bool.{cases_lt, cases_Bool, lt-ltb, le-ltb, ltb-false, and_cases, cond-true, cond-false, not-true, and_right, not_from_true, both_ways}
 use Rattle.std.proofs.lemmas.List.{drop-drop, get_or-append_right, get_or_append_left, length-append}
 use Rattle.tcp_flow.specs.declared.hearing.Heard.{Heard}
+use Rattle.tcp_flow.specs.declared.tail.Tail.{Tail}
 use Rattle.tcp_flow.specs.declared.flow.CloseCause.{CloseCause}
 use Rattle.tcp_flow.specs.declared.flow.CloseCause.TheVariants.{Fault}
 use Rattle.tcp_waiting.specs.Numbers.{ahead, onward, age, is_to_come}
 use Rattle.tcp_waiting.specs.Payload.{without_first, Payload, no_payload, window, has_as_much, put, place_of, key_of}
-use Rattle.tcp_flow.specs.Flow.{gap, Flow, Event, CaptureEvent, Begins, Delivers, Closes, Reader, Setting, left, with_event, stopped, checked, number_after, handed, delivered, start_at, started, begun, told_from, OfCapture, ComesFrom, Passes, taken, stream_at, first_of, is_due, at, closed, payload_came, holding, within_bounds, gone_on, fin_came, heard}
-use Rattle.tcp_flow.specs.Laws.{IsPartOf, OwnMayFollow, MayFollow, AllFollow, AllArePartsOf, due_of, IsGapless}
+use Rattle.tcp_flow.specs.Flow.{gap, Flow, Event, CaptureEvent, Begins, Delivers, Closes, Reader, Setting, left, with_event, stopped, checked, number_after, handed, delivered, start_at, started, looked_through, tail_before, told_from, OfCapture, ComesFrom, Passes, taken, first_of, is_due, at, closed, payload_came, holding, within_bounds, gone_on, fin_came, heard}
+use Rattle.tcp_flow.specs.Laws.{IsPartOf, OwnMayFollow, MayFollow, AllFollow, AllArePartsOf, due_of, IsTailOf, IsGapless}
 use Rattle.tcp_waiting.proofs.Order.{first_within, first_own}
+use Rattle.tcp_flow.proofs.Tails.{Looks, looked_keeps, tail_map, delivered_id, in_vain}
 use Rattle.tcp_flow.proofs.Preserving.{gap_keeps, Keeps, relieved_keeps, gone_on_keeps, heard_keeps}
 
 onward_onward : (n k a : ℕ) → onward (onward n k) a ≡ onward n (k + a)
@@ -121,6 +123,7 @@ stopped_true payloads f n cause t live =
     record {
       next = t.next;
       held = t.held;
+      tail = t.tail;
       events = runs_more payloads f.id None (Some f.next) None f.events (Closes f.id cause) runs
           (inl (refl, tt));
     }
@@ -138,16 +141,19 @@ unfolding with_event
 capture_true payloads f e t = record {
   next = t.next;
   held = t.held;
+  tail = t.tail;
   events = runs_more payloads f.id None (due_of f) (due_of f) f.events (OfCapture e) t.events
       (inr (λ o. true≢false (sym (ap is_some o)), refl));
 }
 
 delivered_true : (F : Reader) (payloads : List Payload) (g : Flow) (p : Payload) (n : ℕ) →
-    AllArePartsOf payloads g.held → AllFollow payloads g.id None g.events (Some n) →
+    AllArePartsOf payloads g.held
+    → ((t : Tail) → g.tail ≡ Some t → IsTailOf (IsPartOf payloads g.id) t)
+    → AllFollow payloads g.id None g.events (Some n) →
     IsPartOf payloads g.id n p.octets → p.number ≡ n → (is_some g.live) ≡ true
     → IsGapless payloads (delivered F g p)
 unfolding delivered with_event OwnMayFollow
-delivered_true F payloads g p n held runs has e live =
+delivered_true F payloads g p n held tail runs has e live =
     let d : Flow = handed g p in
     let more : AllFollow payloads g.id None d.events (Some d.next) =
     runs_more payloads g.id None (Some n) (Some d.next) g.events (Delivers g.id p.octets) runs
@@ -156,26 +162,76 @@ delivered_true F payloads g p n held runs has e live =
     (record {
       next = onward_small p.number (length p.octets);
       held = held;
+      tail = tail;
       events =
           when_true (AllFollow payloads g.id None d.events) (is_some g.live) (Some d.next) None
           live more;
     }) live
 
-begun_true : (F : Reader) (payloads : List Payload) (g : Flow) (q : Payload) (r : Option ℕ) →
-    IsGapless payloads g → (is_some g.live) ≡ false → IsPartOf payloads g.id q.number q.octets →
-    IsGapless payloads (begun F g q r)
-unfolding begun with_event OwnMayFollow
-begun_true F payloads g q None t dead has = capture_true payloads g (Passes q.octets) t
-begun_true F payloads g q (Some i) t dead has =
-    let n : ℕ = onward q.number i in
+delivered_live : (F : Reader) (payloads : List Payload) (g : Flow) (p : Payload) →
+    IsGapless payloads g → (is_some g.live) ≡ true → p.number ≡ g.next →
+    IsPartOf payloads g.id p.number p.octets → IsGapless payloads (delivered F g p)
+delivered_live F payloads g p t live due has =
+    let runs : AllFollow payloads g.id None g.events (Some g.next) =
+    subst (AllFollow payloads g.id None g.events)
+    (cond-true (is_some g.live) (Some g.next) None live) t.events in
+    delivered_true F payloads g p g.next t.held t.tail runs
+    (subst (λ (n : ℕ). IsPartOf payloads g.id n p.octets) due has) due live
+
+started_true : (payloads : List Payload) (g : Flow) (n : ℕ) → n < 2 ^ 32 →
+    (is_some g.live) ≡ false → IsGapless payloads g → IsGapless payloads (started g n)
+unfolding with_event OwnMayFollow
+started_true payloads g n small dead t =
     let none : due_of g ≡ None = cond-false (is_some g.live) (Some g.next) None dead in
-    let s : Flow = started g n in
-    let begins : AllFollow payloads g.id None s.events (Some n) =
-    runs_more payloads g.id None None (Some n) g.events
-    (Begins g.id (start_at g.since g.has_begun n))
-    (subst (AllFollow payloads g.id None g.events) none t.events) (inl (refl, refl)) in
-    delivered_true F payloads s (without_first i q) n t.held begins
-    (has_more payloads g.id q.number i q.octets has) refl refl
+    record {
+      next = small;
+      held = t.held;
+      tail = λ u e. absurd (true≢false (sym (ap is_some e)));
+      events = runs_more payloads g.id None None (Some n) g.events
+          (Begins g.id (start_at g.since g.has_begun n))
+          (subst (AllFollow payloads g.id None g.events) none t.events) (inl (refl, refl));
+    }
+
+part_small : (payloads : List Payload) (id n : ℕ) (xs : List ℕ) → IsPartOf payloads id n xs →
+    n < 2 ^ 32
+part_small payloads id n xs h = subst (λ (m : ℕ). m < 2 ^ 32) (sym h.number_is)
+    (onward_small (get_or payloads h.index no_payload).number h.skipped)
+
+-- what is so of a flow of an id
+record IsTrueOf (payloads : List Payload) (id : ℕ) (f : Flow) : Type 0 where
+  same : f.id ≡ id
+  gapless : IsGapless payloads f
+
+passed_true : (payloads : List Payload) (g : Flow) (t : Option Tail) (xs : List ℕ) →
+    ((u : Tail) → t ≡ Some u → IsTailOf (IsPartOf payloads g.id) u) → IsGapless payloads g →
+    IsGapless payloads (in_vain g t xs)
+passed_true payloads g t xs tail h = capture_true payloads (record g { tail = t }) (Passes xs)
+    (record { next = h.next; held = h.held; tail = tail; events = h.events })
+
+looks_true : (F : Reader) (payloads : List Payload) (id : ℕ) →
+    Looks F (IsPartOf payloads id) (IsTrueOf payloads id)
+unfolding with_event
+looks_true F payloads id =
+    record {
+      delivers = λ g p i live due part. record {
+        same = delivered_id F g p ∙ i.same;
+        gapless = delivered_live F payloads g p i.gapless live due
+            (subst (λ (n : ℕ). IsPartOf payloads n p.number p.octets) (sym i.same) part);
+      };
+      starts = λ g n small dead i. record {
+        same = i.same;
+        gapless = started_true payloads g n small dead i.gapless;
+      };
+      passes = λ g t xs tail i. record {
+        same = i.same;
+        gapless = passed_true payloads g t xs (λ u e.
+            subst (λ (n : ℕ). IsTailOf (IsPartOf payloads n) u) (sym i.same) (tail u e)) i.gapless;
+      };
+      tail = λ g t i e.
+          subst (λ (n : ℕ). IsTailOf (IsPartOf payloads n) t) i.same (i.gapless.tail t e);
+      skips = λ n i xs h. has_more payloads id n i xs h;
+      small = λ n xs h. part_small payloads id n xs h;
+    }
 
 from_true : (payloads : List Payload) (f : Flow) (p : Payload) → IsGapless payloads f →
     IsGapless payloads (told_from f p)
@@ -194,7 +250,7 @@ taken_true F payloads f p t has reach =
     let g : Flow = told_from f p in
     let u : IsGapless payloads g = from_true payloads f p t in
     let d : Flow = delivered F g q in
-    let b : Flow = begun F g q (stream_at q.octets) in
+    let b : Flow = looked_through F g q (tail_before f.tail q.number q.octets) in
     let live : IsGapless payloads (cond (is_some f.live) d b) =
     elim (cases_Bool (is_some f.live)) [
       | inl e ↦
@@ -203,10 +259,12 @@ taken_true F payloads f p t has reach =
           subst (AllFollow payloads f.id None g.events)
           (cond-true (is_some f.live) (Some f.next) None e) u.events in
           when_true (IsGapless payloads) (is_some f.live) d b e
-          (delivered_true F payloads g q f.next t.held runs
+          (delivered_true F payloads g q f.next t.held t.tail runs
           (subst (λ (n : ℕ). IsPartOf payloads f.id n q.octets) due left) due e))
       | inr e ↦ when_false (IsGapless payloads) (is_some f.live) d b e
-          (begun_true F payloads g q (stream_at q.octets) u e left)
+          (looked_keeps F (IsPartOf payloads f.id) (IsTrueOf payloads f.id)
+          (looks_true F payloads f.id) g q e left
+          (record { same = refl; gapless = u })).gapless
     ] in
     either (IsGapless payloads) (nat_eq (length q.octets) 0) f (cond (is_some f.live) d b) t live
 
@@ -228,6 +286,7 @@ true_keeps F payloads =
             next = t.next;
             held =
                 have_remove payloads f.held i t.held;
+            tail = t.tail;
             events = t.events;
           } in
           taken_true F payloads g p u has
@@ -245,7 +304,12 @@ true_keeps F payloads =
                 (stopped_true payloads f f.next cause t e)
             | inr e ↦ when_false (IsGapless payloads) (is_some f.live) c f e t
           ];
-      fins = λ f n t. record { next = t.next; held = t.held; events = t.events };
+      fins = λ f n t. record {
+        next = t.next;
+        held = t.held;
+        tail = t.tail;
+        events = t.events;
+      };
     }
 
 -- one more payload comes
@@ -301,11 +365,17 @@ runs_grow payloads p id before (h ∷ hs) behind r = (
   ),
 )
 
+pub tail_grows : (payloads : List Payload) (p : Payload) (id : ℕ) (t : Tail) →
+    IsTailOf (IsPartOf payloads id) t → IsTailOf (IsPartOf (payloads ++ p ∷ []) id) t
+tail_grows payloads p id t h = tail_map (IsPartOf payloads id) (IsPartOf (payloads ++ p ∷ []) id) t
+    (λ n xs h. has_grow payloads p id n xs h) h
+
 pub true_grows : (payloads : List Payload) (p : Payload) (f : Flow) → IsGapless payloads f →
     IsGapless (payloads ++ p ∷ []) f
 true_grows payloads p f t = record {
   next = t.next;
   held = all_grow payloads p f.held t.held;
+  tail = λ u e. tail_grows payloads p f.id u (t.tail u e);
   events = runs_grow payloads p f.id None f.events (due_of f) t.events;
 }
 
@@ -350,6 +420,7 @@ came_true A payloads' f p small t =
       held =
           have_put all f.held (place_of (key_of q) f.held) q u.held
           (left_all all f.next (is_some f.live) p (has_last payloads' p small));
+      tail = u.tail;
       events = u.events;
     } in
     either (IsGapless all) (nat_eq (length q.octets) 0
@@ -377,13 +448,14 @@ pub heard_true : (F : Reader) (payloads' : List Payload) (count : ℕ) (h : Hear
 heard_true F payloads' count h f t = heard_keeps F (IsGapless payloads') (true_keeps F payloads')
     count h f t
 
-pub fresh_true : (f : Flow) → f.next < 2 ^ 32 → (is_some f.live) ≡ false → f.held ≡ [] →
-    f.events ≡ [] → IsGapless [] f
+pub fresh_true : (f : Flow) → f.next < 2 ^ 32 → (is_some f.live) ≡ false → f.tail ≡ None →
+    f.held ≡ [] → f.events ≡ [] → IsGapless [] f
 unfolding AllArePartsOf AllFollow
-fresh_true f small dead none quiet =
+fresh_true f small dead lone none quiet =
     record {
       next = small;
       held = subst (λ (ps : List Payload). AllArePartsOf [] ps) (sym none) tt;
+      tail = λ u e. absurd (true≢false (sym (ap is_some (sym lone ∙ e))));
       events = subst (λ (hs : List Event). AllFollow [] f.id None hs (due_of f)) (sym quiet)
           (sym (cond-false (is_some f.live) (Some f.next) None dead));
     }

@@ -1,10 +1,11 @@
 -- One flow of a TCP connection, from its first stream on: what it holds, and what happens.
-use Rattle.std.specs.Prelude.{ℕ, zero, suc, ◌+◌, ◌-◌, ◌*◌, ◌%◌, Bool, true, false, cond, nat_lt, nat_le, nat_eq, ◌&&◌, ◌||◌, not, List, [], ◌∷◌, ◌++◌, length, drop, Option, Some, None, get_or, is_some, unwrap_or}
+use Rattle.std.specs.Prelude.{ℕ, zero, suc, ◌+◌, ◌-◌, ◌*◌, ◌%◌, Bool, true, false, cond, nat_lt, nat_le, nat_eq, ◌&&◌, ◌||◌, not, List, [], ◌∷◌, ◌++◌, length, take, drop, set, Option, Some, None, get_or, is_some, unwrap_or}
 use Rattle.std.specs.Option.{option_map}
 use Rattle.std.specs.List.{remove}
 use Rattle.tcp_flow.specs.declared.flow.CloseCause.{CloseCause}
 use Rattle.tcp_flow.specs.declared.flow.CloseCause.TheVariants.{Fin, Gap, Fault}
 use Rattle.tcp_flow.specs.declared.flow.Start.{Start}
+use Rattle.tcp_flow.specs.declared.tail.Tail.{Tail}
 use Rattle.tcp_flow.specs.declared.hearing.Heard.{Heard}
 use Rattle.tcp_segment.specs.declared.endpoint.Flow as endpoints
 use Rattle.tcp_waiting.specs.declared.arrival.Arrival as origin
@@ -51,7 +52,8 @@ setting faulted blocks = record { faulted = faulted; blocks = blocks }
 
 -- a flow: its id, the number that is due, the number that its live stream began with, a FIN to
 -- come; from which number on octets are in no stream, while none lives, and whether one has begun;
--- what this and other flows hold, in its order; and what has happened in all of them
+-- its tail: what was looked through last and may begin a header, none while a stream lives; what
+-- this and other flows hold, in its order; and what has happened in all of them
 pub record Flow : Type 0 where
   pub id : ℕ
   pub next : ℕ
@@ -59,6 +61,7 @@ pub record Flow : Type 0 where
   pub fin : Option ℕ
   pub since : ℕ
   pub has_begun : Bool
+  pub tail : Option Tail
   pub held : List Payload
   pub events : List Event
 
@@ -126,6 +129,55 @@ stream_at xs =
       | Some place ↦ cond (nat_eq place 0 || is_chain (drop place xs)) (Some place) None
     ]
 
+-- the first five of the six octets, which are the same in each version
+abbrev pub first_five : List ℕ
+first_five = 71 ∷ 73 ∷ 79 ∷ 80 ∷ 1 ∷ []
+
+-- whether octets are a beginning of the six: one to five of them
+abbrev pub is_beginning : List ℕ → Bool
+is_beginning xs = nat_lt 0 (length xs) && nat_lt (length xs) 6 && is_front xs
+
+-- octets in parts of these lengths
+unfoldable pub cut_up : List ℕ → List ℕ → List (List ℕ)
+cut_up xs [] = []
+cut_up xs (n ∷ ns) = take n xs ∷ cut_up (drop n xs) ns
+
+-- the octets of a tail, which is a beginning of the six octets
+abbrev pub octets_of : Tail → List ℕ
+octets_of t = take t.octets first_five
+
+-- the octets of each of its payloads
+abbrev pub parts_of : Tail → List (List ℕ)
+parts_of t = cut_up first_five (take t.count t.parts)
+
+-- the tail of one payload, at a number and of so many octets
+abbrev pub tail_of : ℕ → ℕ → Tail
+tail_of n count = record {
+  number = n;
+  octets = count;
+  count = 1;
+  parts = count ∷ 0 ∷ 0 ∷ 0 ∷ 0 ∷ [];
+}
+
+-- of one payload more, of so many octets: it has five at most
+abbrev pub lengthened : Tail → ℕ → Tail
+lengthened t count =
+    cond (nat_lt t.count 5) (record t {
+      octets = t.octets + count;
+      count = t.count + 1;
+      parts = set t.parts t.count count;
+    }) t
+
+-- whether octets at a number go on a tail, which ends there: both together begin with the six
+-- octets, or are a beginning of them
+abbrev pub goes_on : Tail → ℕ → List ℕ → Bool
+goes_on t n xs = nat_eq (onward t.number t.octets) n && is_front (octets_of t ++ xs)
+
+-- the tail that octets at a number go on
+unfoldable pub tail_before : Option Tail → ℕ → List ℕ → Option Tail
+tail_before None n xs = None
+tail_before (Some t) n xs = cond (goes_on t n xs) (Some t) None
+
 -- what is left of a payload: what is before `next` falls away, but it is whole where no stream is
 -- live and it begins more than W before
 unfoldable pub left : ℕ → Bool → Payload → Payload
@@ -166,16 +218,42 @@ start_at since has_begun n = record {
   is_found = has_begun || nat_lt 0 (ahead since n);
 }
 
--- a stream begins at a number
+-- a stream begins at a number, which is due
 abbrev pub started : Flow → ℕ → Flow
 started f n =
-    with_event (record f { live = Some n; has_begun = true })
+    with_event (record f { next = n; live = Some n; has_begun = true; tail = None })
     (Begins f.id (start_at f.since f.has_begun n))
 
--- the octets from a header on are delivered to a new stream, if they have one
+-- the octets from a header on are delivered to a new stream, if they have one; else they were
+-- looked through in vain, and are the flow's tail from now on if they are a beginning of the six
 unfoldable pub begun : Reader → Flow → Payload → Option ℕ → Flow
-begun F f p None = with_event f (OfCapture (Passes p.octets))
+begun F f p None =
+    with_event (record f {
+      tail = cond (is_beginning p.octets) (Some (tail_of p.number (length p.octets))) f.tail;
+    }) (OfCapture (Passes p.octets))
 begun F f p (Some i) = delivered F (started f (onward p.number i)) (without_first i p)
+
+-- the octets of each payload are delivered, one after another, while the stream lives: after its
+-- reader's fault the rest falls away
+unfoldable pub all_delivered : Reader → Flow → origin.Arrival → List (List ℕ) → Flow
+all_delivered F f arrival [] = f
+all_delivered F f arrival (xs ∷ xss) =
+    cond (is_some f.live)
+    (all_delivered F (delivered F f (payload f.id f.next xs arrival)) arrival xss) f
+
+-- a payload goes on a tail: both together are the tail from now on, while they are fewer than six
+-- octets; else a stream begins where the tail does, and has the octets of both
+unfoldable pub rejoined : Reader → Flow → Payload → Tail → Flow
+rejoined F f p t =
+    cond (nat_lt (t.octets + length p.octets) 6)
+    (with_event (record f { tail = Some (lengthened t (length p.octets)) })
+    (OfCapture (Passes (octets_of t ++ p.octets))))
+    (all_delivered F (started f t.number) p.arrival (parts_of t ++ p.octets ∷ []))
+
+-- a payload is looked through, after the tail that it goes on, if there is one
+unfoldable pub looked_through : Reader → Flow → Payload → Option Tail → Flow
+looked_through F f p None = begun F f p (stream_at p.octets)
+looked_through F f p (Some t) = rejoined F f p t
 
 -- what is told next came in the packet of a payload
 unfoldable pub told_from : Flow → Payload → Flow
@@ -187,7 +265,7 @@ taken F f p =
     let q : Payload = left f.next (is_some f.live) p in
     cond (nat_eq (length q.octets) 0) f
     (cond (is_some f.live) (delivered F (told_from f p) q)
-    (begun F (told_from f p) q (stream_at q.octets)))
+    (looked_through F (told_from f p) q (tail_before f.tail q.number q.octets)))
 
 unfoldable pub first_of : Flow → Option ℕ
 first_of f = first f.id f.next f.held
@@ -326,11 +404,12 @@ fresh id n held events = record {
   fin = None;
   since = n;
   has_begun = false;
+  tail = None;
   held = held;
   events = events;
 }
 
--- a flow of which the first payload with a header comes: its number is due
+-- a flow of which the first payload comes: its number is due
 unfoldable pub first_payload : Setting → ℕ → ℕ → List ℕ → origin.Arrival → List Payload →
     List Event → Flow
 first_payload A id n octets arrival held events =

@@ -1,8 +1,9 @@
 -- What a stream is: octet by octet, without a hole, what payloads of its flow have there.
-use Rattle.std.specs.Prelude.{◌≡◌, ◌⊎◌, ℕ, ◌<◌, ◌^◌, cond, List, [], ◌∷◌, length, drop, get_or, Option, Some, None, is_some, true, false}
+use Rattle.std.specs.Prelude.{◌≡◌, ◌⊎◌, ℕ, ◌+◌, ◌<◌, ◌≤◌, ◌^◌, cond, List, [], ◌∷◌, length, take, drop, get_or, Option, Some, None, is_some, true, false}
 use Rattle.tcp_waiting.specs.Numbers.{onward, rank}
 use Rattle.tcp_waiting.specs.Payload.{Payload, no_payload}
-use Rattle.tcp_flow.specs.Flow.{Flow, Event, Opens, Begins, Delivers, Closes, flow_of, first_of}
+use Rattle.tcp_flow.specs.declared.tail.Tail.{Tail}
+use Rattle.tcp_flow.specs.Flow.{Flow, Event, Opens, Begins, Delivers, Closes, flow_of, first_of, parts_of}
 
 -- octets are at a number what a payload of the flow has from there on
 pub record IsPartOf (payloads : List Payload) (id number : ℕ) (octets : List ℕ) : Type 0 where
@@ -44,10 +45,28 @@ AllArePartsOf payloads (p ∷ ps) =
 abbrev pub due_of : Flow → Option ℕ
 due_of f = cond (is_some f.live) (Some f.next) None
 
--- every stream of a flow is so, and what is held payloads
+-- octets that stand one after another from a number on, each so at its own
+unfoldable pub StandFrom : (ℕ → List ℕ → Type 0) → ℕ → List (List ℕ) → Type 0
+StandFrom P n [] = Unit {0}
+StandFrom P n (xs ∷ xss) = P n xs × StandFrom P (onward n (length xs)) xss
+
+unfoldable pub total : List ℕ → ℕ
+total [] = 0
+total (n ∷ ns) = n + total ns
+
+-- a tail: so are the octets of each of its payloads, which have five together at most
+pub record IsTailOf (P : ℕ → List ℕ → Type 0) (t : Tail) : Type 0 where
+  pub number : t.number < 2 ^ 32
+  pub most : t.octets ≤ 5
+  pub room : length t.parts ≡ 5
+  pub all : total (take t.count t.parts) ≡ t.octets
+  pub stand : StandFrom P t.number (parts_of t)
+
+-- every stream of a flow is so, and what is held payloads, and its tail parts of payloads
 pub record IsGapless (payloads : List Payload) (f : Flow) : Type 0 where
   pub next : f.next < 2 ^ 32
   pub held : AllArePartsOf payloads f.held
+  pub tail : (t : Tail) → f.tail ≡ Some t → IsTailOf (IsPartOf payloads f.id) t
   pub events : AllFollow payloads f.id None f.events (due_of f)
 
 -- each payload that a flow holds has a rank after `least`

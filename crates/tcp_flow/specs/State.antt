@@ -12,6 +12,7 @@ state s held events = record {
   fin = s.fin;
   since = s.since;
   has_begun = s.has_begun;
+  tail = s.tail;
   held = held;
   events = events;
 }

@@ -1,17 +1,19 @@
 //! What a flow delivers of its payloads, as they are due: to its live stream, or to one that begins
 //! in them.
 
-ghost use Rattle.std.specs.Prelude.{◌≡◌, ◌≤◌, [], List, OnOk, OnErr, is_some, length, Some, true};
+ghost use Rattle.std.specs.Prelude.{◌≡◌, ◌≤◌, [], List, OnOk, OnErr, is_some, length, true};
 
 use crate::flow::{CloseCause, FlowState, Listener, ListenerFault, Start};
-use crate::looking::stream_at;
+use crate::looking::{is_beginning, stream_at};
+use crate::tail::{FIRST_FIVE, Tail};
 use tcp_waiting::{Arrival, Pool, WINDOW, age, ahead, is_to_come, onward};
 
 impl FlowState {
     ghost use Rattle.tcp_waiting.specs.Payload.{Payload, payload};
     ghost use Rattle.tcp_flow.specs.Flow.{Flow, left, delivered, taken, drained};
-    ghost use Rattle.tcp_flow.specs.Flow.{Event, start_at as spec_start_at};
-    ghost use Rattle.tcp_flow.specs.Flow.{number_after as spec_number_after};
+    ghost use Rattle.tcp_flow.specs.Flow.{all_delivered, cut_up, goes_on, looked_through, rejoined, started};
+    ghost use Rattle.tcp_flow.specs.Flow.{start_at as spec_start_at, tail_before};
+    ghost use Rattle.tcp_flow.specs.Flow.{Event, number_after as spec_number_after};
     ghost use Rattle.tcp_flow.specs.State.{state, IsState};
 
     /// What is left of a payload: what is before the number that is due falls away.
@@ -71,18 +73,118 @@ impl FlowState {
         }
     }
 
-    /// A stream that begins at a number is live from now on.
-    fn go_live(&mut self, number: u32)
-        ensures is { (held : List Payload) (events : List Event) → state self.new held events
-            ≡ (record (state self.old held events) { live = Some number; has_begun = true }) }
+    /// A stream begins at a number, which is due.
+    fn start<T: Listener>(&mut self, number: u32, to: &mut T) -> Result<(), ListenerFault>
         ensures id { self.new.id ≡ self.old.id }
+        ensures does { (held : List Payload) (f : Flow)
+            → IsState (T.observed to.old) self.old held f → OnOk result
+            (IsState (T.observed to.new) self.new held (started f number)) }
+        ensures cause { OnErr result (T.failed to.new) }
     {
+        to.begins(self.id, self.start_at(number))?;
+        self.next = number;
         self.live = Some(number);
         self.has_begun = true;
+        self.tail = None;
+        Ok(())
     }
 
-    /// A payload is taken: delivered, or a stream begins in it, or none begins in what was looked
-    /// through.
+    /// Octets are delivered in parts of these lengths, while the stream lives.
+    fn deliver_parts<T: Listener>(
+        &mut self,
+        octets: &[u8],
+        parts: &[u8],
+        to: &mut T,
+    ) -> Result<(), ListenerFault>
+        ensures id { self.new.id ≡ self.old.id }
+        ensures does { (held : List Payload) (f : Flow) (arrival : Arrival)
+            → IsState (T.observed to.old) self.old held f → OnOk result
+            (IsState (T.observed to.new) self.new held
+            (all_delivered T.faulted f arrival (cut_up octets.now parts.now))) }
+        ensures cause { OnErr result (T.failed to.new) }
+    {
+        if parts.is_empty() || !self.is_live() {
+            return Ok(());
+        }
+        let end = (parts[0] as usize).min(octets.len());
+        self.deliver(self.next, &octets[..end], to)?;
+        self.deliver_parts(&octets[end..], &parts[1..], to)
+    }
+
+    /// The tail that octets at a number go on.
+    fn tail_before(&self, number: u32, octets: &[u8]) -> Option<Tail>
+        ensures { result ≡ tail_before self.now.tail number octets.now }
+    {
+        let tail = self.tail?;
+        if tail.goes_on(number, octets) {
+            return Some(tail);
+        }
+        None
+    }
+
+    /// A payload goes on a tail: both together are the tail from now on, while they are fewer than six
+    /// octets; else a stream begins where the tail does.
+    fn rejoin<T: Listener>(
+        &mut self,
+        number: u32,
+        octets: &[u8],
+        tail: Tail,
+        to: &mut T,
+    ) -> Result<(), ListenerFault>
+        requires { goes_on tail number octets.now ≡ true }
+        ensures id { self.new.id ≡ self.old.id }
+        ensures does { (held : List Payload) (f : Flow) (arrival : Arrival)
+            → IsState (T.observed to.old) self.old held f → OnOk result
+            (IsState (T.observed to.new) self.new held
+            (rejoined T.faulted f (payload self.old.id number octets.now arrival) tail)) }
+        ensures cause { OnErr result (T.failed to.new) }
+    {
+        let count = tail.octets as usize + octets.len();
+        if count < 6 {
+            to.passes(&FIRST_FIVE[..count]);
+            self.tail = Some(tail.lengthened(octets.len() as u8));
+            return Ok(());
+        }
+        self.start(tail.number, to)?;
+        self.deliver_parts(&FIRST_FIVE, tail.parts(), to)?;
+        if self.is_live() {
+            return self.deliver(self.next, octets, to);
+        }
+        Ok(())
+    }
+
+    /// A payload is looked through, after the tail that it goes on, if there is one: a stream begins,
+    /// or what was looked through may be a tail.
+    fn look_through<T: Listener>(
+        &mut self,
+        number: u32,
+        octets: &[u8],
+        to: &mut T,
+    ) -> Result<(), ListenerFault>
+        ensures id { self.new.id ≡ self.old.id }
+        ensures does { (held : List Payload) (f : Flow) (arrival : Arrival)
+            → IsState (T.observed to.old) self.old held f → OnOk result
+            (IsState (T.observed to.new) self.new held
+            (looked_through T.faulted f (payload self.old.id number octets.now arrival)
+            (tail_before f.tail number octets.now))) }
+        ensures cause { OnErr result (T.failed to.new) }
+    {
+        if let Some(tail) = self.tail_before(number, octets) {
+            return self.rejoin(number, octets, tail, to);
+        }
+        if let Some(at) = stream_at(octets) {
+            let number = onward(number, at);
+            self.start(number, to)?;
+            return self.deliver(number, &octets[at..], to);
+        }
+        to.passes(octets);
+        if is_beginning(octets) {
+            self.tail = Some(Tail::new(number, octets.len() as u8));
+        }
+        Ok(())
+    }
+
+    /// A payload is taken: delivered, or looked through for the beginning of a stream.
     #[inline(always)]
     pub(crate) fn take<T: Listener>(
         &mut self,
@@ -106,14 +208,7 @@ impl FlowState {
         if self.is_live() {
             return self.deliver(number, octets, to);
         }
-        if let Some(at) = stream_at(octets) {
-            let number = onward(number, at);
-            to.begins(self.id, self.start_at(number))?;
-            self.go_live(number);
-            return self.deliver(number, &octets[at..], to);
-        }
-        to.passes(octets);
-        Ok(())
+        self.look_through(number, octets, to)
     }
 
     /// The held payloads are taken while the first is due.

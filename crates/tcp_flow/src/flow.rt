@@ -5,6 +5,7 @@ ghost use Rattle.std.specs.Prelude.{◌≡◌, ◌<◌, ◌∷◌, ◌++◌, [],
 ghost use Rattle.std.specs.Prelude.{IfOk, IfSome, OnErr, OnOk};
 ghost use Rattle.tcp_flow.specs.Flow.{is_header as spec_is_header, header_at as spec_header_at};
 
+use crate::tail::Tail;
 use tcp_segment::Flow as Endpoints;
 use tcp_waiting::{Arrival, Pool, WINDOW, ahead};
 
@@ -107,6 +108,8 @@ pub struct FlowState {
     pub(crate) since: u32,
     /// Whether a stream of the flow has begun.
     pub(crate) has_begun: bool,
+    /// What was looked through last and may begin a header, while no stream is live.
+    pub(crate) tail: Option<Tail>,
 }
 
 impl FlowState {
@@ -127,6 +130,7 @@ impl FlowState {
             fin: None,
             since: number,
             has_begun: false,
+            tail: None,
         }
     }
 

@@ -10,8 +10,10 @@ mod gaps;
 mod hearing;
 mod laws;
 mod looking;
+mod tail;
 
 pub use flow::{CloseCause, FlowState, Listener, ListenerFault, Start};
 pub use hearing::Heard;
 pub use laws::order_makes_no_difference;
-pub use looking::stream_at;
+pub use looking::{is_beginning, stream_at};
+pub use tail::Tail;

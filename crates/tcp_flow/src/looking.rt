@@ -1,10 +1,11 @@
 //! Where a stream begins in octets that are looked through: at the front, or from where messages
 //! stand one after another up to the end.
 
-ghost use Rattle.std.specs.Prelude.{◌≡◌, ◌≤◌, ◌<◌, ◌^◌, length, get_or, IfSome};
+ghost use Rattle.std.specs.Prelude.{◌≡◌, ◌≤◌, ◌<◌, ◌^◌, ◌++◌, length, get_or, IfSome};
 ghost use Rattle.tcp_flow.specs.Flow.{weighed as spec_weighed, size_in as spec_size_in};
 ghost use Rattle.tcp_flow.specs.Flow.{message_end as spec_message_end, is_front as spec_is_front};
 ghost use Rattle.tcp_flow.specs.Flow.{is_chain as spec_is_chain, stream_at as spec_stream_at};
+ghost use Rattle.tcp_flow.specs.Flow.{is_beginning as spec_is_beginning};
 
 use crate::flow::header_at;
 
@@ -59,6 +60,36 @@ fn is_front(octets: &[u8]) -> bool
         && octet_or(octets, 3, b'P') == b'P'
         && octet_or(octets, 4, 1) == 1
         && octet_or(octets, 5, 0) <= 2
+}
+
+/// Whether octets are a beginning of `GIOP` 01 and 00, 01 or 02: one to five of the six octets.
+pub fn is_beginning(octets: &[u8]) -> bool
+    ensures { result ≡ spec_is_beginning octets.now }
+{
+    !octets.is_empty() && octets.len() < 6 && is_front(octets)
+}
+
+/// Whether the six octets stand first in octets and those after them, as far as both go.
+pub(crate) fn is_front_of_both(before: &[u8], octets: &[u8]) -> bool
+    ensures { result ≡ spec_is_front (before.now ++ octets.now) }
+{
+    octet_of_both(before, octets, 0, b'G') == b'G'
+        && octet_of_both(before, octets, 1, b'I') == b'I'
+        && octet_of_both(before, octets, 2, b'O') == b'O'
+        && octet_of_both(before, octets, 3, b'P') == b'P'
+        && octet_of_both(before, octets, 4, 1) == 1
+        && octet_of_both(before, octets, 5, 0) <= 2
+}
+
+/// The octet at a place of octets and those after them, or another where there is none.
+fn octet_of_both(before: &[u8], octets: &[u8], place: usize, other: u8) -> u8
+    ensures { result ≡ get_or (before.now ++ octets.now) place other }
+{
+    if place < before.len() {
+        before[place]
+    } else {
+        octet_or(octets, place - before.len(), other)
+    }
 }
 
 /// The octet at a place, or another where there is none.

@@ -1,10 +1,9 @@
 use Rattle.std.proofs.Common.{refl, sym, subst, ◌∙◌}
 use Rattle.std.specs.Prelude.{OnOk}
 use Rattle.tcp_waiting.specs.Payload.{payload}
-use Rattle.tcp_flow.specs.Flow.{with_event, begun, told_from, taken}
+use Rattle.tcp_flow.specs.Flow.{with_event, told_from, taken}
 use Rattle.tcp_flow.proofs.Steps.{taken_none, taken_live, taken_dead}
 use Rattle.tcp_flow.proofs.States.{by_state, on_ok_equal}
-use Rattle.tcp_flow.proofs.Lefts.{whole_tail}
 use Rattle.tcp_flow.specs.State.{state, IsState}
 use Rattle.tcp_flow.proofs.flow.FlowState.take.Goals as goal
 
@@ -37,46 +36,19 @@ returns-then-is_live-clause-does g c held f h =
     (c.deliver.ensures.does held (told_from (state c.args.self.now held events) p) c.args.arrival
     (record { observed = c.comes_from.ensures events o; same = refl })))
 
-pub returns-in-Some-clause-does : goal.returns-in-Some-clause-does
-unfolding begun told_from with_event
-returns-in-Some-clause-does g c held f h =
-    let F = g.T.Listener.faulted in
-    let p = payload c.args.self.now.id c.args.number c.args.octets.now c.args.arrival in
-    let q = payload c.args.self.now.id c.left-number.result.0 c.left-number.result.1.now
-    c.args.arrival in
-    by_state (λ f. OnOk c.deliver-in-Some.result
-    (IsState (g.T.Listener.observed c.deliver-in-Some.new.to) c.deliver-in-Some.new.self held
-    (taken F f p))) _ c.args.self.now held f h (λ events o.
-    let e = taken_dead F (state c.args.self.now held events) p q
-    (c.left-number.ensures.left c.args.arrival)
-    (sym c.is_empty.ensures ∙ c.if-is_empty.false) (sym c.is_live.ensures ∙ c.if-is_live.false)
-    in
-    on_ok_equal c.deliver-in-Some.result _ _ held _ _
-    (sym (e ∙ rw (
-      sym c.stream_at.ensures.at ∙ c.in-Some.is,
-      whole_tail c.left-number.result.1.now c.in-Some.at,
-      c.start_at.ensures,
-      c.go_live.ensures.id,
-      c.onward-number.ensures,
-    ) refl))
-    (c.deliver-in-Some.ensures.does held _ c.args.arrival
-    (record {
-      observed = c.in_ok-begins.ensures.does _ (c.comes_from.ensures events o);
-      same = c.go_live.ensures.is held _;
-    })))
-
 pub returns-clause-does : goal.returns-clause-does
-unfolding begun told_from with_event
+unfolding told_from with_event
 returns-clause-does g c held f h =
     let F = g.T.Listener.faulted in
     let p = payload c.args.self.now.id c.args.number c.args.octets.now c.args.arrival in
     let q = payload c.args.self.now.id c.left-number.result.0 c.left-number.result.1.now
     c.args.arrival in
-    let G = IsState (g.T.Listener.observed c.passes.new.self) c.args.self.now held in
-    by_state (λ f. G (taken F f p)) _ c.args.self.now held f h (λ events o.
-    let e = taken_dead F (state c.args.self.now held events) p q
+    let r = c.look_through.result in
+    by_state (λ f. OnOk r (IsState (g.T.Listener.observed c.look_through.new.to)
+    c.look_through.new.self held (taken F f p))) _ c.args.self.now held f h (λ events o.
+    on_ok_equal r _ _ held _ _
+    (sym (taken_dead F (state c.args.self.now held events) p q
     (c.left-number.ensures.left c.args.arrival)
-    (sym c.is_empty.ensures ∙ c.if-is_empty.false) (sym c.is_live.ensures ∙ c.if-is_live.false)
-    in
-    subst G (sym (e ∙ rw (sym c.stream_at.ensures.at ∙ c.in_default.is) refl))
-    (record { observed = c.passes.ensures _ (c.comes_from.ensures events o); same = refl }))
+    (sym c.is_empty.ensures ∙ c.if-is_empty.false) (sym c.is_live.ensures ∙ c.if-is_live.false)))
+    (c.look_through.ensures.does held (told_from (state c.args.self.now held events) p)
+    c.args.arrival (record { observed = c.comes_from.ensures events o; same = refl })))

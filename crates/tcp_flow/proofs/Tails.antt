@@ -1,0 +1,460 @@
+-- Octets that are looked through: what each way of going on keeps, and the tail of a flow.
+use Rattle.std.proofs.Common.{◌≡◌, ℕ, ◌+◌, ◌^◌, ◌<◌, ◌≤◌, Bool, true, false, cond, nat_eq, nat_lt, min, List, [], ◌∷◌, ◌++◌, length, take, drop, set, get_or, Option, Some, None, is_some, unwrap_or, refl, sym, ◌∙◌, ap, subst, arith, inl, inr, true≢false, length-append, length-set}
+use Rattle.std.proofs.lemmas.Bool.{cases_Bool, cases_lt, lt-ltb, le-ltb, cond-true, cond-false, and_parts, eqb-true}
+use Rattle.std.proofs.lemmas.List.{drop-drop, drop-take, length-take, length-take-le, take_all, length-drop, take_more_set}
+use Rattle.std.proofs.Math.Seq.{take-length, drop-append_seam}
+use Rattle.tcp_waiting.specs.declared.arrival.Arrival as origin
+use Rattle.tcp_waiting.specs.Numbers.{onward}
+use Rattle.tcp_waiting.specs.Payload.{Payload, payload, without_first}
+use Rattle.tcp_flow.specs.declared.tail.Tail.{Tail}
+use Rattle.tcp_flow.specs.Flow.{Flow, Reader, Passes, OfCapture, with_event, checked, handed, delivered, started, begun, all_delivered, rejoined, looked_through, stream_at, is_front, is_beginning, first_five, cut_up, octets_of, parts_of, tail_of, lengthened, goes_on, tail_before}
+use Rattle.tcp_flow.specs.Laws.{StandFrom, total, IsTailOf}
+
+-- ---- What the single steps keep.
+
+pub all_delivered_by : (F : Reader) (I : Flow → Type 0) → ((g : Flow) (p : Payload) → I g →
+    I (delivered F g p))
+    → (f : Flow) (a : origin.Arrival) (xss : List (List ℕ)) → I f → I (all_delivered F f a xss)
+unfolding all_delivered
+all_delivered_by F I k f a [] i = i
+all_delivered_by F I k f a (xs ∷ xss) i =
+    let d : Flow = delivered F f (payload f.id f.next xs a) in
+    elim (is_some f.live) as (λ (b : Bool). I (cond b (all_delivered F d a xss) f)) [
+      | true ↦ all_delivered_by F I k d a xss (k f (payload f.id f.next xs a) i)
+      | false ↦ i
+    ]
+
+-- what a flow does in vain, in octets that are looked through
+abbrev pub in_vain : Flow → Option Tail → List ℕ → Flow
+in_vain f t xs = with_event (record f { tail = t }) (OfCapture (Passes xs))
+
+begun_by : (F : Reader) (I : Flow → Type 0) → ((g : Flow) (p : Payload) → I g →
+    I (delivered F g p))
+    → ((g : Flow) (n : ℕ) → I g → I (started g n))
+    → ((g : Flow) (t : Option Tail) (xs : List ℕ) → I g → I (in_vain g t xs))
+    → (f : Flow) (p : Payload) (r : Option ℕ) → I f → I (begun F f p r)
+unfolding begun
+begun_by F I k s v f p None i =
+    v f (cond (is_beginning p.octets) (Some (tail_of p.number (length p.octets))) f.tail)
+    p.octets i
+begun_by F I k s v f p (Some n) i =
+    k (started f (onward p.number n)) (without_first n p) (s f (onward p.number n) i)
+
+pub looked_by : (F : Reader) (I : Flow → Type 0) → ((g : Flow) (p : Payload) → I g →
+    I (delivered F g p))
+    → ((g : Flow) (n : ℕ) → I g → I (started g n))
+    → ((g : Flow) (t : Option Tail) (xs : List ℕ) → I g → I (in_vain g t xs))
+    → (f : Flow) (p : Payload) (o : Option Tail) → I f → I (looked_through F f p o)
+unfolding looked_through rejoined
+looked_by F I k s v f p None i = begun_by F I k s v f p (stream_at p.octets) i
+looked_by F I k s v f p (Some t) i =
+    let all : Flow =
+    all_delivered F (started f t.number) p.arrival (parts_of t ++ p.octets ∷ []) in
+    let more : Flow =
+    in_vain f (Some (lengthened t (length p.octets))) (octets_of t ++ p.octets) in
+    elim (nat_lt (t.octets + length p.octets) 6) as (λ (b : Bool). I (cond b more all)) [
+      | true ↦ v f (Some (lengthened t (length p.octets))) (octets_of t ++ p.octets) i
+      | false ↦ all_delivered_by F I k (started f t.number) p.arrival
+          (parts_of t ++ p.octets ∷ []) (s f t.number i)
+    ]
+
+-- ---- The octets of a tail.
+
+front_by : (ys : List ℕ) → get_or ys 0 71 ≡ 71 → get_or ys 1 73 ≡ 73 → get_or ys 2 79 ≡ 79 →
+    get_or ys 3 80 ≡ 80 → get_or ys 4 1 ≡ 1 → length ys ≤ 5 → ys ≡ take (length ys) first_five
+front_by [] a b c d e l = refl
+front_by (u ∷ []) a b c d e l = rw a refl
+front_by (u ∷ v ∷ []) a b c d e l = rw (a, b) refl
+front_by (u ∷ v ∷ w ∷ []) a b c d e l = rw (a, b, c) refl
+front_by (u ∷ v ∷ w ∷ x ∷ []) a b c d e l = rw (a, b, c, d) refl
+front_by (u ∷ v ∷ w ∷ x ∷ y ∷ []) a b c d e l = rw (a, b, c, d, e) refl
+front_by (u ∷ v ∷ w ∷ x ∷ y ∷ z ∷ zs) a b c d e l = absurd (omega (arith, l))
+
+-- octets that are as the six are, and five at most, are the first of them
+pub front_is : (ys : List ℕ) → is_front ys ≡ true → length ys ≤ 5 →
+    ys ≡ take (length ys) first_five
+front_is ys h l =
+    let a : get_or ys 0 71 ≡ 71 = grind arith in
+    let b : get_or ys 1 73 ≡ 73 = grind arith in
+    let c : get_or ys 2 79 ≡ 79 = grind arith in
+    let d : get_or ys 3 80 ≡ 80 = grind arith in
+    let e : get_or ys 4 1 ≡ 1 = grind arith in
+    front_by ys a b c d e l
+
+onward_small : (n k : ℕ) → onward n k < 2 ^ 32
+onward_small n k = omega arith
+
+total_more : (ns : List ℕ) (k : ℕ) → total (ns ++ k ∷ []) ≡ total ns + k
+unfolding total
+total_more [] k = omega arith
+total_more (n ∷ ns) k = omega (arith, total_more ns k)
+
+-- one part more
+pub cut_more : (xs ns : List ℕ) (k : ℕ) →
+    cut_up xs (ns ++ k ∷ []) ≡ cut_up xs ns ++ take k (drop (total ns) xs) ∷ []
+unfolding cut_up total
+cut_more xs [] k = refl
+cut_more xs (n ∷ ns) k =
+    ap (λ (xss : List (List ℕ)). take n xs ∷ xss) (cut_more (drop n xs) ns k
+    ∙ ap (λ (ys : List ℕ). cut_up (drop n xs) ns ++ take k ys ∷ []) (drop-drop (total ns) n xs))
+
+pub stand_more : (P : ℕ → List ℕ → Type 0) (n : ℕ) (xs ns ys : List ℕ) → n < 2 ^ 32 →
+    total ns ≤ length xs → StandFrom P n (cut_up xs ns) → P (onward n (total ns)) ys →
+    StandFrom P n (cut_up xs ns ++ ys ∷ [])
+unfolding cut_up total StandFrom
+stand_more P n xs [] ys small l s p =
+    let e : onward n 0 ≡ n = omega arith in
+    (subst (λ (k : ℕ). P k ys) e p, tt)
+stand_more P n xs (m ∷ ns) ys small l s p =
+    let long : length (take m xs) ≡ m = omega (arith, length-take m xs, l) in
+    let e : onward n (m + total ns) ≡ onward (onward n (length (take m xs))) (total ns) =
+    omega (arith, long) in (
+      s.0,
+      stand_more P (onward n (length (take m xs))) (drop m xs) ns ys
+          (onward_small n (length (take m xs))) (omega (arith, length-drop m xs, l)) s.1
+          (subst (λ (k : ℕ). P k ys) e p),
+    )
+
+-- ---- The octets of each payload are delivered.
+
+pub all_none : (F : Reader) (f : Flow) (a : origin.Arrival) (xs ks : List ℕ) →
+    nat_eq (length ks) 0 ≡ true → all_delivered F f a (cut_up xs ks) ≡ f
+unfolding cut_up all_delivered
+all_none F f a xs [] e = refl
+all_none F f a xs (k ∷ ks) e = absurd (omega (arith, eqb-true (length (k ∷ ks)) 0 e))
+
+pub all_dead : (F : Reader) (f : Flow) (a : origin.Arrival) (xss : List (List ℕ)) →
+    is_some f.live ≡ false → all_delivered F f a xss ≡ f
+unfolding all_delivered
+all_dead F f a [] e = refl
+all_dead F f a (xs ∷ xss) e =
+    cond-false (is_some f.live)
+    (all_delivered F (delivered F f (payload f.id f.next xs a)) a xss) f e
+
+pub all_live : (F : Reader) (f : Flow) (a : origin.Arrival) (xs : List ℕ) (xss : List (List ℕ)) →
+    is_some f.live ≡ true → all_delivered F f a (xs ∷ xss)
+    ≡ all_delivered F (delivered F f (payload f.id f.next xs a)) a xss
+unfolding all_delivered
+all_live F f a xs xss e =
+    cond-true (is_some f.live)
+    (all_delivered F (delivered F f (payload f.id f.next xs a)) a xss) f e
+
+-- parts of these lengths, of which the first is so long
+pub cut_first : (xs ks : List ℕ) → nat_eq (length ks) 0 ≡ false →
+    cut_up xs ks ≡ take (get_or ks 0 0) xs ∷ cut_up (drop (get_or ks 0 0) xs) (drop 1 ks)
+unfolding cut_up
+cut_first xs [] e = absurd (true≢false e)
+cut_first xs (k ∷ ks) e = refl
+
+pub all_more : (F : Reader) (f : Flow) (a : origin.Arrival) (xss yss : List (List ℕ)) →
+    all_delivered F f a (xss ++ yss) ≡ all_delivered F (all_delivered F f a xss) a yss
+unfolding all_delivered
+all_more F f a [] yss = refl
+all_more F f a (xs ∷ xss) yss =
+    elim (cases_Bool (is_some f.live)) [
+      | inl e ↦ (let d : Flow = delivered F f (payload f.id f.next xs a) in
+          all_live F f a xs (xss ++ yss) e ∙ all_more F d a xss yss
+          ∙ sym (ap (λ (g : Flow). all_delivered F g a yss) (all_live F f a xs xss e)))
+      | inr e ↦ all_dead F f a (xs ∷ xss ++ yss) e
+          ∙ sym (ap (λ (g : Flow). all_delivered F g a yss) (all_dead F f a (xs ∷ xss) e)
+          ∙ all_dead F f a yss e)
+    ]
+
+pub taken_up : (a m : ℕ) (xs : List ℕ) → m ≡ min a (length xs) → take m xs ≡ take a xs
+taken_up a m xs e =
+    elim (cases_lt a (length xs)) [
+      | inl h ↦ (let f : m ≡ a = omega arith in ap (λ (k : ℕ). take k xs) f)
+      | inr h ↦ (let f : m ≡ length xs = omega arith in
+          ap (λ (k : ℕ). take k xs) f ∙ take-length xs ∙ sym (take_all a xs h))
+    ]
+
+-- a tail goes on
+pub before_some : (o : Option Tail) (t : Tail) (n : ℕ) (xs : List ℕ) → o ≡ Some t →
+    goes_on t n xs ≡ true → tail_before o n xs ≡ Some t
+unfolding tail_before
+before_some o t n xs e g = ap (λ (o : Option Tail). tail_before o n xs) e
+    ∙ cond-true (goes_on t n xs) (Some t) None g
+
+pub before_other : (o : Option Tail) (t : Tail) (n : ℕ) (xs : List ℕ) → o ≡ Some t →
+    goes_on t n xs ≡ false → tail_before o n xs ≡ None
+unfolding tail_before
+before_other o t n xs e g = ap (λ (o : Option Tail). tail_before o n xs) e
+    ∙ cond-false (goes_on t n xs) (Some t) None g
+
+pub before_none : (o : Option Tail) (n : ℕ) (xs : List ℕ) → o ≡ None → tail_before o n xs ≡ None
+unfolding tail_before
+before_none o n xs e = ap (λ (o : Option Tail). tail_before o n xs) e
+
+none_some : {X : Type 0} (t : X) → ◌≡◌ {A = Option X} None (Some t) → ⊥
+none_some t e = true≢false (sym (ap is_some e))
+
+some_same : {X : Type 0} (x y : X) → Some x ≡ Some y → x ≡ y
+some_same {X = X} x y e = ap (λ (o : Option X). unwrap_or o x) e
+
+pub before_is : (o : Option Tail) (t : Tail) (n : ℕ) (xs : List ℕ) →
+    tail_before o n xs ≡ Some t → (o ≡ Some t) × (goes_on t n xs ≡ true)
+unfolding tail_before
+before_is None t n xs e = absurd (none_some t e)
+before_is (Some u) t n xs e =
+    elim (cases_Bool (goes_on u n xs)) [
+      | inl g ↦ (let same : u ≡ t = some_same u t (sym (cond-true (goes_on u n xs) (Some u) None g)
+          ∙ e) in (ap Some same, subst (λ (v : Tail). goes_on v n xs ≡ true) same g))
+      | inr g ↦ absurd (none_some t (sym (cond-false (goes_on u n xs) (Some u) None g) ∙ e))
+    ]
+
+-- the octets of a tail and of what goes on it are first octets of the six, while they are fewer
+pub together : (t : Tail) (n : ℕ) (xs : List ℕ) → goes_on t n xs ≡ true →
+    t.octets + length xs ≤ 5 → octets_of t ++ xs ≡ take (t.octets + length xs) first_five
+together t n xs g l =
+    let front : is_front (octets_of t ++ xs) ≡ true =
+    (and_parts (nat_eq (onward t.number t.octets) n) (is_front (octets_of t ++ xs)) g).1 in
+    let long : length (octets_of t ++ xs) ≡ t.octets + length xs =
+    omega (arith, length-append (octets_of t) xs, length-take t.octets first_five, l) in
+    front_is (octets_of t ++ xs) front (omega (arith, long, l))
+    ∙ ap (λ (k : ℕ). take k first_five) long
+
+-- ---- What comes of octets that are looked through alone.
+
+abbrev vain_tail : Flow → Payload → Bool → Option Tail
+vain_tail f p b = cond b (Some (tail_of p.number (length p.octets))) f.tail
+
+pub looked_vain : (F : Reader) (f : Flow) (p : Payload) (o : Option Tail) (b : Bool) → o ≡ None →
+    stream_at p.octets ≡ None → is_beginning p.octets ≡ b →
+    looked_through F f p o ≡ in_vain f (vain_tail f p b) p.octets
+unfolding looked_through begun
+looked_vain F f p o b e n is =
+    ap (looked_through F f p) e ∙ ap (begun F f p) n
+    ∙ ap (λ (b : Bool). in_vain f (vain_tail f p b) p.octets) is
+
+pub looked_begun : (F : Reader) (f : Flow) (p : Payload) (o : Option Tail) (i : ℕ) → o ≡ None →
+    stream_at p.octets ≡ Some i → looked_through F f p o
+    ≡ delivered F (started f (onward p.number i)) (without_first i p)
+unfolding looked_through begun
+looked_begun F f p o i e n = ap (looked_through F f p) e ∙ ap (begun F f p) n
+
+-- ---- What comes of octets that go on a tail.
+
+pub rejoined_begun : (F : Reader) (f : Flow) (p : Payload) (t : Tail) →
+    nat_lt (t.octets + length p.octets) 6 ≡ false → rejoined F f p t
+    ≡ all_delivered F (all_delivered F (started f t.number) p.arrival (parts_of t)) p.arrival
+    (p.octets ∷ [])
+unfolding rejoined
+rejoined_begun F f p t e =
+    cond-false (nat_lt (t.octets + length p.octets) 6)
+    (in_vain f (Some (lengthened t (length p.octets))) (octets_of t ++ p.octets))
+    (all_delivered F (started f t.number) p.arrival (parts_of t ++ p.octets ∷ [])) e
+    ∙ all_more F (started f t.number) p.arrival (parts_of t) (p.octets ∷ [])
+
+pub rejoined_vain : (F : Reader) (f : Flow) (p : Payload) (t : Tail) →
+    nat_lt (t.octets + length p.octets) 6 ≡ true → rejoined F f p t
+    ≡ in_vain f (Some (lengthened t (length p.octets))) (octets_of t ++ p.octets)
+unfolding rejoined
+rejoined_vain F f p t e =
+    cond-true (nat_lt (t.octets + length p.octets) 6)
+    (in_vain f (Some (lengthened t (length p.octets))) (octets_of t ++ p.octets))
+    (all_delivered F (started f t.number) p.arrival (parts_of t ++ p.octets ∷ [])) e
+
+pub last_live : (F : Reader) (f : Flow) (a : origin.Arrival) (xs : List ℕ) →
+    is_some f.live ≡ true → all_delivered F f a (xs ∷ [])
+    ≡ delivered F f (payload f.id f.next xs a)
+unfolding all_delivered
+last_live F f a xs e = all_live F f a xs [] e
+
+-- ---- What is so of each payload, of which the flow's tail is.
+
+parts_new : (xs : List ℕ) → is_beginning xs ≡ true →
+    (length xs ≤ 5) × (xs ≡ take (length xs) first_five)
+parts_new xs h =
+    let few : length xs ≤ 5 = grind arith in
+    let front : is_front xs ≡ true = grind arith in
+    (few, front_is xs front few)
+
+pub tail_new : (P : ℕ → List ℕ → Type 0) (n : ℕ) (xs : List ℕ) → n < 2 ^ 32 →
+    is_beginning xs ≡ true → P n xs → IsTailOf P (tail_of n (length xs))
+unfolding total cut_up StandFrom
+tail_new P n xs small h p =
+    let new = parts_new xs h in
+    record {
+      number = small;
+      most = new.0;
+      room = refl;
+      all = omega arith;
+      stand = (subst (P n) new.1 p, tt);
+    }
+
+longer : (P : ℕ → List ℕ → Type 0) (t : Tail) (n : ℕ) (xs : List ℕ) → IsTailOf P t →
+    goes_on t n xs ≡ true → t.octets + length xs ≤ 5 → t.count < 5 → P n xs →
+    IsTailOf P (record t {
+      octets = t.octets + length xs;
+      count = t.count + 1;
+      parts = set t.parts t.count (length xs);
+    })
+longer P t n xs h g l few p =
+    let k : ℕ = length xs in
+    let ks : List ℕ = take t.count t.parts in
+    let more : take (t.count + 1) (set t.parts t.count k) ≡ ks ++ k ∷ [] =
+    take_more_set t.parts t.count k (omega (arith, h.room, few)) in
+    let ends : onward t.number t.octets ≡ n =
+    eqb-true (onward t.number t.octets) n
+    (and_parts (nat_eq (onward t.number t.octets) n) (is_front (octets_of t ++ xs)) g).0 in
+    let part : xs ≡ take k (drop (total ks) first_five) =
+    sym (drop-append_seam (octets_of t) xs)
+    ∙ ap (λ (ys : List ℕ). drop (length (octets_of t)) ys) (together t n xs g l)
+    ∙ ap (λ (m : ℕ). drop m (take (t.octets + k) first_five))
+    (length-take-le t.octets first_five h.most)
+    ∙ drop-take t.octets k first_five
+    ∙ ap (λ (m : ℕ). take k (drop m first_five)) (sym h.all) in
+    record {
+      number = h.number;
+      most = l;
+      room = length-set t.parts t.count k ∙ h.room;
+      all = ap total more ∙ total_more ks k ∙ ap (λ (m : ℕ). m + k) h.all;
+      stand = subst (StandFrom P t.number)
+          (sym (ap (cut_up first_five) more ∙ cut_more first_five ks k
+          ∙ ap (λ (ys : List ℕ). cut_up first_five ks ++ ys ∷ []) (sym part)))
+          (stand_more P t.number first_five ks xs h.number (omega (arith, h.all, h.most)) h.stand
+          (subst (λ (m : ℕ). P m xs) (sym ends ∙ ap (onward t.number) (sym h.all)) p));
+    }
+
+pub tail_longer : (P : ℕ → List ℕ → Type 0) (t : Tail) (n : ℕ) (xs : List ℕ) → IsTailOf P t →
+    goes_on t n xs ≡ true → t.octets + length xs ≤ 5 → P n xs →
+    IsTailOf P (lengthened t (length xs))
+tail_longer P t n xs h g l p =
+    let more : Tail = record t {
+      octets = t.octets + length xs;
+      count = t.count + 1;
+      parts = set t.parts t.count (length xs);
+    } in
+    elim (cases_lt t.count 5) [
+      | inl few ↦ subst (IsTailOf P)
+          (sym (cond-true (nat_lt t.count 5) more t (lt-ltb t.count 5 few)))
+          (longer P t n xs h g l few p)
+      | inr many ↦ subst (IsTailOf P)
+          (sym (cond-false (nat_lt t.count 5) more t (le-ltb t.count 5 many))) h
+    ]
+
+-- so it is of a tail and of what goes on it
+together_stand : (P : ℕ → List ℕ → Type 0) (t : Tail) (n : ℕ) (xs : List ℕ) → IsTailOf P t →
+    goes_on t n xs ≡ true → P n xs → StandFrom P t.number (parts_of t ++ xs ∷ [])
+together_stand P t n xs h g p =
+    let ends : onward t.number t.octets ≡ n =
+    eqb-true (onward t.number t.octets) n
+    (and_parts (nat_eq (onward t.number t.octets) n) (is_front (octets_of t ++ xs)) g).0 in
+    stand_more P t.number first_five (take t.count t.parts) xs h.number
+    (omega (arith, h.all, h.most)) h.stand
+    (subst (λ (m : ℕ). P m xs) (sym ends ∙ ap (onward t.number) (sym h.all)) p)
+
+-- the octets of another relation
+stand_map : (P Q : ℕ → List ℕ → Type 0) (n : ℕ) (xss : List (List ℕ)) →
+    ((m : ℕ) (xs : List ℕ) → P m xs → Q m xs) → StandFrom P n xss → StandFrom Q n xss
+unfolding StandFrom
+stand_map P Q n [] k h = tt
+stand_map P Q n (xs ∷ xss) k h = (k n xs h.0, stand_map P Q (onward n (length xs)) xss k h.1)
+
+pub tail_map : (P Q : ℕ → List ℕ → Type 0) (t : Tail) →
+    ((m : ℕ) (xs : List ℕ) → P m xs → Q m xs) → IsTailOf P t → IsTailOf Q t
+tail_map P Q t k h = record {
+  number = h.number;
+  most = h.most;
+  room = h.room;
+  all = h.all;
+  stand = stand_map P Q t.number (parts_of t) k h.stand;
+}
+
+checked_next : (f : Flow) (r : Option ℕ) → (checked f r).next ≡ f.next
+unfolding checked with_event
+checked_next f None = refl
+checked_next f (Some at) = refl
+
+delivered_next : (F : Reader) (f : Flow) (p : Payload) →
+    (delivered F f p).next ≡ onward p.number (length p.octets)
+unfolding delivered with_event
+delivered_next F f p = checked_next (handed f p) (F (handed f p).events)
+
+checked_id : (f : Flow) (r : Option ℕ) → (checked f r).id ≡ f.id
+unfolding checked with_event
+checked_id f None = refl
+checked_id f (Some at) = refl
+
+pub delivered_id : (F : Reader) (f : Flow) (p : Payload) → (delivered F f p).id ≡ f.id
+unfolding delivered with_event
+delivered_id F f p = checked_id (handed f p) (F (handed f p).events)
+
+-- what a flow keeps whose tail is so of each payload, where it is so of those that it takes
+pub record Looks (F : Reader) (P : ℕ → List ℕ → Type 0) (I : Flow → Type 0) : Type 0 where
+  pub delivers : (g : Flow) (p : Payload) → I g → is_some g.live ≡ true → p.number ≡ g.next →
+      P p.number p.octets → I (delivered F g p)
+  pub starts : (g : Flow) (n : ℕ) → n < 2 ^ 32 → is_some g.live ≡ false → I g → I (started g n)
+  pub passes : (g : Flow) (t : Option Tail) (xs : List ℕ) →
+      ((u : Tail) → t ≡ Some u → IsTailOf P u) → I g → I (in_vain g t xs)
+  pub tail : (g : Flow) (t : Tail) → I g → g.tail ≡ Some t → IsTailOf P t
+  pub skips : (n i : ℕ) (xs : List ℕ) → P n xs → P (onward n i) (drop i xs)
+  pub small : (n : ℕ) (xs : List ℕ) → P n xs → n < 2 ^ 32
+
+module _ (F : Reader) (P : ℕ → List ℕ → Type 0) (I : Flow → Type 0) (k : Looks F P I) where
+  all_delivered_looks : (f : Flow) (a : origin.Arrival) (xss : List (List ℕ)) →
+      StandFrom P f.next xss → I f → I (all_delivered F f a xss)
+  unfolding all_delivered StandFrom
+  all_delivered_looks f a [] h i = i
+  all_delivered_looks f a (xs ∷ xss) h i =
+      let p : Payload = payload f.id f.next xs a in
+      let d : Flow = delivered F f p in
+      elim (cases_Bool (is_some f.live)) [
+        | inl e ↦ subst I (sym (all_live F f a xs xss e))
+            (all_delivered_looks d a xss
+            (subst (λ (n : ℕ). StandFrom P n xss) (sym (delivered_next F f p)) h.1)
+            (k.delivers f p i e refl h.0))
+        | inr e ↦ subst I (sym (all_dead F f a (xs ∷ xss) e)) i
+      ]
+
+  begun_looks : (f : Flow) (p : Payload) (r : Option ℕ) → is_some f.live ≡ false →
+      P p.number p.octets → I f → I (begun F f p r)
+  unfolding begun with_event
+  begun_looks f p None dead part i =
+      let new : Option Tail = Some (tail_of p.number (length p.octets)) in
+      let t : Option Tail = cond (is_beginning p.octets) new f.tail in
+      k.passes f t p.octets (λ u e.
+      elim (cases_Bool (is_beginning p.octets)) [
+        | inl b ↦ subst (IsTailOf P) (some_same (tail_of p.number (length p.octets)) u
+            (sym (cond-true (is_beginning p.octets) new f.tail b) ∙ e))
+            (tail_new P p.number p.octets (k.small p.number p.octets part) b part)
+        | inr b ↦ k.tail f u i (sym (cond-false (is_beginning p.octets) new f.tail b) ∙ e)
+      ]) i
+  begun_looks f p (Some n) dead part i =
+      let m : ℕ = onward p.number n in
+      k.delivers (started f m) (without_first n p)
+      (k.starts f m (onward_small p.number n) dead i) refl refl
+      (k.skips p.number n p.octets part)
+
+  rejoined_looks : (f : Flow) (p : Payload) (t : Tail) → is_some f.live ≡ false →
+      goes_on t p.number p.octets ≡ true → IsTailOf P t → P p.number p.octets → I f →
+      I (rejoined F f p t)
+  unfolding rejoined with_event
+  rejoined_looks f p t dead on tail part i =
+      let xs : List ℕ = p.octets in
+      let more : Flow = in_vain f (Some (lengthened t (length xs))) (octets_of t ++ xs) in
+      let all : Flow = all_delivered F (started f t.number) p.arrival (parts_of t ++ xs ∷ []) in
+      elim (cases_lt (t.octets + length xs) 6) [
+        | inl few ↦ subst I (sym (cond-true (nat_lt (t.octets + length xs) 6) more all
+            (lt-ltb (t.octets + length xs) 6 few)))
+            (k.passes f (Some (lengthened t (length xs))) (octets_of t ++ xs)
+            (λ u e. subst (IsTailOf P) (some_same (lengthened t (length xs)) u e)
+            (tail_longer P t p.number xs tail on (omega (arith, few)) part)) i)
+        | inr many ↦ subst I (sym (cond-false (nat_lt (t.octets + length xs) 6) more all
+            (le-ltb (t.octets + length xs) 6 many)))
+            (all_delivered_looks (started f t.number) p.arrival (parts_of t ++ xs ∷ [])
+            (together_stand P t p.number xs tail on part)
+            (k.starts f t.number tail.number dead i))
+      ]
+
+  pub looked_keeps : (f : Flow) (p : Payload) → is_some f.live ≡ false → P p.number p.octets →
+      I f → I (looked_through F f p (tail_before f.tail p.number p.octets))
+  unfolding looked_through
+  looked_keeps f p dead part i =
+      elim (tail_before f.tail p.number p.octets) as (λ (o : Option Tail).
+      tail_before f.tail p.number p.octets ≡ o → I (looked_through F f p o)) [
+        | None ↦ (λ e. begun_looks f p (stream_at p.octets) dead part i)
+        | Some t ↦ (λ e.
+            let was = before_is f.tail t p.number p.octets e in
+            rejoined_looks f p t dead was.1 (k.tail f t i was.0) part i)
+      ] refl
