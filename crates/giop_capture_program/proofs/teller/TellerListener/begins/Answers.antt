@@ -9,9 +9,5 @@ returns-in-Ok-clause-does g c =
     λ events h. (
       c.in-Ok.ensures.follows events h.0,
       λ S written begins. c.in-Ok.ensures.told S written events (h.1 S written begins),
-<<<<<<< HEAD
-      room_stays events (Begins c.args.flow c.args.start) _ refl h.2,
-=======
       seen_stays events (Begins c.args.flow c.args.start) _ refl refl refl h.2,
->>>>>>> f0647a71e31929ca861060dc5d244a6ad98fdba7
     )
