@@ -75,7 +75,8 @@ finish-requires g c =
       d,
       rw (e.of, e.count, e.step, e.rest) (waits C d c.args.of c.args.octets.now c.args.coded.0
           c.width-width.result c.args.coded.1 s.result s.new.carry c.requires.fits c.requires.leaf
-          c.requires.coded c.requires.ahead (c.width-width.ensures.width 23 head.kind) s.ensures.stands
+          c.requires.coded c.requires.ahead (c.width-width.ensures.width 23 head.kind)
+          s.ensures.stands
           (omega (arith, c.if-len-from.true, c.len.ensures.value, c.from.ensures))),
     )
 
