@@ -1,11 +1,11 @@
 //! Whether the parts of a decoder that is restored from octets fit a catalogue.
 
-ghost use Rattle.std.specs.Prelude.{◌≡◌, ◌↔◌, IsTrue, ◌+◌, ◌-◌, ◌<◌, ◌≤◌, [], length};
+ghost use Rattle.std.specs.Prelude.{◌≡◌, ◌↔◌, ℕ, IsTrue, ◌+◌, ◌-◌, ◌<◌, ◌≤◌, [], length};
 ghost use Rattle.giop_decode.specs.FrameChain.{HasFrame, HasPart, LeafFits, Chained, Chains, root_of};
 ghost use Rattle.giop_decode.specs.Fits.{HasLeadingNumber, IsEncapsulation};
 ghost use Rattle.giop_decode.specs.NameBuffer.{FitsName, IsNotedOf, string_offset};
 ghost use Rattle.giop_decode.specs.Transitions.{leaf_type, part_index};
-ghost use Rattle.giop_sig.specs.Trees.{tree};
+ghost use Rattle.giop_sig.specs.Trees.{tree_at};
 
 use crate::decoder::Decoder;
 use crate::frame::{Frame, is_empty, is_inside, whole};
@@ -74,8 +74,8 @@ fn follow(catalogue: &Catalogue, of: TypeId, frames: &[Frame], leaf: Leaf) -> bo
 /// Whether a frame can be of a type: of a part of its own, or of an encapsulation of which octets are to come.
 fn has_frame(catalogue: &Catalogue, of: TypeId, frame: Frame) -> bool
     requires { of.0 < length catalogue.now.types }
-    ensures { IsTrue result
-        ↔ HasFrame frame.inside (tree catalogue.now of.0) frame.index frame.count }
+    ensures { (n : ℕ) → IsTrue result
+        ↔ HasFrame frame.inside (tree_at catalogue.now n of.0) frame.index frame.count }
 {
     match frame.inside {
         Some(_) => {
@@ -98,7 +98,7 @@ fn part_index(frame: Frame) -> u32
 /// Whether a type is an encapsulation.
 fn is_encapsulation(catalogue: &Catalogue, of: TypeId) -> bool
     requires { of.0 < length catalogue.now.types }
-    ensures { IsTrue result ↔ IsEncapsulation (tree catalogue.now of.0) }
+    ensures { (n : ℕ) → IsTrue result ↔ IsEncapsulation (tree_at catalogue.now n of.0) }
 {
     match catalogue.shape(of) {
         Shape::Encapsulation => true,
@@ -119,7 +119,7 @@ fn is_encapsulation(catalogue: &Catalogue, of: TypeId) -> bool
 /// Whether a type has that part among so many.
 fn has_part(catalogue: &Catalogue, of: TypeId, index: u32, count: u32) -> bool
     requires { of.0 < length catalogue.now.types }
-    ensures { IsTrue result ↔ HasPart (tree catalogue.now of.0) index count }
+    ensures { (n : ℕ) → IsTrue result ↔ HasPart (tree_at catalogue.now n of.0) index count }
 {
     match catalogue.shape(of) {
         Shape::Members(members) => count == members && index < count,
@@ -166,7 +166,7 @@ fn leaf_fits(catalogue: &Catalogue, leaf: Leaf, carry: &Carry, piece: &[u8]) -> 
 /// Whether a type begins with a number.
 fn has_leading_number(catalogue: &Catalogue, of: TypeId) -> bool
     requires { of.0 < length catalogue.now.types }
-    ensures { IsTrue result ↔ HasLeadingNumber (tree catalogue.now of.0) }
+    ensures { (n : ℕ) → IsTrue result ↔ HasLeadingNumber (tree_at catalogue.now n of.0) }
 {
     whole(catalogue, of).is_none()
 }
@@ -192,7 +192,8 @@ fn content_fits(total: u32, offset: u32, held: usize, tail: usize) -> bool
 /// Where in its string the unfinished piece begins, if the innermost part is in a string.
 fn string_offset(catalogue: &Catalogue, leaf: Leaf) -> Option<u32>
     requires { leaf_type leaf < length catalogue.now.types }
-    ensures { result ≡ string_offset (tree catalogue.now (leaf_type leaf)) leaf }
+    ensures { (n : ℕ) →
+        result ≡ string_offset (tree_at catalogue.now n (leaf_type leaf)) leaf }
 {
     match leaf {
         Leaf::Content { of, offset, .. } => match catalogue.shape(of) {

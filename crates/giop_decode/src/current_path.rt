@@ -8,7 +8,7 @@ ghost use Rattle.giop_decode.specs.Segments.{frames_text, end_text, IsSwitch};
 ghost use Rattle.giop_print.specs.Line.{line_text, line_room, Spells};
 ghost use Rattle.giop_print.specs.Paths.{name_segment, index_segment};
 ghost use Rattle.giop_sig.specs.Types.{shape_in, IsUnion};
-ghost use Rattle.giop_sig.specs.Trees.{tree};
+ghost use Rattle.giop_sig.specs.Trees.{tree, tree_at};
 
 use crate::frame::Frame;
 use giop_print::{Head, Line, Path, Position, Root};
@@ -154,10 +154,10 @@ fn spell_switch(catalogue: &Catalogue, of: TypeId, line: &mut Line)
     requires known { of.0 < length catalogue.now.types }
     requires union { IsUnion (shape_in (tree catalogue.now of.0)) }
     requires room { 65 ≤ line_room line.old }
-    ensures text { line_text line.new
-        ≡ segment_text (switch_segment (tree catalogue.now of.0)) ++ line_text line.old }
-    ensures room { line_room line.new
-        + length (segment_text (switch_segment (tree catalogue.now of.0)))
+    ensures text { (n : ℕ) → line_text line.new
+        ≡ segment_text (switch_segment (tree_at catalogue.now n of.0)) ++ line_text line.old }
+    ensures room { (n : ℕ) → line_room line.new
+        + length (segment_text (switch_segment (tree_at catalogue.now n of.0)))
         ≡ line_room line.old }
 {
     match catalogue.shape(of) {
@@ -227,8 +227,8 @@ fn push_switch(catalogue: &Catalogue, of: TypeId, path: &mut Path)
     requires known { of.0 < length catalogue.now.types }
     requires union { IsUnion (shape_in (tree catalogue.now of.0)) }
     requires room { path.old.segments < 24 }
-    ensures text { path.new.text
-        ≡ path.old.text ++ segment_text (switch_segment (tree catalogue.now of.0)) }
+    ensures text { (n : ℕ) → path.new.text
+        ≡ path.old.text ++ segment_text (switch_segment (tree_at catalogue.now n of.0)) }
 {
     match catalogue.shape(of) {
         Shape::Union(_) => path.push_name(b"switch"),

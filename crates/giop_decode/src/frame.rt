@@ -10,7 +10,7 @@ ghost use Rattle.giop_decode.specs.Transitions.{HasOctetsLeft, coding_of, tick_b
 ghost use Rattle.giop_sig.specs.Fits.{IsFit, IsEmptyStruct, IsRoot};
 ghost use Rattle.giop_decode.specs.NotingSteps.{leaf_in_string};
 ghost use Rattle.giop_decode.specs.NextParts.{frames_above, next_of};
-ghost use Rattle.giop_sig.specs.Trees.{tree};
+ghost use Rattle.giop_sig.specs.Trees.{tree, tree_at};
 
 use crate::leaf::Leaf;
 use arrayvec::ArrayVec;
@@ -177,7 +177,7 @@ fn coding_at(coding: (Order, u8), frame: Frame) -> (Order, u8)
 #[tactic(auto, using(crate::proofs::Shapes::empty_laws))]
 pub(crate) fn is_empty(catalogue: &Catalogue, t: TypeId) -> bool
     requires { t.0 < length catalogue.now.types }
-    ensures value { IsTrue result ↔ IsEmptyStruct (tree catalogue.now t.0) }
+    ensures value { (n : ℕ) → IsTrue result ↔ IsEmptyStruct (tree_at catalogue.now n t.0) }
     ensures root { IsRoot (tree catalogue.now t.0) }
 {
     match catalogue.shape(t) {
@@ -200,8 +200,9 @@ pub(crate) fn is_empty(catalogue: &Catalogue, t: TypeId) -> bool
 #[tactic(auto, using(crate::proofs::Shapes::shape_laws))]
 pub(crate) fn whole(catalogue: &Catalogue, t: TypeId) -> Option<u32>
     requires { t.0 < length catalogue.now.types }
-    ensures whole { IfSome result (λ count. IsWhole (tree catalogue.now t.0) count) }
-    ensures number { IfNone result (HasLeadingNumber (tree catalogue.now t.0)) }
+    ensures whole { IfSome result (λ count.
+        (n : ℕ) → IsWhole (tree_at catalogue.now n t.0) count) }
+    ensures number { IfNone result ((n : ℕ) → HasLeadingNumber (tree_at catalogue.now n t.0)) }
 {
     match catalogue.shape(t) {
         Shape::Members(count) => Some(count),

@@ -1,6 +1,6 @@
 //! The number that begins an innermost part, and what follows it.
 
-ghost use Rattle.std.specs.Prelude.{◌≡◌, ℕ, ◌+◌, ◌<◌, ◌≤◌, ◌++◌, length, take, eqb, false};
+ghost use Rattle.std.specs.Prelude.{◌≡◌, ℕ, suc, ◌+◌, ◌<◌, ◌≤◌, ◌++◌, length, take, eqb, false};
 ghost use Rattle.giop_cdr.specs.Alignment.{IsAlignment, padding};
 ghost use Rattle.giop_cdr.specs.Numbers.{num};
 ghost use Rattle.giop_decode.specs.Pieces.{over};
@@ -10,7 +10,7 @@ ghost use Rattle.giop_decode.specs.Fits.{HasLeadingNumber};
 ghost use Rattle.giop_decode.specs.Transitions.{IsNumberOf, NumberStands, over_by};
 ghost use Rattle.giop_sig.specs.Types.{Ty, Text, Octets, Sequence, switch_of, shape_in, IsUnion};
 ghost use Rattle.giop_sig.specs.Fits.{IsFit};
-ghost use Rattle.giop_sig.specs.Trees.{tree};
+ghost use Rattle.giop_sig.specs.Trees.{tree, tree_at};
 
 use crate::encapsulation;
 use crate::leaf::{Leaf, Output, Step, Transition, refused};
@@ -22,8 +22,8 @@ use giop_sig::{Catalogue, Selected, Shape, TypeId};
 #[inline(always)]
 pub(crate) fn width(catalogue: &Catalogue, t: TypeId) -> u8
     requires known { t.0 < length catalogue.now.types }
-    ensures width { HasLeadingNumber (tree catalogue.now t.0) →
-        result ≡ leading_width (tree catalogue.now t.0) }
+    ensures width { (n : ℕ) → HasLeadingNumber (tree_at catalogue.now (suc n) t.0) →
+        result ≡ leading_width (tree_at catalogue.now (suc n) t.0) }
     ensures aligned { IsAlignment result }
 {
     match catalogue.shape(t) {
@@ -39,8 +39,8 @@ pub(crate) fn width(catalogue: &Catalogue, t: TypeId) -> u8
 fn switch_width(catalogue: &Catalogue, t: TypeId) -> u8
     requires known { t.0 < length catalogue.now.types }
     requires union { IsUnion (shape_in (tree catalogue.now t.0)) }
-    ensures width { HasLeadingNumber (tree catalogue.now t.0) →
-        result ≡ leading_width (tree catalogue.now t.0) }
+    ensures width { (n : ℕ) → HasLeadingNumber (tree_at catalogue.now (suc n) t.0) →
+        result ≡ leading_width (tree_at catalogue.now (suc n) t.0) }
     ensures aligned { IsAlignment result }
 {
     match catalogue.shape(catalogue.switch_type(t)) {

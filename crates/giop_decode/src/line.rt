@@ -9,7 +9,7 @@ ghost use Rattle.giop_decode.specs.Passes.{Finishes};
 ghost use Rattle.giop_decode.specs.Transitions.{AreKnown, IsNumberOf, HasOutput};
 ghost use Rattle.giop_decode.specs.Segments.{current_path_text};
 ghost use Rattle.giop_print.specs.Output.{Writes};
-ghost use Rattle.giop_sig.specs.Trees.{tree};
+ghost use Rattle.giop_sig.specs.Trees.{tree, tree_at};
 
 use crate::current_path::CurrentPath;
 use crate::frame::Frame;
@@ -31,8 +31,8 @@ fn number_line<O: Out>(
     out: &mut O,
 ) -> Result<(), OutFault>
     requires known { t.0 < length path.now.table.types }
-    requires number { IsNumberOf (tree path.now.table t.0) number }
-    ensures { (is : IsNumberOf (tree path.now.table t.0) number) →
+    requires number { (n : ℕ) × IsNumberOf (tree_at path.now.table n t.0) number }
+    ensures { (n : ℕ) (is : IsNumberOf (tree_at path.now.table n t.0) number) →
         Writes result (O.log out.old) (O.log out.new)
         (value_text path.now.head.message (current_path_text path.now)
         (results.Number is.scalar is.n)) }
@@ -61,11 +61,11 @@ fn octets_line<O: Out>(
     out: &mut O,
 ) -> Result<(), OutFault>
     requires known { finished.of.0 < length path.now.table.types }
-    requires content { HasContent (tree path.now.table finished.of.0) }
+    requires content { (n : ℕ) × HasContent (tree_at path.now.table n finished.of.0) }
     requires short { length finished.held.now + length finished.rest.now ≤ 32 }
-    ensures { Writes result (O.log out.old) (O.log out.new)
+    ensures { (n : ℕ) → Writes result (O.log out.old) (O.log out.new)
         (value_text path.now.head.message (current_path_text path.now)
-        (results.Piece (tree path.now.table finished.entry.of.0) offset
+        (results.Piece (tree_at path.now.table n finished.entry.of.0) offset
         (finished.entry.held.now ++ finished.entry.rest.now) more)) }
 {
     let Finished { held, rest, .. } = finished;

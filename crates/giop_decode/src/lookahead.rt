@@ -1,12 +1,12 @@
 //! Octets ahead that are taken together: those of a number that is whole in them, or of the rest of a piece.
 
-ghost use Rattle.std.specs.Prelude.{◌≡◌, ◌-◌, ◌<◌, ◌≤◌, [], true, length, Some, IfSome, IfNone};
+ghost use Rattle.std.specs.Prelude.{◌≡◌, ℕ, ◌-◌, ◌<◌, ◌≤◌, [], true, length, Some, IfSome, IfNone};
 ghost use Rattle.giop_cdr.specs.Alignment.{IsAlignment};
 ghost use Rattle.giop_cdr.specs.Primitives.{size_of};
 ghost use Rattle.giop_decode.specs.Pieces.{tail};
 ghost use Rattle.giop_decode.specs.Transitions.{IsWholeLong, IsWholeNumber, NumberStands};
 ghost use Rattle.giop_sig.specs.Types.{Single, Plain};
-ghost use Rattle.giop_sig.specs.Trees.{tree};
+ghost use Rattle.giop_sig.specs.Trees.{tree_at};
 
 use crate::leading_numbers::{long_of, padding_at};
 use crate::leaf::{Leaf, Output, Step, Transition};
@@ -47,7 +47,7 @@ pub(crate) fn ahead_of(of: TypeId, count: usize, step: Step, rest: &[u8]) -> Loo
 pub(crate) fn octets_behind(catalogue: &Catalogue, of: TypeId, left: usize) -> usize
     requires known { of.0 < length catalogue.now.types }
     ensures full { 32 < left → result ≡ 0 }
-    ensures last { left ≤ 32 → result ≡ tail (tree catalogue.now of.0) }
+    ensures last { (n : ℕ) → left ≤ 32 → result ≡ tail (tree_at catalogue.now n of.0) }
 {
     if left > 32 {
         return 0;
@@ -90,8 +90,8 @@ pub(crate) fn whole_number(
 ) -> Option<(usize, Number)>
     requires known { of.0 < length catalogue.now.types }
     requires small { at < 8 }
-    ensures { IfSome result (λ whole.
-        IsWholeNumber (tree catalogue.now of.0) order at octets.now whole.0 whole.1) }
+    ensures { IfSome result (λ whole. (n : ℕ) →
+        IsWholeNumber (tree_at catalogue.now n of.0) order at octets.now whole.0 whole.1) }
 {
     match catalogue.shape(of) {
         Shape::Prim(prim) => match size(prim) {

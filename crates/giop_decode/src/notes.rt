@@ -10,7 +10,7 @@ ghost use Rattle.giop_decode.specs.ReadResult as results;
 ghost use Rattle.giop_decode.specs.Passes.{Finishes};
 ghost use Rattle.giop_decode.specs.ReadingSteps.{path_in};
 ghost use Rattle.giop_decode.specs.Transitions.{open_parts, AreKnown, IsNumberOf, HasOutput};
-ghost use Rattle.giop_sig.specs.Trees.{tree};
+ghost use Rattle.giop_sig.specs.Trees.{tree, tree_at};
 
 use crate::frame::Frame;
 use crate::leaf::{Finished, Output};
@@ -140,8 +140,8 @@ impl Notes {
     #[inline(always)]
     fn note_switch(&mut self, catalogue: &Catalogue, t: TypeId, number: Number)
         requires known { t.0 < length catalogue.now.types }
-        requires number { IsNumberOf (tree catalogue.now t.0) number }
-        ensures notes { (h : Noted) (is : IsNumberOf (tree catalogue.now t.0) number) →
+        requires number { (n : ℕ) × IsNumberOf (tree_at catalogue.now n t.0) number }
+        ensures notes { (h : Noted) (n : ℕ) (is : IsNumberOf (tree_at catalogue.now n t.0) number) →
             HoldsNoted self.old h →
             HoldsNoted self.new (note_value false h (results.Number is.scalar is.n)) }
         ensures id { self.new.request_id ≡ self.old.request_id }
@@ -166,8 +166,9 @@ impl Notes {
     )
         requires known { of.0 < length catalogue.now.types }
         requires known_outer { AreKnown catalogue.now outer.now }
-        requires number { IsNumberOf (tree catalogue.now of.0) number }
-        ensures notes { (h : Noted) (here : ℕ) (is : IsNumberOf (tree catalogue.now of.0) number) →
+        requires number { (n : ℕ) × IsNumberOf (tree_at catalogue.now n of.0) number }
+        ensures notes { (h : Noted) (here n : ℕ)
+            (is : IsNumberOf (tree_at catalogue.now n of.0) number) →
             HoldsNoted self.old h →
             (let path = path_in [] (open_parts catalogue.now here outer.now) in
             HoldsNoted self.new (with_expects (note_value (is_header_root root

@@ -12,7 +12,7 @@ loop-count-preserved c =
     let old = c.loop-count.outer.items in
     let T = tree t c.loop-count.inner.0 in
     let d = 24 - length old in
-    let b = begins d T c.in-Some.count c.loop-count.invariant.fit c.in-Some.ensures.whole in
+    let b = begins d T c.in-Some.count c.loop-count.invariant.fit (c.in-Some.ensures.whole 24) in
     let e : pred d ≡ 24 - length c.push.new.self.items = omega (arith, c.push.ensures.len) in
     record {
       known = omega (arith, c.part-inner.ensures.below, c.loop-count.invariant.known);
@@ -40,14 +40,14 @@ loop-count-preserved c =
 
 pub push-requires : goal.push-requires
 push-requires c =
-    let b = begins _ _ c.in-Some.count c.loop-count.invariant.fit c.in-Some.ensures.whole in
+    let b = begins _ _ c.in-Some.count c.loop-count.invariant.fit (c.in-Some.ensures.whole 24) in
     (omega arith, omega (arith, b.room))
 
 pub part-inner-requires-clause-place : goal.part-inner-requires-clause-place
 part-inner-requires-clause-place c =
-    (begins _ _ c.in-Some.count c.loop-count.invariant.fit c.in-Some.ensures.whole).placed
+    (begins _ _ c.in-Some.count c.loop-count.invariant.fit (c.in-Some.ensures.whole 24)).placed
 
 pub loop-count-smaller : goal.loop-count-smaller
 loop-count-smaller c =
-    let b = begins _ _ c.in-Some.count c.loop-count.invariant.fit c.in-Some.ensures.whole in
+    let b = begins _ _ c.in-Some.count c.loop-count.invariant.fit (c.in-Some.ensures.whole 24) in
     omega (arith, b.room, c.push.ensures.len)

@@ -24,7 +24,7 @@ returns-in-Number g c here at lines h =
     let k = rw c.in-Number.is at h in
     rw (← said_one c.args.head.now.message c.args.head.now.root at path _ _ lines
     (stands_at c.args.catalogue.now here c.args.head.now.root c.args.outer.now) k.1)
-    (c.number_line.ensures k.0)
+    (c.number_line.ensures 24 k.0)
 
 pub returns-in-Count : goal.returns-in-Count
 unfolding kind_line
@@ -41,13 +41,13 @@ returns-in-Piece g c here at lines h =
     let k = rw c.in-Piece.is at h in
     rw (← said_one c.args.head.now.message c.args.head.now.root at path _ _ lines
     (stands_at c.args.catalogue.now here c.args.head.now.root c.args.outer.now) k)
-    c.octets_line.ensures
+    (c.octets_line.ensures 24)
 
 pub returns-in-Switch : goal.returns-in-Switch
 returns-in-Switch g c here at lines h =
     let path = path_in [] (open_parts c.args.catalogue.now here c.args.outer.now) in
     let k = rw c.in-Switch.is at h in
-    let f = rw c.switch_type-switch.ensures.tree at c.number_line-in-Switch.ensures in
+    let f = rw c.switch_type-switch.ensures.tree at (c.number_line-in-Switch.ensures 24) in
     let seg = switch_segment (tree c.args.catalogue.now c.args.finished.of.0) in
     rw (← said_one c.args.head.now.message c.args.head.now.root at (path ++ seg ∷ []) _ _ lines
     (switch_at c.args.catalogue.now here c.args.head.now.root c.args.outer.now seg) k.1) (f k.0)

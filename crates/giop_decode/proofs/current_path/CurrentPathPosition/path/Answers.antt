@@ -11,4 +11,4 @@ returns c =
     let path = path_in [] (open_parts here.catalogue.now 0 here.outer.now) in
     let seg = switch_segment (tree here.catalogue.now c.in-Some.of.0) in
     rw (← c.self.view_is, c.in-Some.is) (path_switch here.head.now.root path seg _ _
-    (rw c.root.ensures at (c.go_to-path.ensures.text 0)) c.push_switch.ensures.text)
+    (rw c.root.ensures at (c.go_to-path.ensures.text 0)) (c.push_switch.ensures.text 24))

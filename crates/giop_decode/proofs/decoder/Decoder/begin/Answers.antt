@@ -11,7 +11,7 @@ returns-clause-reads c =
     first_reads C T c.args.self.now.order c.args.offset c.args.self.now.head.message
     c.args.self.now.head.root _ c.begin-first.result
     (fit_some T c.if-is_empty.ensures.root
-    (λ empty. let t = c.if-is_empty.ensures.value.1 empty in cc)) refl
+    (λ empty. let t = (c.if-is_empty.ensures.value 24).1 empty in cc)) refl
     c.new-self.ensures (λ here. c.begin-first.ensures.begun here ∙ rw c.clear.ensures refl)
     (c.begin-first.ensures.stand c.args.offset (rw c.clear.ensures tt)) c.begin-first.ensures.leaf
     c.clear-3.ensures refl refl refl refl

@@ -10,7 +10,7 @@ take_ahead-requires-clause-ahead g c =
     rw (a.of, a.count, a.step, c.ended-step.ensures, a.rest) (comes_number c.args.catalogue.now
     c.args.self.now c.args.of c.args.octets.now c.in-Some.count c.requires.fits c.requires.leaf
     c.args.coded.0 c.args.coded.1 c.requires.coded c.in-Some.number (c.if-is_empty.ensures.0 refl)
-    c.in-Some.ensures c.requires.ahead)
+    (c.in-Some.ensures 24) c.requires.ahead)
 
 pub take_ahead-requires-in-Some-whole_long-clause-ahead :
     goal.take_ahead-requires-in-Some-whole_long-clause-ahead
@@ -54,7 +54,7 @@ take_value-step-requires g c =
       known = search rules;
       head = s.fits.kind;
       fit = (_, s.fit);
-      whole = c.in-Some-whole_octets.ensures.width ∙ c.width.ensures.width s.fits.kind;
+      whole = c.in-Some-whole_octets.ensures.width ∙ c.width.ensures.width 23 s.fits.kind;
     }
 
 pub take_ahead-requires-in-Some-whole_octets : goal.take_ahead-requires-in-Some-whole_octets
@@ -71,6 +71,6 @@ take_ahead-requires-in-Some-whole_octets g c =
       ahead = rw (a.of, a.count, a.step, a.rest) (comes_head C d c.args.of c.args.octets.now
           whole.count c.requires.fits c.requires.leaf c.args.coded.0 c.args.coded.1
           c.requires.coded d.carry whole.whole.now c.take_value-step.result empty
-          (rw empty (rw (c.width.ensures.width head.kind) at whole.ensures.stands))
+          (rw empty (rw (c.width.ensures.width 23 head.kind) at whole.ensures.stands))
           c.requires.ahead v.fits v.transitions);
     }

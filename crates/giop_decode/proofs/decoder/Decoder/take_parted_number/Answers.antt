@@ -25,7 +25,7 @@ pub hold_number-count-requires-clause-room : goal.hold_number-count-requires-cla
 hold_number-count-requires-clause-room g c =
     let head = (stands_at c.args.catalogue.now c.args.self.now c.requires.fits
     (innermost.Number c.args.of) c.requires.leaf).fits in
-    rw (c.width-width.ensures.width head.kind) head.room
+    rw (c.width-width.ensures.width 23 head.kind) head.room
 
 pub hold_number-count-requires-clause-small : goal.hold_number-count-requires-clause-small
 hold_number-count-requires-clause-small g c =
@@ -75,7 +75,8 @@ finish-requires g c =
       d,
       rw (e.of, e.count, e.step, e.rest) (waits C d c.args.of c.args.octets.now c.args.coded.0
           c.width-width.result c.args.coded.1 s.result s.new.carry c.requires.fits c.requires.leaf
-          c.requires.coded c.requires.ahead (c.width-width.ensures.width head.kind) s.ensures.stands
+          c.requires.coded c.requires.ahead (c.width-width.ensures.width 23 head.kind)
+          s.ensures.stands
           (omega (arith, c.if-len-from.true, c.len.ensures.value, c.from.ensures))),
     )
 
@@ -88,7 +89,7 @@ returns-then-len-from g c =
     let head = (stands_at C d c.requires.fits (innermost.Number c.args.of) c.requires.leaf).fits in
     c.finish.ensures d (rw (e.of, e.count, e.step, e.rest) (waits C d c.args.of c.args.octets.now
     c.args.coded.0 c.width-width.result c.args.coded.1 s.result s.new.carry c.requires.fits
-    c.requires.leaf c.requires.coded c.requires.ahead (c.width-width.ensures.width head.kind)
+    c.requires.leaf c.requires.coded c.requires.ahead (c.width-width.ensures.width 23 head.kind)
     s.ensures.stands (omega (arith, c.if-len-from.true, c.len.ensures.value, c.from.ensures))))
 
 pub take_value-step-requires-clause-head : goal.take_value-step-requires-clause-head
@@ -115,7 +116,7 @@ take_value-step-requires-clause-whole g c =
       c.from.ensures,
       c.hold_number-count.ensures.size,
     ) in
-    ap length c.as_slice.ensures.value ∙ (all ∙ c.width-width.ensures.width head.kind)
+    ap length c.as_slice.ensures.value ∙ (all ∙ c.width-width.ensures.width 23 head.kind)
 
 pub finish-requires-2 : goal.finish-requires-2
 finish-requires-2 g c =
@@ -129,7 +130,7 @@ finish-requires-2 g c =
       comes C d c.args.of c.args.octets.now c.args.coded.0 c.width-width.result c.args.coded.1
           s.result s.new.carry c.clear.new.self c.take_value-step.result c.requires.fits
           c.requires.leaf c.requires.coded c.requires.ahead
-          (c.width-width.ensures.width head.kind) s.ensures.stands
+          (c.width-width.ensures.width 23 head.kind) s.ensures.stands
           (omega (arith, c.if-len-from.false, c.len.ensures.value, c.from.ensures, s.ensures.size))
           c.clear.ensures v.fits
           (rw c.as_slice.ensures.value at v.transitions),
@@ -145,7 +146,7 @@ returns g c =
     c.finish-2.ensures d (comes C d c.args.of c.args.octets.now c.args.coded.0 c.width-width.result
     c.args.coded.1 s.result s.new.carry c.clear.new.self c.take_value-step.result c.requires.fits
     c.requires.leaf c.requires.coded c.requires.ahead
-    (c.width-width.ensures.width head.kind) s.ensures.stands
+    (c.width-width.ensures.width 23 head.kind) s.ensures.stands
     (omega (arith, c.if-len-from.false, c.len.ensures.value, c.from.ensures, s.ensures.size))
     c.clear.ensures v.fits
     (rw c.as_slice.ensures.value at v.transitions))
