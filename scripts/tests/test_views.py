@@ -253,7 +253,7 @@ client     server           calls  replies  user       min    median       p95  
     1 IDL:omg.org/CosNaming/NamingContext/NotFound:1.0
 192.0.2.2  192.0.2.2:12809      4        4     0  0.000010  0.000011  0.000048  0.000048  0.000048  0.000089     716
 
-total streams 8 messages 25 faults 0 packets 57 octets 6693
+total streams 8 messages 25 faults 0 packets 57 octets 6693 other 0
 """,
         )
 
