@@ -4,6 +4,7 @@ text, so that the page has the elements, the attributes and the title of any oth
 from __future__ import annotations
 
 import json
+import os
 import re
 import subprocess
 import sys
@@ -61,7 +62,9 @@ def shown(page: str, folder: Path) -> str:
     """The document that a browser without network makes of a page, in which no script failed or was refused."""
     path = folder / "page.html"
     path.write_text(page)
-    words = ["unshare", "--map-root-user", "--net", *CHROMIUM.split(), f"--user-data-dir={folder}/user", "--dump-dom"]
+    # Who isn't root needs a namespace of users too, which there is none of under chroot.
+    apart = ["unshare", "--net"] if os.geteuid() == 0 else ["unshare", "--map-root-user", "--net"]
+    words = [*apart, *CHROMIUM.split(), f"--user-data-dir={folder}/user", "--dump-dom"]
     done = subprocess.run([*words, path.as_uri()], capture_output=True, timeout=120)
     said = done.stderr.decode(errors="replace")
     assert done.returncode == 0 and not re.search("CONSOLE.* source: file:", said), said
