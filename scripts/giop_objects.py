@@ -162,7 +162,10 @@ class Source:
 
     def _start_feeding(self) -> None:
         """Lets a process of its own give the programs all octets, so that neither it nor this one waits for the other."""
+        # An interrupt waits until this process knows the other, which has to hear of it.
+        signal.pthread_sigmask(signal.SIG_BLOCK, {signal.SIGINT})
         self._feeder = os.fork()
+        signal.pthread_sigmask(signal.SIG_UNBLOCK, {signal.SIGINT})
         for program in self._programs:
             (program.close_input if self._feeder else program.close_output)()
         if not self._feeder:
