@@ -236,7 +236,7 @@ def cases(folder: Path, known: Dict[str, Row]) -> List[Case]:
     return [Case(name, words, stream, status, b"", GIOPCAP) for name, words, stream, status in given]
 
 
-EMPTY = "total streams 0 messages 0 faults 0 packets 0 octets 24\n"
+EMPTY = "total streams 0 messages 0 faults 0 packets 0 octets 24 other 0\n"
 IDL = ": IDL: omniidl -bgiopdump_signatures\n"
 
 # Words, the status, and what is written and said; what is wrong with the words is told in the words of clap, and begins so.
@@ -282,19 +282,19 @@ WORDS: List[Tuple[Tuple[str, ...], int, str, str]] = [
     (
         ("-",),
         1,
-        "capture fault magic at 4\n" + "total streams 0 messages 0 faults 0 packets 0 octets 4\n",
+        "capture fault magic at 4\n" + "total streams 0 messages 0 faults 0 packets 0 octets 4 other 0\n",
         "giopcap: standard input: not a capture\n",
     ),
     (
         ("./-",),
         1,
-        "capture fault magic at 4\n" + "total streams 0 messages 0 faults 0 packets 0 octets 4\n",
+        "capture fault magic at 4\n" + "total streams 0 messages 0 faults 0 packets 0 octets 4 other 0\n",
         "giopcap: ./-: not a capture\n",
     ),
     (
         ("no\nname",),
         1,
-        "capture fault magic at 4\n" + "total streams 0 messages 0 faults 0 packets 0 octets 4\n",
+        "capture fault magic at 4\n" + "total streams 0 messages 0 faults 0 packets 0 octets 4 other 0\n",
         "giopcap: no\\x0aname: not a capture\n",
     ),
 ]
@@ -315,7 +315,7 @@ WORDS += [
     (
         (octets,),
         1,
-        "capture fault magic at 4\n" + "total streams 0 messages 0 faults 0 packets 0 octets 4\n",
+        "capture fault magic at 4\n" + "total streams 0 messages 0 faults 0 packets 0 octets 4 other 0\n",
         f"giopcap: {octets}: {hint}\n",
     )
     for octets, hint in OTHERS
