@@ -431,9 +431,9 @@ def main(library: str) -> int:
         calls = [fail_all(library, case, seen) for case in tried]
         told = ", ".join(f"{case.name} {made}" for case, made in zip(tried, calls))
         print(f"opens/reads/writes/syncs/renames: {told}")
-        defaults = Case("without options", (), known["real: a good wire"].capture, 0, b"", GIOPCAP)
-        requests = [refuse_each(library, case, seen) for case in [*tried, defaults]]
-        told = ", ".join(f"{case.name} {made}" for case, made in zip([*tried, defaults], requests))
+        roomy = Case("256 connections", ("--connections", "256"), known["real: a good wire"].capture, 0, b"", GIOPCAP)
+        requests = [refuse_each(library, case, seen) for case in [*tried, roomy]]
+        told = ", ".join(f"{case.name} {made}" for case, made in zip([*tried, roomy], requests))
         print(f"requests for memory: {told}")
     print(f"{seen.runs} runs, {seen.differ} differ")
     return seen.status()
