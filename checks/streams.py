@@ -106,7 +106,7 @@ def dumped(capture: Path, types: str) -> Dict[Flow, Tuple[List[str], str]]:
         if not (found := re.fullmatch(r"(s\d+) (.*)", line)):
             continue
         stream, line = found.groups()
-        if begun := re.fullmatch(r"stream (\S+) > (\S+) at \S+", line):
+        if begun := re.match(r"stream (\S+) > (\S+) at ", line):
             flows[stream], lines[stream], operations[stream] = (begun[1], begun[2]), [], []
         elif answered := re.fullmatch(r"(m\d+) answers s\d+ m\d+ (\S+) after \S+", line):
             operations[stream].append(f"{ids[stream, answered[1]]} {answered[2]}\n")
