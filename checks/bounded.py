@@ -1,4 +1,4 @@
-"""How much memory giopcap maps: as much after a long capture as after a short one, less than 139 MB without options, and
+"""How much memory giopcap maps: as much after a long capture as after a short one, less than 130 MB without options, and
 with options what docs/FORMATS.md and the manual page say. It is looked at while the program, which has read all that it was
 given, waits for more."""
 
@@ -13,7 +13,7 @@ from typing import List, Sequence, Tuple
 from captures import waiting
 from failing import EXAMPLES, GIOPCAP, SECONDS, TOP
 
-MOST = 139_000_000
+MOST = 130_000_000
 STACK = 65_536
 WITHOUT = (1024, 16, 128, 16_384)  # connections, open messages, calls and blocks without options
 TRIED = (
@@ -28,7 +28,8 @@ CAPTURES = (("short", 10), ("short", 5000), ("long", 10_000), ("long", 20_000_00
 # The sentence of both pages.
 SAID = re.compile(
     r"memory is ([\d,]+) KB, ([\d,]+) octets for each block of the pool, and for each connection (\d+) KB, ([\d,]+) octets for "
-    r"each message that may be open and (\d+) for each call[a-z ]*: (\d+) MB"
+    r"each message that may be open and (\d+) for each call[a-z ]*, with (\d+) more for each of either if there may be more "
+    r"than (\d+) of them: (\d+) MB"
 )
 
 
@@ -85,11 +86,12 @@ def by_options() -> bool:
     """Whether as much is mapped as the pages say, but for a twentieth."""
     said = said_in("docs/FORMATS.md")
     right = said == said_in("man/giopcap.1")
-    base, block, connection, message, call, whole = said
+    base, block, connection, message, call, more, few, whole = said
     for connections, opened, calls, pool in TRIED:
         words = ("--connections", connections, "--open", opened, "--calls", calls, "--pool", pool)
         peak, _ = mapped([str(word) for word in words], made("short", 1))
         for_each = 1000 * connection + message * opened + call * calls
+        for_each += sum(more * most for most in (opened, calls) if most > few)
         wanted = 1000 * base + block * pool + connections * for_each
         print(f"{' '.join(map(str, words))}: {peak} octets mapped, {wanted} said")
         right = right and abs(peak - wanted) <= wanted / 20

@@ -81,10 +81,16 @@ class FlowState:
         self._next_message = 0  # of the live stream: after how many of its octets its next message begins
         self._began = 0
         self._since = due  # from where on octets are in no stream, while none lives
-        self._has_begun = False  # a stream of the flow
+        self._waits = False  # for a stream that begins at the number that is due
+        self._is_found = False  # a stream of the flow was looked for
         self._tail: Optional[Held] = None  # what was looked through last and may begin a header
         self.live: Optional[Stream] = None
+        self.last = 0  # the number of its last stream
         self.held: List[Held] = []
+
+    def is_in_step(self) -> bool:
+        """Whether a stream lives, or is waited for."""
+        return self.live is not None or self._waits
 
     def ahead(self, number: int) -> int:
         """How far a number is after the one that is due: negative for one before it."""
@@ -104,7 +110,7 @@ class FlowState:
     def _left(self, held: Held) -> Held:
         """What is left of a payload without what came before."""
         before = -self.ahead(held.number)
-        if before <= 0 or self.live is None and before > WINDOW:
+        if before <= 0 or not self.is_in_step() and before > WINDOW:
             return held
         return held._replace(number=self._due, octets=held.octets[before:])
 
@@ -123,7 +129,7 @@ class FlowState:
         return any(self.ahead(held.number) + len(held.octets) > WINDOW for held in self.held)
 
     def fin_came(self, number: int) -> None:
-        if self.live and self.ahead(number) >= 0:
+        if self.is_in_step() and self.ahead(number) >= 0:
             self._fin = number
             self.go_on()
 
@@ -145,23 +151,33 @@ class FlowState:
         return min(range(len(self.held)), key=lambda at: (self.ahead(self.held[at].number), at))
 
     def gap(self) -> None:
+        lacking = self._lacking()
+        first = self.ahead(self.held[self._first()].number)
         self.close("gap")
+        if lacking is not None and first <= lacking < 2**31:
+            self._due = (self._due + lacking) % 2**32
+            self._waits = True
         self.go_on()
+
+    def _lacking(self) -> Optional[int]:
+        """How many octets the message that the live stream is in lacks, if its header is complete; 0 between two messages."""
+        lacking = self._next_message - len(self.live.octets) if self.live else -1
+        return lacking if lacking >= 0 else None
 
     def go_on(self) -> None:
         """Takes what is due of what is held, and the FIN where that is reached."""
         self._take_held()
-        if self.live and self._fin is not None and self.ahead(self._fin) <= 0:
+        if self.is_in_step() and self._fin is not None and self.ahead(self._fin) <= 0:
             self.close("fin")
             self._fin = None
             self._take_held()
-        if not self.live:
+        if not self.is_in_step():
             self._fin = None
 
     def _take_held(self) -> None:
         while self.held:
             place = self._first()
-            if self.live and self.ahead(self.held[place].number) > 0:
+            if self.is_in_step() and self.ahead(self.held[place].number) > 0:
                 return
             left = self._left(self.held.pop(place))
             if left.octets:
@@ -170,7 +186,10 @@ class FlowState:
     def _take(self, held: Held) -> None:
         """Delivers octets, or those from a header on to a stream that begins."""
         begin = 0
-        if self.live is None:
+        stream = self.live
+        if self._waits:
+            stream = self._begin(held.number, held.packet)
+        elif stream is None:
             held = self._after_tail(held)
             found = stream_at(held.octets)
             if found is None:
@@ -179,14 +198,14 @@ class FlowState:
                     self._tail = held
                 return
             begin = found
-            self._tail = None
-            self._began = (held.number + begin) % 2**32
-            self._next_message = 0
-            self.live = self._capture.begun(self._flow, self._connection, held.packet, self._start())
-            self._has_begun = True
-        self._capture.delivered(self.live, held.octets[begin:], held.packet)
+            stream = self._begin((held.number + begin) % 2**32, held.packet)
+        self._capture.delivered(stream, held.octets[begin:], held.packet)
         self._due = (held.number + len(held.octets)) % 2**32
-        while header := bytes(self.live.octets[self._next_message : self._next_message + HEADER]):
+        self._read_headers(stream)
+
+    def _read_headers(self, stream: Stream) -> None:
+        """Finds the ends of the live stream's messages; it closes at the first header that is wrong."""
+        while header := bytes(stream.octets[self._next_message : self._next_message + HEADER]):
             if fault := header_fault(header):
                 self.close("fault")
                 self._since = (self._began + self._next_message + fault[1]) % 2**32
@@ -194,6 +213,19 @@ class FlowState:
             if len(header) < HEADER:
                 return
             self._next_message += HEADER + size_of(header)
+
+    def _begin(self, number: int, packet: int) -> Stream:
+        """The stream that begins at a number, with octets of this packet."""
+        self._began = number
+        start = self._start()
+        self._is_found = start.is_found
+        self._waits = False
+        self._tail = None
+        self._next_message = 0
+        stream = self._capture.begun(self._flow, self._connection, packet, start)
+        self.live = stream
+        self.last = stream.number
+        return stream
 
     def _after_tail(self, held: Held) -> Held:
         """What is looked through of a payload: after the tail that it goes on, if there is one."""
@@ -209,9 +241,11 @@ class FlowState:
         """What is known of a stream that begins."""
         passed = (self._began - self._since) % 2**32
         opposite = self._connection.flows.get(self._flow.opposite())
-        return Start(number_of(opposite) if opposite else 0, passed, self._has_begun or passed > 0)
+        partner = opposite.live.number if opposite and opposite.live else 0
+        return Start(partner, passed, self._is_found or not self._waits and (self.last > 0 or passed > 0))
 
     def close(self, word: str) -> None:
+        self._waits = False
         if self.live:
             self._capture.closed(self.live, word)
             self.live = None
@@ -394,17 +428,17 @@ class Capture:
 
     def end(self) -> None:
         """The end of the capture: first the gaps, then the streams that live close."""
-        while holding := [state for state in self._states() if state.live and state.held]:
+        while holding := [state for state in self._states() if state.held]:
             min(holding, key=number_of).gap()
         for state in sorted((state for state in self._states() if state.live), key=number_of):
             state.end()
 
 
 def by_turns(flows: Dict[Flow, FlowState], first: Optional[Flow]) -> List[FlowState]:
-    """The flows of a connection, this one first, or by their live streams."""
+    """The flows of a connection, this one first, or by their last streams."""
     return [flows[flow] for flow in sorted(flows, key=lambda flow: (flow != first, number_of(flows[flow])))]
 
 
 def number_of(state: FlowState) -> int:
-    """The number of a flow's live stream."""
-    return state.live.number if state.live else 0
+    """The number of a flow's last stream."""
+    return state.last

@@ -1,6 +1,5 @@
 -- What is read of a pcap file are the packets of its records.
 use Rattle.std.proofs.Common.{◌≡◌, ℕ, ◌+◌, ◌*◌, ◌%◌, ◌^◌, ◌<◌, nat_lt, false, List, [], ◌∷◌, ◌++◌, length, take, drop, Some, refl, ◌∙◌, ap, subst, arith, append-nil, append_assoc}
-use Rattle.std.specs.Int.{w32, from_be_bytes, from_le_bytes}
 use Rattle.std.specs.List.{AllByRecursion}
 use Rattle.std.proofs.lemmas.Bool.{le-ltb}
 use Rattle.std.proofs.lemmas.List.{length-append, take_all, take-append-le, drop-append-le, drop_all}
@@ -31,10 +30,8 @@ long Little n = refl
 pub spells : (order : ByteOrder) (n at : ℕ) (octets : List ℕ) → n < 2 ^ 32 →
     take 4 (drop at octets) ≡ number_octets order n → four_at order at octets ≡ n
 unfolding number_octets four_at
-spells Big n at octets small e =
-    ap {B = ℕ} (λ (xs : List ℕ). from_be_bytes w32 xs) e ∙ from_be_bytes-to_be_bytes_4 n small
-spells Little n at octets small e =
-    ap {B = ℕ} (λ (xs : List ℕ). from_le_bytes w32 xs) e ∙ from_le_bytes-to_le_bytes_4 n small
+spells Big n at octets small e = search (arith, from_be_bytes-to_be_bytes_4)
+spells Little n at octets small e = search (arith, from_le_bytes-to_le_bytes_4)
 
 pub first_four : (a b c : List ℕ) → length a ≡ 4 → take 4 (drop 0 (a ++ b ++ c)) ≡ a
 first_four a b c l =
@@ -80,13 +77,7 @@ version_is : (magic : Magic) (minor : List ℕ) →
     file_version magic (take 4 (drop 0 (major_octets magic.order ++ minor)))
     ≡ Continues (parts.FileRest magic)
 unfolding file_version two_at
-version_is magic minor = by magic.order refl
-  where
-    by : (o : ByteOrder) → magic.order ≡ o →
-        file_version magic (take 4 (drop 0 (major_octets magic.order ++ minor)))
-        ≡ Continues (parts.FileRest magic)
-    by Big e = rw e refl
-    by Little e = rw e refl
+version_is magic minor = search (arith, take, drop)
 
 major_long : (o : ByteOrder) → length (major_octets o) ≡ 2
 major_long Big = refl
@@ -143,22 +134,7 @@ magic_long Little Microseconds = refl
 magic_long Little Nanoseconds = refl
 
 header_long : (f : PcapFile) → IsPcapFile f → length (header_octets f) ≡ 24
-header_long f h =
-    let m : List ℕ = magic_octets f.order f.fractions in
-    let v : List ℕ = major_octets f.order ++ f.minor in
-    let w : List ℕ = f.unused ++ number_octets f.order f.link in
-    omega (
-      arith,
-      length-append (m ++ v) w,
-      length-append m v,
-      length-append (major_octets f.order) f.minor,
-      length-append f.unused (number_octets f.order f.link),
-      magic_long f.order f.fractions,
-      major_long f.order,
-      long f.order f.link,
-      h.minor,
-      h.unused,
-    )
+header_long f h = search (arith, length-append, magic_long, major_long, long)
 
 reads_file_header : (f : PcapFile) → IsPcapFile f → reading (header_octets f)
     ≡ due_in (parts.RecordHeader (header_of f)) (length (header_octets f))
@@ -206,22 +182,7 @@ header_is f r octets h e =
 
 record_long : (o : ByteOrder) (r : PcapRecord) → length (record_octets o r) ≡ 16 + length r.octets
 unfolding record_octets
-record_long o r =
-    let a : List ℕ = number_octets o r.seconds in
-    let b : List ℕ = number_octets o r.fraction in
-    let c : List ℕ = number_octets o (length r.octets) in
-    let d : List ℕ = number_octets o r.original in
-    omega (
-      arith,
-      length-append (a ++ b ++ c ++ d) r.octets,
-      length-append (a ++ b ++ c) d,
-      length-append (a ++ b) c,
-      length-append a b,
-      long o r.seconds,
-      long o r.fraction,
-      long o (length r.octets),
-      long o r.original,
-    )
+record_long o r = search (arith, length-append, long)
 
 reads_one : (f : PcapFile) (p : List ℕ) (r : PcapRecord) (at : ℕ) → IsPcapRecord r →
     (reading p).ending ≡ Within (at_header (header_of f) []) at []
@@ -275,7 +236,7 @@ reads_records : (f : PcapFile) (rs : List PcapRecord) (p : List ℕ) (given : Li
       ending = Within (at_header (header_of f) []) (length (p ++ records_octets f.order rs)) [];
     }
 unfolding records_octets packets_of
-reads_records f [] p given h r = rw (append-nil p, append-nil given) r
+reads_records f [] p given h r = search (arith, append-nil)
 reads_records f (x ∷ rs) p given h r =
     let q : List ℕ = record_octets f.order x in
     let place : ℕ = length p + (16 + length x.octets) in

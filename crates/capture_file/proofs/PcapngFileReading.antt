@@ -1,5 +1,5 @@
 -- What is read of a pcapng file are the packets of its blocks.
-use Rattle.std.proofs.Common.{◌≡◌, ℕ, zero, suc, ◌+◌, ◌-◌, ◌%◌, ◌^◌, ◌<◌, ◌≤◌, List, [], ◌∷◌, ◌++◌, length, Some, refl, ◌∙◌, ap, subst, arith, append-nil, append_assoc, slice_get}
+use Rattle.std.proofs.Common.{◌≡◌, ℕ, zero, suc, ◌+◌, ◌%◌, ◌^◌, ◌<◌, ◌≤◌, List, [], ◌∷◌, ◌++◌, length, Some, refl, ◌∙◌, ap, subst, arith, append-nil, append_assoc, slice_get}
 use Rattle.std.proofs.lemmas.Bool.{le-leb, eq-eqb}
 use Rattle.std.proofs.lemmas.List.{length-append, take_all}
 use Rattle.capture_file.specs.declared.part.ByteOrder.{ByteOrder}
@@ -15,7 +15,7 @@ use Rattle.capture_file.specs.Numbers.{four_at}
 use Rattle.capture_file.specs.Blocks.{block_end, options, byte_order_magic, section, section_version, section_length}
 use Rattle.capture_file.specs.PcapFiles.{number_octets}
 use Rattle.capture_file.specs.Records.{beginning}
-use Rattle.capture_file.specs.PcapngFiles.{half_octets, order_octets, PcapngBlock, InterfaceBlock, EnhancedBlock, SimpleBlock, OtherBlock, type_of, body_octets, length_of, block_octets, blocks_octets, PcapngFile, section_size, section_octets, pcapng_octets, IsPcapngFile, IsBlock, with_block, AreBlocks, packet_of_block, packets_of_blocks, APcapngFileHasItsBlocks}
+use Rattle.capture_file.specs.PcapngFiles.{half_octets, order_octets, PcapngBlock, InterfaceBlock, EnhancedBlock, SimpleBlock, OtherBlock, length_of, block_octets, blocks_octets, PcapngFile, section_size, section_octets, pcapng_octets, IsPcapngFile, IsBlock, with_block, AreBlocks, packet_of_block, packets_of_blocks, APcapngFileHasItsBlocks}
 use Rattle.capture_file.proofs.PcapFileReading.{long, last_four}
 use Rattle.capture_file.proofs.PcapngParts.{due, on, half_long, spells_half, front_of, alone, end_is}
 use Rattle.capture_file.proofs.PcapngInterfaces.{reads_interface}
@@ -24,17 +24,7 @@ use Rattle.capture_file.proofs.PcapngPackets.{reads_packet, reads_simple, reads_
 -- ---- All blocks.
 
 around : (o : ByteOrder) (b : PcapngBlock) → length (block_octets o b) ≡ length_of o b
-around o b =
-    let size : ℕ = length_of o b in
-    omega (
-      arith,
-      length-append (number_octets o (type_of b) ++ number_octets o size)
-          (body_octets o b ++ number_octets o size),
-      length-append (number_octets o (type_of b)) (number_octets o size),
-      length-append (body_octets o b) (number_octets o size),
-      long o (type_of b),
-      long o size,
-    )
+around o b = search (arith, length-append, long)
 
 has : (xs : List Interface) (n : ℕ) → n < length xs →
     (i : Interface) × (slice_get xs n ≡ Some i)
@@ -49,8 +39,11 @@ one_block : (o : ByteOrder) (b : PcapngBlock) (p : List ℕ) (given : List Packe
     reading (p ++ block_octets o b)
     ≡ due (given ++ packet_of_block interfaces (length (p ++ block_octets o b)) b)
     (parts.BlockHeader o) (with_block interfaces b) (length (p ++ block_octets o b))
-one_block o (InterfaceBlock link snapshot options) p given interfaces at h r =
-    rw (append-nil given) (reads_interface o link snapshot options p given interfaces at h r)
+one_block o (InterfaceBlock link snapshot options) p given interfaces at h r = search (
+  arith,
+  append-nil,
+  reads_interface,
+)
 one_block o (EnhancedBlock interface high low original octets behind) p given interfaces at h r =
     let here = has interfaces interface h.0 in
     rw here.1 (reads_packet o interface high low original octets behind here.0 p given interfaces at
@@ -59,8 +52,11 @@ one_block o (SimpleBlock original octets behind) p given interfaces at h r =
     let here = has interfaces 0 h.0 in
     rw here.1 (reads_simple o original octets behind here.0 p given interfaces at h here.1
     (rw here.1 at h.1) r)
-one_block o (OtherBlock kind body) p given interfaces at h r =
-    rw (append-nil given) (reads_other o kind body p given interfaces at h r)
+one_block o (OtherBlock kind body) p given interfaces at h r = search (
+  arith,
+  append-nil,
+  reads_other,
+)
 
 reads_blocks : (o : ByteOrder) (bs : List PcapngBlock) (p : List ℕ) (given : List PacketRecord)
     (interfaces : List Interface) → AreBlocks o interfaces bs →
@@ -69,7 +65,7 @@ reads_blocks : (o : ByteOrder) (bs : List PcapngBlock) (p : List ℕ) (given : L
     ≡ due (given ++ packets_of_blocks o interfaces (length p) bs) (parts.BlockHeader o) last
     (length (p ++ blocks_octets o bs)))
 unfolding blocks_octets packets_of_blocks AreBlocks
-reads_blocks o [] p given interfaces h r = (interfaces, rw (append-nil p, append-nil given) r)
+reads_blocks o [] p given interfaces h r = search (arith, append-nil)
 reads_blocks o (b ∷ bs) p given interfaces h r =
     let q : List ℕ = block_octets o b in
     let place : ℕ = length p + length_of o b in
@@ -114,19 +110,15 @@ section_is : (o : ByteOrder) (size left : ℕ) → size % 4 ≡ 0 → 28 ≤ siz
     byte_order_magic (lengths_of (number_octets o size)) (order_octets o)
     ≡ Continues (parts.SectionVersion (record { order = o; length = size; left = left }))
 unfolding byte_order_magic section
-section_is Big size left whole some few is =
-    let rest : size - 20 ≡ left = omega (arith, is) in
-    rw (big_order, alone Big size few, eq-eqb _ _ whole, le-leb _ _ some, rest) refl
-section_is Little size left whole some few is =
-    let rest : size - 20 ≡ left = omega (arith, is) in
-    rw (
-      other_order,
-      little_order,
-      alone Little size few,
-      eq-eqb _ _ whole,
-      le-leb _ _ some,
-      rest,
-    ) refl
+section_is Big size left whole some few is = search (arith, big_order, alone, eq-eqb, le-leb)
+section_is Little size left whole some few is = search (
+  arith,
+  other_order,
+  little_order,
+  alone,
+  eq-eqb,
+  le-leb,
+)
 
 section_begins : reading (0x0a ∷ 0x0d ∷ 0x0d ∷ 0x0a ∷ []) ≡ due [] parts.SectionLength [] 4
 unfolding reading reading_from beginning four_at
@@ -180,24 +172,7 @@ reads_section f h =
     ∙ end_is o size (length f.rest) (Continues (parts.BlockHeader o)) h.few)
 
 section_long : (f : PcapngFile) → IsPcapngFile f → length (section_octets f) ≡ section_size f
-section_long f h =
-    let o : ByteOrder = f.order in
-    let M : List ℕ = 0x0a ∷ 0x0d ∷ 0x0d ∷ 0x0a ∷ [] in
-    let L : List ℕ = number_octets o (section_size f) in
-    let V : List ℕ = half_octets o 1 ++ f.minor in
-    omega (
-      arith,
-      length-append (((M ++ L) ++ order_octets o) ++ V) (f.rest ++ L),
-      length-append ((M ++ L) ++ order_octets o) V,
-      length-append (M ++ L) (order_octets o),
-      length-append M L,
-      length-append (half_octets o 1) f.minor,
-      length-append f.rest L,
-      half_long o 1,
-      order_long o,
-      long o (section_size f),
-      h.minor,
-    )
+section_long f h = search (arith, length-append, half_long, order_long, long)
 
 pub file_has_its_blocks : APcapngFileHasItsBlocks
 file_has_its_blocks f bs h all =

@@ -13,7 +13,7 @@ use Rattle.capture_file.specs.Reading.{PacketRecord, reading}
 use Rattle.capture_file.specs.Numbers.{two_at, four_at}
 use Rattle.capture_file.specs.Blocks.{block_of, block_end, interface_header, options, option_header, time_unit, padded, ticks_of}
 use Rattle.capture_file.specs.PcapFiles.{number_octets}
-use Rattle.capture_file.specs.PcapngFiles.{half_octets, BlockOption, value_octets, option_octets, ended_options, options_octets, InterfaceBlock, length_of, block_octets, is_unit_in_range, is_unit, IsOption, ticks_by, interface_of, IsBlock}
+use Rattle.capture_file.specs.PcapngFiles.{half_octets, BlockOption, value_octets, ended_options, options_octets, InterfaceBlock, length_of, block_octets, is_unit_in_range, is_unit, IsOption, ticks_by, interface_of, IsBlock}
 use Rattle.capture_file.proofs.PcapFileReading.{long, spells, last_four}
 use Rattle.capture_file.proofs.PcapngParts.{due, on, half_long, spells_half, front_of, end_is, heads, in_block}
 
@@ -34,14 +34,11 @@ and_true true b both = (refl, both)
 and_true false b both = absurd (false≢true both)
 
 halves_long : (o : ByteOrder) (a b : ℕ) → length (half_octets o a ++ half_octets o b) ≡ 4
-halves_long o a b =
-    omega (arith, length-append (half_octets o a) (half_octets o b), half_long o a, half_long o b)
+halves_long o a b = search (arith, length-append, half_long)
 
 code_is : (o : ByteOrder) (a b : ℕ) → a < 2 ^ 16 →
     two_at o 0 (half_octets o a ++ half_octets o b) ≡ a
-code_is o a b small =
-    spells_half o a 0 (half_octets o a ++ half_octets o b) small
-    (front_of 2 (half_octets o a) (half_octets o b) (half_long o a))
+code_is o a b small = search (arith, spells_half, front_of, half_long)
 
 count_is : (o : ByteOrder) (a b : ℕ) → b < 2 ^ 16 →
     two_at o 2 (half_octets o a ++ half_octets o b) ≡ b
@@ -57,7 +54,7 @@ ends_options : (o : ByteOrder) (size left : ℕ) (i : Interface) →
     option_header (in_block o size left) i (half_octets o 0 ++ half_octets o 0)
     ≡ Continues (parts.InterfaceEnd (in_block o size left) i)
 unfolding option_header
-ends_options o size left i = rw (code_is o 0 0 (omega arith)) refl
+ends_options o size left i = search (arith, code_is)
 
 passes_option : (o : ByteOrder) (size left code count more : ℕ) (i : Interface) → code ≢ 0 →
     code < 2 ^ 16 → count < 2 ^ 16 → ((code == 9) && (count == 1)) ≡ false →
@@ -65,30 +62,22 @@ passes_option : (o : ByteOrder) (size left code count more : ℕ) (i : Interface
     option_header (in_block o size left) i (half_octets o code ++ half_octets o count)
     ≡ Continues (parts.OptionHeader (in_block o size more) i (padded count))
 unfolding option_header options
-passes_option o size left code count more i some small few other is =
-    let fits : nat_lt left (padded count) ≡ false =
-    le-ltb left (padded count) (omega (arith, is)) in
-    let room : nat_le (padded count + 4) left ≡ true =
-    le-leb (padded count + 4) left (omega (arith, is)) in
-    let rest : left - (padded count + 4) ≡ more = omega (arith, is) in
-    rw (
-      code_is o code count small,
-      count_is o code count few,
-      ne_eqb code 0 some,
-      fits,
-      other,
-      room,
-      rest,
-    ) refl
+passes_option o size left code count more i some small few other is = search (
+  arith,
+  nat_lt,
+  le-ltb,
+  nat_le,
+  le-leb,
+  code_is,
+  count_is,
+  ne_eqb,
+)
 
 sees_unit : (o : ByteOrder) (size left more : ℕ) (i : Interface) → left ≡ 1 + more → 4 ≤ left →
     option_header (in_block o size left) i (half_octets o 9 ++ half_octets o 1)
     ≡ Continues (parts.TimeUnit (in_block o size more) i)
 unfolding option_header
-sees_unit o size left more i is enough =
-    let fits : nat_lt left 4 ≡ false = le-ltb left 4 enough in
-    let rest : left - 1 ≡ more = omega (arith, is) in
-    rw (code_is o 9 1 (omega arith), count_is o 9 1 (omega arith), fits, rest) refl
+sees_unit o size left more i is enough = search (arith, nat_lt, le-ltb, code_is, count_is)
 
 abbrev ticking : Interface → ℕ → Interface
 ticking i ticks = record { link = i.link; snapshot = i.snapshot; ticks = ticks }
@@ -99,35 +88,21 @@ reads_unit : (o : ByteOrder) (size left more : ℕ) (i : Interface) (octets : Li
     ≡ Continues (parts.OptionHeader (in_block o size more)
     (ticking i (ticks_of (slice_index octets 0))) 3)
 unfolding time_unit options
-reads_unit o size left more i octets known is =
-    let room : nat_le 7 left ≡ true = le-leb 7 left (omega (arith, is)) in
-    let rest : left - 7 ≡ more = omega (arith, is) in
-    rw (known, room, rest) refl
+reads_unit o size left more i octets known is = search (arith, nat_le, le-leb)
 
 value_long : (x : BlockOption) → length (value_octets x) ≡ padded (length x.value)
-value_long x = omega (
-  arith,
-  length-append x.value (replicate (padded (length x.value) - length x.value) 0),
-  length-replicate {A = ℕ} (padded (length x.value) - length x.value) 0,
-)
+value_long x = search (arith, length-append, replicate, length-replicate)
 
 ended_long : (o : ByteOrder) (xs : List BlockOption) → 4 ≤ length (ended_options o xs)
 unfolding ended_options
-ended_long o [] = omega (arith, halves_long o 0 0)
-ended_long o (x ∷ xs) =
-    omega (arith, length-append (option_octets o x) (ended_options o xs), ended_long o xs)
+ended_long o [] = search (arith, halves_long)
+ended_long o (x ∷ xs) = search (arith, length-append, ended_long o xs)
 
 option_long : (o : ByteOrder) (x : BlockOption) (xs : List BlockOption) →
     length (ended_options o (x ∷ xs))
     ≡ 4 + padded (length x.value) + length (ended_options o xs)
 unfolding ended_options
-option_long o x xs = omega (
-  arith,
-  length-append (option_octets o x) (ended_options o xs),
-  length-append (half_octets o x.code ++ half_octets o (length x.value)) (value_octets x),
-  halves_long o x.code (length x.value),
-  value_long x,
-)
+option_long o x xs = search (arith, length-append, halves_long, value_long)
 
 reads_options : (o : ByteOrder) (size left : ℕ) (xs : List BlockOption) (p skipped : List ℕ)
     (given : List PacketRecord) (i : Interface) (interfaces : List Interface) (at : ℕ) →
@@ -254,8 +229,7 @@ begins_options : (o : ByteOrder) (size : ℕ) (xs : List BlockOption) (i : Inter
     ≡ Continues (first_part o size xs i)
 unfolding options
 begins_options o size [] i = refl
-begins_options o size (x ∷ xs) i =
-    rw (le-leb 4 (length (ended_options o (x ∷ xs))) (ended_long o (x ∷ xs))) refl
+begins_options o size (x ∷ xs) i = search (arith, le-leb, ended_long)
 
 all_options : (o : ByteOrder) (size : ℕ) (xs : List BlockOption) (p : List ℕ)
     (given : List PacketRecord) (i : Interface) (interfaces : List Interface) (at : ℕ) →
@@ -293,7 +267,7 @@ interface_is o size left link snapshot small few =
 described : (o : ByteOrder) (size left count : ℕ) → count < 256 → size - 20 ≡ left →
     block_of o 1 size count ≡ Continues (parts.InterfaceHeader (in_block o size left))
 unfolding block_of
-described o size left count few is = rw (lt-ltb count 256 few, is) refl
+described o size left count few is = search (arith, lt-ltb)
 
 pub reads_interface : (o : ByteOrder) (link snapshot : ℕ) (options : List BlockOption) (p : List ℕ)
     (given : List PacketRecord) (interfaces : List Interface) (at : ℕ) →

@@ -67,7 +67,7 @@ chosen : (o : ByteOrder) (block : Block) (interfaces : List Interface) (n : ℕ)
     enhanced_interface block interfaces (number_octets o n)
     ≡ Continues (parts.EnhancedHeader block i)
 unfolding enhanced_interface
-chosen o block interfaces n i same small here = rw (same, alone o n small, here) refl
+chosen o block interfaces n i same small here = search (arith, alone)
 
 pub reads_packet : (o : ByteOrder) (interface high low original : ℕ) (octets behind : List ℕ)
     (i : Interface) (p : List ℕ) (given : List PacketRecord) (interfaces : List Interface)
@@ -177,12 +177,12 @@ simple_is : (o : ByteOrder) (interfaces : List Interface) (i : Interface)
     simple_header (in_block o size (captured + rest)) interfaces (number_octets o original)
     ≡ Continues (parts.Packet (in_block o size rest) (simple_body i captured))
 unfolding simple_header packet_of
-simple_is o interfaces i size original captured rest small few here is =
-    let fits : nat_lt 262144 captured ≡ false = le-ltb 262144 captured few in
-    let room : nat_lt (captured + rest) captured ≡ false =
-    le-ltb (captured + rest) captured (omega arith) in
-    let left : (captured + rest) - captured ≡ rest = omega arith in
-    rw (here, alone o original small, ← is, fits, room, left) refl
+simple_is o interfaces i size original captured rest small few here is = search (
+  arith,
+  nat_lt,
+  le-ltb,
+  alone,
+)
 
 pub reads_simple : (o : ByteOrder) (original : ℕ) (octets behind : List ℕ) (i : Interface)
     (p : List ℕ) (given : List PacketRecord) (interfaces : List Interface) (at : ℕ) →
@@ -243,14 +243,11 @@ another : (o : ByteOrder) (kind size left count : ℕ) → kind ≢ 1 → kind �
     size ≡ 12 + left → block_of o kind size count
     ≡ Continues (parts.BlockEnd (record { order = o; length = size; left = left }))
 unfolding block_of
-another o kind size left count a b c is =
-    let rest : size - 12 ≡ left = omega (arith, is) in
-    rw (ne_eqb kind 1 a, ne_eqb kind 6 b, ne_eqb kind 3 c, rest) refl
+another o kind size left count a b c is = search (arith, ne_eqb)
 
 least : (o : ByteOrder) (kind size count : ℕ) → kind ≢ 1 → kind ≢ 6 → kind ≢ 3 → 12 ≤ size →
     least_length kind ≤ size
-least o kind size count a b c some =
-    rw (ne_eqb kind 1 a, ne_eqb kind 6 b, ne_eqb kind 3 c) some
+least o kind size count a b c some = search (arith, ne_eqb)
 
 pub reads_other : (o : ByteOrder) (kind : ℕ) (body : List ℕ) (p : List ℕ)
     (given : List PacketRecord) (interfaces : List Interface) (at : ℕ) →

@@ -1,6 +1,5 @@
 -- A part of a pcapng file more is read, and the header and the end of a block.
 use Rattle.std.proofs.Common.{◌≡◌, ℕ, ◌^◌, ◌<◌, ◌≤◌, ◌==◌, false, List, [], ◌∷◌, ◌++◌, length, take, drop, refl, ◌∙◌, ap, arith, append-nil}
-use Rattle.std.specs.Int.{w16, from_be_bytes, from_le_bytes}
 use Rattle.std.proofs.lemmas.Bool.{le-leb, eq-eqb}
 use Rattle.std.proofs.lemmas.Nat.{from_be_bytes-to_be_bytes_2, from_le_bytes-to_le_bytes_2}
 use Rattle.std.proofs.lemmas.List.{length-append, take_all, take-append-le}
@@ -62,13 +61,11 @@ half_long Little n = refl
 pub spells_half : (o : ByteOrder) (n at : ℕ) (octets : List ℕ) → n < 2 ^ 16 →
     take 2 (drop at octets) ≡ half_octets o n → two_at o at octets ≡ n
 unfolding half_octets two_at
-spells_half Big n at octets small e =
-    ap {B = ℕ} (λ (xs : List ℕ). from_be_bytes w16 xs) e ∙ from_be_bytes-to_be_bytes_2 n small
-spells_half Little n at octets small e =
-    ap {B = ℕ} (λ (xs : List ℕ). from_le_bytes w16 xs) e ∙ from_le_bytes-to_le_bytes_2 n small
+spells_half Big n at octets small e = search (arith, from_be_bytes-to_be_bytes_2)
+spells_half Little n at octets small e = search (arith, from_le_bytes-to_le_bytes_2)
 
 pub front_of : (n : ℕ) (a b : List ℕ) → length a ≡ n → take n (drop 0 (a ++ b)) ≡ a
-front_of n a b l = take-append-le n a b (omega (arith, l)) ∙ take_all n a (omega (arith, l))
+front_of n a b l = search (arith, take-append-le, take_all)
 
 -- a number by itself
 pub alone : (o : ByteOrder) (n : ℕ) → n < 2 ^ 32 → four_at o 0 (number_octets o n) ≡ n
@@ -95,7 +92,7 @@ pub end_is : (o : ByteOrder) (size left : ℕ) (outcome : Outcome) → size < 2 
     block_end (record { order = o; length = size; left = left }) (number_octets o size) outcome
     ≡ outcome
 unfolding block_end
-end_is o size left outcome small = rw (alone o size small, eq-eqb size size refl) refl
+end_is o size left outcome small = search (arith, alone, eq-eqb)
 
 -- the header of a block
 pub heads : (o : ByteOrder) (kind size : ℕ) (p : List ℕ) (given : List PacketRecord) (more : Part)

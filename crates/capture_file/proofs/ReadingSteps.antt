@@ -8,9 +8,9 @@ use Rattle.capture_file.specs.declared.part.Part.{Part}
 use Rattle.capture_file.specs.declared.part.Part.TheVariants as parts
 use Rattle.capture_file.specs.declared.part.Outcome.{Outcome}
 use Rattle.capture_file.specs.declared.part.Outcome.TheVariants.{Continues, EndsPacket, Fails}
-use Rattle.capture_file.specs.Parts.{front, passed, back, size}
+use Rattle.capture_file.specs.Parts.{size}
 use Rattle.capture_file.specs.Format.{next}
-use Rattle.capture_file.specs.Reading.{PacketRecord, ParserState, Ending, Within, Faulted, Reading, end_of, packet_in, behind, reading_from, start, reading, fault_of}
+use Rattle.capture_file.specs.Reading.{PacketRecord, ParserState, Ending, Within, Faulted, Reading, end_of, packet_in, behind, reading_from, reading, fault_of}
 use Rattle.capture_file.specs.Laws.{PacketsBegin, FaultStays}
 
 pub size_some : (part : Part) → 1 ≤ size part
@@ -23,11 +23,7 @@ pub short : (most : ℕ) (state : ParserState) (at : ℕ) (p : List ℕ) → len
     reading_from most state at p ≡ record { packets = []; ending = Within state at p }
 unfolding reading_from
 short zero state at p less = refl
-short (suc most) state at p less =
-    elim (leb_tells (suc (length p)) (size state.part)) [
-      | inl holds ↦ rw holds.0
-      | inr fails ↦ absurd (omega arith)
-    ]
+short (suc most) state at p less = search (arith, leb_tells)
 
 -- a whole part
 pub whole : (most : ℕ) (state : ParserState) (at : ℕ) (p : List ℕ) → size state.part ≤ length p →
@@ -36,11 +32,7 @@ pub whole : (most : ℕ) (state : ParserState) (at : ℕ) (p : List ℕ) → siz
     (next state.part state.interfaces (end_of state.part p))
     (λ rest. reading_from most rest (at + size state.part) (drop (size state.part) p))
 unfolding reading_from
-whole most state at p enough =
-    elim (leb_tells (suc (length p)) (size state.part)) [
-      | inl holds ↦ absurd (omega arith)
-      | inr fails ↦ rw fails.0
-    ]
+whole most state at p enough = search (arith, leb_tells)
 
 behind_same : (state : ParserState) (packet : List ℕ) (place : ℕ) (o : Outcome)
     (k l : ParserState → Reading) → ((d : ParserState) → k d ≡ l d) →
@@ -52,12 +44,8 @@ behind_same state packet place (Fails kind) k l same = refl
 -- any bounds that are great enough give one reading
 pub enough : (n m : ℕ) (state : ParserState) (at : ℕ) (p : List ℕ) → length p ≤ n → length p ≤ m →
     reading_from n state at p ≡ reading_from m state at p
-enough zero m state at p few many =
-    let some : 1 ≤ size state.part = size_some state.part in
-    short zero state at p (omega arith) ∙ sym (short m state at p (omega arith))
-enough (suc n) zero state at p few many =
-    let some : 1 ≤ size state.part = size_some state.part in
-    short (suc n) state at p (omega arith) ∙ sym (short zero state at p (omega arith))
+enough zero m state at p few many = search (arith, size_some, short)
+enough (suc n) zero state at p few many = search (arith, size_some, short)
 enough (suc n) (suc m) state at p few many =
     let some : 1 ≤ size state.part = size_some state.part in
     elim (leb_tells (suc (length p)) (size state.part)) [
@@ -91,40 +79,35 @@ behind_onward : (state : ParserState) (packet : List ℕ) (place : ℕ) (o : Out
     behind state packet place o l
     ≡ onward (behind state packet place o k).packets (behind state packet place o k).ending q
 behind_onward state packet place (Continues part) k l q each = each _
-behind_onward state packet place (EndsPacket head part) k l q each =
-    rw (each _) (onward_more _ _ _ q)
+behind_onward state packet place (EndsPacket head part) k l q each = search (arith, onward_more)
 behind_onward state packet place (Fails kind) k l q each = refl
 
 packet_same : (part : Part) (p q : List ℕ) → size part ≤ length p →
     packet_in part (p ++ q) ≡ packet_in part p
-packet_same part p q enough = let few : front part ≤ length p = omega arith in rw take-append-le
+packet_same part p q enough = search (arith, take-append-le)
 
 end_same : (part : Part) (p q : List ℕ) → size part ≤ length p →
     end_of part (p ++ q) ≡ end_of part p
-end_same part p q enough =
-    let few : front part + passed part ≤ length p = omega arith in
-    let room : back part ≤ length (drop (front part + passed part) p) =
-    simp length-drop (omega arith) in
-    rw (drop-append-le, take-append-le)
+end_same part p q enough = search (arith, drop, length-drop, drop-append-le, take-append-le)
 
 -- the reading of a longer list is that of the shorter one, which goes on
 grows_short : (n m : ℕ) (state : ParserState) (at : ℕ) (p q : List ℕ) → length (p ++ q) ≤ m →
     length p < size state.part →
     reading_from m state at (p ++ q)
     ≡ onward (reading_from n state at p).packets (reading_from n state at p).ending q
-grows_short n m state at p q many less =
-    rw (short n state at p less) (enough m (length (p ++ q)) state at (p ++ q) many (omega arith))
+grows_short n m state at p q many less = search (arith, short, enough)
 
 pub grows_from : (n m : ℕ) (state : ParserState) (at : ℕ) (p q : List ℕ) → length p ≤ n →
     length (p ++ q) ≤ m →
     reading_from m state at (p ++ q)
     ≡ onward (reading_from n state at p).packets (reading_from n state at p).ending q
-grows_from zero m state at p q few many =
-    let some : 1 ≤ size state.part = size_some state.part in
-    grows_short zero m state at p q many (omega arith)
-grows_from (suc n) zero state at p q few many =
-    let some : 1 ≤ size state.part = size_some state.part in
-    grows_short (suc n) zero state at p q many (omega (arith, length-append p q))
+grows_from zero m state at p q few many = search (arith, size_some, grows_short)
+grows_from (suc n) zero state at p q few many = search (
+  arith,
+  size_some,
+  grows_short,
+  length-append,
+)
 grows_from (suc n) (suc m) state at p q few many =
     elim (leb_tells (suc (length p)) (size state.part)) [
       | inl holds ↦ grows_short (suc n) (suc m) state at p q many holds.1
@@ -152,7 +135,7 @@ grows_from (suc n) (suc m) state at p q few many =
 
 pub grows : (p q : List ℕ) → reading (p ++ q) ≡ onward (reading p).packets (reading p).ending q
 unfolding reading
-grows p q = grows_from (length p) (length (p ++ q)) start 0 p q (omega arith) (omega arith)
+grows p q = search (arith, grows_from)
 
 begun_with : (given : List PacketRecord) (e : Ending) (q : List ℕ) → (more : List PacketRecord)
     × ((onward given e q).packets ≡ given ++ more)
@@ -175,7 +158,7 @@ stays : (r : Reading) (q : List ℕ) (f : CaptureFault) → fault_of r.ending �
 stays r q f is = go r.packets r.ending q f is
 
 pub fault_stays : FaultStays
-fault_stays p q f is = grows p q ∙ stays (reading p) q f is
+fault_stays p q f is = search (arith, grows, stays)
 
 -- a part that has begun stands at its place, and isn't whole
 abbrev pub EndsAt : ℕ → Ending → Type 0
@@ -192,10 +175,7 @@ behind_ends state packet at (Fails kind) k place within each = within
 
 ends_from : (n : ℕ) (state : ParserState) (at : ℕ) (p : List ℕ) → length p ≤ n →
     EndsAt (at + length p) (reading_from n state at p).ending
-ends_from zero state at p few =
-    let some : 1 ≤ size state.part = size_some state.part in
-    let less : length p < size state.part = omega arith in
-    rw short (refl, less)
+ends_from zero state at p few = search (arith, size_some, short)
 ends_from (suc n) state at p few =
     elim (leb_tells (suc (length p)) (size state.part)) [
       | inl holds ↦ rw (short (suc n) state at p holds.1) (refl, holds.1)
@@ -214,15 +194,14 @@ ends_from (suc n) state at p few =
 
 pub ends_at : (p : List ℕ) → EndsAt (length p) (reading p).ending
 unfolding reading
-ends_at p = rw (zero-add (length p)) at (ends_from (length p) start 0 p (omega arith))
+ends_at p = search (arith, zero-add, ends_from)
 
 -- octets that leave the part within it
 pub stays_within : (p q : List ℕ) (state : ParserState) (at : ℕ) (had : List ℕ) →
     (reading p).ending ≡ Within state at had →
     length (had ++ q) < size state.part → reading (p ++ q)
     ≡ record { packets = (reading p).packets; ending = Within state at (had ++ q) }
-stays_within p q state at had is less =
-    grows p q ∙ rw (is, short (length (had ++ q)) state at (had ++ q) less, append-nil)
+stays_within p q state at had is less = search (arith, grows, short, append-nil)
 
 -- octets that complete the part
 pub completes : (p q : List ℕ) (state : ParserState) (at : ℕ) (had : List ℕ) →

@@ -10,15 +10,4 @@ pub reads_none : (c : Capture) → c.octets ≡ 0 → c.packets ≡ 0 → c.part
     c.taken ≡ 0 → c.fault ≡ None →
     length {A = ℕ} [] ≡ 0 → c.interfaces.items ≡ [] → Reads c []
 unfolding reading reading_from
-reads_none c octets packets part taken fault zero interfaces = record {
-  octets = octets;
-  packets = packets;
-  stands = record {
-    running = fault;
-    part = part;
-    interfaces = interfaces;
-    taken = taken;
-    packet_octets = λ k below come. absurd (omega arith);
-    end_octets = λ k below come. absurd (omega arith);
-  };
-}
+reads_none c octets packets part taken fault zero interfaces = search (arith)

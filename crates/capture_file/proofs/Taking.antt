@@ -2,15 +2,14 @@
 use Rattle.std.proofs.Common.{◌≡◌, ℕ, ◌+◌, ◌-◌, ◌<◌, ◌≤◌, Bool, true, false, List, [], ◌∷◌, ◌++◌, length, take, drop, slice_range, None, refl, sym, ◌∙◌, ap, subst, arith, append-nil, append_assoc, if◌then◌else◌}
 use Rattle.std.proofs.lemmas.List.{length-append, length-drop, length-take-le, drop-drop, drop-take, take-take, take_all}
 use Rattle.capture_file.specs.declared.capture.Capture.{Capture}
-use Rattle.capture_file.specs.declared.capture.PacketRange.{PacketRange}
 use Rattle.capture_file.specs.declared.part.Outcome.{Outcome}
 use Rattle.capture_file.specs.declared.part.Outcome.TheVariants.{Continues, EndsPacket, Fails}
 use Rattle.capture_file.specs.declared.progress.Progress.{Progress}
 use Rattle.capture_file.specs.declared.progress.Progress.TheVariants as progress
 use Rattle.capture_file.specs.Parts.{front, passed, back, packet_offset, size}
 use Rattle.capture_file.specs.Format.{next, interfaces_behind}
-use Rattle.capture_file.specs.Reading.{PacketRecord, ParserState, Ending, Within, Faulted, Reading, end_of, packet_in, behind, reading, packets, fault, fault_of}
-use Rattle.capture_file.specs.CaptureState.{Reads, HoldsPart, Stands, Answers, octets_in}
+use Rattle.capture_file.specs.Reading.{ParserState, Ending, Within, Faulted, Reading, end_of, packet_in, behind, reading, packets, fault_of}
+use Rattle.capture_file.specs.CaptureState.{Reads, HoldsPart, Stands, Answers}
 use Rattle.capture_file.specs.CaptureSteps.{Completes, HoldsPiece, PartBegins}
 use Rattle.capture_file.specs.Window.{IsHeld}
 use Rattle.capture_file.proofs.WindowLemmas.{held_all}
@@ -27,12 +26,11 @@ pub record Begun (p : List ℕ) (c : Capture) : Type 0 where
 
 begun_in : (p : List ℕ) (c : Capture) (e : Ending) → (reading p).ending ≡ e → Stands c e →
     c.fault ≡ None → Begun p c
-begun_in p c (Within state at had) is stands running =
-    record { state = state; at = at; had = had; ending = is; holds = stands }
+begun_in p c (Within state at had) is stands running = search (arith)
 begun_in p c (Faulted f) is stands running = cc
 
 pub begun : (p : List ℕ) (c : Capture) → Reads c p → c.fault ≡ None → Begun p c
-begun p c r running = begun_in p c (reading p).ending refl r.stands running
+begun p c r running = search (arith, begun_in)
 
 -- octets were taken: what the capture has read then, and what it answers
 pub record Takes (answer : Progress) (p q : List ℕ) (c : Capture) (octets : List ℕ) : Type 0 where
@@ -43,13 +41,7 @@ piece_held : (old mid : Capture) (q : List ℕ) (state : ParserState) (had : Lis
     HoldsPart old state had → HoldsPiece old mid q →
     IsHeld 0 (front state.part) (had ++ q) mid.packet_octets.items
     × IsHeld (front state.part + passed state.part) (back state.part) (had ++ q) mid.end_octets
-piece_held old mid q state had holds kept =
-    let front_held : IsHeld 0 (front old.part) (had ++ q) mid.packet_octets.items =
-    kept.packet_octets had (sym holds.taken) (rw holds.part holds.packet_octets) in
-    let end_held : IsHeld (front old.part + passed old.part) (back old.part)
-    (had ++ q) mid.end_octets =
-    kept.end_octets had (sym holds.taken) (rw holds.part holds.end_octets) in
-    (rw holds.part at front_held, rw holds.part at end_held)
+piece_held old mid q state had holds kept = search (arith)
 
 held_of : (p q octets : List ℕ) (old new : Capture) (state : ParserState) (at : ℕ)
     (had : List ℕ) → Reads old p →
@@ -93,14 +85,7 @@ holds_none : (mid new : Capture) (state next : ParserState) → mid.fault ≡ No
     PartBegins mid new next.part →
     next.interfaces ≡ interfaces_behind state.part state.interfaces → mid.part ≡ state.part →
     mid.interfaces.items ≡ state.interfaces → HoldsPart new next []
-holds_none mid new state next running begins behind_is part interfaces = record {
-  running = begins.fault ∙ running;
-  part = begins.part;
-  interfaces = begins.interfaces ∙ rw (part, interfaces) (sym behind_is);
-  taken = begins.taken;
-  packet_octets = λ k below come. absurd (omega arith);
-  end_octets = λ k below come. absurd (omega arith);
-}
+holds_none mid new state next running begins behind_is part interfaces = search (arith)
 
 -- what comes after the part, by what the reading has there
 abbrev pub behind_here : ParserState → List ℕ → ℕ → Outcome → Reading
@@ -117,69 +102,12 @@ pub takes_outcome : (p q octets : List ℕ) (mid new : Capture) (answer : Progre
     slice_range (if held then mid.packet_octets.items
     else octets) (start + packet_offset mid.part) (start + front mid.part) ≡ packet →
     Completes o mid new answer start held → Takes answer p q new octets
-takes_outcome p q octets mid new answer start held state packet
-    (Continues part) is a b running count place slice c =
-    rw c.0 (record {
-      reads = record {
-        octets = c.1.octets ∙ place;
-        packets = c.2 ∙ count ∙ ap length (sym (append-nil (packets p)))
-            ∙ ap (λ (x : Reading). length x.packets) (sym is);
-        stands = rw is
-            (holds_none mid new state
-            (record { part = part; interfaces = interfaces_behind state.part state.interfaces })
-            running c.1 refl a b);
-      };
-      answers = (
-        ap (λ (x : Reading). x.packets) is
-            ∙ append-nil (packets p),
-        ap (λ (x : Reading). fault_of x.ending) is,
-      );
-    })
-takes_outcome p q octets mid new answer start held state packet
-    (EndsPacket head part) is a b running count place slice c =
-    let head_is : new.packet_range.head ≡ head = ap (λ (f : PacketRange). f.head) c.3 in
-    let held_is : new.packet_range.held ≡ held = ap (λ (f : PacketRange). f.held) c.3 in
-    let start_is : new.packet_range.start ≡ start + packet_offset mid.part =
-    ap (λ (f : PacketRange). f.start) c.3 in
-    let end_is : new.packet_range.end ≡ start + front mid.part =
-    ap (λ (f : PacketRange). f.end) c.3 in
-    let given : octets_in new octets ≡ packet =
-    rw (held_is, start_is, end_is, c.1.packet_octets) slice in
-    let last : List PacketRecord =
-    record { place = length (p ++ q); head = head; octets = packet } ∷ [] in
-    let more : length (packets p ++ last) ≡ new.packets =
-    omega (arith, c.2, count, length-append (packets p) last) in
-    rw c.0 (record {
-      reads = record {
-        octets = c.1.octets ∙ place;
-        packets = sym more ∙ ap (λ (x : Reading). length x.packets) (sym is);
-        stands = rw is
-            (holds_none mid new state
-            (record { part = part; interfaces = interfaces_behind state.part state.interfaces })
-            running c.1 refl a b);
-      };
-      answers = (
-        rw (given, head_is) (ap (λ (x : Reading). x.packets) is),
-        ap
-            (λ (x : Reading). fault_of x.ending) is,
-      );
-    })
-takes_outcome p q octets mid new answer start held state packet
-    (Fails kind) is a b running count place slice c =
-    rw c.0 (record {
-      reads = record {
-        octets = c.3 ∙ place;
-        packets = c.2 ∙ count ∙ ap length (sym (append-nil (packets p)))
-            ∙ ap (λ (x : Reading). length x.packets) (sym is);
-        stands = rw is (c.1 ∙ rw place refl);
-      };
-      answers = (
-        ap (λ (x : Reading). x.packets) is
-            ∙ append-nil (packets p),
-        ap (λ (x : Reading). fault_of x.ending) is ∙ rw place refl,
-        place,
-      );
-    })
+takes_outcome p q octets mid new answer start held state packet (Continues part) is a b running
+    count place slice c = search (arith, append-nil, holds_none)
+takes_outcome p q octets mid new answer start held state packet (EndsPacket head part) is a b
+    running count place slice c = search (arith, length-append, holds_none)
+takes_outcome p q octets mid new answer start held state packet (Fails kind) is a b running count
+    place slice c = search (arith, append-nil)
 
 whole_of : (p q octets end : List ℕ) (old mid new : Capture) (answer : Progress) (start : ℕ)
     (held : Bool) (state : ParserState) (at : ℕ)
@@ -225,10 +153,7 @@ slice_front octets start low high less =
 -- the last octets of a list of this length
 pub last_of : (q : List ℕ) (first last : ℕ) → length q ≡ first + last →
     take last (drop first q) ≡ drop (length q - last) q
-last_of q first last long =
-    let few : length (drop first q) ≤ last = omega (arith, length-drop first q) in
-    let at : length q - last ≡ first = omega arith in
-    take_all last (drop first q) few ∙ ap (λ n. drop n q) (sym at)
+last_of q first last long = search (arith, drop, length-drop, take_all)
 
 pub none_of : (had : List ℕ) → length had ≡ 0 → had ≡ []
 none_of [] none = refl
@@ -308,12 +233,6 @@ takes_rest p q octets end old mid new answer r running whole kept place room end
 pub answers_behind : (answer : Progress) (p a b octets : List ℕ) (c : Capture) →
     packets (p ++ a) ≡ packets p →
     Answers answer (p ++ a) b c octets → Answers answer p (a ++ b) c octets
-answers_behind progress.More p a b octets c none after =
-    let e : p ++ (a ++ b) ≡ (p ++ a) ++ b = sym (append_assoc p a b) in
-    (ap packets e ∙ after.0 ∙ none, ap fault e ∙ after.1)
-answers_behind progress.Packet p a b octets c none after =
-    let e : p ++ (a ++ b) ≡ (p ++ a) ++ b = sym (append_assoc p a b) in
-    (ap packets e ∙ rw (e, ← none) after.0, ap fault e ∙ after.1)
-answers_behind (progress.Fault f) p a b octets c none after =
-    let e : p ++ (a ++ b) ≡ (p ++ a) ++ b = sym (append_assoc p a b) in
-    (ap packets e ∙ after.0 ∙ none, ap fault e ∙ after.1, after.2 ∙ ap length (sym e))
+answers_behind progress.More p a b octets c none after = search (arith, append_assoc)
+answers_behind progress.Packet p a b octets c none after = search (arith, append_assoc)
+answers_behind (progress.Fault f) p a b octets c none after = search (arith, append_assoc)

@@ -10,7 +10,7 @@ use Rattle.giop_conversation.specs.declared.conversations.Conversations.{Convers
 use Rattle.giop_conversation.specs.Captured.{Setup}
 use Rattle.giop_conversation.specs.DumpTold.{Told}
 use Rattle.giop_conversation.specs.Follows.{Follows}
-use Rattle.giop_conversation.specs.Followed.{reader_faulted}
+use Rattle.giop_conversation.specs.Followed.{stream_reader}
 use Rattle.giop_run.specs.SourceLog.{SourceLog}
 use Rattle.giop_run.specs.declared.fault.RunFault.{RunFault}
 use Rattle.giop_run.specs.declared.fault.RunFault.TheVariants as runs
@@ -47,7 +47,7 @@ in_part : {O : Type 0} (begins : Setup → List ℕ → Type 0) (c : Conversatio
     (live links : List ℕ)
     (capture : Capture) (s : List ℕ) (before after : SourceLog) (put : Option (List ℕ))
     → put ≡ c.out.whole → Consumes before.left after.left s
-    → HandedOn (HasRead (Observed begins c made) Told reader_faulted connections live links
+    → HandedOn (HasRead (Observed begins c made) Told stream_reader connections live links
     (none_known asked.ports.items asked.pool asked.connections [])) capture [] s s []
     → ReadInPart begins asked before.left put
 in_part begins c made Told asked connections live links capture s before after put same given
@@ -65,7 +65,7 @@ pub stopped : {O : Type 0} (fault : RunFault) (begins : Setup → List ℕ → T
     (connections : Connections)
     (live links : List ℕ) (capture : Capture) (s : List ℕ) (before after : SourceLog)
     (log : OutLog) → log.written ≡ c.out.whole → (fault ≡ runs.Out → 0 < log.failures)
-    → Ran (Err fault) (HasRead (Observed begins c made) Told reader_faulted connections live links
+    → Ran (Err fault) (HasRead (Observed begins c made) Told stream_reader connections live links
     (none_known asked.ports.items asked.pool asked.connections [])) capture s before after
     → RunFailed begins asked before.left (faults.Run fault) (Some log)
 unfolding in_part

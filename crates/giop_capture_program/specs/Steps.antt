@@ -6,7 +6,7 @@ use Rattle.giop_print.specs.Output.{OutLog}
 use Rattle.giop_sig.specs.Table.{Table}
 use Rattle.tcp_connections.specs.Connections.{none_known}
 use Rattle.giop_conversation.specs.Captured.{Setup, setup}
-use Rattle.giop_conversation.specs.Followed.{reader_faulted}
+use Rattle.giop_conversation.specs.Followed.{stream_reader}
 use Rattle.giop_run.specs.declared.fault.RunFault.TheVariants as runs
 use Rattle.giop_run.specs.declared.fault.ProgramFault.{ProgramFault}
 use Rattle.giop_run.specs.declared.fault.ProgramFault.TheVariants as faults
@@ -60,11 +60,11 @@ pub record CaptureDumped (ending : Ending) (begins : Setup → List ℕ → Type
   pub ends : ending ≡ ending_of (final_fault read) faulty
   pub text : (S : Setup) (written : List ℕ) → begins S written
       → HasText S written
-      (capture_ended reader_faulted (none_known asked.ports.items asked.pool asked.connections [])
+      (capture_ended stream_reader (none_known asked.ports.items asked.pool asked.connections [])
       read).events
       (length (packets read)) (length read) faulty put
   pub streams : (S : Setup) (written : List ℕ) (known : begins S written) → HasStreams S written
-      (capture_ended reader_faulted (none_known asked.ports.items asked.pool asked.connections [])
+      (capture_ended stream_reader (none_known asked.ports.items asked.pool asked.connections [])
       read).events
       (length (packets read)) (length read) (text S written known)
 
@@ -77,7 +77,7 @@ pub record ReadInPart (begins : Setup → List ℕ → Type 0) (asked : Argument
   pub given : Consumes source left octets
   pub text : (S : Setup) (written : List ℕ) → begins S written
       → HasTextSoFar S written
-      (after_packets reader_faulted (none_known asked.ports.items asked.pool asked.connections [])
+      (after_packets stream_reader (none_known asked.ports.items asked.pool asked.connections [])
       (taken_of octets)).events
       put
 

@@ -4,7 +4,7 @@ ghost use Rattle.std.specs.Prelude.{ℕ, ◌≡◌, ◌≤◌, [], List};
 ghost use Rattle.tcp_connections.specs.Connections.{none_known};
 ghost use Rattle.giop_conversation.specs.Captured.{Setup, Dump, Leads, start};
 ghost use Rattle.giop_conversation.specs.StreamTexts.{no_history, history};
-ghost use Rattle.giop_conversation.specs.Followed.{reader_faulted};
+ghost use Rattle.giop_conversation.specs.Followed.{stream_reader};
 ghost use Rattle.giop_capture_run.specs.Arrivals.{capture_ended};
 ghost use Rattle.giop_capture_program.specs.Streams.{ShowsEachStream, EachHasRoom};
 
@@ -20,18 +20,18 @@ pub fn each_stream_of_a_capture_is_dumped()
         (octets : List ℕ) (d : Dump)
         → 1 ≤ most → most ≤ 65536
         → (leads : Leads S (start S written)
-        (capture_ended reader_faulted (none_known ports blocks most []) octets).events d)
+        (capture_ended stream_reader (none_known ports blocks most []) octets).events d)
         → ShowsEachStream S written (history S no_history (start S written)
-        (capture_ended reader_faulted (none_known ports blocks most []) octets).events d leads)
+        (capture_ended stream_reader (none_known ports blocks most []) octets).events d leads)
         d.text }
     // A dump of as many connections as may be known has a room for that of each stream.
     ensures rooms { (S : Setup) (written : List ℕ) (ports : List ℕ) (blocks most : ℕ)
         (octets : List ℕ) (d : Dump)
         → 1 ≤ most → most ≤ 65536 → S.connections ≡ most
         → (leads : Leads S (start S written)
-        (capture_ended reader_faulted (none_known ports blocks most []) octets).events d)
+        (capture_ended stream_reader (none_known ports blocks most []) octets).events d)
         → EachHasRoom S (history S no_history (start S written)
-        (capture_ended reader_faulted (none_known ports blocks most []) octets).events d leads) }
+        (capture_ended stream_reader (none_known ports blocks most []) octets).events d leads) }
 {
     each_stream_is_dumped();
     no_stream_of_a_capture_has_a_gap();

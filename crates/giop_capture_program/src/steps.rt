@@ -9,7 +9,7 @@ ghost use Rattle.giop_sig.specs.Table.{Table};
 ghost use Rattle.giop_conversation.specs.Captured.{Setup};
 ghost use Rattle.giop_conversation.specs.DumpTold.{Told};
 ghost use Rattle.giop_conversation.specs.Follows.{Follows};
-ghost use Rattle.giop_conversation.specs.Followed.{reader_faulted};
+ghost use Rattle.giop_conversation.specs.Followed.{stream_reader};
 ghost use Rattle.giop_run.specs.Files.{NoStream, stream_of};
 ghost use Rattle.giop_run.specs.Joint.{CataloguesOf};
 ghost use Rattle.giop_capture_run.specs.Notices.{seen};
@@ -159,7 +159,7 @@ fn reader<'c, O: Flush + Drop, N: Notices + Drop, B: Beginning>(
         × ((S : Setup) (written : List ℕ) → B.begins S written
         → Told S written events r.streams.listener.conversations)
         × (r.streams.listener.seen ≡ seen events)) (N.told r.notices)
-        reader_faulted r.connections r.streams.live.items r.unread.told.items
+        stream_reader r.connections r.streams.live.items r.unread.told.items
         (none_known asked.entry.ports.items asked.entry.pool asked.entry.connections []) []) }
 {
     let limits = Limits {

@@ -105,7 +105,7 @@ impl<'a, O: Flush + Drop, B: Beginning> Listener for Teller<'a, O, B> {
     ghost use Rattle.giop_conversation.specs.Captured.{Setup};
     ghost use Rattle.giop_capture_run.specs.Notices.{seen};
     ghost use Rattle.giop_conversation.specs.Follows.{Follows};
-    ghost use Rattle.giop_conversation.specs.Followed.{reader_faulted};
+    ghost use Rattle.giop_conversation.specs.Followed.{stream_reader};
     ghost use Rattle.giop_conversation.specs.DumpTold.{Told};
 
     // The streams are those of the events, and below stands their text.
@@ -116,7 +116,7 @@ impl<'a, O: Flush + Drop, B: Beginning> Listener for Teller<'a, O, B> {
 
     ghost failed = { λ t. 0 < t.conversations.out.failures };
 
-    ghost faulted = { reader_faulted };
+    ghost reader = { stream_reader };
 
     fn opens(&mut self, flow: u32, endpoints: Flow) -> Result<(), ListenerFault> {
         self.conversations.opens(flow, endpoints);
@@ -142,6 +142,13 @@ impl<'a, O: Flush + Drop, B: Beginning> Listener for Teller<'a, O, B> {
     fn delivers(&mut self, flow: u32, octets: &[u8]) -> Result<Option<u64>, ListenerFault> {
         match self.conversations.delivers(flow, octets) {
             Ok(fault) => Ok(fault),
+            Err(_) => Err(ListenerFault),
+        }
+    }
+
+    fn lacks(&mut self, flow: u32) -> Result<Option<u32>, ListenerFault> {
+        match self.conversations.lacks(flow) {
+            Ok(count) => Ok(count),
             Err(_) => Err(ListenerFault),
         }
     }

@@ -28,15 +28,15 @@ pub fn read_capture<S: Source, L: CaptureListener + Drop, N: Notices + Drop>(
 ) -> Result<Option<CaptureFault>, RunFault>
     requires start { Reads capture.old [] }
     requires reader { (w : State) × HasRead (L.observed reader.old.streams.listener)
-        (N.told reader.old.notices) L.faulted reader.old.connections
+        (N.told reader.old.notices) L.reader reader.old.connections
         reader.old.streams.live.items reader.old.unread.told.items w [] }
     ensures ran { (w : State) → HasRead (L.observed reader.old.streams.listener)
-        (N.told reader.old.notices) L.faulted reader.old.connections
+        (N.told reader.old.notices) L.reader reader.old.connections
         reader.old.streams.live.items reader.old.unread.told.items w []
         → (s : List ℕ) × CaptureRan result
-        (HasRead (L.observed reader.new.streams.listener) (N.told reader.new.notices) L.faulted
+        (HasRead (L.observed reader.new.streams.listener) (N.told reader.new.notices) L.reader
         reader.new.connections reader.new.streams.live.items reader.new.unread.told.items w)
-        (L.observed reader.new.streams.listener) (N.told reader.new.notices) L.faulted
+        (L.observed reader.new.streams.listener) (N.told reader.new.notices) L.reader
         reader.new.connections reader.new.streams.live.items capture.new w s
         (S.log source.old) (S.log source.new) }
     ensures cause { result ≡ Err RunFault.Out → L.failed reader.new.streams.listener }
@@ -70,20 +70,20 @@ pub fn dump_capture<S: Source, L: CaptureListener + Drop, N: Notices + Drop>(
 ) -> Result<Ending, RunFault>
     requires start { Reads capture.old [] }
     requires reader { (w : State) × HasRead (L.observed reader.old.streams.listener)
-        (N.told reader.old.notices) L.faulted reader.old.connections
+        (N.told reader.old.notices) L.reader reader.old.connections
         reader.old.streams.live.items reader.old.unread.told.items w [] }
     ensures dumped { (w : State) → HasRead (L.observed reader.old.streams.listener)
-        (N.told reader.old.notices) L.faulted reader.old.connections
+        (N.told reader.old.notices) L.reader reader.old.connections
         reader.old.streams.live.items reader.old.unread.told.items w []
-        → IfOk result (λ ending. Dumped ending L.observed L.finished L.faulty L.faulted
+        → IfOk result (λ ending. Dumped ending L.observed L.finished L.faulty L.reader
         (N.told reader.new.notices) capture.new w (S.log source.old) (S.log source.new)
         reader.new.streams.listener) }
     // Where a read failed or the reads were used up, packets came as always, and the capture has not ended.
     ensures stopped { (w : State) → HasRead (L.observed reader.old.streams.listener)
-        (N.told reader.old.notices) L.faulted reader.old.connections
+        (N.told reader.old.notices) L.reader reader.old.connections
         reader.old.streams.live.items reader.old.unread.told.items w []
         → IfErr result (λ fault. (s : List ℕ) × Ran (Err fault)
-        (HasRead (L.observed reader.new.streams.listener) (N.told reader.new.notices) L.faulted
+        (HasRead (L.observed reader.new.streams.listener) (N.told reader.new.notices) L.reader
         reader.new.connections reader.new.streams.live.items reader.new.unread.told.items w)
         capture.new s (S.log source.old) (S.log source.new)) }
     ensures flushed { OnOk result (L.flushed reader.new.streams.listener) }
@@ -149,7 +149,7 @@ fn end<L: CaptureListener + Drop, N: Notices + Drop>(
         → IsState (L.observed reader.old.streams.listener) reader.old.streams.live.items
         reader.old.connections w → IfOk result (λ fault. (fault ≡ final_fault p)
         × IsAt (L.observed reader.new.streams.listener) reader.new.streams.live.items
-        reader.new.connections (ended L.faulted (with_fault w (final_fault p)))) }
+        reader.new.connections (ended L.reader (with_fault w (final_fault p)))) }
     ensures notices { reader.new.notices ≡ reader.old.notices }
     ensures cause { OnErr result (L.failed reader.new.streams.listener) }
 {

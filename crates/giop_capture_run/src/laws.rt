@@ -11,17 +11,17 @@ ghost use Rattle.giop_capture_run.specs.Arrivals.{after_packets, segments_of, ca
 /// streams have closed only while they lived, and what was delivered of each stands one after another, as segments of the
 /// packets have it; and after a whole capture each stream that began has closed. It has no body, and is called for its contract.
 pub fn no_stream_of_a_capture_has_a_gap()
-    ensures packets { (faulted : Reader) (ports : List ℕ) (blocks most : ℕ) (packets : List Taken)
+    ensures packets { (reader : Reader) (ports : List ℕ) (blocks most : ℕ) (packets : List Taken)
         → 1 ≤ most → most ≤ 65536 → AreGapless (segments_of packets)
-        (after_packets faulted (none_known ports blocks most []) packets).events }
-    ensures ended { (faulted : Reader) (ports : List ℕ) (blocks most : ℕ) (octets : List ℕ)
+        (after_packets reader (none_known ports blocks most []) packets).events }
+    ensures ended { (reader : Reader) (ports : List ℕ) (blocks most : ℕ) (octets : List ℕ)
         → 1 ≤ most → most ≤ 65536 → AreGapless (segments_of (taken_of octets))
-        (capture_ended faulted (none_known ports blocks most []) octets).events }
-    ensures closed { (faulted : Reader) (ports : List ℕ) (blocks most : ℕ) (octets : List ℕ)
+        (capture_ended reader (none_known ports blocks most []) octets).events }
+    ensures closed { (reader : Reader) (ports : List ℕ) (blocks most : ℕ) (octets : List ℕ)
         → 1 ≤ most → most ≤ 65536 → AreWhole (segments_of (taken_of octets))
-        (capture_ended faulted (none_known ports blocks most []) octets).events }
+        (capture_ended reader (none_known ports blocks most []) octets).events }
     // Each event in a flow is in one of a connection that has a room.
-    ensures rooms { (faulted : Reader) (ports : List ℕ) (blocks most : ℕ) (octets : List ℕ)
+    ensures rooms { (reader : Reader) (ports : List ℕ) (blocks most : ℕ) (octets : List ℕ)
         → 1 ≤ most → most ≤ 65536 → HaveRooms most
-        (capture_ended faulted (none_known ports blocks most []) octets).events }
+        (capture_ended reader (none_known ports blocks most []) octets).events }
 {}

@@ -59,7 +59,7 @@ impl<L: CaptureListener + Drop, N: Notices + Drop> PacketReader<L, N> {
         ensures { (w : State) → IsState (L.observed streams.listener) streams.live.items connections
             w
             → w.segments ≡ 0 → N.told notices []
-            → HasRead (L.observed result.streams.listener) (N.told result.notices) L.faulted
+            → HasRead (L.observed result.streams.listener) (N.told result.notices) L.reader
             result.connections result.streams.live.items result.unread.told.items w [] }
     {
         PacketReader {
@@ -90,7 +90,7 @@ impl<L: CaptureListener + Drop, N: Notices + Drop> PacketReader<L, N> {
         ensures does { (w : State) → IsState (L.observed self.old.streams.listener)
             self.old.streams.live.items self.old.connections w
             → OnOk result (IsAt (L.observed self.new.streams.listener)
-            self.new.streams.live.items self.new.connections (ended L.faulted w)) }
+            self.new.streams.live.items self.new.connections (ended L.reader w)) }
         ensures notices { self.new.notices ≡ self.old.notices }
         ensures cause { OnErr result (L.failed self.new.streams.listener) }
     {
@@ -130,7 +130,7 @@ impl<L: CaptureListener + Drop, N: Notices + Drop> PacketListener for PacketRead
     ghost Start = { State };
 
     ghost taken = { λ r start packets. HasRead (L.observed r.streams.listener) (N.told r.notices)
-        L.faulted r.connections r.streams.live.items r.unread.told.items start packets };
+        L.reader r.connections r.streams.live.items r.unread.told.items start packets };
 
     ghost failed = { λ r. L.failed r.streams.listener };
 

@@ -22,7 +22,7 @@ pub fn packet_reader<L: CaptureListener + Drop, N: Notices + Drop>(
 ) -> Result<PacketReader<L, N>, AllocError>
     requires start { L.observed listener [] }
     requires told { N.told notices [] }
-    ensures { IfOk result (λ r. HasRead (L.observed r.streams.listener) (N.told r.notices) L.faulted
+    ensures { IfOk result (λ r. HasRead (L.observed r.streams.listener) (N.told r.notices) L.reader
         r.connections r.streams.live.items r.unread.told.items
         (none_known asked.entry.ports.items asked.entry.pool asked.entry.connections []) []) }
 {

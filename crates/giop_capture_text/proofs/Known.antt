@@ -4,7 +4,7 @@ use Rattle.std.proofs.Common.{◌≡◌, ℕ, Bool, List, [], ◌++◌, length, 
 use Rattle.std.specs.Io.KnownBytes.{Consumes, IsAtEnd, append_known}
 use Rattle.capture_file.specs.Reading.{packets}
 use Rattle.tcp_connections.specs.Connections.{none_known}
-use Rattle.giop_conversation.specs.Followed.{reader_faulted}
+use Rattle.giop_conversation.specs.Followed.{stream_reader}
 use Rattle.giop_capture_run.specs.Arrivals.{capture_ended}
 use Rattle.giop_capture_program.specs.Text.{HasText}
 use Rattle.giop_capture_text.specs.Dumps.{plain_setup}
@@ -49,7 +49,7 @@ held put items kept text known seen none =
 -- the text of a capture where streams begin at these ports
 abbrev pub TextAt : (ports read : List ℕ) (faulty : Bool) (put : Option (List ℕ)) → Type 0
 TextAt ports read faulty put =
-    HasText plain_setup [] (capture_ended reader_faulted (none_known ports 16384 1024 [])
+    HasText plain_setup [] (capture_ended stream_reader (none_known ports 16384 1024 [])
     read).events
     (length (packets read)) (length read) faulty put
 

@@ -5,7 +5,7 @@ use Rattle.capture_file.specs.Reading.{packets, fault, final_fault}
 use Rattle.giop_sig.specs.Builtin.{builtin_table}
 use Rattle.tcp_connections.specs.Connections.{none_known}
 use Rattle.giop_conversation.specs.Captured.{Setup, setup}
-use Rattle.giop_conversation.specs.Followed.{reader_faulted}
+use Rattle.giop_conversation.specs.Followed.{stream_reader}
 use Rattle.giop_capture_run.specs.declared.ending.Ending.{Ending}
 use Rattle.giop_capture_run.specs.Arrivals.{capture_ended}
 use Rattle.giop_capture_run.specs.CaptureRun.{ending_of}
@@ -27,5 +27,5 @@ pub record IsDumpOf (capture : List ℕ) (ending : Ending) (text : List ℕ) : T
   pub faulty : Bool
   pub ends : ending ≡ ending_of (final_fault read) faulty
   pub is : HasText plain_setup []
-      (capture_ended reader_faulted (none_known [] 16384 1024 []) read).events
+      (capture_ended stream_reader (none_known [] 16384 1024 []) read).events
       (length (packets read)) (length read) faulty (Some text)

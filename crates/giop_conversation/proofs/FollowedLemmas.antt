@@ -10,9 +10,9 @@ use Rattle.tcp_flow.specs.Flow.{Event, Opens, Begins, Delivers, Closes, OfCaptur
 use Rattle.tcp_flow.specs.declared.flow.Start.{Start}
 use Rattle.tcp_flow.specs.declared.flow.CloseCause.{CloseCause}
 use Rattle.tcp_segment.specs.declared.endpoint.Flow.{Flow}
-use Rattle.giop_conversation.specs.Followed.{octets_behind, octets_from, octets_of, fault_at, last_fault_at, reader_faulted, side_of, other, direction, HaveFollowed}
+use Rattle.giop_conversation.specs.Followed.{octets_behind, octets_from, octets_of, fault_at, last_fault_at, reader_faulted, reader_lacking, side_of, other, direction, HaveFollowed}
 use Rattle.giop_conversation.specs.Directions.{DirectionView, HasRead, fault_place}
-use Rattle.giop_stream.specs.Framing.{cut}
+use Rattle.giop_stream.specs.Framing.{cut, lacking}
 use Rattle.giop_conversation.specs.declared.conversation.Side.{Side}
 use Rattle.giop_conversation.specs.declared.conversation.Side.TheVariants.{Even, Odd}
 use Rattle.giop_conversation.specs.declared.conversation.Conversation.{Conversation}
@@ -226,6 +226,14 @@ at_fault : (rooms : List Conversation) (events : List Event) (flow : ℕ) (octet
     at ≡ fault_place (cut (p ++ octets)).stop) →
     at ≡ reader_faulted (events ++ Delivers flow octets ∷ [])
 at_fault rooms events flow octets old at follows here tells = search (arith, fault_of_delivers)
+
+pub lacking_told : (rooms : List Conversation) (events : List Event) (flow : ℕ)
+    (old : Conversation) (count : Option ℕ) → HaveFollowed rooms events →
+    slice_get rooms (flow / 2) ≡ Some old →
+    ((p : List ℕ) → HasRead (direction (side_of flow) old).engine p → count ≡ lacking (cut p)) →
+    count ≡ reader_lacking events flow
+lacking_told rooms events flow old count follows here tells =
+    tells (octets_of flow events) (rw here at (follows flow))
 
 pub octets_told : {E : Type 0} (r : Result (Option ℕ) E) (rooms : List Conversation)
     (events : List Event) (flow : ℕ) (octets : List ℕ) (old new : Conversation) →

@@ -3,8 +3,8 @@
 -- even id and of the other.
 use Rattle.std.specs.Prelude.{ℕ, ◌/◌, ◌%◌, ◌==◌, List, [], ◌∷◌, ◌++◌, Option, None, IfSome, slice_get, if◌then◌else◌}
 use Rattle.std.specs.Option.{option_map}
-use Rattle.tcp_flow.specs.Flow.{Event, Begins, Delivers}
-use Rattle.giop_stream.specs.Framing.{cut}
+use Rattle.tcp_flow.specs.Flow.{Event, Begins, Delivers, Reader}
+use Rattle.giop_stream.specs.Framing.{cut, lacking}
 use Rattle.giop_conversation.specs.Directions.{DirectionView, HasRead, fault_place}
 use Rattle.giop_conversation.specs.declared.conversation.Side.{Side}
 use Rattle.giop_conversation.specs.declared.conversation.Side.TheVariants.{Even, Odd}
@@ -43,6 +43,15 @@ last_fault_at events (e ∷ e' ∷ es) = last_fault_at events (e' ∷ es)
 -- by all that has happened
 abbrev pub reader_faulted : List Event → Option ℕ
 reader_faulted events = last_fault_at events events
+
+-- how many octets the message that a flow's last stream is in lacks until its end, by all that has
+-- happened, if its header is complete, or 0 if the stream is in none
+abbrev pub reader_lacking : List Event → ℕ → Option ℕ
+reader_lacking events flow = lacking (cut (octets_of flow events))
+
+-- the readers of the streams
+abbrev pub stream_reader : Reader
+stream_reader = record { faulted = reader_faulted; lacking = reader_lacking }
 
 -- ---- the connections
 

@@ -2,7 +2,7 @@
 
 ghost use Rattle.std.specs.Prelude.{◌≡◌, ◌≤◌, ◌++◌, ℕ, List, [], IfOk, OnOk};
 ghost use Rattle.giop_stream.specs.Rules.{most_open};
-ghost use Rattle.giop_stream.specs.Framing.{cut};
+ghost use Rattle.giop_stream.specs.Framing.{cut, lacking};
 ghost use Rattle.giop_stream.specs.EngineHolds.{AreOf};
 ghost use Rattle.giop_conversation.specs.Failing.{FailsByPut};
 ghost use Rattle.giop_conversation.specs.Directions.{HasRead, fault_place};
@@ -182,6 +182,18 @@ impl<'a> Conversation<'a> {
         match side {
             Side::Even => self.even.read(&mut self.exchange, octets, arrival, out),
             Side::Odd => self.odd.read(&mut self.exchange, octets, arrival, out),
+        }
+    }
+
+    /// How many octets the message that a flow's stream is in lacks until its end, if its header is complete; 0 between two
+    /// messages.
+    pub fn lacking(&self, side: Side) -> Option<u32>
+        ensures { (p : List ℕ) → HasRead (direction side self.now).engine p →
+            result ≡ lacking (cut p) }
+    {
+        match side {
+            Side::Even => self.even.lacking(),
+            Side::Odd => self.odd.lacking(),
         }
     }
 

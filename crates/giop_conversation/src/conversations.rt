@@ -12,7 +12,7 @@ ghost use Rattle.giop_conversation.specs.Follows.{Follows};
 ghost use Rattle.giop_conversation.specs.Captured.{Setup, setup, cuts, sum_within as spec_sum_within};
 ghost use Rattle.giop_conversation.specs.DumpHeld.{HasToldFront, HasFinished, HasFinishedFront};
 ghost use Rattle.giop_conversation.specs.DumpTold.{Told};
-ghost use Rattle.giop_conversation.specs.Followed.{reader_faulted};
+ghost use Rattle.giop_conversation.specs.Followed.{reader_faulted, reader_lacking};
 
 use crate::conversation::{Conversation, side_of};
 use crate::limits::{Limits, NoMemory};
@@ -194,6 +194,26 @@ impl<'a, O: Out + Drop> Conversations<'a, O> {
         }
         match self.rooms.get_mut(flow as usize / 2) {
             Some(room) => room.read(side_of(flow), octets, self.arrival, &mut self.out),
+            // Nothing is known of its stream.
+            None => Err(self.out.refuse()),
+        }
+    }
+
+    /// How many octets the message that a flow's stream is in lacks until its end, if its header is complete; 0 between two
+    /// messages.
+    pub fn lacks(&mut self, flow: u32) -> Result<Option<u32>, OutFault>
+        ensures value { (events : List Event) → Follows self.old events →
+            IfOk result (λ count. count ≡ reader_lacking events flow) }
+        ensures kept { OnOk result (self.new ≡ self.old) }
+        ensures fails { FailsOnce result self.new.out }
+        // Once a put has failed nothing is written.
+        ensures still { 0 < self.old.out.failures → self.new.out ≡ self.old.out }
+    {
+        if self.out.has_failed() {
+            return Err(OutFault);
+        }
+        match self.rooms.get(flow as usize / 2) {
+            Some(room) => Ok(room.lacking(side_of(flow))),
             // Nothing is known of its stream.
             None => Err(self.out.refuse()),
         }

@@ -8,7 +8,7 @@ ghost use Rattle.giop_message.specs.Signatures.{Answers};
 ghost use Rattle.giop_message.specs.HeaderEnds.{after_ends};
 ghost use Rattle.giop_message.specs.MessageState.{AreKnown};
 ghost use Rattle.giop_stream.specs.Rules.{most_open};
-ghost use Rattle.giop_stream.specs.Framing.{cut, fault_of};
+ghost use Rattle.giop_stream.specs.Framing.{cut, fault_of, lacking};
 ghost use Rattle.giop_stream.specs.HeaderEndsOfStream.{header_ends_from};
 ghost use Rattle.giop_stream.specs.Stream.{closing, final};
 ghost use Rattle.giop_stream.specs.EngineHolds.{AreOf, HoldsBy, added, rules_with, status_of};
@@ -285,6 +285,13 @@ impl<'a> Direction<'a> {
             Status::Running => None,
             Status::Stopped(_) => Some(self.engine.totals().octets),
         }
+    }
+
+    /// How many octets the message that its stream is in lacks until its end, if its header is complete; 0 between two messages.
+    pub fn lacking(&self) -> Option<u32>
+        ensures { (p : List ℕ) → HasRead self.now.engine p → result ≡ lacking (cut p) }
+    {
+        self.engine.lacking()
     }
 
     /// Its stream lives no more.

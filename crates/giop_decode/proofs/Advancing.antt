@@ -20,7 +20,7 @@ use Rattle.giop_decode.specs.declared.leaf.Leaf.{Leaf as Innermost}
 use Rattle.giop_decode.specs.declared.leaf.Leaf.TheVariants as innermost
 use Rattle.giop_decode.specs.declared.frame.Frame.{Frame}
 use Rattle.giop_decode.specs.Fits.{FitsIn, OpenFrom, Sound, leaf_ty}
-use Rattle.giop_decode.specs.Transitions.{open_parts, has_ended, is_inside, leaf_of, leaf_type, after_transition, AreKnown, HaveOctetsLeft, Link, IsClean, TransitionFits}
+use Rattle.giop_decode.specs.Transitions.{open_parts, has_ended, is_inside, leaf_of, leaf_type, after_transition, tree_in, AreKnown, HaveOctetsLeft, Link, IsClean, TransitionFits}
 use Rattle.giop_decode.specs.NameBuffer.{FitsName, string_offset}
 use Rattle.giop_decode.specs.Noted.{is_header_root, names_operation}
 use Rattle.giop_decode.specs.DecoderState.{Fits, GoesOn, CanStandAt, read_by_fields}
@@ -34,17 +34,17 @@ use Rattle.giop_decode.specs.Transitions.{gone_to}
 use Rattle.giop_decode.specs.DecoderSteps.{stopped_with}
 use Rattle.giop_sig.specs.Fits.{IsFit}
 use Rattle.giop_sig.specs.Table.{Table}
-use Rattle.giop_sig.specs.Trees.{tree}
 
-leaf_ty-leaf_of : (C : Table) (leaf : Innermost) (carry piece : List ℕ) →
-    leaf_ty (leaf_of C leaf carry piece) ≡ tree C (leaf_type leaf)
-leaf_ty-leaf_of C (innermost.Number of) carry piece = refl
-leaf_ty-leaf_of C _ carry piece = refl
+leaf_ty-leaf_of : (C : Table) (frames : List Frame) (leaf : Innermost) (carry piece : List ℕ) →
+    leaf_ty (leaf_of C frames leaf carry piece) ≡ tree_in C frames (leaf_type leaf)
+leaf_ty-leaf_of C frames (innermost.Number of) carry piece = refl
+leaf_ty-leaf_of C frames _ carry piece = refl
 
 pub record Stands (C : Table) (d : Decoder) (leaf : Innermost) : Type 0 where
   pub are_open : (at : ℕ) × OpenFrom 24 (open_parts C at d.outer.items)
-  pub fits : FitsIn (tree C (leaf_type leaf)) [] (leaf_of C leaf d.carry d.piece.items)
-  pub fit : IsFit (24 - length d.outer.items) (tree C (leaf_type leaf))
+  pub fits : FitsIn (tree_in C d.outer.items (leaf_type leaf)) []
+      (leaf_of C d.outer.items leaf d.carry d.piece.items)
+  pub fit : IsFit (24 - length d.outer.items) (tree_in C d.outer.items (leaf_type leaf))
   pub room : length d.outer.items < 24
 
 pub stands : (C : Table) (d : Decoder) (f : Fits C d) → Stands C d f.leaf
@@ -64,7 +64,7 @@ going_by : (C : Table) (d : Decoder) (named ended : Bool) (leaf : Option Innermo
     Comes C d p at r
 going_by C d named ended None lines at p r n k is e h = rw h (lines, (rw is e, is))
 going_by C d named true (Some leaf) lines at p r n k is e h =
-    rw h (lines, (cut_off (leaf_of C leaf d.carry d.piece.items), rw (← k) at e))
+    rw h (lines, (cut_off (leaf_of C d.outer.items leaf d.carry d.piece.items), rw (← k) at e))
 going_by C d true false (Some leaf) lines at p r n k is e h =
     rw h (lines, (rw is (rw (← k) at e), (leaf, is), sym n))
 going_by C d false false (Some leaf) lines at p r n k is e h =
@@ -111,7 +111,8 @@ unended named ended _ leaf p h g = search (arith, going_unended)
 
 fits_in : (T : Ty) (end at : ℕ) (C : Table) (d : Decoder) (lines : List Line) (leaf : Innermost)
     (r : Read) → Sound T end r → r ≡ read_by_fields C d lines at → d.leaf ≡ Some leaf →
-    FitsIn T (open_parts C at d.outer.items) (leaf_of C leaf d.carry d.piece.items)
+    FitsIn T (open_parts C at d.outer.items)
+    (leaf_of C d.outer.items leaf d.carry d.piece.items)
 fits_in T end at C d lines leaf r sound is goes_on = search (arith)
 
 -- What a step leaves of a decoder that fits, fits as well.
@@ -122,8 +123,8 @@ pub step_fits : (C : Table) (d new : Decoder) (f : Fits C d) (octet : ℕ)
     AreKnown C new.outer.items → leaf_type g.leaf < length C.types →
     IsClean g.leaf new.carry new.piece.items →
     (is_header_root new.head.root ≡ false → new.notes.request_id ≡ None) →
-    FitsName new.head.root (string_offset (tree C (leaf_type g.leaf)) g.leaf) new.notes.buffer
-    new.notes.name.items → Fits C new
+    FitsName new.head.root (string_offset (tree_in C new.outer.items (leaf_type g.leaf)) g.leaf)
+    new.notes.buffer new.notes.name.items → Fits C new
 step_fits C d new f octet g here ahead inside link known_outer known clean id_in_header_only name =
     search (arith, whole_step_keeps, surrounds, stands, fits_in)
 
@@ -173,7 +174,7 @@ lines_turned_at C coding path frames T transitions.Ended carry piece lines at k 
     (around_mute at coding path ps (Done [] at []) (refl, refl, refl)) in
     ap lines_of (around_done coding path ps lines at
     ∙ ap (λ qs. with_front lines (around coding path qs (Done [] at [])))
-    (heard_open C at lines frames))
+    (heard_open C 24 at lines frames))
     ∙ (lines_front lines inner ∙ (ap (λ ls. lines ++ ls) none ∙ append-nil lines))
 
 -- where octets of no type are none of its ends, a whole is what it was
@@ -190,7 +191,8 @@ rooted_stopped : (C : Table) (frames : List Frame) (carry piece : List ℕ) (lea
     ≡ stopped_with C frames carry piece leaf lines at
 rooted_stopped C frames carry piece None lines at = refl
 rooted_stopped C frames carry piece (Some leaf) lines at =
-    rooted_to (has_ended frames) lines at (open_parts C at frames) (leaf_of C leaf carry piece)
+    rooted_to (has_ended frames) lines at (open_parts C at frames) (leaf_of C frames leaf carry
+    piece)
 
 rooted_fault : (lines : List Line) (at : ℕ) (kind : Kind) (T : Ty) → IsRule kind →
     rooted none_left (Fault lines at kind T) ≡ Fault lines at kind T

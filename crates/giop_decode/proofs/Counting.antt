@@ -46,6 +46,11 @@ pub ticked_last : (n : ℕ) (frames : List Frame) →
 ticked_last n [] = refl
 ticked_last n (f ∷ frames) = rw (after_one n f, ticked_last n frames) refl
 
+pub length_ticked_by : (n : ℕ) (frames : List Frame) →
+    length (ticked_by n frames) ≡ length frames
+length_ticked_by n [] = refl
+length_ticked_by n (f ∷ frames) = ap suc (length_ticked_by n frames)
+
 fewer_at : (m n : ℕ) (inside : Option Order) (i count : ℕ) → m ≤ n →
     IfSome inside (λ order. ticked_by_at n inside i < count) →
     IfSome inside (λ order. ticked_by_at m inside i < count)

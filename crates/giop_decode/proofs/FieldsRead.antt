@@ -1,37 +1,28 @@
 -- The path of the innermost part, spelled from its end, is that of the decoder's frames.
-use Rattle.std.proofs.Common.{◌≡◌, ℕ, true, false, Bool, Option, Some, None, ◌+◌, ◌-◌, ◌<◌, ◌≤◌, List, [], ◌∷◌, ◌++◌, length, get_or, drop, refl, ap, ◌∙◌, sym, append_assoc, append-nil, length-append, codes, decimal, arith}
+use Rattle.std.proofs.Common.{◌≡◌, ℕ, pred, true, false, Bool, Option, Some, None, ◌+◌, ◌-◌, ◌<◌, ◌≤◌, List, [], ◌∷◌, ◌++◌, length, get_or, drop, refl, ap, ◌∙◌, sym, append_assoc, append-nil, length-append, codes, decimal, arith}
 use Rattle.std.proofs.lemmas.Bool.{false≢true}
 use Rattle.std.proofs.lemmas.List.{drop_more}
-use Rattle.giop_cdr.specs.declared.order.Order.{Order}
-use Rattle.giop_decode.specs.Segments.{end_segments, end_text, frames_text}
+use Rattle.giop_decode.specs.Segments.{end_segments, end_text, frame_text, frames_text}
 use Rattle.giop_decode.specs.ReadResult.{PathSegment}
 use Rattle.giop_decode.specs.Spelling.{segment_text, segments_text, path_text}
 use Rattle.giop_decode.specs.ReadingSteps.{segment_in, path_in}
-use Rattle.giop_decode.specs.Transitions.{open_part_in, open_part, open_parts}
+use Rattle.giop_decode.specs.Transitions.{open_part, open_parts, parts_in_room, switch_segment, tree_in}
 use Rattle.giop_decode.specs.declared.frame.Frame.{Frame}
-use Rattle.giop_decode.proofs.Segments.{segments_text-append}
+use Rattle.giop_decode.proofs.Segments.{segment_anywhere, segments_text-append, switch_in_room}
 use Rattle.giop_print.specs.declared.line.Line.{Line}
 use Rattle.giop_print.specs.declared.path.Root.{Root}
 use Rattle.giop_print.specs.Line.{line_text, line_room, headed, Spells}
 use Rattle.giop_print.specs.Paths.{root_word}
 use Rattle.giop_sig.specs.Table.{Table}
-use Rattle.giop_sig.specs.Trees.{tree}
-use Rattle.giop_sig.specs.Types.{Ty}
 use Rattle.giop_sig.specs.declared.types.TypeId.{TypeId}
 
--- the segment of a part doesn't depend on the offset that its frame is at
-segment_anywhere : (here : ℕ) (inside : Option Order) (T : Ty) (i count : ℕ) →
-    segment_in (open_part_in here inside T i count) ≡ segment_in (open_part_in 0 inside T i count)
-segment_anywhere here None T i count = refl
-segment_anywhere here (Some order) T i count = refl
-
-path_anywhere : (C : Table) (here : ℕ) (path : List PathSegment) (outer : List Frame) →
-    path_in path (open_parts C 0 outer) ≡ path_in path (open_parts C here outer)
-path_anywhere C here path [] = refl
-path_anywhere C here path (f ∷ outer) =
-    path_anywhere C here (path ++ segment_in (open_part C 0 f) ∷ []) outer
-    ∙ ap (λ seg. path_in (path ++ seg ∷ []) (open_parts C here outer)) (sym
-    (segment_anywhere here f.inside (tree C f.of.0) f.index f.count))
+path_anywhere : (C : Table) (room here : ℕ) (path : List PathSegment) (outer : List Frame) →
+    path_in path (parts_in_room C room 0 outer) ≡ path_in path (parts_in_room C room here outer)
+path_anywhere C room here path [] = refl
+path_anywhere C room here path (f ∷ outer) =
+    path_anywhere C (pred room) here (path ++ segment_in (open_part C room 0 f) ∷ []) outer
+    ∙ ap (λ seg. path_in (path ++ seg ∷ []) (parts_in_room C (pred room) here outer))
+    (segment_anywhere C room room 0 here f)
 
 -- the path of the innermost part, and of its discriminator
 pub stands_at : (C : Table) (here : ℕ) (root : Root) (outer : List Frame) →
@@ -45,23 +36,30 @@ pub switch_at : (C : Table) (here : ℕ) (root : Root) (outer : List Frame) (seg
 switch_at C here root outer seg = search (arith, path_anywhere)
 
 -- its text
-frames_spelled : (C : Table) (path : List PathSegment) (outer : List Frame) →
-    segments_text (path_in path (open_parts C 0 outer)) ≡ segments_text path ++ frames_text C outer
-frames_spelled C path [] = search (arith, append-nil)
-frames_spelled C path (f ∷ outer) =
-    let seg = segment_in (open_part C 0 f) in
-    frames_spelled C (path ++ seg ∷ []) outer
+frames_spelled : (C : Table) (room : ℕ) (path : List PathSegment) (outer : List Frame) →
+    segments_text (path_in path (parts_in_room C room 0 outer))
+    ≡ segments_text path ++ frames_text C outer
+frames_spelled C room path [] = search (arith, append-nil)
+frames_spelled C room path (f ∷ outer) =
+    let seg = segment_in (open_part C room 0 f) in
+    frames_spelled C (pred room) (path ++ seg ∷ []) outer
     ∙ (ap (λ text. text ++ frames_text C outer) (segments_text-append path seg)
-    ∙ append_assoc (segments_text path) (segment_text seg) (frames_text C outer))
+    ∙ append_assoc (segments_text path) (segment_text seg) (frames_text C outer)
+    ∙ ap (λ s. segments_text path ++ (segment_text s ++ frames_text C outer))
+    (segment_anywhere C room 24 0 0 f))
 
-ends_spelled : (C : Table) (path : List PathSegment) (switch : Option TypeId) →
-    segments_text (path ++ end_segments C switch) ≡ segments_text path ++ end_text C switch
-ends_spelled C path None = search (arith, append-nil)
-ends_spelled C path (Some of) = search (arith, segments_text-append)
+ends_spelled : (C : Table) (path : List PathSegment) (outer : List Frame)
+    (switch : Option TypeId) → segments_text (path ++ end_segments C outer switch)
+    ≡ segments_text path ++ end_text C switch
+ends_spelled C path outer None = search (arith, append-nil)
+ends_spelled C path outer (Some of) =
+    segments_text-append path (switch_segment (tree_in C outer of.0))
+    ∙ ap (λ s. segments_text path ++ segment_text s)
+    (switch_in_room C (24 - length outer) 24 of.0)
 
 pub here_spelled : (C : Table) (root : Root) (outer : List Frame) (switch : Option TypeId) →
     root_word root ++ (frames_text C outer ++ end_text C switch)
-    ≡ path_text root (path_in [] (open_parts C 0 outer) ++ end_segments C switch)
+    ≡ path_text root (path_in [] (open_parts C 0 outer) ++ end_segments C outer switch)
 unfolding path_text
 here_spelled C root outer switch = search (arith, ends_spelled, frames_spelled)
 
@@ -98,7 +96,7 @@ pub spells_here : (message : ℕ) (C : Table) (root : Root) (outer : List Frame)
     w ≡ true → line_text d ≡ headed message (root_word root) [] ++ line_text c →
     line_room d + length (headed message (root_word root) []) ≡ line_room c →
     Spells true a d (headed message
-    (path_text root (path_in [] (open_parts C 0 outer) ++ end_segments C switch)) [])
+    (path_text root (path_in [] (open_parts C 0 outer) ++ end_segments C outer switch)) [])
 spells_here message C root outer switch w a b c d be br s whole de dr =
     let head = headed message (root_word root) [] in
     let frames = frames_text C outer in
@@ -124,7 +122,7 @@ spells_here message C root outer switch w a b c d be br s whole de dr =
           ∙ ap (λ t. codes "m" ++ (decimal message ++ (codes " " ++ t)))
           (here_spelled C root outer switch
           ∙ sym (append-nil (path_text root (path_in [] (open_parts C 0 outer)
-          ++ end_segments C switch))));
+          ++ end_segments C outer switch))));
     }
 
 -- the segments of frames, the innermost first
@@ -134,15 +132,14 @@ from_end xs i d p h = search (arith, drop_more)
 
 pub frames_more : (C : Table) (outer : List Frame) (i : ℕ) (d : Frame) → 0 < i → i ≤ length outer →
     frames_text C (drop (i - 1) outer)
-    ≡ segment_text (segment_in (open_part C 0 (get_or outer (i - 1) d)))
-    ++ frames_text C (drop i outer)
+    ≡ frame_text C (get_or outer (i - 1) d) ++ frames_text C (drop i outer)
 frames_more C outer i d p h = search (arith, from_end)
 
 pub text_more : (C : Table) (outer : List Frame) (i : ℕ) (d : Frame) (a b : List ℕ)
     (text : List ℕ) → 0 < i → i ≤ length outer → a ≡ frames_text C (drop i outer) ++ text →
-    b ≡ segment_text (segment_in (open_part C 0 (get_or outer (i - 1) d))) ++ a →
+    b ≡ frame_text C (get_or outer (i - 1) d) ++ a →
     b ≡ frames_text C (drop (i - 1) outer) ++ text
 text_more C outer i d a b text p h e n =
-    let seg = segment_text (segment_in (open_part C 0 (get_or outer (i - 1) d))) in
+    let seg = frame_text C (get_or outer (i - 1) d) in
     rw (frames_more C outer i d p h) (n ∙ (ap (λ t. seg ++ t) e
     ∙ sym (append_assoc seg (frames_text C (drop i outer)) text)))

@@ -14,16 +14,16 @@ use Rattle.giop_decode.specs.Runs.{added_lines_of_run, AllGathered}
 use Rattle.giop_decode.specs.Pieces.{tail}
 use Rattle.giop_decode.specs.ReadResult.{plain, lines_of}
 use Rattle.giop_decode.specs.ReadingSteps.{after, coding_in, leading_width, AreHeld}
-use Rattle.giop_decode.specs.Transitions.{coding_by, open_parts, ticked, ticked_by, HaveOctetsLeft, IsClean}
+use Rattle.giop_decode.specs.Transitions.{coding_by, open_parts, tree_in, ticked, ticked_by, HaveOctetsLeft, IsClean}
 use Rattle.giop_decode.proofs.Advancing.{same_some}
 use Rattle.giop_decode.proofs.Counting.{ahead_first, coding_ticked, ticked_more, ticked_none}
 use Rattle.giop_decode.proofs.PieceLaws.{content_held}
 use Rattle.giop_decode.proofs.Runs.{dues_both, dues_none, takes_one, takes_both}
-use Rattle.giop_decode.proofs.Surrounding.{coded_in}
+use Rattle.giop_decode.proofs.Surrounding.{coded_in, tree_ticked}
 use Rattle.giop_decode.proofs.Taking.{takes_to, due_is}
 use Rattle.giop_decode.proofs.PartialBlocks.{Holds, step_held, held_comes, held_here, held_fits, held_keeps_noted}
 use Rattle.giop_sig.specs.Table.{Table}
-use Rattle.giop_sig.specs.Trees.{tree}
+use Rattle.giop_sig.specs.Types.{Ty}
 
 -- a decoder that is so many octets further on in the same innermost part, in these frames, and may
 -- hold other octets
@@ -122,16 +122,18 @@ others_on d new carry piece count on = search (arith, ticked_more)
 
 -- At most so many octets of a piece are held while it is incomplete: of a full one, or of a last
 -- one with what ends it.
-module _ (C : Table) (of : TypeId) (total offset most : ℕ) (full : 32 < total - offset → most < 32)
-    (last : total - offset ≤ 32 → most < total - offset + tail (tree C of.0)) where
-  pub waits_gathered : (d new : Decoder) (octets : List ℕ) → IsCountedBy d new (length octets) →
+module _ (C : Table) (of : TypeId) (total offset most : ℕ) (T : Ty)
+    (full : 32 < total - offset → most < 32)
+    (last : total - offset ≤ 32 → most < total - offset + tail T) where
+  pub waits_gathered : (d new : Decoder) (octets : List ℕ) →
+      tree_in C d.outer.items of.0 ≡ T → IsCountedBy d new (length octets) →
       new.carry ≡ d.carry → new.piece.items ≡ d.piece.items ++ octets → Fits C d →
       d.leaf ≡ Some (innermost.Content of total offset) →
       length d.piece.items + length octets ≤ most →
       Fits C new × AllGathered C d new octets
-  waits_gathered d new [] on carry piece f e room =
+  waits_gathered d new [] same on carry piece f e room =
       none_counted C d new on carry (piece ∙ append-nil d.piece.items) f
-  waits_gathered d new (b ∷ bs) on carry piece f e room =
+  waits_gathered d new (b ∷ bs) same on carry piece f e room =
       let leaf = innermost.Content of total offset in
       let held = d.piece.items ++ b ∷ [] in
       let l = length-append d.piece.items (b ∷ []) in
@@ -141,10 +143,12 @@ module _ (C : Table) (of : TypeId) (total offset most : ℕ) (full : 32 < total 
       subst (λ x. IsClean x d.carry d.piece.items) it f.clean in
       let one = one_gathered C d mid leaf b (ahead_first (length bs) d.outer.items on.1)
       (next_on d d.carry held) f e clean
-      (λ here h path. content_held (tree C of.0) path total offset here d.piece.items b
+      (λ here h path. content_held (tree_in C d.outer.items of.0) path total offset here
+      d.piece.items b
       (λ large. omega (arith, full large, room))
-      (λ small. omega (arith, last small, room))) in
-      let others = waits_gathered mid new bs (others_on d new d.carry held (length bs) on) carry
+      (λ small. omega (arith, last small, room, ap tail same))) in
+      let others = waits_gathered mid new bs (tree_ticked C d.outer.items of.0 ∙ same) (others_on d
+      new d.carry held (length bs) on) carry
       (piece ∙ sym (append_assoc d.piece.items (b ∷ []) bs)) one.0 e (omega (arith, l, room)) in
       (others.0, then_gathered C d new leaf b mid bs one.1 others.1)
 
@@ -153,8 +157,8 @@ module _ (C : Table) (of : TypeId) (total offset most : ℕ) (full : 32 < total 
 pub number_counted : (C : Table) (of : TypeId) (d new : Decoder) (octets : List ℕ) →
     IsCountedBy d new (length octets) → new.piece.items ≡ d.piece.items → Fits C d →
     d.leaf ≡ Some (innermost.Number of) →
-    AreHeld (leading_width (tree C of.0)) (coding_by d.order d.at d.outer.items).1 d.carry octets
-    new.carry → Fits C new × AllGathered C d new octets
+    AreHeld (leading_width (tree_in C d.outer.items of.0)) (coding_by d.order d.at d.outer.items).1
+    d.carry octets new.carry → Fits C new × AllGathered C d new octets
 number_counted C of d new [] on piece f e held = none_counted C d new on held piece f
 number_counted C of d new (b ∷ bs) on piece f e held =
     let leaf = innermost.Number of in
@@ -165,13 +169,15 @@ number_counted C of d new (b ∷ bs) on piece f e held =
     let one = one_gathered C d mid leaf b (ahead_first (length bs) d.outer.items on.1)
     (next_on d held.0 d.piece.items) f e clean (λ here h path.
     let c = coding_in (plain d.order) (open_parts C here d.outer.items) in
-    let k = coded_in C here (plain d.order) d.order d.at d.outer.items h.1
+    let k = coded_in C 24 here (plain d.order) d.order d.at d.outer.items h.1
     (record { order = refl; at = omega (arith, h.0) }) in
-    ap (after_leading_number (tree C of.0)
-    (λ xs at rest. after c path (tree C of.0) (num c.order xs) at rest))
+    let T = tree_in C d.outer.items of.0 in
+    ap (after_leading_number T (λ xs at rest. after c path T (num c.order xs) at rest))
     (held.1 c.origin here k.at)) in
-    let rest = subst (λ (c : Order × ℕ). AreHeld (leading_width (tree C of.0)) c.1 held.0 bs
-    new.carry) (sym (coding_ticked d.order d.at d.outer.items)) held.2 in
+    let rest = subst (λ (c : Order × ℕ). AreHeld (leading_width (tree_in C (ticked d.outer.items)
+    of.0)) c.1 held.0 bs new.carry) (sym (coding_ticked d.order d.at d.outer.items))
+    (subst (λ T. AreHeld (leading_width T) (((coding_by d.order d.at d.outer.items).1 + 1) % 8)
+    held.0 bs new.carry) (sym (tree_ticked C d.outer.items of.0)) held.2) in
     let others = number_counted C of mid new bs
     (others_on d new held.0 d.piece.items (length bs) on) piece one.0 e rest in
     (others.0, then_gathered C d new leaf b mid bs one.1 others.1)

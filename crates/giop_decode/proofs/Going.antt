@@ -1,21 +1,21 @@
 -- What comes next after a part that has ended: the next of several parts, or the rest of an
 -- encapsulation.
-use Rattle.std.proofs.Common.{◌≡◌, ℕ, zero, suc, ◌+◌, ◌-◌, ◌<◌, ◌≤◌, List, [], ◌∷◌, ◌++◌, length, Some, None, refl, ap, subst, arith}
+use Rattle.std.proofs.Common.{◌≡◌, ℕ, zero, suc, pred, ◌+◌, ◌-◌, ◌<◌, ◌≤◌, List, [], ◌∷◌, ◌++◌, length, Some, None, refl, ap, subst, ◌∙◌, arith}
 use Rattle.std.specs.List.{AllByRecursion}
 use Rattle.giop_decode.specs.ReadResult.{Coding, PathSegment, OpenPart, Part, Member, Done, Short, coded, Inside, Content}
 use Rattle.giop_decode.specs.ReadingSteps.{around}
 use Rattle.giop_decode.specs.Fits.{HasParts, HasCase, IsOpen, OpenFrom, IsEncapsulation}
 use Rattle.giop_decode.specs.Begins.{start_outer, start_leaf}
-use Rattle.giop_decode.specs.Transitions.{IsUncounted, IsWithin, part_in, open_part_in, open_part, open_parts, IsKnown, AreKnown}
+use Rattle.giop_decode.specs.Transitions.{IsUncounted, IsWithin, part_in, open_part, open_parts, parts_in_room, tree_in, IsKnown, AreKnown}
 use Rattle.giop_decode.specs.declared.frame.Frame.{Frame}
 use Rattle.giop_decode.specs.NextParts.{frames_above}
 use Rattle.giop_decode.proofs.TransitionLaws.{content_none}
-use Rattle.giop_decode.proofs.Beginning.{map_push}
+use Rattle.giop_decode.proofs.Beginning.{places_push}
 use Rattle.giop_decode.proofs.Around.{around-append, next_part, last_part}
 use Rattle.giop_sig.specs.Types.{Cases, Led, Ty, Struct, Union, Sequence, Array, part_of, shape_in, HasPlace, Tag, Encapsulation}
 use Rattle.giop_sig.specs.Fits.{IsFit}
 use Rattle.giop_cdr.specs.declared.order.Order.{Order}
-use Rattle.giop_sig.specs.Trees.{tree}
+use Rattle.giop_sig.specs.Trees.{tree_at}
 use Rattle.giop_sig.specs.Table.{Table}
 
 -- the innermost open part, and how much depth is left for it
@@ -75,14 +75,14 @@ goes_rest coding path ps T inner end at (suc left) some e = search (
   content_none,
 )
 
-pub part_is : (C : Table) (at : ℕ) (f : Frame) → f.inside ≡ None →
-    open_part C at f ≡ part_in (tree C f.of.0) f.index f.count
-part_is C at f none = search (arith)
+pub part_is : (C : Table) (room at : ℕ) (f : Frame) → f.inside ≡ None →
+    open_part C room at f ≡ part_in (tree_at C room f.of.0) f.index f.count
+part_is C room at f none = search (arith)
 
-pub held_is : (C : Table) (at : ℕ) (f : Frame) (order : Order) → f.inside ≡ Some order →
-    open_part C at f ≡ Inside (tree C f.of.0) (coded order (at - f.index))
+pub held_is : (C : Table) (room at : ℕ) (f : Frame) (order : Order) → f.inside ≡ Some order →
+    open_part C room at f ≡ Inside (tree_at C room f.of.0) (coded order (at - f.index))
     (at + (f.count - f.index))
-held_is C at f order some = search (arith)
+held_is C room at f order some = search (arith)
 
 module _ (coding : Coding) (path : List PathSegment) (ps : List OpenPart) where
   pub goes_past : (T : Ty) (inner : Coding) (end at : ℕ) → end - at ≡ 0 →
@@ -107,46 +107,56 @@ pub all_pop : {X : Type 0} (P : X → Type 0) (xs : List X) (x : X) →
 all_pop P [] x h = (tt, h.0)
 all_pop P (y ∷ xs) x h = search (arith, all_pop P xs x h.1)
 
+pub length_places : (C : Table) (room at : ℕ) (frames : List Frame) →
+    length (parts_in_room C room at frames) ≡ length frames
+length_places C room at [] = refl
+length_places C room at (f ∷ frames) = ap suc (length_places C (pred room) at frames)
+
 pub record Popped (C : Table) (at : ℕ) (rest : List Frame) (f : Frame) : Type 0 where
   pub known_rest : AreKnown C rest
   pub known : IsKnown C f
-  pub inner : Innermost 24 (open_parts C at rest) (open_part C at f)
+  pub inner : Innermost 24 (open_parts C at rest) (open_part C (24 - length rest) at f)
 
 pub popped : (C : Table) (at : ℕ) (items rest : List Frame) (f : Frame) → AreKnown C items →
     OpenFrom 24 (open_parts C at items) → items ≡ rest ++ f ∷ [] → Popped C at rest f
-popped C at items rest f known are_open e = search (arith, all_pop, innermost, map_push)
+popped C at items rest f known are_open e =
+    let all = all_pop (IsKnown C) rest f (subst (AreKnown C) e known) in
+    record {
+      known_rest = all.0;
+      known = all.1;
+      inner = innermost 24 (open_parts C at rest) (open_part C (24 - length rest) at f)
+          (subst (OpenFrom 24) (ap (open_parts C at) e ∙ places_push C 24 at rest f) are_open);
+    }
 
 -- what holds where a frame is removed that is no encapsulation's
 pub record PartPopped (C : Table) (at : ℕ) (rest : List Frame) (f : Frame) : Type 0 where
   pub known_rest : AreKnown C rest
   pub known : f.of.0 < length C.types
-  pub bare : IsEncapsulation (tree C f.of.0) → ⊥
-  pub uncounted : IsUncounted (shape_in (tree C f.of.0)) → f.count ≡ 0
+  pub within : (room : ℕ) → IsWithin None f.index f.count (tree_at C room f.of.0)
   pub front : OpenFrom 24 (open_parts C at rest)
   pub left : ℕ
-  pub depth : 24 ≡ length (open_parts C at rest) + suc left
-  pub «open» : IsOpen (suc left) (part_in (tree C f.of.0) f.index f.count)
-  pub is : open_part C at f ≡ part_in (tree C f.of.0) f.index f.count
+  pub depth : 24 - length rest ≡ suc left
+  pub few : length rest < 24
+  pub «open» : IsOpen (suc left) (part_in (tree_in C rest f.of.0) f.index f.count)
 
 pub part_popped : (C : Table) (at : ℕ) (items rest : List Frame) (f : Frame) → AreKnown C items →
     OpenFrom 24 (open_parts C at items) → items ≡ rest ++ f ∷ [] → f.inside ≡ None →
     PartPopped C at rest f
 part_popped C at items rest f known are_open e none =
     let p = popped C at items rest f known are_open e in
-    let w : IsWithin None f.index f.count (tree C f.of.0) =
-    subst (λ x. IsWithin x f.index f.count (tree C f.of.0)) none p.known.within in
-    let is : open_part C at f ≡ part_in (tree C f.of.0) f.index f.count =
-    ap (λ x. open_part_in at x (tree C f.of.0) f.index f.count) none in
+    let size = length_places C 24 at rest in
+    let deep = p.inner.depth in
     record {
       known_rest = p.known_rest;
       known = p.known.known;
-      bare = w.1;
-      uncounted = w.2;
+      within = λ room. subst (λ x. IsWithin x f.index f.count (tree_at C room f.of.0)) none
+          (p.known.within room);
       front = p.inner.front;
       left = p.inner.left;
-      depth = p.inner.depth;
-      «open» = subst (IsOpen (suc p.inner.left)) is p.inner.«open»;
-      is = is;
+      depth = omega (arith, deep, size);
+      few = omega (arith, deep, size);
+      «open» = subst (IsOpen (suc p.inner.left)) (part_is C (24 - length rest) at f none)
+          p.inner.«open»;
     }
 
 -- and where one of an encapsulation is removed
@@ -154,26 +164,24 @@ pub record HeldPopped (C : Table) (at : ℕ) (rest : List Frame) (f : Frame) (or
   where
     pub known_rest : AreKnown C rest
     pub known : f.of.0 < length C.types
-    pub kind : IsEncapsulation (tree C f.of.0)
+    pub kind : IsEncapsulation (tree_in C rest f.of.0)
     pub within : f.index ≤ f.count
     pub front : OpenFrom 24 (open_parts C at rest)
-    pub is : open_part C at f ≡ Inside (tree C f.of.0) (coded order (at - f.index))
-        (at + (f.count - f.index))
 
 pub held_popped : (C : Table) (at : ℕ) (items rest : List Frame) (f : Frame) (order : Order) →
     AreKnown C items → OpenFrom 24 (open_parts C at items) → items ≡ rest ++ f ∷ [] →
     f.inside ≡ Some order → HeldPopped C at rest f order
 held_popped C at items rest f order known are_open e some =
     let p = popped C at items rest f known are_open e in
-    let w : IsWithin (Some order) f.index f.count (tree C f.of.0) =
-    subst (λ x. IsWithin x f.index f.count (tree C f.of.0)) some p.known.within in
+    let w : IsWithin (Some order) f.index f.count (tree_in C rest f.of.0) =
+    subst (λ x. IsWithin x f.index f.count (tree_in C rest f.of.0)) some
+    (p.known.within (24 - length rest)) in
     record {
       known_rest = p.known_rest;
       known = p.known.known;
       kind = w.0;
       within = w.2;
       front = p.inner.front;
-      is = ap (λ x. open_part_in at x (tree C f.of.0) f.index f.count) some;
     }
 
 -- what is left where the innermost frame is removed
@@ -181,10 +189,18 @@ pub popped_is : (old new : List Frame) (f : Frame) → new ≡ frames_above old 
     old ≡ frames_above old ++ f ∷ [] → old ≡ new ++ f ∷ []
 popped_is old new f e is = search (arith)
 
-pub length_places : (C : Table) (at : ℕ) (frames : List Frame) →
-    length (open_parts C at frames) ≡ length frames
-length_places C at [] = refl
-length_places C at (f ∷ frames) = ap suc (length_places C at frames)
+-- a part of a type is within it
+pub parts_within : (T : Ty) (count : ℕ) → HasParts T count → 0 < count → IsWithin None 0 count T
+parts_within (Struct n names parts) count has some = search (arith)
+parts_within (Array n E) count has some = search (arith)
+parts_within (Sequence bound E) count has some = search (arith)
+parts_within T count has some = absurd has
+
+pub case_within : (T : Ty) (i : ℕ) → HasCase T i → IsWithin None i 0 T
+case_within (Union (Cases n) scalar select names cases) i has = search (arith)
+case_within (Union Tag scalar select names cases) i has = search (arith)
+case_within (Led h F parts) i has = search (arith)
+case_within T i has = absurd has
 
 pub place_part : (T : Ty) (i count : ℕ) → HasParts T count → part_in T i count ≡ Part T i count
 place_part (Encapsulation E) i count h = absurd h

@@ -6,9 +6,8 @@ use Rattle.giop_cdr.specs.Numbers.{interpreted_as}
 use Rattle.giop_cdr.specs.Primitives.{size_of}
 use Rattle.giop_cdr.specs.declared.number.Number.{Number as Taken}
 use Rattle.giop_decode.specs.Begins.{start_outer, start_leaf}
-use Rattle.giop_decode.specs.Segments.{frames_text}
-use Rattle.giop_decode.specs.Spelling.{lines_text, path_text, segment_text, value_text}
-use Rattle.giop_decode.specs.ReadingSteps.{segment_in}
+use Rattle.giop_decode.specs.Segments.{frame_text, frames_text}
+use Rattle.giop_decode.specs.Spelling.{lines_text, path_text, value_text}
 use Rattle.giop_print.specs.Line.{headed}
 use Rattle.giop_print.specs.Lines.{kind_line, kind_word, number_text, spaced}
 use Rattle.giop_sig.specs.Types.{HasPlace, Plain, Scalar, Single, Ty, interpreted_by, part_of, shape_in}
@@ -33,10 +32,10 @@ use Rattle.giop_decode.specs.ReadResult.{Coding, PathSegment, Line, Number, Lead
 use Rattle.giop_decode.specs.ReadingSteps.{around, path_in}
 use Rattle.giop_decode.specs.Passes.{IsBehind, Gives, Passes}
 use Rattle.giop_decode.specs.Runs.{TakenTogether, TakesSome}
-use Rattle.giop_decode.specs.Transitions.{AreKnown, HaveOctetsLeft, IsClean, IsKnown, Link, StandAt, gone_on, is_inside, leaf_type, open_part, open_parts, part_in}
+use Rattle.giop_decode.specs.Transitions.{AreKnown, HaveOctetsLeft, IsClean, IsKnown, IsWholeNumber, Link, StandAt, gone_on, is_inside, leaf_type, open_parts, part_in, tree_in}
 use Rattle.giop_decode.specs.Reading.{none_left, rooted}
 use Rattle.giop_decode.proofs.Advancing.{rooted_result, comes_by, same_some, stands_at}
-use Rattle.giop_decode.proofs.Beginning.{all_push, map_push}
+use Rattle.giop_decode.proofs.Beginning.{all_push, places_push}
 use Rattle.giop_decode.proofs.Counting.{ahead_free, free_ticked_by}
 use Rattle.giop_decode.proofs.Going.{PartPopped, Next, part_popped, next_in, goes_next, part_is}
 use Rattle.giop_decode.proofs.Surrounding.{heard_open, ahead_by, around_unless_ended, behind_stopped, free_coding_by, free_ended, free_first, free_ticked, front_gone, inside_push, outside_pop, places_ticked}
@@ -54,7 +53,8 @@ use Rattle.giop_decode.specs.Noted.{ends_in_string}
 use Rattle.giop_print.specs.Output.{OutLog, Wrote, WroteFront}
 use Rattle.giop_print.specs.Paths.{root_word}
 use Rattle.giop_sig.specs.Table.{Table}
-use Rattle.giop_sig.specs.Trees.{tree}
+use Rattle.giop_decode.proofs.Rooms.{place_in_room}
+use Rattle.giop_sig.specs.Trees.{tree_at}
 use Rattle.giop_sig.specs.declared.types.TypeId.{TypeId}
 
 first_none : (o : Option ℕ) → first_of o None ≡ o
@@ -101,12 +101,11 @@ stand_free at (f ∷ frames) h =
 pub places_free : (C : Table) (here : ℕ) (frames : List Frame) → is_inside frames ≡ false →
     HaveOctetsLeft frames → open_parts C here frames ≡ open_parts C (here + 1) frames
 places_free C here frames h ahead =
-    sym (places_ticked C here frames ahead)
+    sym (places_ticked C 24 here frames ahead)
     ∙ ap (open_parts C (here + 1)) (sym (free_ticked frames h))
 
 frames_text-push : (C : Table) (frames : List Frame) (f : Frame) →
-    frames_text C (frames ++ f ∷ []) ≡ frames_text C frames
-    ++ segment_text (segment_in (open_part C 0 f))
+    frames_text C (frames ++ f ∷ []) ≡ frames_text C frames ++ frame_text C f
 frames_text-push C [] f = search (arith, append-nil)
 frames_text-push C (g ∷ frames) f = search (arith, append_assoc, frames_text-push C frames f)
 
@@ -151,13 +150,18 @@ module _ (C : Table) (d : Decoder) (of : TypeId) (frame : Frame) (f : Fits C d)
         s.are_open.1 outer free_frame
 
     follows : frame.index + 1 < frame.count →
-        Next (suc popped_frame.left) (tree C frame.of.0) frame.index frame.count
-    follows below = next_in (suc popped_frame.left) (tree C frame.of.0) frame.index frame.count
-        popped_frame.«open» popped_frame.uncounted (rw add-one at below)
+        Next (suc popped_frame.left) (tree_in C (frames_above d.outer.items) frame.of.0)
+        frame.index frame.count
+    follows below =
+        let above = frames_above d.outer.items in
+        next_in (suc popped_frame.left) (tree_in C above frame.of.0) frame.index frame.count
+        popped_frame.«open» (popped_frame.within (24 - length above)).2 (rw add-one at below)
 
-    pub place_next : frame.index + 1 < frame.count →
-        HasPlace (shape_in (tree C frame.of.0)) (frame.index + 1)
-    place_next below = search (arith, add-one, follows)
+    pub place_next : (room : ℕ) → frame.index + 1 < frame.count →
+        HasPlace (shape_in (tree_at C room frame.of.0)) (frame.index + 1)
+    place_next room below =
+        place_in_room C (24 - length (frames_above d.outer.items)) room frame.of.0 (frame.index + 1)
+        (rw add-one (follows below).placed)
 
 module _ (C : Table) (d : Decoder) (part : PartAhead) (f : Fits C d)
     (h : IsPartAhead C d part) where
@@ -173,8 +177,12 @@ module _ (C : Table) (d : Decoder) (part : PartAhead) (f : Fits C d)
   free : is_inside d.outer.items ≡ false
   free = search (arith)
 
+  whole_here : IsWholeNumber (tree_in C d.outer.items part.of.0) d.order d.at octets part.count
+      part.number
+  whole_here = h.whole (24 - length d.outer.items)
+
   pub taken_together : TakenTogether C d octets part.of part.count ended [] d.carry d.piece.items
-  taken_together = search (arith, comes_number, free_coding_by, free, ahead_free)
+  taken_together = search (arith, comes_number, free_coding_by, free, ahead_free, whole_here)
 
   -- the decoder at the last of the number's octets: none was counted
   pub part_at_last : (at : ℕ) → at ≡ (d.at + (part.count - 1)) % 8 →
@@ -202,7 +210,7 @@ module _ (C : Table) (d : Decoder) (part : PartAhead) (f : Fits C d)
   -- its path, and its line
   abbrev place : List ℕ
   place = (root_word d.head.root ++ frames_text C above)
-      ++ segment_text (segment_in (open_part C 0 part.frame))
+      ++ frame_text C part.frame
 
   abbrev text : List ℕ
   text = kind_line d.head.message place (spaced (kind_word part.prim))
@@ -212,7 +220,8 @@ module _ (C : Table) (d : Decoder) (part : PartAhead) (f : Fits C d)
   part_says Says w =
       last_says C d octets part.of part.count ended [] f there taken_together on Says
       (λ here at lines says.
-      let is = same_plain (tree C part.of.0) part.prim says.0.scalar h.prim says.0.is in
+      let is = same_plain (tree_in C d.outer.items part.of.0) part.prim says.0.scalar
+      (h.prim (24 - length d.outer.items)) says.0.is in
       let path = path_in [] (open_parts C here d.outer.items) in
       let placed : place ≡ path_text d.head.root path = path_is here in
       let taken : interpreted_as part.prim says.0.n ≡ Some part.number = rw is at says.0.taken in
@@ -249,10 +258,10 @@ module _ (C : Table) (d : Decoder) (part : PartAhead) (f : Fits C d)
     known_new = rw n.outer (all_push (IsKnown C) above (next_of part.frame) popped_part.known_rest
         (record {
           known = popped_part.known;
-          within = rw none (
-            place_next C d part.of part.frame f h.leaf h.outside h.outer follower.below,
-            popped_part.bare,
-            popped_part.uncounted,
+          within = λ room. rw none (
+            place_next C d part.of part.frame f h.leaf h.outside h.outer room follower.below,
+            (popped_part.within room).1,
+            (popped_part.within room).2,
           );
         }))
 
@@ -260,32 +269,37 @@ module _ (C : Table) (d : Decoder) (part : PartAhead) (f : Fits C d)
         around coding path (open_parts C at d.outer.items) (Done [] at [])
         ≡ gone_on C at new.outer.items (Some (innermost.Number next))
     gone coding path at =
-        let T = tree C part.frame.of.0 in
+        let T = tree_in C above part.frame.of.0 in
         let i = part.frame.index in
         let count = part.frame.count in
         let then = part_in T (suc i) count in
         let P = part_of T (suc i) in
         let is : P ≡ Single (Plain follower.prim) =
-        sym (rw add-one at follower.is_part) ∙ follower.is in
-        let leaf : start_leaf P ≡ LeadingNumber (tree C next.0) [] = rw is (rw follower.is refl) in
+        subst (λ n. part_of (tree_at C n part.frame.of.0) (suc i) ≡ Single (Plain follower.prim))
+        (sym popped_part.depth)
+        (sym (rw add-one at (follower.is_part popped_part.left)) ∙ follower.is popped_part.left) in
+        let N = tree_in C new.outer.items next.0 in
+        let leaf : start_leaf P ≡ LeadingNumber N [] =
+        rw is (rw (follower.is (24 - length new.outer.items)) refl) in
         let outer : open_parts C at new.outer.items ≡ open_parts C at above ++ then ∷ [] =
-        ap (open_parts C at) n.outer ∙ (map_push (open_part C at) above (next_of part.frame)
+        ap (open_parts C at) n.outer ∙ (places_push C 24 at above (next_of part.frame)
         ∙ ap (λ q. open_parts C at above ++ q ∷ [])
-        (part_is C at (next_of part.frame) none ∙ ap (λ k. part_in T k count) (add-one i))) in
+        (part_is C (24 - length above) at (next_of part.frame) none ∙ ap (λ k. part_in T k count)
+        (add-one i))) in
         let right : gone_on C at new.outer.items (Some (innermost.Number next))
-        ≡ Short [] at (open_parts C at above ++ then ∷ []) (LeadingNumber (tree C next.0) []) =
+        ≡ Short [] at (open_parts C at above ++ then ∷ []) (LeadingNumber N []) =
         rw (free_ended new.outer.items new_free, outer) refl in
         let first : start_outer P ≡ [] = rw is refl in
         let left : around coding path (open_parts C at above)
         (Short [] at (then ∷ start_outer P) (start_leaf P))
-        ≡ Short [] at (open_parts C at above ++ then ∷ []) (LeadingNumber (tree C next.0) []) =
-        rw (first, leaf) (around_unless_ended C coding path at above [] (then ∷ [])
-        (LeadingNumber (tree C next.0) []) popped_part.known_rest
+        ≡ Short [] at (open_parts C at above ++ then ∷ []) (LeadingNumber N []) =
+        rw (first, leaf) (around_unless_ended C 24 coding path at above [] (then ∷ [])
+        (LeadingNumber N []) popped_part.known_rest
         ∙ rw (free_ended above above_free) refl) in
         ap (λ ps. around coding path ps (Done [] at []))
-        (ap (open_parts C at) h.outer ∙ map_push (open_part C at) above part.frame)
+        (ap (open_parts C at) h.outer ∙ places_push C 24 at above part.frame)
         ∙ (ap (λ q. around coding path (open_parts C at above ++ q ∷ []) (Done [] at []))
-        (part_is C at part.frame none)
+        (part_is C (24 - length above) at part.frame none)
         ∙ (goes_next coding path (open_parts C at above) T i count at popped_part.left
         (follows C d part.of part.frame f h.leaf h.outside h.outer follower.below)
         (rw add-one at follower.below)
@@ -293,7 +307,8 @@ module _ (C : Table) (d : Decoder) (part : PartAhead) (f : Fits C d)
 
     come : (here : ℕ) (lines : List Line) →
         emitted C d part.of.0 transitions.Ended (outputs.Number part.number) lines here
-        ≡ transition_result C (tree C part.of.0) new transitions.Ended lines (here + 1)
+        ≡ transition_result C (tree_in C d.outer.items part.of.0) new transitions.Ended lines (here
+        + 1)
     come here lines =
         let ps = open_parts C (here + 1) d.outer.items in
         let leaf = innermost.Number next in
@@ -301,20 +316,28 @@ module _ (C : Table) (d : Decoder) (part : PartAhead) (f : Fits C d)
         (places_free C here d.outer.items free f.ahead)
         ∙ ((around_done (plain d.order) [] ps lines (here + 1)
         ∙ ap (λ qs. with_front lines (around (plain d.order) [] qs (Done [] (here + 1) [])))
-        (heard_open C (here + 1) lines d.outer.items))
+        (heard_open C 24 (here + 1) lines d.outer.items))
         ∙ (ap (with_front lines) (gone (plain d.order) [] (here + 1))
         ∙ (front_gone C lines (here + 1) new.outer.items (Some leaf)
         ∙ (behind_stopped C new.outer.items new.carry new.piece.items (Some leaf) lines (here + 1)
         (n.carry ∙ h.empty)
         (ap (λ p. p.items) n.piece ∙ no_piece C d part.of octets part.count f h.leaf)
         ∙ rw n.leaf refl)))))
-        ∙ rooted_result C (tree C part.of.0) new transitions.Ended lines (here + 1) tt
+        ∙ rooted_result C (tree_in C d.outer.items part.of.0) new transitions.Ended lines (here +
+        1) tt
 
     plain_says : (here at : ℕ) (lines : List Line) → Gives C d part.of.0 ended [] here at lines →
         (scalar : Scalar) × (n : ℕ) × (scalar ≡ Plain part.prim)
         × (interpreted_by scalar n ≡ Some part.number)
         × (lines ≡ line at (path_in [] (open_parts C here d.outer.items)) (Number scalar n) ∷ [])
-    plain_says here at lines k = search (arith, same_plain)
+    plain_says here at lines k = (
+      k.0.scalar,
+      k.0.n,
+      same_plain (tree_in C d.outer.items part.of.0) part.prim k.0.scalar
+          (h.prim (24 - length d.outer.items)) k.0.is,
+      k.0.taken,
+      k.1,
+    )
 
     body_new : is_header_root new.head.root ≡ false
     body_new = rw n.head body
@@ -343,13 +366,13 @@ module _ (C : Table) (d : Decoder) (part : PartAhead) (f : Fits C d)
                 (link_pop C root d.outer.items above part.frame part.of.0 h.outer link));
             going = tt;
             offset = λ leaf is.
-                subst (λ l. string_offset (tree C (leaf_type l)) l
-                ≡ transition_offset (tree C part.of.0) transitions.Ended)
+                subst (λ l. string_offset (tree_in C new.outer.items (leaf_type l)) l
+                ≡ transition_offset (tree_in C d.outer.items part.of.0) transitions.Ended)
                 (at_next leaf is) refl;
           };
           steps = λ here lines says.
               let k = plain_says here (here + 1) lines says in
-              comes_by C (tree C part.of.0) new false false transitions.Ended lines
+              comes_by C (tree_in C d.outer.items part.of.0) new false false transitions.Ended lines
               (here + 1) progress.More _
               (rw (k.4, body_new) refl) (sym (free_ended new.outer.items new_free))
               (come here lines) (rw n.leaf refl);

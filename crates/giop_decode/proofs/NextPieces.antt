@@ -22,7 +22,7 @@ use Rattle.giop_decode.specs.ReadingSteps.{path_in}
 use Rattle.giop_decode.specs.Runs.{TakenTogether, TakesSome}
 use Rattle.giop_decode.specs.Segments.{frames_text}
 use Rattle.giop_decode.specs.Spelling.{value_text}
-use Rattle.giop_decode.specs.Transitions.{IsClean, Link, is_inside, leaf_type, open_parts}
+use Rattle.giop_decode.specs.Transitions.{IsClean, Link, is_inside, leaf_type, open_parts, tree_in}
 use Rattle.giop_decode.proofs.Advancing.{comes_by, same_some, rooted_gone}
 use Rattle.giop_decode.proofs.Counting.{ahead_free, free_ticked_by}
 use Rattle.giop_decode.proofs.FieldsRead.{path_spelled}
@@ -39,7 +39,6 @@ use Rattle.giop_print.specs.Lines.{content_line, more_word, spaced_hex}
 use Rattle.giop_print.specs.Output.{OutLog, Wrote, WroteFront}
 use Rattle.giop_print.specs.Paths.{root_word}
 use Rattle.giop_sig.specs.Table.{Table}
-use Rattle.giop_sig.specs.Trees.{tree}
 use Rattle.giop_sig.specs.Types.{Octets}
 
 -- the line of a full piece after what it begins with
@@ -99,10 +98,13 @@ module _ (C : Table) (d : Decoder) (ahead : PieceAhead) (f : Fits C d)
   text = content_line d.head.message place (codes " octets @") ahead.offset (spaced_hex rest)
       (more_word true)
 
+  is_here : tree_in C d.outer.items ahead.of.0 ≡ Octets h.bound
+  is_here = h.is (24 - length d.outer.items)
+
   given : (here at : ℕ) (lines : List Line) → Gives C there ahead.of.0 step rest here at lines →
       lines ≡ line at (path_in [] (open_parts C here d.outer.items))
       (Piece (Octets h.bound) ahead.offset rest true) ∷ []
-  given here at lines says = search (arith)
+  given here at lines says = rw (is_here, h.none_held) at says
 
   piece_says : (Says : List ℕ → Type 0) → Says text → AllSay C d octets 31 Says
   piece_says Says w =
@@ -118,7 +120,8 @@ module _ (C : Table) (d : Decoder) (ahead : PieceAhead) (f : Fits C d)
 
   come : (here : ℕ) (lines : List Line) →
       emitted C there ahead.of.0 step.transition step.output lines here
-      ≡ transition_result C (tree C ahead.of.0) new step.transition lines (here + 1)
+      ≡ transition_result C (tree_in C d.outer.items ahead.of.0) new step.transition lines (here +
+      1)
   come here lines = search (arith, rooted_gone, places_free, free, around_gone)
 
   -- a piece that isn't the last names no operation
@@ -134,8 +137,8 @@ module _ (C : Table) (d : Decoder) (ahead : PieceAhead) (f : Fits C d)
 
   silent : (here : ℕ) (lines : List Line) →
       ends_in_string (emitted C there ahead.of.0 step.transition step.output lines here)
-      ≡ transition_in_string (tree C ahead.of.0) step.transition
-  silent here lines = search (arith, come, stopped_silent)
+      ≡ transition_in_string (tree_in C d.outer.items ahead.of.0) step.transition
+  silent here lines = search (arith, come, stopped_silent, is_here)
 
   piece_passes : Passes C there new ahead.of.0 step rest progress.More
   piece_passes =
@@ -158,12 +161,12 @@ module _ (C : Table) (d : Decoder) (ahead : PieceAhead) (f : Fits C d)
               (at_next leaf is) link;
           going = tt;
           offset = λ leaf is.
-              subst (λ l. string_offset (tree C (leaf_type l)) l
-              ≡ transition_offset (tree C ahead.of.0) step.transition)
+              subst (λ l. string_offset (tree_in C d.outer.items (leaf_type l)) l
+              ≡ transition_offset (tree_in C d.outer.items ahead.of.0) step.transition)
               (at_next leaf is) refl;
         };
         steps = λ here lines says.
-            comes_by C (tree C ahead.of.0) new false false step.transition lines
+            comes_by C (tree_in C d.outer.items ahead.of.0) new false false step.transition lines
             (here + 1) progress.More _
             (unnamed here (here + 1) lines says) (sym (free_ended d.outer.items free))
             (come here lines) refl;

@@ -9,12 +9,12 @@ use Rattle.giop_decode.specs.declared.leaf.Leaf.TheVariants as innermost
 use Rattle.giop_decode.specs.declared.leaf.Transition.{Transition}
 use Rattle.giop_decode.specs.declared.leaf.Output.{Output}
 use Rattle.giop_decode.specs.declared.leaf.Output.TheVariants as outputs
-use Rattle.giop_decode.specs.Noted.{Noted, note_value, expects_after, note, ended, with_piece, noted_piece, is_member, noted, noted_of, without_name_if, with_expects, in_content, ends_in_string, is_text, nothing_noted}
+use Rattle.giop_decode.specs.Noted.{Noted, note_value, expects_after, note, ended, with_piece, noted_piece, is_member, noted, noted_of, without_name_if, with_expects, in_content, names_operation, ends_in_string, is_text, nothing_noted}
 use Rattle.giop_decode.specs.NotingSteps.{OutputFitsString, clears_name, leaf_in_string, transition_in_string}
 use Rattle.giop_decode.specs.ReadResult.{Number, Leaf, Held, PathSegment, Name, Index, Switch, Line, line, Value, Piece, OpenPart, Content, Read, Done, lines_of, with_front}
 use Rattle.giop_decode.specs.declared.frame.Frame.{Frame}
 use Rattle.giop_decode.specs.ReadingSteps.{path_in, segment_in}
-use Rattle.giop_decode.specs.Transitions.{leaf_of, leaf_type, open_part, part_in, open_parts, IsOutput}
+use Rattle.giop_decode.specs.Transitions.{leaf_of, leaf_type, open_part, part_in, open_parts, tree_in, IsOutput}
 use Rattle.giop_decode.proofs.Resuming.{noted-append, lines_front}
 use Rattle.std.specs.Prelude.{IfSome}
 use Rattle.giop_decode.specs.Fits.{IsEncapsulation}
@@ -22,6 +22,10 @@ use Rattle.giop_decode.specs.DecoderSteps.{stopped_with}
 use Rattle.giop_decode.specs.Reading.{cut_off}
 use Rattle.giop_decode.proofs.Surrounding.{unless_ended}
 use Rattle.giop_sig.specs.Table.{Table}
+use Rattle.giop_sig.specs.declared.types.Shape.TheVariants as shapes
+use Rattle.giop_decode.specs.declared.notes.Notes.{Notes}
+use Rattle.giop_decode.specs.DecoderState.{HoldsNoted}
+use Rattle.std.proofs.Math.Bool.{and-false}
 use Rattle.giop_sig.specs.Trees.{tree}
 use Rattle.giop_sig.specs.Types.{Marked, Scalar, Cases, Ty, Single, Text, Octets, Struct, Union, Sequence, Array, Plain, Enum, HasMember, name_in, shape_in, Encapsulation, Led, Tag}
 
@@ -30,10 +34,11 @@ content_in : (T : Ty) (total offset : ℕ) (piece : List ℕ) →
 content_in (Text bound) total offset piece = refl
 content_in _ total offset piece = refl
 
-pub leaf_inside : (C : Table) (leaf : Innermost) (carry piece : List ℕ) →
-    in_content (leaf_of C leaf carry piece) ≡ leaf_in_string (tree C (leaf_type leaf)) leaf
-leaf_inside C (innermost.Content of total offset) carry piece = search (arith, content_in)
-leaf_inside C _ carry piece = refl
+pub leaf_inside : (C : Table) (frames : List Frame) (leaf : Innermost) (carry piece : List ℕ) →
+    in_content (leaf_of C frames leaf carry piece)
+    ≡ leaf_in_string (tree_in C frames (leaf_type leaf)) leaf
+leaf_inside C frames (innermost.Content of total offset) carry piece = search (arith, content_in)
+leaf_inside C frames _ carry piece = refl
 
 -- an encapsulation's end in a string cuts it off
 pub cut_inside : (leaf : Leaf) → is_text (cut_off leaf) ≡ in_content leaf
@@ -52,7 +57,7 @@ rest_silent _ h = absurd h
 
 pub stopped_silent : (C : Table) (frames : List Frame) (carry piece : List ℕ)
     (leaf : Option Innermost) (lines : List Line) (at : ℕ) →
-    IfSome leaf (λ l. leaf_in_string (tree C (leaf_type l)) l ≡ false) →
+    IfSome leaf (λ l. leaf_in_string (tree_in C frames (leaf_type l)) l ≡ false) →
     ends_in_string (stopped_with C frames carry piece leaf lines at) ≡ false
 stopped_silent C frames carry piece None lines at h = refl
 stopped_silent C frames carry piece (Some leaf) lines at h = search (
@@ -125,20 +130,33 @@ output_noted header T was transition (outputs.Piece offset more) path at piece l
 output_noted header T was transition _ path at piece lines h v says k = rw (v.0, v.1) refl
 
 -- What is noted of a reading, after the lines of its front and of one octet.
-pub noted_on : (header : Bool) (C : Table) (leaf : Innermost) (transition : Transition)
+pub noted_on : (header : Bool) (T : Ty) (leaf : Innermost) (transition : Transition)
     (output : Output) (path : List PathSegment) (at : ℕ) (piece : List ℕ) (front lines : List Line)
-    (r : Read) →
-    OutputFitsString (tree C (leaf_type leaf)) (leaf_in_string (tree C (leaf_type leaf)) leaf)
-    transition output → IsOutput (tree C (leaf_type leaf)) path at output piece lines →
-    ends_in_string r ≡ transition_in_string (tree C (leaf_type leaf)) transition →
-    lines_of r ≡ lines →
-    without_name_if (clears_name output) (noted header
-    (without_name_if (leaf_in_string (tree C (leaf_type leaf)) leaf)
+    (r : Read) → OutputFitsString T (leaf_in_string T leaf) transition output →
+    IsOutput T path at output piece lines →
+    ends_in_string r ≡ transition_in_string T transition → lines_of r ≡ lines →
+    without_name_if (clears_name output) (noted header (without_name_if (leaf_in_string T leaf)
     (noted header nothing_noted front)) lines) ≡ noted_of header (with_front front r)
-noted_on header C leaf transition output path at piece front lines r v says inside are = search
+noted_on header T leaf transition output path at piece front lines r v says inside are = search
     (arith, output_noted, text_inside, front_inside, lines_front, noted-append)
 
 -- ---- pieces and members
+
+-- a piece of no string is not noted, and names nothing
+
+pub silent_piece : (header : Bool) (T : Ty) (path : List PathSegment) (at offset : ℕ)
+    (octets : List ℕ) (more : Bool) (h : Noted) (m : Notes) →
+    ((bound : Option ℕ) → shape_in T ≡ shapes.Text bound → ⊥) → HoldsNoted m h →
+    HoldsNoted m (noted header h (line at path (Piece T offset octets more) ∷ []))
+silent_piece header (Text bound) path at offset octets more h m other held =
+    absurd (other bound refl)
+silent_piece header T path at offset octets more h m other held = held
+
+pub unnamed_piece : (header : Bool) (T : Ty) (path : List PathSegment) (at offset : ℕ)
+    (octets : List ℕ) (more : Bool) → ((bound : Option ℕ) → shape_in T ≡ shapes.Text bound → ⊥) →
+    false ≡ names_operation header (line at path (Piece T offset octets more) ∷ [])
+unnamed_piece header (Text bound) path at offset octets more other = absurd (other bound refl)
+unnamed_piece header T path at offset octets more other = search (arith, and-false)
 
 -- a piece that isn't the last, and the last
 pub piece_last : (h : Noted) (octets : List ℕ) (more : Bool) → more ≡ false →
@@ -171,8 +189,8 @@ no_member name C here (f ∷ g ∷ outer) h = search (arith, deep)
 
 -- the one part around it
 only : (C : Table) (here : ℕ) (outer : List Frame) (d : Frame) → length outer ≡ 1 →
-    path_in [] (open_parts C here outer) ≡ segment_in (open_part C here (slice_index_or outer 0 d))
-    ∷ []
+    path_in [] (open_parts C here outer)
+    ≡ segment_in (open_part C 24 here (slice_index_or outer 0 d)) ∷ []
 only C here (f ∷ []) d h = refl
 only C here _ d h = absurd (omega arith)
 

@@ -13,7 +13,7 @@ use Rattle.giop_decode.specs.Transitions.{open_parts, leaf_of, leaf_type, ticked
 use Rattle.giop_decode.proofs.Advancing.{same_some, step_fits}
 use Rattle.giop_decode.proofs.Noting.{leaf_inside}
 use Rattle.giop_decode.proofs.Around.{around-short, heard_none}
-use Rattle.giop_decode.proofs.Surrounding.{inside_ticked, known_ticked, places_ticked, stand_ticked, surrounds}
+use Rattle.giop_decode.proofs.Surrounding.{inside_ticked, known_ticked, leaf_ticked, places_ticked, stand_ticked, surrounds, tree_ticked}
 use Rattle.giop_decode.proofs.Linking.{link_ticked}
 use Rattle.giop_sig.specs.Table.{Table}
 
@@ -35,8 +35,8 @@ held_in d carry piece = record {
 abbrev pub Holds : Table → Decoder → Decoder → Innermost → ℕ → ℕ → Type 0
 Holds C d new leaf here octet = (path : List PathSegment) →
     leaf_step (coding_in (plain d.order) (open_parts C here d.outer.items)) path
-    (leaf_of C leaf d.carry d.piece.items) here octet
-    ≡ Short [] (here + 1) [] (leaf_of C leaf new.carry new.piece.items)
+    (leaf_of C d.outer.items leaf d.carry d.piece.items) here octet
+    ≡ Short [] (here + 1) [] (leaf_of C d.outer.items leaf new.carry new.piece.items)
 
 -- an octet at which no encapsulation ends, and which is counted in each
 module _ (C : Table) (d new : Decoder) (leaf : Innermost) (octet : ℕ)
@@ -47,24 +47,24 @@ module _ (C : Table) (d new : Decoder) (leaf : Innermost) (octet : ℕ)
 
   pub step_held : (here : ℕ) → CanStandAt d here → Holds C d new leaf here octet →
       decoder_step C d here octet ≡ Short [] (here + 1) (open_parts C (here + 1) new.outer.items)
-      (leaf_of C leaf new.carry new.piece.items)
+      (leaf_of C d.outer.items leaf new.carry new.piece.items)
   step_held here h holds =
       let ps = open_parts C here d.outer.items in
       let qs = open_parts C (here + 1) (ticked d.outer.items) in
-      let held = leaf_of C leaf new.carry new.piece.items in
-      let stands = surrounds C (here + 1) (ticked d.outer.items) known_on on
+      let held = leaf_of C d.outer.items leaf new.carry new.piece.items in
+      let stands = surrounds C 24 (here + 1) (ticked d.outer.items) known_on on
       (stand_ticked here d.outer.items h.1) in
       ap (λ l. root_step (plain d.order) [] ps (leaf_in C d l) here octet) e
       ∙ ap (rooted none_left) (ap (around (plain d.order) [] ps) (holds (path_in [] ps))
       ∙ (ap (λ zs. around (plain d.order) [] zs (Short [] (here + 1) [] held))
-      (sym (places_ticked C here d.outer.items f.ahead))
+      (sym (places_ticked C 24 here d.outer.items f.ahead))
       ∙ (around-short (plain d.order) [] qs [] (here + 1) [] held stands
       ∙ (ap (λ zs. Short [] (here + 1) zs held) (append-nil (heard_parts [] qs) ∙ heard_none qs)
       ∙ ap (λ fs. Short [] (here + 1) (open_parts C (here + 1) fs) held) (sym counts)))))
 
   held_stands : (here : ℕ) → CanStandAt d here → Holds C d new leaf here octet →
       decoder_step C d here octet ≡ read_by_fields C new [] (here + 1)
-  held_stands here h holds = search (arith, step_held)
+  held_stands here h holds = search (arith, step_held, leaf_ticked)
 
   pub held_comes : (here : ℕ) → CanStandAt d here → Holds C d new leaf here octet →
       Comes C new progress.More (here + 1) (decoder_step C d here octet)
@@ -90,7 +90,7 @@ module _ (C : Table) (d new : Decoder) (leaf : Innermost) (octet : ℕ)
       (rw (encloses, counts, inside_ticked d.outer.items) f.inside)
       (rw (counts, ← it) (link_ticked C f.root d.outer.items (leaf_type f.leaf) f.link))
       (rw counts known_on) (rw (← it) f.known) clean (rw (root, notes) f.id_in_header_only)
-      (rw (root, notes, ← it) f.name)
+      (rw (root, notes, counts, tree_ticked C d.outer.items (leaf_type leaf), ← it) f.name)
 
   pub held_keeps_noted : (here : ℕ) (front : List Line) → new.notes ≡ d.notes → CanStandAt d here →
       Holds C d new leaf here octet → KeepsNoted d.head.root d (read_by_fields C d front here) →

@@ -12,7 +12,7 @@ use Rattle.giop_decode.specs.Passes.{Gives, Passes}
 use Rattle.giop_decode.specs.ReadResult.{Line}
 use Rattle.giop_decode.specs.Runs.{TakenTogether, TakesSome}
 use Rattle.giop_decode.specs.Spelling.{lines_text}
-use Rattle.giop_decode.specs.Transitions.{Link, leaf_type}
+use Rattle.giop_decode.specs.Transitions.{Link, leaf_type, tree_in}
 use Rattle.giop_decode.proofs.Advancing.{goes, step_fits}
 use Rattle.giop_decode.proofs.SoFar.{AllSay, AllTake, TakenSoFar, gathered_so_far, step_says, then_one, then_one_broken}
 use Rattle.giop_decode.proofs.Taking.{done, takes_to}
@@ -21,7 +21,6 @@ use Rattle.giop_print.specs.Output.{OutLog, Wrote, WroteFront}
 use Rattle.giop_print.specs.declared.path.Root.{Root}
 use Rattle.giop_sig.specs.Types.{Ty}
 use Rattle.giop_sig.specs.Table.{Table}
-use Rattle.giop_sig.specs.Trees.{tree}
 use Rattle.giop_sig.specs.declared.types.TypeId.{TypeId}
 
 -- a decoder before them, and at the last of them
@@ -103,9 +102,10 @@ module _ (C : Table) (d : Decoder) (octets : List ℕ) (of : TypeId) (count : �
         (next.link g.root k.leaf link k.goes_on) next.known_outer (next.known k.leaf k.goes_on)
         (next.clean k.leaf k.goes_on)
         (λ other. let was = rw e.head at other in e.id was ∙ g.id_in_header_only was)
-        (subst (λ r. FitsName r (string_offset (tree C (leaf_type k.leaf)) k.leaf)
+        (subst (λ r. FitsName r (string_offset (tree_in C new.outer.items (leaf_type k.leaf))
+        k.leaf)
         new.notes.buffer new.notes.name.items) (sym (ap (λ h. h.root) e.head))
-        (name_whole C d octets of count step rest f m h on g.here k.leaf new.notes next.going
+        (name_whole C d octets of count step rest f m h on g.here _ new.notes next.going
         (next.offset k.leaf k.goes_on)
         (λ o held. e.notes o g.here (g.here + 1) (lines g.here) held (says g.here))))
 

@@ -7,12 +7,14 @@ use Rattle.giop_cdr.specs.declared.order.Order.{Order}
 use Rattle.giop_print.specs.declared.path.Root.{Root}
 use Rattle.giop_sig.specs.Fits.{IsFit}
 use Rattle.giop_sig.specs.Table.{Table}
-use Rattle.giop_sig.specs.Trees.{depth_of}
+use Rattle.giop_decode.specs.Transitions.{IsWithin}
+use Rattle.giop_sig.specs.Trees.{depth_of, tree_at}
 use Rattle.giop_sig.specs.Types.{Scalar, Ty, part_of, width}
 use Rattle.giop_decode.specs.declared.decoder.Decoder.{Decoder}
 use Rattle.giop_decode.specs.DecoderState.{Fits}
 use Rattle.giop_decode.specs.ReadResult.{Coding, PathSegment, Switch, Line, OpenPart, Part, Leaf, Read, Done, Short, with_front, within, lines_of}
 use Rattle.giop_decode.specs.Pieces.{Partial, block, number}
+use Rattle.giop_decode.proofs.Rooms as rooms
 use Rattle.giop_decode.proofs.Rooted as rooted
 use Rattle.giop_decode.specs.Reading.{cut_off, parts_from, read, reading, rest_of}
 use Rattle.giop_decode.specs.Begins.{start_outer, start_leaf}
@@ -148,6 +150,11 @@ text_both message root order T at s xs ys = runs.text_both message root order T 
 -- deep.
 pub fits_depth : (C : Table) (d : Decoder) → Fits C d → length d.outer.items < depth_of C.types
 fits_depth C d fits = depths.fits_depth C d fits
+
+-- a frame of a part of a type in one room is of one in each
+pub within_in_room : (C : Table) (a b of : ℕ) (inside : Option Order) (i count : ℕ) →
+    IsWithin inside i count (tree_at C a of) → IsWithin inside i count (tree_at C b of)
+within_in_room C a b of inside i count h = rooms.within_in_room C a b of inside i count h
 
 -- ---- a whole
 

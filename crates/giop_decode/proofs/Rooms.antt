@@ -1,14 +1,16 @@
 -- What holds of a type in one room holds in each.
-use Rattle.std.proofs.Common.{◌≡◌, ℕ, suc, ◌<◌, length, refl, subst, ◌∙◌}
+use Rattle.std.proofs.Common.{◌≡◌, ℕ, suc, ◌-◌, ◌<◌, List, length, Option, Some, None, refl, subst, arith, ◌∙◌}
+use Rattle.giop_decode.specs.declared.frame.Frame.{Frame}
 use Rattle.giop_cdr.specs.declared.number.Number.{Number as Taken}
-use Rattle.giop_decode.specs.Fits.{IsEncapsulation}
-use Rattle.giop_decode.specs.Transitions.{IsNumberOf}
+use Rattle.giop_decode.specs.Fits.{HasLeadingNumber, IsEncapsulation}
+use Rattle.giop_decode.specs.Transitions.{IsNumberOf, IsUncounted, IsWithin}
+use Rattle.giop_cdr.specs.declared.order.Order.{Order}
 use Rattle.giop_sig.proofs.PartLaws.{fit_room, has_shape_room, shape_room, switch_same}
 use Rattle.giop_sig.specs.Fits.{IsFit}
 use Rattle.giop_sig.specs.HeaderTypes.{IsTable}
 use Rattle.giop_sig.specs.Table.{Table}
 use Rattle.giop_sig.specs.Trees.{tree, tree_at}
-use Rattle.giop_sig.specs.Types.{Ty, Encapsulation, HasMember, HasShape, IsUnion, shape_in, switch_of}
+use Rattle.giop_sig.specs.Types.{Cases, Encapsulation, Enum, HasMember, HasPlace, HasShape, IsUnion, Marked, Plain, Single, Tag, Ty, Union, shape_in, switch_of}
 use Rattle.giop_sig.specs.declared.types.Shape.{Shape}
 use Rattle.giop_sig.specs.declared.types.Shape.TheVariants as shapes
 
@@ -31,6 +33,68 @@ held_has _ kind = absurd kind
 has_held : (T : Ty) → HasShape T shapes.Encapsulation → IsEncapsulation T
 has_held T has = rw has.1 tt
 
+-- what holds wherever there is room holds in these frames
+pub in_frames : (P : ℕ → Type 0) (frames : List Frame) → length frames < 24 →
+    ((room : ℕ) → P (suc room)) → P (24 - length frames)
+in_frames P frames few all =
+    let one : suc (23 - length frames) ≡ 24 - length frames = omega (arith, few) in
+    subst P one (all (23 - length frames))
+
+-- a place of a type in one room is one in each
+pub place_in_room : (C : Table) (a b of i : ℕ) → HasPlace (shape_in (tree_at C a of)) i →
+    HasPlace (shape_in (tree_at C b of)) i
+place_in_room C a b of i has = subst (λ s. HasPlace s i) (shape_room C a b of) has
+
+-- a union in one room is one in each
+pub union_in_room : (C : Table) (a b of : ℕ) → IsUnion (shape_in (tree_at C a of)) →
+    IsUnion (shape_in (tree_at C b of))
+union_in_room C a b of is = subst IsUnion (shape_room C a b of) is
+
+-- and an encapsulation is
+pub held_in_room : (C : Table) (a b of : ℕ) → IsEncapsulation (tree_at C a of) →
+    IsEncapsulation (tree_at C b of)
+held_in_room C a b of kind = has_held (tree_at C b of)
+    (has_shape_room C a b of shapes.Encapsulation (held_has (tree_at C a of) kind))
+
+-- and a number begins a type in each that begins with one in one room
+
+abbrev IsHead : Shape → Type 0
+IsHead (shapes.Members count) = ⊥
+IsHead (shapes.Array count) = ⊥
+IsHead shapes.Led = ⊥
+IsHead s = Unit {0}
+
+shape_head : (T : Ty) → HasLeadingNumber T → IsHead (shape_in T)
+shape_head (Single (Plain p)) h = tt
+shape_head (Single (Enum count names)) h = tt
+shape_head (Single (Marked mark)) h = tt
+shape_head (Union (Cases n) scalar select names cases) h = tt
+shape_head (Union Tag scalar select names cases) h = tt
+shape_head T h = h
+
+head_shape : (T : Ty) → IsHead (shape_in T) → HasLeadingNumber T
+head_shape (Single (Plain p)) h = tt
+head_shape (Single (Enum count names)) h = tt
+head_shape (Single (Marked mark)) h = tt
+head_shape (Union (Cases n) scalar select names cases) h = tt
+head_shape (Union Tag scalar select names cases) h = tt
+head_shape T h = h
+
+pub head_in_room : (C : Table) (a b of : ℕ) → HasLeadingNumber (tree_at C a of) →
+    HasLeadingNumber (tree_at C b of)
+head_in_room C a b of h =
+    head_shape (tree_at C b of) (subst IsHead (shape_room C a b of) (shape_head (tree_at C a of) h))
+
+-- so a frame is of a part of a type in each
+pub within_in_room : (C : Table) (a b of : ℕ) (inside : Option Order) (i count : ℕ) →
+    IsWithin inside i count (tree_at C a of) → IsWithin inside i count (tree_at C b of)
+within_in_room C a b of None i count h = (
+  place_in_room C a b of i h.0,
+  λ kind. h.1 (held_in_room C b a of kind),
+  λ is. h.2 (subst IsUncounted (shape_room C b a of) is),
+)
+within_in_room C a b of (Some order) i count h = (held_in_room C a b of h.0, h.1, h.2)
+
 module _ (C : Table) (of room : ℕ) where
   abbrev T : Ty
   T = tree_at C (suc room) of
@@ -45,11 +109,11 @@ module _ (C : Table) (of room : ℕ) where
   member_of_room i has = subst (λ s. HasMember s i) (shape_room C 24 (suc room) of) has
 
   pub held_of_room : IsEncapsulation (tree C of) → IsEncapsulation T
-  held_of_room kind =
-      has_held T (shape_of_room shapes.Encapsulation (held_has (tree C of) kind))
+  held_of_room kind = held_in_room C 24 (suc room) of kind
 
-  pub fit_of_room : (d : ℕ) → IsTable C → IsFit d (tree C of) → IsFit (suc (suc (suc room))) T
-  fit_of_room d laws fit = fit_room C of d (suc room) laws fit
+  pub fit_of_room : (d a : ℕ) → IsTable C → IsFit d (tree_at C a of) →
+      IsFit (suc (suc (suc room))) T
+  fit_of_room d a laws fit = fit_room C of d a (suc room) laws fit
 
   abbrev pub number_of_room : (number : Taken) → IsTable C → of < length C.types →
       IsUnion (shape_in (tree C of)) → IsNumberOf (switch_of (tree C of)) number →

@@ -10,7 +10,7 @@ use Rattle.giop_decode.specs.Noted.{nothing_noted}
 use Rattle.giop_decode.proofs.NameBuffer.{nothing_fits}
 use Rattle.giop_decode.specs.DecoderState.{Fits, Reads, HoldsNoted}
 use Rattle.giop_decode.specs.ReadResult.{plain, LeadingNumber, Short}
-use Rattle.giop_decode.specs.Transitions.{open_parts, is_inside, AreKnown, Link, HaveOctetsLeft, StandAt}
+use Rattle.giop_decode.specs.Transitions.{open_parts, is_inside, AreKnown, Link, HaveOctetsLeft, StandAt, tree_in}
 use Rattle.giop_decode.proofs.Around.{read_none}
 use Rattle.giop_decode.proofs.Sound.{read_keeps}
 use Rattle.giop_print.specs.declared.path.Root.{Root}
@@ -24,7 +24,7 @@ module _ (C : Table) (T : Ty) (order : Order) (at message : ℕ) (root : Root) (
   -- a type that isn't the empty struct begins with a number
   pub first_reads : (first : TypeId) → IsFit 24 T → d.leaf ≡ Some (innermost.Number first) →
       d.carry ≡ [] → ((here : ℕ) → open_parts C here d.outer.items ≡ start_outer T) →
-      StandAt at d.outer.items → start_leaf T ≡ LeadingNumber (tree C first.0) [] →
+      StandAt at d.outer.items → start_leaf T ≡ LeadingNumber (tree_in C d.outer.items first.0) [] →
       HoldsNoted d.notes nothing_noted → d.order ≡ order → d.head.message ≡ message →
       d.head.root ≡ root →
       d.at ≡ at % 8 → Reads C T order at message root d []
@@ -35,7 +35,8 @@ pub first_fits : (C : Table) (of : ℕ) (d : Decoder) (first : TypeId) → of < 
     IsFit 24 (tree C of) → d.leaf ≡ Some (innermost.Number first) → d.carry ≡ [] →
     d.piece.items ≡ [] → ((here : ℕ) → open_parts C here d.outer.items ≡ start_outer (tree C of)) →
     StandAt d.at d.outer.items → HaveOctetsLeft d.outer.items → d.inside ≡ is_inside d.outer.items →
-    start_leaf (tree C of) ≡ LeadingNumber (tree C first.0) [] → Link C of d.outer.items first.0 →
+    start_leaf (tree C of) ≡ LeadingNumber (tree_in C d.outer.items first.0) [] → Link C of
+    d.outer.items first.0 →
     AreKnown C d.outer.items → first.0 < length C.types → d.at < 8 →
     HoldsNoted d.notes nothing_noted → Fits C d
 first_fits C of d first known_root fit goes_on empty none are stand ahead inside leaf link

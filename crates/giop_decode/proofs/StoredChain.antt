@@ -1,6 +1,6 @@
 -- The test of a restored decoder is exact: it passes exactly if the decoder fits the table; how
 -- many parts that are begun fit in a type.
-use Rattle.std.proofs.Common.{◌≡◌, ℕ, zero, ◌+◌, ◌*◌, ◌<◌, ◌≤◌, List, [], ◌∷◌, length, Option, Some, None, sym, subst, arith}
+use Rattle.std.proofs.Common.{◌≡◌, ℕ, zero, suc, pred, ◌+◌, ◌-◌, ◌*◌, ◌<◌, ◌≤◌, List, [], ◌∷◌, length, Option, Some, None, sym, subst, arith}
 use Rattle.std.specs.Prelude.{IfSome}
 use Rattle.giop_cdr.specs.declared.order.Order.{Order}
 use Rattle.giop_decode.specs.declared.decoder.Decoder.{Decoder}
@@ -10,7 +10,7 @@ use Rattle.giop_decode.specs.FrameChain.{HasFrame, HasPart, LeafFits, Chained, C
 use Rattle.giop_decode.specs.Fits.{FitsIn, IsEncapsulation}
 use Rattle.giop_decode.specs.DecoderState.{Fits}
 use Rattle.giop_decode.specs.ReadResult.{OpenPart, Leaf}
-use Rattle.giop_decode.specs.Transitions.{IsUncounted, open_parts, part_in, part_index, open_part_in, HaveOctetsLeft, AreKnown, IsWithin, Link, StandAt, leaf_of, leaf_type}
+use Rattle.giop_decode.specs.Transitions.{IsUncounted, parts_in_room, part_in, part_index, open_part_in, HaveOctetsLeft, AreKnown, IsWithin, Link, StandAt, leaf_by, leaf_type}
 use Rattle.giop_decode.proofs.Around.{fit_room}
 use Rattle.giop_decode.proofs.Going.{length_places}
 use Rattle.giop_decode.proofs.Starting.{fit_some}
@@ -18,9 +18,10 @@ use Rattle.giop_decode.proofs.Leaving.{leaf_at}
 use Rattle.giop_sig.specs.Fits.{IsFit, IsEmptyStruct}
 use Rattle.giop_sig.specs.HeaderTypes.{IsTable}
 use Rattle.giop_sig.specs.Table.{Table, part_number}
-use Rattle.giop_sig.specs.Trees.{tree}
+use Rattle.giop_sig.specs.Trees.{tree, tree_at}
+use Rattle.giop_decode.proofs.Rooms.{place_in_room, within_in_room}
 use Rattle.giop_sig.specs.Types.{Cases, Tag, Encapsulation, Ty, Single, Text, Octets, Struct, Union, Sequence, Array, HasPlace, part_of, shape_in, Led}
-use Rattle.giop_sig.proofs.PartLaws.{part_is, root_is}
+use Rattle.giop_sig.proofs.PartLaws.{PartIs, part_is, root_is}
 
 -- ---- one open part
 
@@ -67,7 +68,7 @@ part_bare : (T : Ty) (i count : ℕ) → HasPart T i count → IsEncapsulation T
 part_bare (Encapsulation T) i count has is = absurd has.0
 part_bare T i count has is = absurd is
 
-inside_place : (T : Ty) (i : ℕ) → IsEncapsulation T → HasPlace (shape_in T) i
+pub inside_place : (T : Ty) (i : ℕ) → IsEncapsulation T → HasPlace (shape_in T) i
 inside_place (Encapsulation T) i is = tt
 inside_place T i is = absurd is
 
@@ -108,69 +109,103 @@ frame_is here (Some order) T i count outer leaf within ahead fits = search (arit
 
 -- ---- a chain
 
-record ChainFits (C : Table) (here id : ℕ) (frames : List Frame) (leaf : Innermost)
+-- parts in so much room, of which so much is left for the innermost part
+record ChainFits (C : Table) (room left here id : ℕ) (frames : List Frame) (leaf : Innermost)
     (carry piece : List ℕ) : Type 0 where
-  fits : FitsIn (tree C id) (open_parts C here frames) (leaf_of C leaf carry piece)
+  fits : FitsIn (tree_at C room id) (parts_in_room C room here frames)
+      (leaf_by (tree_at C left (leaf_type leaf)) leaf carry piece)
   ahead : HaveOctetsLeft frames
   known_outer : AreKnown C frames
   link : Link C id frames (leaf_type leaf)
 
-chain_fits : (C : Table) (here id : ℕ) (frames : List Frame) (leaf : Innermost)
-    (carry piece : List ℕ) → IsTable C → id < length C.types → Chained C id frames leaf →
-    LeafFits C leaf carry piece → ChainFits C here id frames leaf carry piece
-chain_fits C here id [] leaf carry piece laws known h inner = search (arith)
-chain_fits C here id (f ∷ frames) leaf carry piece laws known h inner =
+-- a part of a type that has room
+module _ (C : Table) (room id i : ℕ) (laws : IsTable C) (known : id < length C.types)
+    (some : 0 < room) (has : HasPlace (shape_in (tree_at C room id)) i) where
+  there : PartIs C id i (part_number C id i)
+  there = part_is C id i laws known (place_in_room C room 24 id i has)
+
+  below_there : part_number C id i < length C.types
+  below_there = let b = there.below in omega (arith, b)
+
+  same_there : tree_at C (pred room) (part_number C id i) ≡ part_of (tree_at C room id) i
+  same_there =
+      let one : suc (pred room) ≡ room = omega (arith, some) in
+      subst (λ n. tree_at C (pred room) (part_number C id i) ≡ part_of (tree_at C n id) i) one
+      (there.same (pred room))
+
+chain_fits : (C : Table) (room left here id : ℕ) (frames : List Frame) (leaf : Innermost)
+    (carry piece : List ℕ) → IsTable C → id < length C.types → room ≡ length frames + left →
+    Chained C room id frames leaf → LeafFits C left leaf carry piece →
+    ChainFits C room left here id frames leaf carry piece
+chain_fits C room left here id [] leaf carry piece laws known rooms h inner = record {
+  fits = (let is : room ≡ left = omega (arith, rooms) in rw (is, ← h) inner.0);
+  ahead = tt;
+  known_outer = tt;
+  link = h;
+}
+chain_fits C room left here id (f ∷ frames) leaf carry piece laws known rooms h inner =
     let has = h.1 in
     let i = part_index f.inside f.index in
-    let p = part_is C id i laws known (frame_place f.inside (tree C id) f.index f.count has) in
-    let below : part_number C id i < length C.types = let b = p.below in omega arith in
-    let rest = chain_fits C here (part_number C id i) frames leaf carry piece laws below h.2 inner
-    in
-    let ps = open_parts C here frames in
-    let inmost = leaf_of C leaf carry piece in
-    let fits = frame_fits here f.inside (tree C id) f.index f.count ps inmost has
-    (subst (λ (T : Ty). FitsIn T ps inmost) p.same rest.fits) in
+    let T = tree_at C room id in
+    let some : 0 < room = omega (arith, rooms) in
+    let place = frame_place f.inside T f.index f.count has in
+    let next = part_number C id i in
+    let rest = chain_fits C (pred room) left here next frames leaf carry piece laws
+    (below_there C room id i laws known some place) (omega (arith, rooms)) h.2 inner in
+    let ps = parts_in_room C (pred room) here frames in
+    let inmost = leaf_by (tree_at C left (leaf_type leaf)) leaf carry piece in
+    let fits = frame_fits here f.inside T f.index f.count ps inmost has
+    (subst (λ (P : Ty). FitsIn P ps inmost) (same_there C room id i laws known some place)
+    rest.fits) in
     let is : id ≡ f.of.0 = sym h.0 in
     record {
-      fits = subst (λ (n : ℕ). FitsIn (tree C id)
-          (open_part_in here f.inside (tree C n) f.index f.count ∷ ps) inmost) is fits;
-      ahead = (frame_ahead f.inside (tree C id) f.index f.count has, rest.ahead);
+      fits = subst (λ (n : ℕ). FitsIn T
+          (open_part_in here f.inside (tree_at C room n) f.index f.count ∷ ps) inmost) is fits;
+      ahead = (frame_ahead f.inside T f.index f.count has, rest.ahead);
       known_outer = (
         record {
           known = subst (λ (n : ℕ). n < length C.types) is known;
-          within = subst (λ (n : ℕ). IsWithin f.inside f.index f.count (tree C n)) is
-              (frame_within f.inside (tree C id) f.index f.count has);
+          within = λ n. subst (λ (m : ℕ). IsWithin f.inside f.index f.count (tree_at C n m)) is
+              (within_in_room C room n id f.inside f.index f.count
+              (frame_within f.inside T f.index f.count has));
         },
         rest.known_outer,
       );
       link = (h.0, rest.link);
     }
 
-record FitsChain (C : Table) (id : ℕ) (frames : List Frame) (leaf : Innermost)
+record FitsChain (C : Table) (room left id : ℕ) (frames : List Frame) (leaf : Innermost)
     (carry piece : List ℕ) : Type 0 where
-  chain : Chained C id frames leaf
-  inner : FitsIn (tree C (leaf_type leaf)) [] (leaf_of C leaf carry piece)
+  chain : Chained C room id frames leaf
+  inner : (let T = tree_at C left (leaf_type leaf) in FitsIn T [] (leaf_by T leaf carry piece))
 
-fits_chain : (C : Table) (here id : ℕ) (frames : List Frame) (leaf : Innermost)
-    (carry piece : List ℕ) → IsTable C → id < length C.types →
-    FitsIn (tree C id) (open_parts C here frames) (leaf_of C leaf carry piece) →
-    HaveOctetsLeft frames →
-    AreKnown C frames → Link C id frames (leaf_type leaf) → FitsChain C id frames leaf carry piece
-fits_chain C here id [] leaf carry piece laws known fits ahead are link = search (arith)
-fits_chain C here id (f ∷ frames) leaf carry piece laws known fits ahead are link =
-    let ps = open_parts C here frames in
-    let inmost = leaf_of C leaf carry piece in
+fits_chain : (C : Table) (room left here id : ℕ) (frames : List Frame) (leaf : Innermost)
+    (carry piece : List ℕ) → IsTable C → id < length C.types → room ≡ length frames + left →
+    FitsIn (tree_at C room id) (parts_in_room C room here frames)
+    (leaf_by (tree_at C left (leaf_type leaf)) leaf carry piece) → HaveOctetsLeft frames →
+    AreKnown C frames → Link C id frames (leaf_type leaf) →
+    FitsChain C room left id frames leaf carry piece
+fits_chain C room left here id [] leaf carry piece laws known rooms fits ahead are link = record {
+  chain = link;
+  inner = (let is : room ≡ left = omega (arith, rooms) in rw (is, ← link) at fits);
+}
+fits_chain C room left here id (f ∷ frames) leaf carry piece laws known rooms fits ahead are link =
+    let T = tree_at C room id in
+    let ps = parts_in_room C (pred room) here frames in
+    let inmost = leaf_by (tree_at C left (leaf_type leaf)) leaf carry piece in
     let i = part_index f.inside f.index in
-    let there = subst (λ (n : ℕ). FitsIn (tree C id)
-    (open_part_in here f.inside (tree C n) f.index f.count ∷ ps) inmost) link.0 fits in
-    let within = subst (λ (n : ℕ). IsWithin f.inside f.index f.count (tree C n)) link.0 are.0.within
-    in
-    let u = frame_is here f.inside (tree C id) f.index f.count ps inmost within ahead.0 there in
-    let p = part_is C id i laws known (frame_place f.inside (tree C id) f.index f.count u.has) in
-    let below : part_number C id i < length C.types = let b = p.below in omega arith in
-    let inner = subst (λ (T : Ty). FitsIn T ps inmost) (sym p.same) u.fits in
-    let rest = fits_chain C here (part_number C id i) frames leaf carry piece laws below inner
-    ahead.1 are.1 link.1 in
+    let some : 0 < room = omega (arith, rooms) in
+    let there = subst (λ (n : ℕ). FitsIn T
+    (open_part_in here f.inside (tree_at C room n) f.index f.count ∷ ps) inmost) link.0 fits in
+    let within = subst (λ (n : ℕ). IsWithin f.inside f.index f.count (tree_at C room n)) link.0
+    (are.0.within room) in
+    let u = frame_is here f.inside T f.index f.count ps inmost within ahead.0 there in
+    let place = frame_place f.inside T f.index f.count u.has in
+    let inner = subst (λ (P : Ty). FitsIn P ps inmost)
+    (sym (same_there C room id i laws known some place)) u.fits in
+    let rest = fits_chain C (pred room) left here (part_number C id i) frames leaf carry piece laws
+    (below_there C room id i laws known some place) (omega (arith, rooms)) inner ahead.1 are.1
+    link.1 in
     record { chain = (link.0, u.has, rest.chain); inner = rest.inner }
 
 -- ---- an offset that frames can be at
@@ -192,6 +227,12 @@ stand_above here (f ∷ frames) h =
       stand_above here frames (omega (arith, sum)),
     )
 
+-- ---- how many
+
+-- room is left for the innermost part's frame
+pub fits_few : (C : Table) (d : Decoder) → Fits C d → length d.outer.items < 24
+fits_few C d h = search (arith, leaf_at, length_places, fit_room)
+
 -- ---- a decoder
 
 some_fit : (T : Ty) → IsFit 24 T → IsEmptyStruct T → ⊥
@@ -208,8 +249,10 @@ pub chains_fits : (C : Table) (d : Decoder) → IsTable C → Chains C d → Fit
 chains_fits C d laws h =
     let root = root_of d.outer.items h.leaf in
     let here = d.at + 8 * all_octets d.outer.items in
-    let c = chain_fits C here root d.outer.items h.leaf d.carry d.piece.items laws h.known h.chain
-    h.fits in
+    let few = h.few in
+    let left = 24 - length d.outer.items in
+    let c = chain_fits C 24 left here root d.outer.items h.leaf d.carry d.piece.items laws h.known
+    (omega (arith, few)) h.chain h.fits in
     record {
       leaf = h.leaf;
       goes_on = h.goes_on;
@@ -231,10 +274,23 @@ chains_fits C d laws h =
     }
 
 pub fits_chains : (C : Table) (d : Decoder) → IsTable C → Fits C d → Chains C d
-fits_chains C d laws h = search (arith, root_linked, fits_chain, some_fit)
-
--- ---- how many
-
--- room is left for the innermost part's frame
-pub fits_few : (C : Table) (d : Decoder) → Fits C d → length d.outer.items < 24
-fits_few C d h = search (arith, leaf_at, length_places, fit_room)
+fits_chains C d laws h =
+    let few = fits_few C d h in
+    let left = 24 - length d.outer.items in
+    let is = root_linked C h.root d.outer.items h.leaf h.link in
+    let c = fits_chain C 24 left h.here h.root d.outer.items h.leaf d.carry d.piece.items laws
+    h.known_root (omega (arith, few)) h.fits h.ahead h.known_outer h.link in
+    record {
+      leaf = h.leaf;
+      goes_on = h.goes_on;
+      known_leaf = h.known;
+      known = rw is at h.known_root;
+      some = subst (λ n. IsEmptyStruct (tree C n) → ⊥) is (some_fit (tree C h.root) h.fit);
+      chain = subst (λ n. Chained C 24 n d.outer.items h.leaf) is c.chain;
+      few = few;
+      inside = h.inside;
+      fits = (c.inner, h.clean);
+      at = h.at;
+      id_in_header_only = h.id_in_header_only;
+      name = h.name;
+    }

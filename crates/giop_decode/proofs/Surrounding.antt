@@ -1,5 +1,5 @@
 -- The encapsulations among a decoder's frames.
-use Rattle.std.proofs.Common.{◌≡◌, ℕ, zero, suc, ◌+◌, ◌-◌, ◌%◌, ◌<◌, ◌≤◌, Bool, true, false, cond, List, [], ◌∷◌, ◌++◌, length, map, take, drop, get_or, set, Option, Some, None, refl, sym, ◌∙◌, ap, arith, add-one, append-nil, length-set, lt-ltb, le-ltb, ne_eqb}
+use Rattle.std.proofs.Common.{◌≡◌, ℕ, zero, suc, pred, ◌+◌, ◌-◌, ◌%◌, ◌<◌, ◌≤◌, Bool, true, false, cond, List, [], ◌∷◌, ◌++◌, length, map, take, drop, get_or, set, Option, Some, None, refl, sym, ◌∙◌, ap, arith, add-one, append-nil, length-set, lt-ltb, le-ltb, ne_eqb}
 use Rattle.std.specs.Prelude.{◌||◌, IfSome}
 use Rattle.std.proofs.lemmas.Bool.{cases_lt, eq-eqb}
 use Rattle.std.proofs.lemmas.List.{map-append, take_more, take_more_set}
@@ -13,9 +13,9 @@ use Rattle.giop_decode.specs.Fits.{Surround, Surrounds}
 use Rattle.giop_decode.specs.Reading.{cut_off}
 use Rattle.giop_decode.specs.ReadResult.{Done, with_front, Coding, Fault, Leaf, Line, OpenPart, Read, PathSegment, Short, lines_of}
 use Rattle.giop_decode.specs.ReadingSteps.{around, coding_at, coding_in, heard_in, heard_parts, resumed, segment_in}
-use Rattle.giop_decode.specs.Transitions.{HasOctetsLeft, tick_of, tick_by_of, HaveOctetsLeft, AreKnown, IsWithin, StandAt, StandsAt, coding_by, coding_of, ended_at, gone_on, gone_to, leaf_of, has_ended, is_inside, is_some_order, part_in, open_part, open_part_in, open_parts, ticked, ticked_at, ticked_by}
+use Rattle.giop_decode.specs.Transitions.{HasOctetsLeft, tick_of, tick_by_of, HaveOctetsLeft, AreKnown, IsWithin, StandAt, StandsAt, coding_by, coding_of, ended_at, gone_on, gone_to, leaf_by, leaf_of, leaf_type, has_ended, is_inside, is_some_order, part_in, open_part, open_part_in, open_parts, parts_in_room, tree_in, ticked, ticked_at, ticked_by}
 use Rattle.giop_sig.specs.Table.{Table}
-use Rattle.giop_sig.specs.Trees.{tree}
+use Rattle.giop_sig.specs.Trees.{tree_at}
 use Rattle.giop_sig.specs.Types.{Led, Ty, Union}
 
 -- ---- an octet more
@@ -26,10 +26,11 @@ place_ticked : (here : ℕ) (inside : Option Order) (T : Ty) (i count : ℕ) →
 place_ticked here None T i count h = refl
 place_ticked here (Some order) T i count h = search (arith)
 
-pub places_ticked : (C : Table) (here : ℕ) (frames : List Frame) → HaveOctetsLeft frames →
-    open_parts C (here + 1) (ticked frames) ≡ open_parts C here frames
-places_ticked C here [] h = refl
-places_ticked C here (f ∷ frames) h = search (arith, place_ticked, places_ticked C here frames h.1)
+pub places_ticked : (C : Table) (room here : ℕ) (frames : List Frame) → HaveOctetsLeft frames →
+    parts_in_room C room (here + 1) (ticked frames) ≡ parts_in_room C room here frames
+places_ticked C room here [] h = refl
+places_ticked C room here (f ∷ frames) h =
+    search (arith, place_ticked, places_ticked C (pred room) here frames h.1)
 
 within_ticked : (inside : Option Order) (i count : ℕ) (T : Ty) →
     IfSome inside (λ order. i < count) → IsWithin inside i count T →
@@ -56,6 +57,17 @@ pub length_ticked : (frames : List Frame) → length (ticked frames) ≡ length 
 length_ticked [] = refl
 length_ticked (f ∷ frames) = ap suc (length_ticked frames)
 
+-- counting takes no room
+pub tree_ticked : (C : Table) (frames : List Frame) (of : ℕ) →
+    tree_in C (ticked frames) of ≡ tree_in C frames of
+tree_ticked C frames of = ap (λ n. tree_at C (24 - n) of) (length_ticked frames)
+
+pub leaf_ticked : (C : Table) (old new : List Frame) (leaf : Innermost) (carry piece : List ℕ) →
+    new ≡ ticked old → leaf_of C old leaf carry piece ≡ leaf_of C new leaf carry piece
+leaf_ticked C old new leaf carry piece counts =
+    ap (λ T. leaf_by T leaf carry piece) (sym (ap (λ fs. tree_in C fs (leaf_type leaf)) counts
+    ∙ tree_ticked C old (leaf_type leaf)))
+
 -- ---- where none has ended
 
 neither : (a b : Bool) → a || b ≡ false → (a ≡ false) × (b ≡ false)
@@ -71,8 +83,10 @@ pub ahead_by : (C : Table) (frames : List Frame) → AreKnown C frames → has_e
     HaveOctetsLeft frames
 ahead_by C [] k h = tt
 ahead_by C (f ∷ frames) k h =
-    let n = neither (ended_at f.inside f.index f.count) (has_ended frames) h in
-    (ahead_at f.inside f.index f.count (tree C f.of.0) k.0.within n.0, ahead_by C frames k.1 n.1)
+    let n = neither (ended_at f.inside f.index f.count) (has_ended frames) h in (
+      ahead_at f.inside f.index f.count (tree_at C 24 f.of.0) (k.0.within 24) n.0,
+      ahead_by C frames k.1 n.1,
+    )
 
 part_surrounds : (here : ℕ) (T : Ty) (i count : ℕ) → Surround here (part_in T i count)
 part_surrounds here (Union n scalar select names cases) i count = tt
@@ -85,15 +99,13 @@ surround_at : (here : ℕ) (inside : Option Order) (T : Ty) (i count : ℕ) →
 surround_at here None T i count k a s = part_surrounds here T i count
 surround_at here (Some order) T i count k a s = search (arith)
 
-pub surrounds : (C : Table) (here : ℕ) (frames : List Frame) → AreKnown C frames →
+pub surrounds : (C : Table) (room here : ℕ) (frames : List Frame) → AreKnown C frames →
     HaveOctetsLeft frames →
-    StandAt here frames → Surrounds here (open_parts C here frames)
-surrounds C here [] k a s = tt
-surrounds C here (f ∷ frames) k a s = search (
-  arith,
-  surround_at,
-  surrounds C here frames k.1 a.1
-      s.1,
+    StandAt here frames → Surrounds here (parts_in_room C room here frames)
+surrounds C room here [] k a s = tt
+surrounds C room here (f ∷ frames) k a s = (
+  surround_at here f.inside (tree_at C room f.of.0) f.index f.count (k.0.within room) a.0 s.0,
+  surrounds C (pred room) here frames k.1 a.1 s.1,
 )
 
 -- ---- a part that goes on in these frames
@@ -137,19 +149,19 @@ resumed_shut coding path (Some order) T i count ended lines at outer leaf k = se
   le-ltb,
 )
 
-pub around_unless_ended : (C : Table) (coding : Coding) (path : List PathSegment) (at : ℕ)
-    (frames : List Frame)
+pub around_unless_ended : (C : Table) (room : ℕ) (coding : Coding) (path : List PathSegment)
+    (at : ℕ) (frames : List Frame)
     (lines : List Line) (inner : List OpenPart) (leaf : Leaf) → AreKnown C frames →
-    around coding path (open_parts C at frames) (Short lines at inner leaf)
-    ≡ unless_ended (has_ended frames) lines at (open_parts C at frames ++ inner) leaf
-around_unless_ended C coding path at [] lines inner leaf k = refl
-around_unless_ended C coding path at (f ∷ frames) lines inner leaf k =
-    ap (resumed coding path (open_part C at f))
-    (around_unless_ended C (coding_at coding (open_part C at f))
-    (path ++ segment_in (open_part C at f) ∷ []) at frames lines inner leaf
-    k.1)
-    ∙ resumed_shut coding path f.inside (tree C f.of.0) f.index f.count (has_ended frames) lines at
-    (open_parts C at frames ++ inner) leaf k.0.within
+    around coding path (parts_in_room C room at frames) (Short lines at inner leaf)
+    ≡ unless_ended (has_ended frames) lines at (parts_in_room C room at frames ++ inner) leaf
+around_unless_ended C room coding path at [] lines inner leaf k = refl
+around_unless_ended C room coding path at (f ∷ frames) lines inner leaf k =
+    let place = open_part C room at f in
+    ap (resumed coding path place)
+    (around_unless_ended C (pred room) (coding_at coding place) (path ++ segment_in place ∷ []) at
+    frames lines inner leaf k.1)
+    ∙ resumed_shut coding path f.inside (tree_at C room f.of.0) f.index f.count (has_ended frames)
+    lines at (parts_in_room C (pred room) at frames ++ inner) leaf (k.0.within room)
 
 pub around_gone : (C : Table) (coding : Coding) (path : List PathSegment) (at : ℕ)
     (frames : List Frame)
@@ -175,11 +187,11 @@ pub heard_in_open : (lines : List Line) (here : ℕ) (inside : Option Order) (T 
 heard_in_open lines here None T i count = heard_in_part lines T i count
 heard_in_open lines here (Some order) T i count = refl
 
-pub heard_open : (C : Table) (here : ℕ) (lines : List Line) (frames : List Frame) →
-    heard_parts lines (open_parts C here frames) ≡ open_parts C here frames
-heard_open C here lines [] = refl
-heard_open C here lines (f ∷ frames) = search
-    (arith, heard_in_open, heard_open C here lines frames)
+pub heard_open : (C : Table) (room here : ℕ) (lines : List Line) (frames : List Frame) →
+    heard_parts lines (parts_in_room C room here frames) ≡ parts_in_room C room here frames
+heard_open C room here lines [] = refl
+heard_open C room here lines (f ∷ frames) = search
+    (arith, heard_in_open, heard_open C (pred room) here lines frames)
 
 -- one frame more
 pub or_false : (b : Bool) → b || false ≡ b
@@ -222,14 +234,14 @@ coded_at : (C : Table) (here : ℕ) (c : Coding) (by : Order × ℕ) (inside : O
 coded_at C here c by None T i count s h = search (arith, part_coding)
 coded_at C here c by (Some order) T i count s h = search (arith)
 
-pub coded_in : (C : Table) (here : ℕ) (c : Coding) (order : Order) (at : ℕ) (frames : List Frame) →
-    StandAt here frames → IsCoded here c (order, at) →
-    IsCoded here (coding_in c (open_parts C here frames)) (coding_by order at frames)
-coded_in C here c order at [] s h = h
-coded_in C here c order at (f ∷ frames) s h =
+pub coded_in : (C : Table) (room here : ℕ) (c : Coding) (order : Order) (at : ℕ)
+    (frames : List Frame) → StandAt here frames → IsCoded here c (order, at) →
+    IsCoded here (coding_in c (parts_in_room C room here frames)) (coding_by order at frames)
+coded_in C room here c order at [] s h = h
+coded_in C room here c order at (f ∷ frames) s h =
     let by = coding_of (order, at) f.inside f.index in
-    coded_in C here (coding_at c (open_part C here f)) by.0 by.1 frames s.1
-    (coded_at C here c (order, at) f.inside (tree C f.of.0) f.index f.count s.0 h)
+    coded_in C (pred room) here (coding_at c (open_part C room here f)) by.0 by.1 frames s.1
+    (coded_at C here c (order, at) f.inside (tree_at C room f.of.0) f.index f.count s.0 h)
 
 -- ---- where there is none
 
@@ -359,7 +371,7 @@ coding_step order at outer i f d now next below is e n =
 -- the reading after a part has ended, with some lines
 abbrev pub gone_behind : Table → List Line → ℕ → List Frame → Option Innermost → Read
 gone_behind C lines at frames None = Done lines at []
-gone_behind C lines at frames (Some leaf) = gone_to C lines at frames (leaf_of C leaf [] [])
+gone_behind C lines at frames (Some leaf) = gone_to C lines at frames (leaf_of C frames leaf [] [])
 
 front_shut : (ended : Bool) (front : List Line) (at : ℕ) (outer : List OpenPart) (leaf : Leaf) →
     with_front front (unless_ended ended [] at outer leaf) ≡ unless_ended ended front at outer leaf

@@ -20,8 +20,8 @@ use Rattle.giop_decode.specs.declared.leaf.Step.{Step}
 use Rattle.giop_decode.specs.declared.leaf.Transition.TheVariants as transitions
 use Rattle.giop_decode.specs.declared.leaf.Output.{Output}
 use Rattle.giop_decode.specs.declared.leaf.Output.TheVariants as outputs
-use Rattle.giop_decode.specs.Fits.{ContentFits}
-use Rattle.giop_decode.specs.Noted.{Noted, noted, without_name_if, ends_in_string, is_header_root, is_text}
+use Rattle.giop_decode.specs.Fits.{ContentFits, HasLeadingNumber}
+use Rattle.giop_decode.specs.Noted.{Noted, noted, without_name_if, ends_in_string, in_content, is_header_root, is_text, nothing_noted}
 use Rattle.giop_decode.specs.DecoderState.{Fits, CanStandAt, KeepsNoted, HoldsNoted, read_by_fields}
 use Rattle.giop_decode.specs.DecoderSteps.{IsAround, IsNotRefused, decoder_step, emitted}
 use Rattle.giop_decode.specs.Pieces.{ends, tail, unless}
@@ -29,24 +29,25 @@ use Rattle.giop_decode.specs.Reading.{after_leading_number}
 use Rattle.giop_decode.proofs.NameBuffer.{name_kept, none_either}
 use Rattle.giop_decode.specs.NameBuffer.{FitsName, string_offset}
 use Rattle.giop_decode.specs.declared.notes.Notes.{Notes}
-use Rattle.giop_decode.specs.NotingSteps.{transition_offset, StringGoesOn, OutputFitsString, clears_name, transition_in_string}
+use Rattle.giop_decode.specs.NotingSteps.{transition_offset, StringGoesOn, OutputFitsString, clears_name, leaf_in_string, transition_in_string}
 use Rattle.giop_decode.specs.Runs.{Adds, AllGathered, IsHeldOf, IsParted, IsStep, IsStepBy, IsStepOf, TakenTogether}
 use Rattle.giop_decode.specs.ReadResult.{plain, line, Coding, Done, Line, Opening, PathSegment, Piece, lines_of, with_front}
 use Rattle.giop_decode.specs.ReadingSteps.{after, coding_in, content_step, leading_width, leaf_step, path_in, IsRule}
-use Rattle.giop_decode.specs.Transitions.{HasOutput, HaveOctetsLeft, IsOutput, IsWholeLong, IsWholeNumber, NumberStands, TransitionGives, TransitionFits, after_transition, block_of, coding_by, leaf_type, open_parts, still_held, ticked, ticked_by, IsClean}
+use Rattle.giop_decode.specs.Transitions.{HasOutput, HaveOctetsLeft, IsOutput, IsWholeLong, IsWholeNumber, NumberStands, TransitionGives, TransitionFits, after_transition, block_of, coding_by, leaf_by, leaf_of, leaf_type, open_parts, still_held, ticked, ticked_by, tree_in, IsClean}
 use Rattle.giop_decode.proofs.Advancing.{lines_after_transition, same_some, stands_at, fits_allowed}
 use Rattle.arrayvec.specs.ArrayVec.{ArrayVec}
 use Rattle.giop_decode.specs.declared.frame.Frame.{Frame}
-use Rattle.giop_decode.proofs.Counting.{ahead_fewer, coding_ticked_by, ticked_last, ticked_none}
+use Rattle.giop_decode.proofs.Counting.{ahead_fewer, coding_ticked_by, length_ticked_by, ticked_last, ticked_none}
 use Rattle.giop_decode.proofs.Gathering.{IsCountedBy, IsFurther, none_counted, number_counted, waits_gathered}
 use Rattle.giop_decode.proofs.Noting.{noted_on, leaf_inside}
 use Rattle.giop_decode.proofs.PieceLaws.{content_held, full_whole, last_whole}
-use Rattle.giop_decode.proofs.Surrounding.{coded_in, places_ticked}
+use Rattle.giop_decode.proofs.Surrounding.{coded_in, places_ticked, tree_ticked}
+use Rattle.giop_decode.proofs.Rooms.{in_frames}
 use Rattle.giop_decode.specs.Passes.{Gives, IsBehind}
 use Rattle.giop_decode.proofs.PartialBlocks.{held_in}
 use Rattle.giop_sig.specs.declared.types.TypeId.{TypeId}
 use Rattle.giop_sig.specs.Table.{Table, type_id}
-use Rattle.giop_sig.specs.Trees.{tree, tree_at}
+use Rattle.giop_sig.specs.Trees.{tree_at}
 use Rattle.giop_decode.proofs.Runs.{take_more}
 use Rattle.giop_decode.proofs.TransitionLaws.{number_prim, turns_number}
 use Rattle.giop_sig.specs.Types.{Plain, Single, Text, Ty}
@@ -68,6 +69,17 @@ whole_number p order at count octets all number stands width are taken = record 
 
 -- ---- a number ahead
 
+-- the width of the number that comes next, in the room that is left
+pub width_in : (C : Table) (d : Decoder) (f : Fits C d) (of : TypeId) →
+    d.leaf ≡ Some (innermost.Number of) → (width : ℕ) →
+    ((room : ℕ) → HasLeadingNumber (tree_at C (suc room) of.0) →
+    width ≡ leading_width (tree_at C (suc room) of.0)) →
+    width ≡ leading_width (tree_in C d.outer.items of.0)
+width_in C d f of e width all =
+    let s = stands_at C d f (innermost.Number of) e in
+    in_frames (λ n. HasLeadingNumber (tree_at C n of.0) → width ≡ leading_width (tree_at C n of.0))
+    d.outer.items s.room all s.fits.kind
+
 still_nothing : (output : Output) → still_held output [] ≡ []
 still_nothing outputs.Nothing = refl
 still_nothing _ = refl
@@ -80,15 +92,17 @@ module _ (C : Table) (d : Decoder) (of : TypeId) (octets : List ℕ) (count : �
   -- its octets, with which it is whole or isn't, and what is kept of them
   of_number : (order : Order) (at : ℕ) → coding_by d.order d.at d.outer.items ≡ (order, at) →
       (whole : Bool) (kept all : List ℕ) (s : Step) →
-      NumberStands (leading_width (tree C of.0)) at d.carry octets count whole all →
+      NumberStands (leading_width (tree_in C d.outer.items of.0)) at d.carry octets count whole all
+      →
       HaveOctetsLeft (ticked_by (length octets - 1) d.outer.items) →
-      TransitionFits (tree C of.0) of.0 s.transition kept [] → HasOutput (tree C of.0) s.output →
-      OutputFitsString (tree C of.0) false s.transition s.output →
-      ((n : ℕ) → StringGoesOn (tree C of.0) None s.transition s.output n) →
+      TransitionFits (tree_in C d.outer.items of.0) of.0 s.transition kept [] → HasOutput (tree_in
+      C d.outer.items of.0) s.output →
+      OutputFitsString (tree_in C d.outer.items of.0) false s.transition s.output →
+      ((n : ℕ) → StringGoesOn (tree_in C d.outer.items of.0) None s.transition s.output n) →
       ((coding : Coding) (path : List PathSegment) (here : ℕ) →
-      TransitionGives (tree C of.0) s.transition s.output kept [] path here
-      (after_leading_number (tree C of.0) (λ xs at rest.
-      after coding path (tree C of.0) (num order xs) at rest)
+      TransitionGives (tree_in C d.outer.items of.0) s.transition s.output kept [] path here
+      (after_leading_number (tree_in C d.outer.items of.0) (λ xs at rest.
+      after coding path (tree_in C d.outer.items of.0) (num order xs) at rest)
       (block_of whole all here))) →
       TakenTogether C d octets of count s [] kept d.piece.items
   of_number order at coded whole kept all s stands ahead fits has string on gives =
@@ -117,11 +131,12 @@ module _ (C : Table) (d : Decoder) (of : TypeId) (octets : List ℕ) (count : �
             let aligned : (here - coding.origin) % 8 ≡ (at + (count - 1)) % 8 =
             there ∙ ap (λ (k : Order × ℕ). (k.1 + (count - 1)) % 8) coded in
             rw nothing_held
-            (ap (after_leading_number (tree C of.0) (λ xs at rest.
-            after coding path (tree C of.0) (num coding.order xs) at rest))
+            (ap (after_leading_number (tree_in C d.outer.items of.0) (λ xs at rest.
+            after coding path (tree_in C d.outer.items of.0) (num coding.order xs) at rest))
             (stands.last coding.origin here aligned)
-            ∙ (ap (λ o. after_leading_number (tree C of.0) (λ xs at rest.
-            after coding path (tree C of.0) (num o xs) at rest) (block_of whole all (here + 1))) is
+            ∙ (ap (λ o. after_leading_number (tree_in C d.outer.items of.0) (λ xs at rest.
+            after coding path (tree_in C d.outer.items of.0) (num o xs) at rest) (block_of whole
+            all (here + 1))) is
             ∙ rw (still_nothing s.output) at t.comes));
         says = λ coding path here. rw no_piece (gives coding path (here + 1)).says;
       }
@@ -129,12 +144,12 @@ module _ (C : Table) (d : Decoder) (of : TypeId) (octets : List ℕ) (count : �
   -- its last octet has come, and nothing is kept of it
   comes_here : (order : Order) (at : ℕ) → coding_by d.order d.at d.outer.items ≡ (order, at) →
       (kept all : List ℕ) (s : Step) → kept ≡ [] →
-      NumberStands (leading_width (tree C of.0)) at d.carry octets count true all →
+      NumberStands (leading_width (tree_in C d.outer.items of.0)) at d.carry octets count true all →
       HaveOctetsLeft (ticked_by (length octets - 1) d.outer.items) →
-      IsStepBy (tree C of.0) of.0 s →
+      IsStepBy (tree_in C d.outer.items of.0) of.0 s →
       ((coding : Coding) (path : List PathSegment) (here : ℕ) →
-      TransitionGives (tree C of.0) s.transition s.output [] [] path here
-      (after coding path (tree C of.0) (num order all) here [])) →
+      TransitionGives (tree_in C d.outer.items of.0) s.transition s.output [] [] path here
+      (after coding path (tree_in C d.outer.items of.0) (num order all) here [])) →
       TakenTogether C d octets of count s [] kept d.piece.items
   comes_here order at coded kept all s empty stands ahead fits gives =
       of_number order at coded true kept all s stands ahead (rw empty fits.transition_fits)
@@ -143,15 +158,21 @@ module _ (C : Table) (d : Decoder) (of : TypeId) (octets : List ℕ) (count : �
 
   pub comes_head : (order : Order) (at : ℕ) → coding_by d.order d.at d.outer.items ≡ (order, at) →
       (kept all : List ℕ) (s : Step) → kept ≡ [] →
-      NumberStands (leading_width (tree C of.0)) at d.carry octets count true all →
+      NumberStands (leading_width (tree_in C d.outer.items of.0)) at d.carry octets count true all →
       HaveOctetsLeft (ticked_by (length octets - 1) d.outer.items) → IsStep C of.0 s →
       IsStepOf C of.0 (num order all) s → TakenTogether C d octets of count s [] kept d.piece.items
   comes_head order at coded kept all s empty stands ahead fits gives =
-      comes_here order at coded kept all s empty stands ahead (fits 23) (gives 23)
+      let few = (stands_at C d f (innermost.Number of) e).room in
+      comes_here order at coded kept all s empty stands ahead
+      (in_frames (λ n. IsStepBy (tree_at C n of.0) of.0 s) d.outer.items few fits)
+      (in_frames (λ n. (coding : Coding) (path : List PathSegment) (here : ℕ) →
+      TransitionGives (tree_at C n of.0) s.transition s.output [] [] path here
+      (after coding path (tree_at C n of.0) (num order all) here [])) d.outer.items few gives)
 
   -- a number of which nothing was held
   pub comes_number : (order : Order) (at : ℕ) → coding_by d.order d.at d.outer.items ≡ (order, at) →
-      (number : Taken) → d.carry ≡ [] → IsWholeNumber (tree C of.0) order at octets count number →
+      (number : Taken) → d.carry ≡ [] → IsWholeNumber (tree_in C d.outer.items of.0) order at
+      octets count number →
       HaveOctetsLeft (ticked_by (length octets - 1) d.outer.items) →
       TakenTogether C d octets of count (record {
         transition = transitions.Ended;
@@ -169,13 +190,15 @@ module _ (C : Table) (d : Decoder) (of : TypeId) (octets : List ℕ) (count : �
         output_fits_string = (refl, refl);
         string_goes_on = λ n. (refl, refl);
       })
-      (λ coding path at. subst (λ n. TransitionGives (tree C of.0) transitions.Ended
-      (outputs.Number number) [] [] path at (after coding path (tree C of.0) n at []))
-      h.spelled (turns_number coding path (tree C of.0) at number h.is))
+      (λ coding path at. subst (λ n. TransitionGives (tree_in C d.outer.items of.0)
+      transitions.Ended
+      (outputs.Number number) [] [] path at (after coding path (tree_in C d.outer.items of.0) n at
+      []))
+      h.spelled (turns_number coding path (tree_in C d.outer.items of.0) at number h.is))
 
   -- four octets of which none was held
   pub comes_long : (order : Order) (at : ℕ) → coding_by d.order d.at d.outer.items ≡ (order, at) →
-      (n : ℕ) (s : Step) → leading_width (tree C of.0) ≡ 4 → d.carry ≡ [] →
+      (n : ℕ) (s : Step) → leading_width (tree_in C d.outer.items of.0) ≡ 4 → d.carry ≡ [] →
       IsWholeLong order at octets count n →
       HaveOctetsLeft (ticked_by (length octets - 1) d.outer.items) → IsStep C of.0 s →
       IsStepOf C of.0 n s → TakenTogether C d octets of count s [] d.carry d.piece.items
@@ -186,7 +209,8 @@ module _ (C : Table) (d : Decoder) (of : TypeId) (octets : List ℕ) (count : �
   -- its last octet is still to come
   pub number_waits : (order : Order) (at : ℕ) → coding_by d.order d.at d.outer.items ≡ (order, at) →
       (all : List ℕ) →
-      NumberStands (leading_width (tree C of.0)) at d.carry octets count false all →
+      NumberStands (leading_width (tree_in C d.outer.items of.0)) at d.carry octets count false all
+      →
       HaveOctetsLeft (ticked_by (length octets - 1) d.outer.items) →
       TakenTogether C d octets of count (record {
         transition = transitions.More (innermost.Number of);
@@ -198,41 +222,53 @@ module _ (C : Table) (d : Decoder) (of : TypeId) (octets : List ℕ) (count : �
 
 -- ---- the octet of an encapsulation's byte order
 
-pub comes_order : (C : Table) (d : Decoder) (of : TypeId) (n : ℕ) (octets : List ℕ) (s : Step)
-    (f : Fits C d) → d.leaf ≡ Some (innermost.Opening of n) → 0 < length octets →
-    IsStep C of.0 s → ((room : ℕ) (coding : Coding) (path : List PathSegment) (here : ℕ) →
-    TransitionGives (tree_at C (suc room) of.0) s.transition s.output [] [] path (here + 1)
-    (leaf_step coding path (Opening (tree_at C (suc room) of.0) (n - 1)) here
-    (get_or octets 0 0))) →
-    TakenTogether C d octets of 1 s [] d.carry d.piece.items
-comes_order C d of n octets s f e some fits transitions =
-    let leaf = innermost.Opening of n in
-    let it : f.leaf ≡ leaf = same_some f.leaf leaf (sym f.goes_on ∙ e) in
-    let clean : IsClean leaf d.carry d.piece.items =
-    subst (λ l. IsClean l d.carry d.piece.items) it f.clean in
-    let kept : still_held s.output d.piece.items ≡ [] =
-    ap (still_held s.output) clean.1 ∙ still_nothing s.output in
-    record {
-      leaf = leaf;
-      goes_on = e;
-      same = refl;
-      some = omega arith;
-      within = some;
-      ahead = rw (ticked_none d.outer.items) f.ahead;
-      short = rw clean.1 (omega arith);
-      carry = d.carry;
-      piece = d.piece.items;
-      adds = (refl, refl, refl);
-      transition_fits = rw (clean.0, kept) (fits 23).transition_fits;
-      has_output = (fits 23).has_output;
-      output_fits_string = (fits 23).output_fits_string;
-      string_goes_on = (fits 23).string_goes_on (length (d.piece.items ++ []));
-      lines = λ coding path here. (transitions 23 coding path here).lines;
-      comes = λ coding path here ordered there.
-          rw (clean.0, kept)
-          (rw (still_nothing s.output) at (transitions 23 coding path here).comes);
-      says = λ coding path here. rw clean.1 (transitions 23 coding path here).says;
-    }
+module _ (C : Table) (d : Decoder) (of : TypeId) (n : ℕ) (octets : List ℕ) (s : Step) (f : Fits C d)
+    (e : d.leaf ≡ Some (innermost.Opening of n)) (some : 0 < length octets) where
+  of_order : IsStepBy (tree_in C d.outer.items of.0) of.0 s →
+      ((coding : Coding) (path : List PathSegment) (here : ℕ) →
+      TransitionGives (tree_in C d.outer.items of.0) s.transition s.output [] [] path (here + 1)
+      (leaf_step coding path (Opening (tree_in C d.outer.items of.0) (n - 1)) here
+      (get_or octets 0 0))) → TakenTogether C d octets of 1 s [] d.carry d.piece.items
+  of_order fits gives =
+      let leaf = innermost.Opening of n in
+      let it : f.leaf ≡ leaf = same_some f.leaf leaf (sym f.goes_on ∙ e) in
+      let clean : IsClean leaf d.carry d.piece.items =
+      subst (λ l. IsClean l d.carry d.piece.items) it f.clean in
+      let kept : still_held s.output d.piece.items ≡ [] =
+      ap (still_held s.output) clean.1 ∙ still_nothing s.output in
+      record {
+        leaf = leaf;
+        goes_on = e;
+        same = refl;
+        some = omega arith;
+        within = some;
+        ahead = rw (ticked_none d.outer.items) f.ahead;
+        short = rw clean.1 (omega arith);
+        carry = d.carry;
+        piece = d.piece.items;
+        adds = (refl, refl, refl);
+        transition_fits = rw (clean.0, kept) fits.transition_fits;
+        has_output = fits.has_output;
+        output_fits_string = fits.output_fits_string;
+        string_goes_on = fits.string_goes_on (length (d.piece.items ++ []));
+        lines = λ coding path here. (gives coding path here).lines;
+        comes = λ coding path here ordered there.
+            rw (clean.0, kept) (rw (still_nothing s.output) at (gives coding path here).comes);
+        says = λ coding path here. rw clean.1 (gives coding path here).says;
+      }
+
+  pub comes_order : IsStep C of.0 s →
+      ((room : ℕ) (coding : Coding) (path : List PathSegment) (here : ℕ) →
+      TransitionGives (tree_at C (suc room) of.0) s.transition s.output [] [] path (here + 1)
+      (leaf_step coding path (Opening (tree_at C (suc room) of.0) (n - 1)) here
+      (get_or octets 0 0))) → TakenTogether C d octets of 1 s [] d.carry d.piece.items
+  comes_order fits transitions =
+      let few = (stands_at C d f (innermost.Opening of n) e).room in
+      of_order (in_frames (λ m. IsStepBy (tree_at C m of.0) of.0 s) d.outer.items few fits)
+      (in_frames (λ m. (coding : Coding) (path : List PathSegment) (here : ℕ) →
+      TransitionGives (tree_at C m of.0) s.transition s.output [] [] path (here + 1)
+      (leaf_step coding path (Opening (tree_at C m of.0) (n - 1)) here (get_or octets 0 0)))
+      d.outer.items few transitions)
 
 -- ---- the rest of a piece ahead
 
@@ -255,7 +291,7 @@ module _ (C : Table) (d : Decoder) (of : TypeId) (total offset : ℕ) (octets : 
     (e : d.leaf ≡ Some (innermost.Content of total offset))
     (ahead : HaveOctetsLeft (ticked_by (length octets - 1) d.outer.items)) where
   abbrev T : Ty
-  T = tree C of.0
+  T = tree_in C d.outer.items of.0
 
   abbrev content_leaf : Innermost
   content_leaf = innermost.Content of total offset
@@ -286,7 +322,8 @@ module _ (C : Table) (d : Decoder) (of : TypeId) (total offset : ℕ) (octets : 
 
   -- octets of which all but the last leave the piece incomplete, and the last does this
   of_content : (s : Step) (rest kept : List ℕ) → 0 < count → count ≤ length octets →
-      IsParted C content_leaf d.piece.items (count - 1) → length kept + length rest ≤ 32 →
+      IsParted C d.outer.items content_leaf d.piece.items (count - 1) → length kept + length rest ≤
+      32 →
       TransitionFits T of.0 s.transition d.carry (still_held s.output kept) →
       HasOutput T s.output → OutputFitsString T (is_text T) s.transition s.output →
       StringGoesOn T (string_offset T content_leaf) s.transition s.output (length (kept ++ rest)) →
@@ -365,7 +402,7 @@ module _ (C : Table) (d : Decoder) (of : TypeId) (total offset : ℕ) (octets : 
       let one = tail_small T in
       let room : length d.piece.items < total - offset + tail T = content.room_last small in
       let some : 0 < count = omega (arith, counted, sized, room, one) in
-      let parted : IsParted C content_leaf d.piece.items (count - 1) = (
+      let parted : IsParted C d.outer.items content_leaf d.piece.items (count - 1) = (
         (λ large. absurd (omega (arith, large, small))),
         (λ _. omega (arith, counted, sized, room, one)),
       ) in
@@ -395,7 +432,7 @@ module _ (C : Table) (d : Decoder) (of : TypeId) (total offset : ℕ) (octets : 
       go why rule some parted short come
     where
       go : (why : Option Kind) → IfSome why IsRule → 0 < count →
-          IsParted C content_leaf d.piece.items (count - 1) →
+          IsParted C d.outer.items content_leaf d.piece.items (count - 1) →
           length d.piece.items + length (take size octets) ≤ 32 →
           ((path : List PathSegment) (here : ℕ) →
           content_step T path total offset here held_before last_octet ≡ unless T why (here + 1)
@@ -448,7 +485,7 @@ module _ (C : Table) (d : Decoder) (of : TypeId) (total offset : ℕ) (octets : 
       bad (sym (last_is size small sized (omega (arith, counted, some))) ∙ zero_end))))
 
   -- octets that leave the piece incomplete
-  pub piece_waits : IsParted C content_leaf d.piece.items (length octets) →
+  pub piece_waits : IsParted C d.outer.items content_leaf d.piece.items (length octets) →
       count ≡ length octets → 0 < count →
       TakenTogether C d octets of count (record {
         transition = transitions.More content_leaf;
@@ -481,7 +518,7 @@ module _ (C : Table) (d : Decoder) (of : TypeId) (total offset : ℕ) (octets : 
 pub part_waits : (C : Table) (d : Decoder) (octets : List ℕ) (leaf : Innermost) (of : TypeId) →
     of.0 ≡ leaf_type leaf → Fits C d → d.leaf ≡ Some leaf → 0 < length octets →
     HaveOctetsLeft (ticked_by (length octets - 1) d.outer.items) →
-    IsParted C leaf d.piece.items (length octets) →
+    IsParted C d.outer.items leaf d.piece.items (length octets) →
     TakenTogether C d octets of (length octets) (record {
       transition = transitions.More leaf;
       output = outputs.Nothing;
@@ -506,7 +543,9 @@ adds_gathered C d new (innermost.Opening of count) octets on f e h = subst
     (λ xs. Fits C new × AllGathered C d new xs) (sym h.0)
     (none_counted C d new (subst (λ xs. IsCountedBy d new (length xs)) h.0 on) h.1 h.2 f)
 adds_gathered C d new (innermost.Content of total offset) octets on f e h =
-    waits_gathered C of total offset (length new.piece.items) h.2 h.3 d new octets on h.0 h.1 f e
+    waits_gathered C of total offset (length new.piece.items) (tree_in C d.outer.items of.0) h.2
+    h.3 d
+    new octets refl on h.0 h.1 f e
     (omega (arith, ap length h.1, length-append d.piece.items octets))
 
 -- a decoder that has counted octets which it has not taken: those before the last of so many
@@ -635,9 +674,40 @@ module _ (C : Table) (d : Decoder) (octets : List ℕ) (of : TypeId) (count : �
       let ps = open_parts C here m.outer.items in
       h.lines (coding_in (plain m.order) ps) (path_in [] ps) here
 
-  pub says_at : (here : ℕ) → IsOutput (tree C of.0) (path_in [] (open_parts C here m.outer.items))
+  -- as much room is left as before them
+  same_room : 24 - length d.outer.items ≡ 24 - length m.outer.items
+  same_room = ap (λ n. 24 - n) (sym (ap length on.further.outer
+      ∙ length_ticked_by (count - 1) d.outer.items))
+
+  pub says_at : (here : ℕ) →
+      IsOutput (tree_in C m.outer.items of.0) (path_in [] (open_parts C here m.outer.items))
       (here + 1) s.output (m.piece.items ++ rest) (lines_at here)
-  says_at here = search (arith)
+  says_at here =
+      let ps = open_parts C here m.outer.items in
+      subst (λ n. IsOutput (tree_at C n of.0) (path_in [] ps) (here + 1) s.output
+      (m.piece.items ++ rest) (lines_at here)) same_room
+      (h.says (coding_in (plain m.order) ps) (path_in [] ps) here)
+
+  -- what the last does, in that room
+  comes_at : (coding : Coding) (path : List PathSegment) (here : ℕ) →
+      coding.order ≡ (coding_by d.order d.at d.outer.items).0 →
+      (here - coding.origin) % 8 ≡ ((coding_by d.order d.at d.outer.items).1 + (count - 1)) % 8 →
+      leaf_step coding path (leaf_of C m.outer.items h.leaf h.carry h.piece) here
+      (get_or octets (count - 1) 0)
+      ≡ after_transition (tree_in C m.outer.items of.0) s.transition m.carry
+      (still_held s.output m.piece.items) (h.lines coding path here) (here + 1)
+  comes_at coding path here order at =
+      subst (λ n. leaf_step coding path (leaf_by (tree_at C n (leaf_type h.leaf)) h.leaf h.carry
+      h.piece) here (get_or octets (count - 1) 0)
+      ≡ after_transition (tree_at C n of.0) s.transition m.carry
+      (still_held s.output m.piece.items) (h.lines coding path here) (here + 1)) same_room
+      (h.comes coding path here order at)
+
+  fits_string : OutputFitsString (tree_in C m.outer.items of.0)
+      (leaf_in_string (tree_in C m.outer.items of.0) h.leaf) s.transition s.output
+  fits_string = subst (λ n. OutputFitsString (tree_at C n of.0)
+      (leaf_in_string (tree_at C n of.0) h.leaf) s.transition s.output) same_room
+      h.output_fits_string
 
   -- how the last is taken
   coded : coding_by m.order m.at m.outer.items
@@ -651,7 +721,7 @@ module _ (C : Table) (d : Decoder) (octets : List ℕ) (of : TypeId) (count : �
       decoder_step C before_last here (get_or octets (count - 1) 0)
       ≡ emitted C m of.0 s.transition s.output
       (lines_at here) here
-  told_whole here stands = search (arith, get_or, coded_in, coded, leads)
+  told_whole here stands = search (arith, get_or, coded_in, coded, leads, comes_at)
 
   pub lines_whole : (here : ℕ) → CanStandAt before_last here →
       lines_of (decoder_step C before_last here (get_or octets (count - 1) 0)) ≡ lines_at here
@@ -661,42 +731,49 @@ module _ (C : Table) (d : Decoder) (octets : List ℕ) (of : TypeId) (count : �
   pub keeps_noted_whole : (new : Decoder) (here : ℕ) (front : List Line) →
       CanStandAt before_last here →
       ends_in_string (emitted C m of.0 s.transition s.output (lines_at here) here)
-      ≡ transition_in_string (tree C of.0)
-      s.transition →
+      ≡ transition_in_string (tree_in C m.outer.items of.0) s.transition →
       ((o : Noted) → HoldsNoted m.notes o →
       HoldsNoted new.notes (without_name_if (clears_name s.output)
       (noted (is_header_root m.head.root) o (lines_at here)))) →
       KeepsNoted m.head.root before_last (read_by_fields C before_last front here) →
       KeepsNoted m.head.root new (with_front front
       (decoder_step C before_last here (get_or octets (count - 1) 0)))
-  keeps_noted_whole new here front stands inside notes old = search (
-    arith,
-    get_or,
-    leaf_inside,
-    leads,
-    noted_on,
-    says_at,
-    told_whole,
-    lines_whole,
-  )
+  keeps_noted_whole new here front stands inside notes old =
+      let T = tree_in C m.outer.items of.0 in
+      let header = is_header_root m.head.root in
+      let silent : in_content (leaf_of C m.outer.items h.leaf h.carry h.piece)
+      ≡ leaf_in_string T h.leaf =
+      leaf_inside C m.outer.items h.leaf h.carry h.piece
+      ∙ ap (λ n. leaf_in_string (tree_in C m.outer.items n) h.leaf) h.same in
+      let held : HoldsNoted m.notes
+      (without_name_if (leaf_in_string T h.leaf) (noted header nothing_noted front)) =
+      rw (leads, silent) at old in
+      subst (HoldsNoted new.notes) (noted_on header T h.leaf s.transition s.output
+      (path_in [] (open_parts C here m.outer.items)) (here + 1) (m.piece.items ++ rest) front
+      (lines_at here) (decoder_step C before_last here (get_or octets (count - 1) 0)) fits_string
+      (says_at here) (ap ends_in_string (told_whole here stands) ∙ inside)
+      (lines_whole here stands)) (notes _ held)
 
-  pub name_whole : (here : ℕ) (next : Innermost) (new : Notes) → IsNotRefused s.transition →
-      string_offset (tree C (leaf_type next)) next ≡ transition_offset (tree C of.0) s.transition →
+  pub name_whole : (here : ℕ) (next : Option ℕ) (new : Notes) → IsNotRefused s.transition →
+      next ≡ transition_offset (tree_in C m.outer.items of.0) s.transition →
       ((o : Noted) → HoldsNoted m.notes o → HoldsNoted new (without_name_if (clears_name s.output)
       (noted (is_header_root m.head.root) o (lines_at here)))) →
-      FitsName m.head.root (string_offset (tree C (leaf_type next)) next) new.buffer new.name.items
+      FitsName m.head.root next new.buffer new.name.items
   name_whole here next new going to notes =
-      let T = tree C of.0 in
+      let T = tree_in C m.outer.items of.0 in
       let same = same_some fits_then.leaf h.leaf (sym fits_then.goes_on ∙ leads) in
-      name_kept (is_header_root m.head.root) m.head.root T (string_offset T h.leaf)
-      (string_offset (tree C (leaf_type next)) next) s.transition s.output
+      name_kept (is_header_root m.head.root) m.head.root T (string_offset T h.leaf) next
+      s.transition
+      s.output
       (path_in [] (open_parts C here m.outer.items)) (here + 1) (m.piece.items ++ rest)
       (lines_at here) m.notes new going
-      h.string_goes_on to (says_at here)
-      (subst (λ n. FitsName m.head.root (string_offset (tree C n) h.leaf) m.notes.buffer
-      m.notes.name.items) h.same
-      (subst (λ l. FitsName m.head.root (string_offset (tree C (leaf_type l)) l) m.notes.buffer
-      m.notes.name.items) same fits_then.name)) notes
+      (subst (λ n. StringGoesOn (tree_at C n of.0) (string_offset (tree_at C n of.0) h.leaf)
+      s.transition s.output (length (m.piece.items ++ rest))) same_room h.string_goes_on)
+      to (says_at here)
+      (subst (λ n. FitsName m.head.root (string_offset (tree_in C m.outer.items n) h.leaf)
+      m.notes.buffer m.notes.name.items) h.same
+      (subst (λ l. FitsName m.head.root (string_offset (tree_in C m.outer.items (leaf_type l)) l)
+      m.notes.buffer m.notes.name.items) same fits_then.name)) notes
 
 -- ---- the last of them, where all are counted
 
@@ -722,4 +799,9 @@ pub behind_gives : (C : Table) (d now : Decoder) (of : ℕ) (s : Step) (rest : L
     (lines : List Line) → IsBehind C d now of → Gives C d of s rest here at lines →
     Gives C now of s rest (here + 1) at lines
 behind_gives C d now of s rest here at lines b says =
-    rw (b.outer, places_ticked C here d.outer.items b.around.ahead, b.piece) says
+    rw (
+      b.outer,
+      tree_ticked C d.outer.items of,
+      places_ticked C 24 here d.outer.items b.around.ahead,
+      b.piece,
+    ) says

@@ -13,7 +13,7 @@ use Rattle.giop_decode.specs.Reading.{reading}
 use Rattle.giop_decode.specs.Fits.{FitsIn}
 use Rattle.giop_decode.specs.NameBuffer.{FitsName, string_offset}
 use Rattle.giop_decode.specs.Noted.{Noted, noted_of, is_header_root, names_operation}
-use Rattle.giop_decode.specs.Transitions.{open_parts, AreKnown, HaveOctetsLeft, StandAt, is_inside, Link, leaf_of, leaf_type, IsClean}
+use Rattle.giop_decode.specs.Transitions.{open_parts, AreKnown, HaveOctetsLeft, StandAt, is_inside, Link, leaf_of, leaf_type, tree_in, IsClean}
 use Rattle.giop_print.specs.declared.path.Root.{Root}
 use Rattle.giop_sig.specs.Types.{Ty}
 use Rattle.giop_sig.specs.Fits.{IsFit}
@@ -39,7 +39,7 @@ pub record Fits (C : Table) (d : Decoder) : Type 0 where
   pub here : ℕ
   pub stands : CanStandAt d here
   pub fits : FitsIn (tree C root) (open_parts C here d.outer.items)
-      (leaf_of C leaf d.carry d.piece.items)
+      (leaf_of C d.outer.items leaf d.carry d.piece.items)
   pub ahead : HaveOctetsLeft d.outer.items
   pub inside : d.inside ≡ is_inside d.outer.items
   pub known_outer : AreKnown C d.outer.items
@@ -48,8 +48,8 @@ pub record Fits (C : Table) (d : Decoder) : Type 0 where
   pub at : d.at < 8
   -- none but a header has a request id
   pub id_in_header_only : is_header_root d.head.root ≡ false → d.notes.request_id ≡ None
-  pub name : FitsName d.head.root (string_offset (tree C (leaf_type leaf)) leaf) d.notes.buffer
-      d.notes.name.items
+  pub name : FitsName d.head.root (string_offset (tree_in C d.outer.items (leaf_type leaf)) leaf)
+      d.notes.buffer d.notes.name.items
 
 -- the value has ended
 abbrev pub IsDone : Decoder → Type 0
@@ -62,7 +62,8 @@ IsDone d = d.leaf ≡ None
 abbrev pub read_by_leaf : Table → Decoder → Option Innermost → List Line → ℕ → Read
 read_by_leaf C d None lines at = Done lines at []
 read_by_leaf C d (Some leaf) lines at =
-    Short lines at (open_parts C at d.outer.items) (leaf_of C leaf d.carry d.piece.items)
+    Short lines at (open_parts C at d.outer.items)
+    (leaf_of C d.outer.items leaf d.carry d.piece.items)
 
 -- the reading that a decoder's fields stand for, with these lines at this offset
 abbrev pub read_by_fields : Table → Decoder → List Line → ℕ → Read

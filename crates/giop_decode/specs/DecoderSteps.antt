@@ -17,7 +17,7 @@ use Rattle.giop_decode.specs.NameBuffer.{string_offset}
 use Rattle.giop_decode.specs.NotingSteps.{transition_offset}
 use Rattle.giop_decode.specs.Noted.{is_header_root, names_operation}
 use Rattle.giop_decode.specs.DecoderState.{read_by_fields}
-use Rattle.giop_decode.specs.Transitions.{open_parts, gone_to, leaf_of, leaf_type, after_transition, still_held, is_inside, AreKnown, HaveOctetsLeft, IsClean, Link}
+use Rattle.giop_decode.specs.Transitions.{open_parts, gone_to, leaf_of, leaf_type, tree_in, after_transition, still_held, is_inside, AreKnown, HaveOctetsLeft, IsClean, Link}
 use Rattle.giop_sig.specs.Types.{Ty}
 use Rattle.giop_sig.specs.Fits.{IsFit}
 use Rattle.giop_sig.specs.Table.{Table}
@@ -29,7 +29,7 @@ abbrev pub stopped_with : Table → List Frame → List ℕ → List ℕ → Opt
     Read
 stopped_with C frames carry piece None lines at = Done lines at []
 stopped_with C frames carry piece (Some leaf) lines at =
-    gone_to C lines at frames (leaf_of C leaf carry piece)
+    gone_to C lines at frames (leaf_of C frames leaf carry piece)
 
 abbrev pub stopped : Table → Decoder → Option Innermost → List Line → ℕ → Read
 stopped C d leaf lines at = stopped_with C d.outer.items d.carry d.piece.items leaf lines at
@@ -42,7 +42,7 @@ transition_result C T d transition lines at = stopped C d d.leaf lines at
 -- the innermost part of a decoder
 abbrev pub leaf_in : Table → Decoder → Option Innermost → Leaf
 leaf_in C d None = LeadingNumber (tree C 0) []
-leaf_in C d (Some leaf) = leaf_of C leaf d.carry d.piece.items
+leaf_in C d (Some leaf) = leaf_of C d.outer.items leaf d.carry d.piece.items
 
 -- one octet more, on a decoder's fields
 abbrev pub decoder_step : Table → Decoder → ℕ → ℕ → Read
@@ -92,15 +92,15 @@ pub record IsAround (C : Table) (d : Decoder) (of : ℕ) : Type 0 where
   pub ahead : HaveOctetsLeft d.outer.items
   pub are_open : (here : ℕ) × OpenFrom 24 (open_parts C here d.outer.items)
   pub room : length d.outer.items < 24
-  pub fit : IsFit (24 - length d.outer.items) (tree C of)
+  pub fit : IsFit (24 - length d.outer.items) (tree_in C d.outer.items of)
   pub at : d.at < 8
 
 -- the reading after a transition of that part, in the parts around it, with these lines
 abbrev pub emitted : Table → Decoder → ℕ → Transition → Output → List Line → ℕ → Read
 emitted C d of transition output lines here =
     rooted none_left (around (plain d.order) [] (open_parts C here d.outer.items)
-    (after_transition (tree C of) transition d.carry (still_held output d.piece.items) lines
-    (here + 1)))
+    (after_transition (tree_in C d.outer.items of) transition d.carry
+    (still_held output d.piece.items) lines (here + 1)))
 
 -- the decoder after that transition: the innermost part that comes next, and the parts around it
 pub record IsNext (C : Table) (d new : Decoder) (of : ℕ) (transition : Transition) : Type 0 where
@@ -113,4 +113,5 @@ pub record IsNext (C : Table) (d new : Decoder) (of : ℕ) (transition : Transit
       Link C root new.outer.items (leaf_type leaf)
   pub going : IsNotRefused transition
   pub offset : (leaf : Innermost) → new.leaf ≡ Some leaf →
-      string_offset (tree C (leaf_type leaf)) leaf ≡ transition_offset (tree C of) transition
+      string_offset (tree_in C new.outer.items (leaf_type leaf)) leaf
+      ≡ transition_offset (tree_in C d.outer.items of) transition

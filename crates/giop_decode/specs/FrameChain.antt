@@ -1,6 +1,6 @@
 -- Which frames and innermost part fit a table, by the numbers of the types: what is tested of a
 -- decoder that is restored from octets (state).
-use Rattle.std.specs.Prelude.{◌≡◌, ℕ, ◌<◌, false, List, [], ◌∷◌, length, Option, Some, None}
+use Rattle.std.specs.Prelude.{◌≡◌, ℕ, pred, ◌-◌, ◌<◌, false, List, [], ◌∷◌, length, Option, Some, None}
 use Rattle.giop_cdr.specs.declared.order.Order.{Order}
 use Rattle.giop_decode.specs.declared.decoder.Decoder.{Decoder}
 use Rattle.giop_decode.specs.declared.frame.Frame.{Frame}
@@ -8,10 +8,10 @@ use Rattle.giop_decode.specs.declared.leaf.Leaf.{Leaf as Innermost}
 use Rattle.giop_decode.specs.Fits.{CanFollow, HasParts, FitsIn, IsEncapsulation}
 use Rattle.giop_decode.specs.NameBuffer.{FitsName, string_offset}
 use Rattle.giop_decode.specs.Noted.{is_header_root}
-use Rattle.giop_decode.specs.Transitions.{leaf_of, leaf_type, is_inside, part_index, IsClean}
+use Rattle.giop_decode.specs.Transitions.{leaf_by, leaf_type, tree_in, is_inside, part_index, IsClean}
 use Rattle.giop_sig.specs.Fits.{IsEmptyStruct}
 use Rattle.giop_sig.specs.Table.{Table, part_number}
-use Rattle.giop_sig.specs.Trees.{tree}
+use Rattle.giop_sig.specs.Trees.{tree, tree_at}
 use Rattle.giop_sig.specs.Types.{Ty, Led, Union, places_of}
 
 -- a type has that part among so many; a union's cases are not counted
@@ -26,18 +26,18 @@ abbrev pub HasFrame : Option Order → Ty → ℕ → ℕ → Type 0
 HasFrame None T i count = HasPart T i count
 HasFrame (Some order) T i count = IsEncapsulation T × (0 < i) × (i < count)
 
--- an innermost part of this type, with what is held of it
-abbrev pub LeafFits : Table → Innermost → List ℕ → List ℕ → Type 0
-LeafFits C leaf carry piece =
-    FitsIn (tree C (leaf_type leaf)) [] (leaf_of C leaf carry piece) × IsClean leaf carry piece
+-- an innermost part of this type in so much room, with what is held of it
+abbrev pub LeafFits : Table → ℕ → Innermost → List ℕ → List ℕ → Type 0
+LeafFits C room leaf carry piece = (let T = tree_at C room (leaf_type leaf) in
+    FitsIn T [] (leaf_by T leaf carry piece) × IsClean leaf carry piece)
 
 -- each frame is of the part that the one before is at, and the innermost part of that which the
--- last is at
-abbrev pub Chained : Table → ℕ → List Frame → Innermost → Type 0
-Chained C id [] leaf = leaf_type leaf ≡ id
-Chained C id (f ∷ frames) leaf =
-    (f.of.0 ≡ id) × HasFrame f.inside (tree C id) f.index f.count
-    × Chained C (part_number C id (part_index f.inside f.index)) frames leaf
+-- last is at; the first is of a type in so much room
+abbrev pub Chained : Table → ℕ → ℕ → List Frame → Innermost → Type 0
+Chained C room id [] leaf = leaf_type leaf ≡ id
+Chained C room id (f ∷ frames) leaf =
+    (f.of.0 ≡ id) × HasFrame f.inside (tree_at C room id) f.index f.count
+    × Chained C (pred room) (part_number C id (part_index f.inside f.index)) frames leaf
 
 abbrev pub root_of : List Frame → Innermost → ℕ
 root_of [] leaf = leaf_type leaf
@@ -49,10 +49,12 @@ pub record Chains (C : Table) (d : Decoder) : Type 0 where
   pub known_leaf : leaf_type leaf < length C.types
   pub known : root_of d.outer.items leaf < length C.types
   pub some : IsEmptyStruct (tree C (root_of d.outer.items leaf)) → ⊥
-  pub chain : Chained C (root_of d.outer.items leaf) d.outer.items leaf
+  pub chain : Chained C 24 (root_of d.outer.items leaf) d.outer.items leaf
+  -- room is left for the innermost part
+  pub few : length d.outer.items < 24
   pub inside : d.inside ≡ is_inside d.outer.items
-  pub fits : LeafFits C leaf d.carry d.piece.items
+  pub fits : LeafFits C (24 - length d.outer.items) leaf d.carry d.piece.items
   pub at : d.at < 8
   pub id_in_header_only : is_header_root d.head.root ≡ false → d.notes.request_id ≡ None
-  pub name : FitsName d.head.root (string_offset (tree C (leaf_type leaf)) leaf) d.notes.buffer
-      d.notes.name.items
+  pub name : FitsName d.head.root (string_offset (tree_in C d.outer.items (leaf_type leaf)) leaf)
+      d.notes.buffer d.notes.name.items

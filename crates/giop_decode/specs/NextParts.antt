@@ -1,5 +1,5 @@
 -- Numbers that are parts of one part, each of which another follows (steps).
-use Rattle.std.specs.Prelude.{◌≡◌, ℕ, ◌+◌, ◌-◌, ◌%◌, ◌<◌, false, List, [], ◌∷◌, ◌++◌, length, take, Some}
+use Rattle.std.specs.Prelude.{◌≡◌, ℕ, suc, ◌+◌, ◌-◌, ◌%◌, ◌<◌, false, List, [], ◌∷◌, ◌++◌, length, take, Some}
 use Rattle.giop_cdr.specs.declared.prim.Primitive.{Primitive}
 use Rattle.giop_decode.specs.declared.decoder.Decoder.{Decoder}
 use Rattle.giop_decode.specs.declared.frame.Frame.{Frame}
@@ -11,7 +11,7 @@ use Rattle.giop_print.specs.Line.{headed}
 use Rattle.giop_print.specs.Paths.{root_word}
 use Rattle.giop_sig.specs.Types.{Plain, Single, part_of}
 use Rattle.giop_sig.specs.Table.{Table, part_number}
-use Rattle.giop_sig.specs.Trees.{tree}
+use Rattle.giop_sig.specs.Trees.{tree_at}
 use Rattle.giop_sig.specs.declared.types.TypeId.{TypeId}
 
 -- a part that is begun, at its next part
@@ -33,8 +33,9 @@ front_text C d =
 pub record IsPartAhead (C : Table) (d : Decoder) (part : PartAhead) : Type 0 where
   pub leaf : d.leaf ≡ Some (innermost.Number part.of)
   pub known : part.of.0 < length C.types
-  pub prim : tree C part.of.0 ≡ Single (Plain part.prim)
-  pub whole : IsWholeNumber (tree C part.of.0) d.order d.at part.octets.now part.count part.number
+  pub prim : (room : ℕ) → tree_at C room part.of.0 ≡ Single (Plain part.prim)
+  pub whole : (room : ℕ) →
+      IsWholeNumber (tree_at C room part.of.0) d.order d.at part.octets.now part.count part.number
   pub outside : d.inside ≡ false
   pub empty : d.carry ≡ []
   pub outer : d.outer.items ≡ frames_above d.outer.items ++ part.frame ∷ []
@@ -44,9 +45,10 @@ pub record IsNextNumber (C : Table) (frame : Frame) (next : TypeId) : Type 0 whe
   pub below : frame.index + 1 < frame.count
   pub known : next.0 < length C.types
   pub number : next.0 ≡ part_number C frame.of.0 (frame.index + 1)
-  pub is_part : tree C next.0 ≡ part_of (tree C frame.of.0) (frame.index + 1)
+  pub is_part : (room : ℕ) →
+      tree_at C room next.0 ≡ part_of (tree_at C (suc room) frame.of.0) (frame.index + 1)
   pub prim : Primitive
-  pub is : tree C next.0 ≡ Single (Plain prim)
+  pub is : (room : ℕ) → tree_at C room next.0 ≡ Single (Plain prim)
 
 -- the decoder at the part that follows
 pub record IsAtNext (C : Table) (d new : Decoder) (part : PartAhead) (next : TypeId) : Type 0 where

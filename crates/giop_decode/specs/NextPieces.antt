@@ -7,7 +7,7 @@ use Rattle.giop_decode.specs.Segments.{frames_text}
 use Rattle.giop_print.specs.Line.{headed}
 use Rattle.giop_print.specs.Paths.{root_word}
 use Rattle.giop_sig.specs.Table.{Table}
-use Rattle.giop_sig.specs.Trees.{tree}
+use Rattle.giop_sig.specs.Trees.{tree_at}
 use Rattle.giop_sig.specs.Types.{Octets}
 
 -- what a line begins with, up to the end of its path, where the frames are the parts around it
@@ -19,7 +19,7 @@ path_front C d = headed d.head.message (root_word d.head.root ++ frames_text C d
 pub record IsPieceAhead (C : Table) (d : Decoder) (ahead : PieceAhead) : Type 0 where
   pub leaf : d.leaf ≡ Some (innermost.Content ahead.of ahead.total ahead.offset)
   pub bound : Option ℕ
-  pub is : tree C ahead.of.0 ≡ Octets bound
+  pub is : (room : ℕ) → tree_at C room ahead.of.0 ≡ Octets bound
   pub more : 32 < ahead.total - ahead.offset
   pub whole : 32 ≤ length ahead.octets.now
   pub none_held : d.piece.items ≡ []

@@ -11,21 +11,22 @@ use Rattle.giop_decode.specs.DecoderState.{CanStandAt, GoesOn, HoldsNoted}
 use Rattle.giop_decode.specs.DecoderSteps.{Comes, IsAround, IsNext, emitted}
 use Rattle.giop_decode.specs.Noted.{Noted, ends_in_string, is_header_root, noted, without_name_if}
 use Rattle.giop_decode.specs.NotingSteps.{clears_name, transition_in_string}
-use Rattle.giop_decode.specs.Transitions.{IsOutput, open_parts, ticked}
+use Rattle.giop_decode.specs.Transitions.{IsOutput, open_parts, ticked, tree_in}
 use Rattle.giop_sig.specs.Table.{Table}
-use Rattle.giop_sig.specs.Trees.{tree}
 
 -- The lines up to this offset of what an octet finishes of a part in these frames at an offset.
 abbrev pub Finishes : Table → List Frame → Finished → ℕ → ℕ → List Line → Type 0
 Finishes C outer finished here at lines =
-    IsOutput (tree C finished.of.0) (path_in [] (open_parts C here outer)) at finished.output
+    IsOutput (tree_in C outer finished.of.0) (path_in [] (open_parts C here outer)) at
+    finished.output
     (finished.held.now ++ finished.rest.now) lines
 
 -- The lines that the step gives, up to this offset, of a part of this type in the frames around it
 -- at an offset: those of its output. A piece has the octets that are held, and the rest.
 abbrev pub Gives : Table → Decoder → ℕ → Step → List ℕ → ℕ → ℕ → List Line → Type 0
 Gives C d of step rest here at lines =
-    IsOutput (tree C of) (path_in [] (open_parts C here d.outer.items)) at step.output
+    IsOutput (tree_in C d.outer.items of) (path_in [] (open_parts C here d.outer.items)) at
+    step.output
     (d.piece.items ++ rest) lines
 
 -- a decoder at an octet of a part of this type, which is counted since
@@ -52,7 +53,7 @@ pub record Passes (C : Table) (d new : Decoder) (of : ℕ) (step : Step) (rest :
       Comes C new p (here + 1) (emitted C d of step.transition step.output lines here)
   pub inside : (here : ℕ) (lines : List Line) →
       ends_in_string (emitted C d of step.transition step.output lines here)
-      ≡ transition_in_string (tree C of) step.transition
+      ≡ transition_in_string (tree_in C d.outer.items of) step.transition
   pub id : is_header_root d.head.root ≡ false → new.notes.request_id ≡ d.notes.request_id
   pub notes : (h : Noted) (here at : ℕ) (lines : List Line) → HoldsNoted d.notes h →
       Gives C d of step rest here at lines →

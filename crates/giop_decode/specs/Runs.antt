@@ -2,6 +2,7 @@
 use Rattle.std.specs.Prelude.{◌≡◌, ℕ, suc, ◌+◌, ◌-◌, ◌%◌, ◌<◌, ◌≤◌, false, List, [], ◌∷◌, ◌++◌, length, take, drop, get_or, Some, None, Result, IfOk, MatchResult}
 use Rattle.giop_cdr.specs.declared.order.Order.{Order}
 use Rattle.giop_decode.specs.declared.decoder.Decoder.{Decoder}
+use Rattle.giop_decode.specs.declared.frame.Frame.{Frame}
 use Rattle.giop_decode.specs.declared.progress.Progress.{Progress}
 use Rattle.giop_decode.specs.declared.progress.Progress.TheVariants as progress
 use Rattle.giop_decode.specs.ReadResult.{plain, Coding, Line, PathSegment, lines_of}
@@ -13,7 +14,7 @@ use Rattle.giop_print.specs.Output.{OutLog, Wrote, WroteFront}
 use Rattle.giop_print.specs.declared.path.Root.{Root}
 use Rattle.giop_sig.specs.Types.{Ty}
 use Rattle.giop_sig.specs.Table.{Table}
-use Rattle.giop_sig.specs.Trees.{tree, tree_at}
+use Rattle.giop_sig.specs.Trees.{tree_at}
 use Rattle.giop_sig.specs.declared.types.TypeId.{TypeId}
 use Rattle.giop_decode.specs.declared.leaf.Leaf.{Leaf as Innermost}
 use Rattle.giop_decode.specs.declared.leaf.Leaf.TheVariants as innermost
@@ -22,7 +23,7 @@ use Rattle.giop_decode.specs.Pieces.{tail}
 use Rattle.giop_decode.specs.NameBuffer.{string_offset}
 use Rattle.giop_decode.specs.NotingSteps.{OutputFitsString, StringGoesOn, leaf_in_string}
 use Rattle.giop_decode.specs.ReadingSteps.{AreHeld, after, leading_width, leaf_step}
-use Rattle.giop_decode.specs.Transitions.{HasOutput, HaveOctetsLeft, IsOutput, TransitionFits, TransitionGives, coding_by, leaf_of, leaf_type, still_held, ticked_by, after_transition}
+use Rattle.giop_decode.specs.Transitions.{HasOutput, HaveOctetsLeft, IsOutput, TransitionFits, TransitionGives, coding_by, leaf_of, leaf_type, still_held, ticked_by, tree_in, after_transition}
 
 -- the lines that octets more give
 abbrev pub added_lines_of_run : Order → Ty → ℕ → List ℕ → List ℕ → List Line
@@ -134,7 +135,8 @@ IsStepOf C of n step =
 -- what is held after octets that only add to it
 abbrev pub Adds : Table → Decoder → Innermost → List ℕ → List ℕ → List ℕ → Type 0
 Adds C d (innermost.Number of) octets carry piece =
-    AreHeld (leading_width (tree C of.0)) (coding_by d.order d.at d.outer.items).1 d.carry octets
+    AreHeld (leading_width (tree_in C d.outer.items of.0)) (coding_by d.order d.at d.outer.items).1
+    d.carry octets
     carry
     × (piece ≡ d.piece.items)
 Adds C d (innermost.Opening of count) octets carry piece =
@@ -142,7 +144,7 @@ Adds C d (innermost.Opening of count) octets carry piece =
 Adds C d (innermost.Content of total offset) octets carry piece =
     (carry ≡ d.carry) × (piece ≡ d.piece.items ++ octets)
     × (32 < total - offset → length piece < 32)
-    × (total - offset ≤ 32 → length piece < total - offset + tail (tree C of.0))
+    × (total - offset ≤ 32 → length piece < total - offset + tail (tree_in C d.outer.items of.0))
 
 -- So many octets stand at the head of these, and no encapsulation ends before the last of them. All
 -- but the last only add to what is held, and the last does this step, where this much is kept: a
@@ -161,24 +163,25 @@ pub record TakenTogether (C : Table) (d : Decoder) (octets : List ℕ) (of : Typ
   pub piece : List ℕ
   pub adds : Adds C d leaf (take (count - 1) octets) carry piece
   -- the step and the lines of the last
-  pub transition_fits : TransitionFits (tree C of.0) of.0 step.transition kept_carry
+  pub transition_fits : TransitionFits (tree_in C d.outer.items of.0) of.0 step.transition
+      kept_carry
       (still_held step.output kept_piece)
-  pub has_output : HasOutput (tree C of.0) step.output
-  pub output_fits_string : OutputFitsString (tree C of.0) (leaf_in_string (tree C of.0) leaf)
-      step.transition step.output
-  pub string_goes_on : StringGoesOn (tree C of.0) (string_offset (tree C of.0) leaf) step.transition
-      step.output
+  pub has_output : HasOutput (tree_in C d.outer.items of.0) step.output
+  pub output_fits_string : OutputFitsString (tree_in C d.outer.items of.0)
+      (leaf_in_string (tree_in C d.outer.items of.0) leaf) step.transition step.output
+  pub string_goes_on : StringGoesOn (tree_in C d.outer.items of.0)
+      (string_offset (tree_in C d.outer.items of.0) leaf) step.transition step.output
       (length (kept_piece ++ rest))
   pub lines : Coding → List PathSegment → ℕ → List Line
   pub comes : (coding : Coding) (path : List PathSegment) (here : ℕ) →
       coding.order ≡ (coding_by d.order d.at d.outer.items).0 →
       (here - coding.origin) % 8 ≡ ((coding_by d.order d.at d.outer.items).1 + (count - 1)) % 8 →
-      leaf_step coding path (leaf_of C leaf carry piece) here (get_or octets (count - 1) 0)
-      ≡ after_transition (tree C of.0) step.transition kept_carry
-      (still_held step.output kept_piece)
-      (lines coding path here) (here + 1)
+      leaf_step coding path (leaf_of C d.outer.items leaf carry piece) here
+      (get_or octets (count - 1) 0)
+      ≡ after_transition (tree_in C d.outer.items of.0) step.transition kept_carry
+      (still_held step.output kept_piece) (lines coding path here) (here + 1)
   pub says : (coding : Coding) (path : List PathSegment) (here : ℕ) →
-      IsOutput (tree C of.0) path (here + 1) step.output (kept_piece ++ rest)
+      IsOutput (tree_in C d.outer.items of.0) path (here + 1) step.output (kept_piece ++ rest)
       (lines coding path here)
 
 -- a content comes next
@@ -186,12 +189,12 @@ abbrev pub IsContent : Innermost → Type 0
 IsContent (innermost.Content of total offset) = Unit {0}
 IsContent leaf = ⊥
 
--- so many octets more leave a piece of a content incomplete, of which some are held
-abbrev pub IsParted : Table → Innermost → List ℕ → ℕ → Type 0
-IsParted C (innermost.Content of total offset) piece n =
+-- so many octets more leave a piece of a content in these frames incomplete, of which some are held
+abbrev pub IsParted : Table → List Frame → Innermost → List ℕ → ℕ → Type 0
+IsParted C frames (innermost.Content of total offset) piece n =
     (32 < total - offset → length piece + n < 32)
-    × (total - offset ≤ 32 → length piece + n < total - offset + tail (tree C of.0))
-IsParted C leaf piece n = ⊥
+    × (total - offset ≤ 32 → length piece + n < total - offset + tail (tree_in C frames of.0))
+IsParted C frames leaf piece n = ⊥
 
 -- A decoder at octets that are taken together, and what it has become: it keeps what the last of
 -- them leaves in the place of what was held.

@@ -4,7 +4,7 @@ use Rattle.giop_decode.specs.declared.frame.Frame.{Frame}
 use Rattle.giop_decode.specs.ReadResult.{PathSegment}
 use Rattle.giop_decode.specs.Spelling.{segment_text, path_text}
 use Rattle.giop_decode.specs.ReadingSteps.{segment_in, path_in}
-use Rattle.giop_decode.specs.Transitions.{open_part, open_parts, switch_segment}
+use Rattle.giop_decode.specs.Transitions.{open_part, open_parts, switch_segment, tree_in}
 use Rattle.giop_print.specs.Paths.{HeadView}
 use Rattle.giop_sig.specs.Table.{Table}
 use Rattle.giop_sig.specs.Trees.{tree}
@@ -16,20 +16,24 @@ abbrev pub IsSwitch : Table → Option TypeId → Type 0
 IsSwitch C None = Unit {0}
 IsSwitch C (Some of) = (of.0 < length C.types) × IsUnion (shape_in (tree C of.0))
 
--- the segment of a discriminator, where one is meant
-abbrev pub end_segments : Table → Option TypeId → List PathSegment
-end_segments C None = []
-end_segments C (Some of) = switch_segment (tree C of.0) ∷ []
+-- the segment of a discriminator in these frames, where one is meant
+abbrev pub end_segments : Table → List Frame → Option TypeId → List PathSegment
+end_segments C frames None = []
+end_segments C frames (Some of) = switch_segment (tree_in C frames of.0) ∷ []
 
--- and its text
+-- and its text, which is the same in each room
 abbrev pub end_text : Table → Option TypeId → List ℕ
 end_text C None = []
 end_text C (Some of) = segment_text (switch_segment (tree C of.0))
 
--- the text of the segments of frames; at which offset they stand makes no difference
+-- the text of a frame's segment; in what room and at which offset it stands makes no difference
+abbrev pub frame_text : Table → Frame → List ℕ
+frame_text C f = segment_text (segment_in (open_part C 24 0 f))
+
+-- the text of the segments of frames
 abbrev pub frames_text : Table → List Frame → List ℕ
 frames_text C [] = []
-frames_text C (f ∷ outer) = segment_text (segment_in (open_part C 0 f)) ++ frames_text C outer
+frames_text C (f ∷ outer) = frame_text C f ++ frames_text C outer
 
 -- where the innermost part stands, or its discriminator: its message and root, the frames around it,
 -- and the union whose discriminator is meant
@@ -43,4 +47,4 @@ pub record PathView : Type 0 where
 abbrev pub current_path_text : PathView → List ℕ
 current_path_text h =
     path_text h.head.root
-    (path_in [] (open_parts h.table 0 h.frames) ++ end_segments h.table h.union)
+    (path_in [] (open_parts h.table 0 h.frames) ++ end_segments h.table h.frames h.union)

@@ -1,6 +1,6 @@
 -- What the fields of a decoder stand for, and the transition of its innermost part at one octet
 -- (steps).
-use Rattle.std.specs.Prelude.{◌≡◌, ℕ, ◌+◌, ◌-◌, ◌<◌, ◌≤◌, ◌^◌, ◌%◌, Bool, true, false, cond, eqb, List, [], ◌∷◌, ◌++◌, length, map, take, get_or, Option, Some, None, IfSome}
+use Rattle.std.specs.Prelude.{◌≡◌, ℕ, pred, ◌+◌, ◌-◌, ◌<◌, ◌≤◌, ◌^◌, ◌%◌, Bool, true, false, cond, eqb, List, [], ◌∷◌, ◌++◌, length, map, take, get_or, Option, Some, None, IfSome}
 use Rattle.giop_cdr.specs.Numbers.{num}
 use Rattle.giop_decode.specs.ReadingSteps.{AreHeld, IsRule, leading_width, number_step}
 use Rattle.giop_cdr.specs.declared.order.Order.{Order}
@@ -24,7 +24,7 @@ use Rattle.giop_sig.specs.declared.types.Shape.{Shape}
 use Rattle.giop_sig.specs.declared.types.Shape.TheVariants as shapes
 use Rattle.giop_sig.specs.Types.{tag_of, Scalar, width, interpreted_by, Ty, Single, Struct, Union, Array, Led, part_of, switch_of, shape_in, HasPlace, IsUnion}
 use Rattle.giop_sig.specs.Table.{Table, part_number}
-use Rattle.giop_sig.specs.Trees.{tree}
+use Rattle.giop_sig.specs.Trees.{tree_at}
 
 -- ---- frames
 
@@ -41,13 +41,23 @@ abbrev pub open_part_in : ℕ → Option Order → Ty → ℕ → ℕ → OpenPa
 open_part_in here None T i count = part_in T i count
 open_part_in here (Some order) T i count = Inside T (coded order (here - i)) (here + (count - i))
 
--- the open part that a frame of a table stands for, at an offset
-abbrev pub open_part : Table → ℕ → Frame → OpenPart
-open_part C here f = open_part_in here f.inside (tree C f.of.0) f.index f.count
+-- the open part that a frame of a table stands for, in so much room, at an offset
+abbrev pub open_part : Table → ℕ → ℕ → Frame → OpenPart
+open_part C room here f = open_part_in here f.inside (tree_at C room f.of.0) f.index f.count
 
--- the open parts of frames, the outermost first
+-- the open parts of frames, the outermost first: each leaves one level less room
+abbrev pub parts_in_room : Table → ℕ → ℕ → List Frame → List OpenPart
+parts_in_room C room here [] = []
+parts_in_room C room here (f ∷ frames) =
+    open_part C room here f ∷ parts_in_room C (pred room) here frames
+
+-- the same in the room of a whole
 abbrev pub open_parts : Table → ℕ → List Frame → List OpenPart
-open_parts C here frames = map (open_part C here) frames
+open_parts C here frames = parts_in_room C 24 here frames
+
+-- the tree of a type that stands in these frames, in the room that they leave
+abbrev pub tree_in : Table → List Frame → ℕ → Ty
+tree_in C frames of = tree_at C (24 - length frames) of
 
 -- a shape of which one part is read, whose frames have no count
 abbrev pub IsUncounted : Shape → Type 0
@@ -62,10 +72,11 @@ IsWithin None i count T = HasPlace (shape_in T) i × (IsEncapsulation T → ⊥)
     × (IsUncounted (shape_in T) → count ≡ 0)
 IsWithin (Some order) i count T = IsEncapsulation T × (0 < i) × (i ≤ count)
 
--- a frame of a type of the table, which has a part of that index; a union's has no count
+-- a frame of a type of the table, which has a part of that index, in each room; a union's has no
+-- count
 pub record IsKnown (C : Table) (f : Frame) : Type 0 where
   pub known : f.of.0 < length C.types
-  pub within : IsWithin f.inside f.index f.count (tree C f.of.0)
+  pub within : (room : ℕ) → IsWithin f.inside f.index f.count (tree_at C room f.of.0)
 
 -- frames of types of the table
 abbrev pub AreKnown : Table → List Frame → Type 0
@@ -116,9 +127,9 @@ leaf_type (innermost.Number of) = of.0
 leaf_type (innermost.Opening of left) = of.0
 leaf_type (innermost.Content of total offset) = of.0
 
--- the same, by the table
-abbrev pub leaf_of : Table → Innermost → List ℕ → List ℕ → Leaf
-leaf_of C leaf carry piece = leaf_by (tree C (leaf_type leaf)) leaf carry piece
+-- the same in these frames of a table
+abbrev pub leaf_of : Table → List Frame → Innermost → List ℕ → List ℕ → Leaf
+leaf_of C frames leaf carry piece = leaf_by (tree_in C frames (leaf_type leaf)) leaf carry piece
 
 -- what is held for neither a number nor a content is cleared
 abbrev pub IsClean : Innermost → List ℕ → List ℕ → Type 0
@@ -196,7 +207,7 @@ gone_to C lines at frames leaf =
 -- the reading after a part has ended, at this offset, by the innermost part that comes next
 abbrev pub gone_on : Table → ℕ → List Frame → Option Innermost → Read
 gone_on C at outer None = Done [] at []
-gone_on C at outer (Some leaf) = gone_to C [] at outer (leaf_of C leaf [] [])
+gone_on C at outer (Some leaf) = gone_to C [] at outer (leaf_of C outer leaf [] [])
 
 -- ---- transitions
 

@@ -1,6 +1,6 @@
 //! Whether the parts of a decoder that is restored from octets fit a catalogue.
 
-ghost use Rattle.std.specs.Prelude.{◌≡◌, ◌↔◌, ℕ, IsTrue, ◌+◌, ◌-◌, ◌<◌, ◌≤◌, [], length};
+ghost use Rattle.std.specs.Prelude.{◌≡◌, ◌↔◌, ℕ, suc, IsTrue, ◌+◌, ◌-◌, ◌<◌, ◌≤◌, [], length};
 ghost use Rattle.giop_decode.specs.FrameChain.{HasFrame, HasPart, LeafFits, Chained, Chains, root_of};
 ghost use Rattle.giop_decode.specs.Fits.{HasLeadingNumber, IsEncapsulation};
 ghost use Rattle.giop_decode.specs.NameBuffer.{FitsName, IsNotedOf, string_offset};
@@ -31,13 +31,27 @@ impl Decoder {
             && catalogue.has(root)
             && !is_empty(catalogue, root)
             && self.inside == is_inside(true, self.outer.as_slice())
-            && follow(catalogue, root, self.outer.as_slice(), leaf)
-            && leaf_fits(catalogue, leaf, &self.carry, self.piece.as_slice())
+            && self.outer.len() < 24
+            && self.parts_fit(catalogue, root, leaf)
             && name_fits(
                 self.head.root(),
                 string_offset(catalogue, leaf),
                 &self.notes,
             )
+    }
+
+    /// Whether the parts are each of that which the one before is at, from this type to the innermost part, and what is
+    /// held of that fits it.
+    fn parts_fit(&self, catalogue: &Catalogue, root: TypeId, leaf: Leaf) -> bool
+        requires root { root.0 < length catalogue.now.types }
+        requires leaf { leaf_type leaf < length catalogue.now.types }
+        requires few { length self.now.outer.items < 24 }
+        ensures { IsTrue result ↔ Chained catalogue.now 24 root.0 self.now.outer.items leaf
+            × LeafFits catalogue.now (24 - length self.now.outer.items) leaf self.now.carry
+            self.now.piece.items }
+    {
+        follow(catalogue, root, self.outer.as_slice(), leaf)
+            && leaf_fits(catalogue, leaf, &self.carry, self.piece.as_slice())
     }
 }
 
@@ -54,7 +68,7 @@ fn root_of(frames: &[Frame], leaf: Leaf) -> TypeId
 /// Whether each frame is of the part that the one before is at, from this type to the innermost part.
 fn follow(catalogue: &Catalogue, of: TypeId, frames: &[Frame], leaf: Leaf) -> bool
     requires { of.0 < length catalogue.now.types }
-    ensures { IsTrue result ↔ Chained catalogue.now of.0 frames.now leaf }
+    ensures { (room : ℕ) → IsTrue result ↔ Chained catalogue.now room of.0 frames.now leaf }
 {
     match frames {
         [] => leaf.of() == of,
@@ -140,7 +154,8 @@ fn has_part(catalogue: &Catalogue, of: TypeId, index: u32, count: u32) -> bool
 /// Whether what is held of the innermost part fits its type.
 fn leaf_fits(catalogue: &Catalogue, leaf: Leaf, carry: &Carry, piece: &[u8]) -> bool
     requires { leaf_type leaf < length catalogue.now.types }
-    ensures { IsTrue result ↔ LeafFits catalogue.now leaf carry.now piece.now }
+    ensures { (n : ℕ) →
+        IsTrue result ↔ LeafFits catalogue.now (suc n) leaf carry.now piece.now }
 {
     match leaf {
         Leaf::Number(of) => {

@@ -4,7 +4,7 @@ ghost use Rattle.std.specs.Prelude.{◌≡◌, ℕ, ◌+◌, ◌<◌, ◌≤◌,
 ghost use Rattle.giop_decode.specs.Spelling.{segment_text, path_text};
 ghost use Rattle.giop_decode.specs.ReadingSteps.{segment_in, path_in};
 ghost use Rattle.giop_decode.specs.Transitions.{open_part, open_parts, IsKnown, AreKnown, switch_segment};
-ghost use Rattle.giop_decode.specs.Segments.{frames_text, end_text, IsSwitch};
+ghost use Rattle.giop_decode.specs.Segments.{frame_text, frames_text, end_text, IsSwitch};
 ghost use Rattle.giop_print.specs.Line.{line_text, line_room, Spells};
 ghost use Rattle.giop_print.specs.Paths.{name_segment, index_segment};
 ghost use Rattle.giop_sig.specs.Types.{shape_in, IsUnion};
@@ -116,9 +116,8 @@ pub(crate) fn spell_segment(catalogue: &Catalogue, frame: Frame, line: &mut Line
     requires known { IsKnown catalogue.now frame }
     requires room { 65 ≤ line_room line.old }
     ensures text { line_text line.new
-        ≡ segment_text (segment_in (open_part catalogue.now 0 frame)) ++ line_text line.old }
-    ensures room { line_room line.new
-        + length (segment_text (segment_in (open_part catalogue.now 0 frame)))
+        ≡ frame_text catalogue.now frame ++ line_text line.old }
+    ensures room { line_room line.new + length (frame_text catalogue.now frame)
         ≡ line_room line.old }
     ensures most { line_room line.old ≤ line_room line.new + 65 }
 {
@@ -204,9 +203,9 @@ fn spell_index(line: &mut Line, index: u32)
 fn push_segment(catalogue: &Catalogue, frame: Frame, path: &mut Path)
     requires known { IsKnown catalogue.now frame }
     requires room { path.old.segments < 24 }
-    ensures text { (here : ℕ) →
+    ensures text { (room here : ℕ) →
         path.new.text ≡ path.old.text
-        ++ segment_text (segment_in (open_part catalogue.now here frame)) }
+        ++ segment_text (segment_in (open_part catalogue.now room here frame)) }
     ensures segments { path.new.segments ≤ path.old.segments + 1 }
 {
     if frame.inside.is_some() {

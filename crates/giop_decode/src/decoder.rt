@@ -11,7 +11,7 @@ ghost use Rattle.giop_print.specs.Output.{Writes};
 ghost use Rattle.giop_print.specs.declared.path.Root.{Root as PathRoot};
 ghost use Rattle.giop_decode.specs.ReadingSteps.{around};
 ghost use Rattle.giop_decode.specs.Fits.{OpenFrom};
-ghost use Rattle.giop_decode.specs.Transitions.{open_parts, AreKnown, Link, TransitionFits, HasOutput, after_transition, still_held, leaf_type, IsClean, StandAt, is_inside};
+ghost use Rattle.giop_decode.specs.Transitions.{open_parts, AreKnown, Link, TransitionFits, HasOutput, after_transition, still_held, leaf_type, IsClean, StandAt, is_inside, tree_in};
 ghost use Rattle.giop_decode.specs.Noted.{noted_of, ends_in_string, is_header_root};
 ghost use Rattle.giop_decode.specs.NameBuffer.{string_offset};
 ghost use Rattle.giop_decode.specs.NotingSteps.{transition_in_string, transition_offset};
@@ -204,8 +204,10 @@ impl Decoder {
         requires known_outer { AreKnown catalogue.now self.old.outer.items }
         requires encloses { self.old.inside ≡ is_inside self.old.outer.items }
         requires open { (at : ℕ) × OpenFrom 24 (open_parts catalogue.now at self.old.outer.items) }
-        requires fit { IsFit (24 - length self.old.outer.items) (tree catalogue.now of.0) }
-        requires transition_fits { TransitionFits (tree catalogue.now of.0) of.0 transition
+        requires fit { IsFit (24 - length self.old.outer.items)
+            (tree_in catalogue.now self.old.outer.items of.0) }
+        requires transition_fits { TransitionFits
+            (tree_in catalogue.now self.old.outer.items of.0) of.0 transition
             self.old.carry self.old.piece.items }
         ensures known_outer { AreKnown catalogue.now self.new.outer.items }
         ensures encloses { self.new.inside ≡ is_inside self.new.outer.items }
@@ -217,24 +219,25 @@ impl Decoder {
             Link catalogue.now root self.old.outer.items of.0 → self.new.leaf ≡ Some leaf →
             Link catalogue.now root self.new.outer.items (leaf_type leaf) }
         ensures offset { (leaf : Innermost) → IsNotRefused transition → self.new.leaf ≡ Some leaf →
-            string_offset (tree catalogue.now (leaf_type leaf)) leaf
-            ≡ transition_offset (tree catalogue.now of.0) transition }
+            string_offset (tree_in catalogue.now self.new.outer.items (leaf_type leaf)) leaf
+            ≡ transition_offset (tree_in catalogue.now self.old.outer.items of.0) transition }
         ensures order { self.new.order ≡ self.old.order }
         ensures head { self.new.head ≡ self.old.head }
         ensures notes { self.new.notes ≡ self.old.notes }
         ensures at { self.new.at ≡ self.old.at }
         ensures inside { (at : ℕ) (lines : List Line) →
             ends_in_string
-            (transition_result catalogue.now (tree catalogue.now of.0) self.new transition lines at)
-            ≡ transition_in_string (tree catalogue.now of.0) transition }
+            (transition_result catalogue.now (tree_in catalogue.now self.old.outer.items of.0)
+            self.new transition lines at)
+            ≡ transition_in_string (tree_in catalogue.now self.old.outer.items of.0) transition }
         ensures stand { (at : ℕ) → 0 < at → StandAt at self.old.outer.items →
             StandAt at self.new.outer.items }
         ensures advances { (coding : Coding) (path : List PathSegment) (at : ℕ)
             (lines : List Line) →
             around coding path (open_parts catalogue.now at self.old.outer.items)
-            (after_transition (tree catalogue.now of.0) transition
+            (after_transition (tree_in catalogue.now self.old.outer.items of.0) transition
             self.old.carry self.old.piece.items lines at)
-            ≡ transition_result catalogue.now (tree catalogue.now of.0)
+            ≡ transition_result catalogue.now (tree_in catalogue.now self.old.outer.items of.0)
             self.new transition lines at }
     {
         match transition {
@@ -296,10 +299,12 @@ impl Decoder {
         out: &mut O,
     ) -> Result<Progress, OutFault>
         requires counted { (d : Before) × IsBehind catalogue.now d self.old ahead.of.0 }
-        requires transition_fits { TransitionFits (tree catalogue.now ahead.of.0) ahead.of.0
+        requires transition_fits { TransitionFits
+            (tree_in catalogue.now self.old.outer.items ahead.of.0) ahead.of.0
             ahead.step.transition self.old.carry
             (still_held ahead.step.output self.old.piece.items) }
-        requires has_output { HasOutput (tree catalogue.now ahead.of.0) ahead.step.output }
+        requires has_output { HasOutput
+            (tree_in catalogue.now self.old.outer.items ahead.of.0) ahead.step.output }
         requires short { 0 < length ahead.rest.now →
             length self.old.piece.items + length ahead.rest.now ≤ 32 }
         ensures passes { IfOk result (λ p. (d : Before) →
@@ -331,10 +336,12 @@ impl Decoder {
     #[inline(always)]
     pub(crate) fn pass(&mut self, catalogue: &Catalogue, ahead: Lookahead<'_>) -> Progress
         requires counted { (d : Before) × IsBehind catalogue.now d self.old ahead.of.0 }
-        requires transition_fits { TransitionFits (tree catalogue.now ahead.of.0) ahead.of.0
+        requires transition_fits { TransitionFits
+            (tree_in catalogue.now self.old.outer.items ahead.of.0) ahead.of.0
             ahead.step.transition self.old.carry
             (still_held ahead.step.output self.old.piece.items) }
-        requires has_output { HasOutput (tree catalogue.now ahead.of.0) ahead.step.output }
+        requires has_output { HasOutput
+            (tree_in catalogue.now self.old.outer.items ahead.of.0) ahead.step.output }
         ensures { (d : Before) → IsBehind catalogue.now d self.old ahead.entry.of.0 →
             Passes catalogue.now d self.new
             ahead.entry.of.0 ahead.entry.step ahead.entry.rest.now result }

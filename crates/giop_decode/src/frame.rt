@@ -6,7 +6,7 @@ ghost use Rattle.giop_decode.specs.ReadResult.{Coding, PathSegment, LeadingNumbe
 ghost use Rattle.giop_decode.specs.ReadingSteps.{around};
 ghost use Rattle.giop_decode.specs.Fits.{HasLeadingNumber, OpenFrom};
 ghost use Rattle.giop_decode.specs.Begins.{start_outer, start_leaf};
-ghost use Rattle.giop_decode.specs.Transitions.{HasOctetsLeft, coding_of, tick_by_of, ended_at, open_parts, AreKnown, HaveOctetsLeft, StandAt, IsClean, Link, IsWhole, coding_by, gone_on, has_ended, is_inside, leaf_type, ticked_by};
+ghost use Rattle.giop_decode.specs.Transitions.{HasOctetsLeft, coding_of, tick_by_of, ended_at, open_parts, AreKnown, HaveOctetsLeft, StandAt, IsClean, Link, IsWhole, coding_by, gone_on, has_ended, is_inside, leaf_type, ticked_by, tree_in};
 ghost use Rattle.giop_sig.specs.Fits.{IsFit, IsEmptyStruct, IsRoot};
 ghost use Rattle.giop_decode.specs.NotingSteps.{leaf_in_string};
 ghost use Rattle.giop_decode.specs.NextParts.{frames_above, next_of};
@@ -225,16 +225,18 @@ pub(crate) fn whole(catalogue: &Catalogue, t: TypeId) -> Option<u32>
 pub(crate) fn begin(catalogue: &Catalogue, outer: &mut ArrayVec<Frame, 24>, t: TypeId) -> TypeId
     requires known { t.0 < length catalogue.now.types }
     requires known_outer { AreKnown catalogue.now outer.old.items }
-    requires fit { IsFit (24 - array_vec_len outer.old) (tree catalogue.now t.0) }
+    requires fit { IsFit (24 - array_vec_len outer.old)
+        (tree_in catalogue.now outer.old.items t.0) }
     ensures known { result.0 < length catalogue.now.types }
     ensures known_outer { AreKnown catalogue.now outer.new.items }
     ensures begun { (at : ℕ) → open_parts catalogue.now at outer.new.items
-        ≡ open_parts catalogue.now at outer.old.items ++ start_outer (tree catalogue.now t.0) }
+        ≡ open_parts catalogue.now at outer.old.items
+        ++ start_outer (tree_in catalogue.now outer.old.items t.0) }
     ensures ended { has_ended outer.new.items ≡ has_ended outer.old.items }
     ensures inside { is_inside outer.new.items ≡ is_inside outer.old.items }
     ensures stand { (at : ℕ) → StandAt at outer.old.items → StandAt at outer.new.items }
-    ensures leaf { start_leaf (tree catalogue.now t.0)
-        ≡ LeadingNumber (tree catalogue.now result.0) [] }
+    ensures leaf { start_leaf (tree_in catalogue.now outer.old.items t.0)
+        ≡ LeadingNumber (tree_in catalogue.now outer.new.items result.0) [] }
     ensures linked { (root : ℕ) → Link catalogue.now root outer.old.items t.0 →
         Link catalogue.now root outer.new.items result.0 }
 {
@@ -287,7 +289,7 @@ pub(crate) fn go_on(catalogue: &Catalogue, outer: &mut ArrayVec<Frame, 24>) -> O
     ensures known { IfSome result (λ leaf. leaf_type leaf < length catalogue.now.types) }
     ensures clean { IfSome result (λ leaf. IsClean leaf [] []) }
     ensures plain { IfSome result (λ leaf.
-        leaf_in_string (tree catalogue.now (leaf_type leaf)) leaf ≡ false) }
+        leaf_in_string (tree_in catalogue.now outer.new.items (leaf_type leaf)) leaf ≡ false) }
     ensures known_outer { AreKnown catalogue.now outer.new.items }
     ensures outside { is_inside outer.old.items ≡ false → is_inside outer.new.items ≡ false }
     ensures stand { (at : ℕ) → StandAt at outer.old.items → StandAt at outer.new.items }

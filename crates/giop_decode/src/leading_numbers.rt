@@ -105,7 +105,7 @@ fn hold_some(carry: &mut Carry, width: u8, octets: &[u8]) -> usize
 pub(crate) fn take_value(catalogue: &Catalogue, order: Order, of: TypeId, octets: &[u8]) -> Step
     requires known { of.0 < length catalogue.now.types }
     requires head { HasLeadingNumber (tree catalogue.now of.0) }
-    requires fit { (d : ℕ) × IsFit d (tree catalogue.now of.0) }
+    requires fit { (d room : ℕ) × IsFit d (tree_at catalogue.now room of.0) }
     requires whole { length octets.now ≡ leading_width (tree catalogue.now of.0) }
     ensures fits { IsStep catalogue.now of.0 result }
     ensures transitions { IsStepOf catalogue.now of.0 (num order octets.now) result }
@@ -149,7 +149,7 @@ pub(crate) fn take_value(catalogue: &Catalogue, order: Order, of: TypeId, octets
 fn take_switch(catalogue: &Catalogue, order: Order, of: TypeId, octets: &[u8]) -> Step
     requires known { of.0 < length catalogue.now.types }
     requires union { IsUnion (shape_in (tree catalogue.now of.0)) }
-    requires fit { (d : ℕ) × IsFit d (tree catalogue.now of.0) }
+    requires fit { (d room : ℕ) × IsFit d (tree_at catalogue.now room of.0) }
     requires whole { length octets.now ≡ leading_width (tree catalogue.now of.0) }
     ensures fits { IsStep catalogue.now of.0 result }
     ensures transitions { IsStepOf catalogue.now of.0 (num order octets.now) result }
@@ -175,7 +175,7 @@ fn take_switch(catalogue: &Catalogue, order: Order, of: TypeId, octets: &[u8]) -
 fn take_selected(catalogue: &Catalogue, of: TypeId, number: Number) -> Step
     requires known { of.0 < length catalogue.now.types }
     requires union { IsUnion (shape_in (tree catalogue.now of.0)) }
-    requires fit { (d : ℕ) × IsFit d (tree catalogue.now of.0) }
+    requires fit { (d room : ℕ) × IsFit d (tree_at catalogue.now room of.0) }
     requires number { IsNumberOf (switch_of (tree catalogue.now of.0)) number }
     ensures fits { IsStep catalogue.now of.0 result }
     ensures transitions { (is : IsNumberOf (switch_of (tree catalogue.now of.0)) number) →
@@ -254,7 +254,7 @@ pub(crate) fn take_size(catalogue: &Catalogue, of: TypeId, bound: Option<u32>, n
 #[inline(always)]
 pub(crate) fn take_count(catalogue: &Catalogue, of: TypeId, bound: Option<u32>, n: u32) -> Step
     requires is { (E : Ty) × (tree catalogue.now of.0 ≡ Sequence bound E) }
-    requires fit { (d : ℕ) × IsFit d (tree catalogue.now of.0) }
+    requires fit { (d room : ℕ) × IsFit d (tree_at catalogue.now room of.0) }
     ensures fits { IsStep catalogue.now of.0 result }
     ensures transitions { IsStepOf catalogue.now of.0 n result }
 {

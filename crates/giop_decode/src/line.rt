@@ -6,10 +6,10 @@ ghost use Rattle.giop_decode.specs.ReadResult as results;
 ghost use Rattle.giop_decode.specs.Fits.{HasContent};
 ghost use Rattle.giop_decode.specs.Spelling.{value_text, lines_text};
 ghost use Rattle.giop_decode.specs.Passes.{Finishes};
-ghost use Rattle.giop_decode.specs.Transitions.{AreKnown, IsNumberOf, HasOutput};
+ghost use Rattle.giop_decode.specs.Transitions.{AreKnown, IsNumberOf, HasOutput, tree_in};
 ghost use Rattle.giop_decode.specs.Segments.{current_path_text};
 ghost use Rattle.giop_print.specs.Output.{Writes};
-ghost use Rattle.giop_sig.specs.Trees.{tree, tree_at};
+ghost use Rattle.giop_sig.specs.Trees.{tree_at};
 
 use crate::current_path::CurrentPath;
 use crate::frame::Frame;
@@ -99,7 +99,8 @@ pub(crate) fn write_line<O: Out>(
     requires known { finished.of.0 < length catalogue.now.types }
     requires known_outer { AreKnown catalogue.now outer.now }
     requires room { length outer.now < 24 }
-    requires has_output { HasOutput (tree catalogue.now finished.of.0) finished.output }
+    requires has_output { HasOutput (tree_in catalogue.now outer.now finished.of.0)
+        finished.output }
     requires short { length finished.held.now + length finished.rest.now ≤ 32 }
     ensures { (here at : ℕ) (lines : List Line) →
         Finishes catalogue.now outer.now finished.entry here at lines →

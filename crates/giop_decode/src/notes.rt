@@ -9,8 +9,8 @@ ghost use Rattle.giop_decode.specs.ReadResult.{Line};
 ghost use Rattle.giop_decode.specs.ReadResult as results;
 ghost use Rattle.giop_decode.specs.Passes.{Finishes};
 ghost use Rattle.giop_decode.specs.ReadingSteps.{path_in};
-ghost use Rattle.giop_decode.specs.Transitions.{open_parts, AreKnown, IsNumberOf, HasOutput};
-ghost use Rattle.giop_sig.specs.Trees.{tree, tree_at};
+ghost use Rattle.giop_decode.specs.Transitions.{open_parts, tree_in, AreKnown, IsNumberOf, HasOutput};
+ghost use Rattle.giop_sig.specs.Trees.{tree_at};
 
 use crate::frame::Frame;
 use crate::leaf::{Finished, Output};
@@ -218,7 +218,9 @@ impl Notes {
     ) -> bool
         requires known { finished.of.0 < length catalogue.now.types }
         requires known_outer { AreKnown catalogue.now outer.now }
-        requires has_output { HasOutput (tree catalogue.now finished.of.0) finished.output }
+        requires room { length outer.now < 24 }
+        requires has_output { HasOutput (tree_in catalogue.now outer.now finished.of.0)
+            finished.output }
         ensures id { is_header_root root ≡ false → self.new.request_id ≡ self.old.request_id }
         ensures notes { (h : Noted) (here at : ℕ) (lines : List Line) → HoldsNoted self.old h →
             Finishes catalogue.now outer.now finished.entry here at lines →

@@ -5,11 +5,9 @@ ghost use Rattle.giop_cdr.specs.Primitives.{size_of};
 ghost use Rattle.giop_decode.specs.DecoderState.{Fits};
 ghost use Rattle.giop_decode.specs.Noted.{is_header_root};
 ghost use Rattle.giop_decode.specs.NextParts.{IsPartAhead, IsNextNumber, IsAtNext, front_text};
-ghost use Rattle.giop_decode.specs.ReadingSteps.{segment_in};
 ghost use Rattle.giop_decode.specs.Runs.{TakesSome};
-ghost use Rattle.giop_decode.specs.Segments.{frames_text};
-ghost use Rattle.giop_decode.specs.Spelling.{segment_text};
-ghost use Rattle.giop_decode.specs.Transitions.{open_part, AreKnown, IsKnown};
+ghost use Rattle.giop_decode.specs.Segments.{frame_text, frames_text};
+ghost use Rattle.giop_decode.specs.Transitions.{AreKnown, IsKnown};
 ghost use Rattle.giop_print.specs.Line.{line_text, line_room, headed};
 ghost use Rattle.giop_print.specs.Lines.{kind_line, kind_word, number_text, spaced};
 ghost use Rattle.giop_print.specs.Output.{Writes};
@@ -275,7 +273,7 @@ fn part_line<O: Out>(
     ensures { (message : ℕ) (place : List ℕ) →
         line_text front.now ≡ headed message place [] →
         Writes result (O.log out.old) (O.log out.new) (kind_line message
-        (place ++ segment_text (segment_in (open_part catalogue.now 0 part.entry.frame)))
+        (place ++ frame_text catalogue.now part.entry.frame)
         (spaced (kind_word part.entry.prim))
         (number_text (size_of part.entry.prim) part.entry.number)) }
 {

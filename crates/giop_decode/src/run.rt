@@ -306,7 +306,8 @@ impl Decoder {
         requires leaf { self.old.leaf ≡ Some leaf }
         requires ahead { HaveOctetsLeft (ticked_by (length octets.now - 1) self.old.outer.items) }
         requires some { 0 < length octets.now }
-        requires parted { IsParted catalogue.now leaf self.old.piece.items (length octets.now) }
+        requires parted { IsParted catalogue.now self.old.outer.items leaf self.old.piece.items
+            (length octets.now) }
         ensures { TakesSome catalogue.now self.old self.new octets.now
             (O.log out.old) (O.log out.new) result }
     {

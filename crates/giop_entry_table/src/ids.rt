@@ -7,6 +7,9 @@ ghost use Rattle.giop_entry_table.specs.Ids.{AreIndexed, IsBefore};
 use crate::search::place_of;
 use std::alloc::{AllocError, Global};
 
+/// So few ids are looked through one after the other: all have one remainder.
+const FEW: usize = 128;
+
 /// Ids in the order of being added. All of its memory is allocated when it is made.
 #[derive(Drop)]
 pub(crate) struct Ids {
@@ -22,14 +25,23 @@ pub(crate) struct Ids {
         firsts.items removals },
 }
 
+/// The divisor whose remainders tell ids apart. It is odd, so that ids that rise by a power of two have different remainders.
+fn divisor(most: usize) -> usize
+    ensures { 0 < result }
+{
+    if most <= FEW {
+        return 1;
+    }
+    most.saturating_mul(2).saturating_add(1)
+}
+
 impl Ids {
     /// No ids, with memory for so many.
     pub(crate) fn with_capacity(alloc: Global, most: usize) -> Result<Ids, AllocError>
         ensures items { IfOk result (λ r. r.keys.items ≡ []) }
         ensures capacity { IfOk result (λ r. most ≤ vec_capacity r.keys) }
     {
-        // The divisor is odd, so that ids that rise by a power of two have different remainders.
-        let divisor = most.saturating_mul(2).saturating_add(1);
+        let divisor = divisor(most);
         Ok(Ids {
             keys: Vec::with_capacity(alloc, most)?,
             counts: vec![in alloc; 0; divisor]?,

@@ -16,10 +16,11 @@ use Rattle.giop_decode.specs.ReadingSteps.{IsEmptyResult, OneAt, IsOctetResult, 
 use Rattle.giop_decode.specs.Noted.{Noted, nothing_noted, note, ends_operation, is_header_root}
 use Rattle.giop_decode.proofs.ReadingLaws.{length_one_more, each_append, root_now, reading_quiet}
 use Rattle.giop_message.specs.declared.part.Section.{Section}
+use Rattle.giop_message.specs.declared.part.Section.TheVariants as sections
 use Rattle.giop_message.specs.Headers.{order}
 use Rattle.giop_message.specs.MessageReader.{LineClass, TimedLine, AreInLineOrder, IsOrdered, IsCausal}
 use Rattle.giop_message.specs.Signatures.{Signatures}
-use Rattle.giop_message.specs.Messages.{ValueLine, CallLine, RestLine, FaultLine, LineAt, line_at, call_of, calls, section_lines, BodyType, Stage, In_typed, In_padding, In_rest, Over, Message, ReadTo, with_front, section_then, rest_in, rest, body, padded, message, message_lines, root_of, may_call, after, section_and_rest}
+use Rattle.giop_message.specs.Messages.{Said, only_lines, nothing_said, ValueLine, CallLine, RestLine, FaultLine, LineAt, line_at, call_of, calls, section_lines, BodyType, Stage, In_typed, In_padding, In_rest, Over, Message, ReadTo, with_front, section_then, rest_in, rest, body, padded, message, message_lines, root_of, may_call, after, section_and_rest}
 use Rattle.giop_message.specs.StageSteps.{rest_step, message_step, advance}
 use Rattle.giop_message.specs.ReaderOfTable.{line_class_of, timed_line_of, remarks_by, reader_by}
 use Rattle.giop_message.proofs.LastParts.{CallsNone, root_none}
@@ -31,7 +32,7 @@ ToldAt n emitted = Each (λ t. t.at ≡ n) emitted
 
 -- a message read from no octets has no line
 abbrev pub Silent : ℕ → Message → Type 0
-Silent n (ReadTo emitted at stage) = (emitted ≡ []) × (at ≡ n)
+Silent n (ReadTo said at stage) = (said.lines ≡ []) × (at ≡ n)
 
 -- the lines of one octet, in their order
 abbrev pub Turn : ℕ → List LineAt → Type 0
@@ -39,15 +40,15 @@ Turn n emitted = ToldAt n emitted × AreInLineOrder (map (λ t. line_class_of t.
 
 -- a message after an octet, up to this offset
 abbrev pub Prompt : ℕ → Message → Type 0
-Prompt n (ReadTo emitted at stage) = Turn n emitted × ((at ≡ n) ⊎ (stage ≡ Over))
+Prompt n (ReadTo said at stage) = Turn n said.lines × ((at ≡ n) ⊎ (stage ≡ Over))
 
 silent_prompt : (n : ℕ) (m : Message) → Silent n m → Prompt n m
-silent_prompt n (ReadTo emitted at stage) h = search (arith)
+silent_prompt n (ReadTo said at stage) h = search (arith)
 
-prompt_front : (n : ℕ) (front : List LineAt) (m : Message) → Turn n front → Silent n m →
+prompt_front : (n : ℕ) (front : Said) (m : Message) → Turn n front.lines → Silent n m →
     Prompt n (with_front front m)
 unfolding with_front
-prompt_front n front (ReadTo emitted at stage) h k = search (arith, append-nil)
+prompt_front n front (ReadTo said at stage) h k = search (arith, append-nil)
 
 -- one call line, or none
 abbrev pub MayCall : ℕ → List LineAt → Type 0
@@ -93,7 +94,7 @@ module _ (section : Section) (is : Bool) (next : Noted → ℕ → List ℕ → 
 
   pub passes_silent : (k : Noted) (r : Read) → IsEmptyResult n r →
       Silent n (section_then section is next k r)
-  unfolding section_then section_lines
+  unfolding section_then section_lines with_front
   passes_silent k (Done lines at s) h = search (arith, front_none)
   passes_silent k (Short lines at outer leaf) h = rw (h.0, h.1) (refl, refl)
   passes_silent k (Fault lines at why T) h = absurd h
@@ -134,21 +135,23 @@ module _ (S : Signatures) (header : List ℕ) where
   padded_silent t silent n = search (arith, cases_lt, drop, lt-ltb, add-zero)
 
   pub body_silent : (t : BodyType) (n : ℕ) → Silent n (body S header t n [])
-  body_silent t = body_has S header IsSilent rest_silent reads_silent padded_silent t
+  body_silent t = body_has S header IsSilent rest_silent
+      (λ section T past. reads_silent section T) padded_silent t
 
   pub after_silent : (section : Section) (k : Noted) (n : ℕ) →
       Silent n (after S header section k n [])
-  after_silent section k = after_has S header IsSilent rest_silent reads_silent padded_silent
-      section k
+  after_silent section k = after_has S header IsSilent rest_silent
+      (λ section T past. reads_silent section T) padded_silent section k
 
   pub message_silent : Silent 12 (message S header [])
   unfolding message
-  message_silent = message_has S header IsSilent rest_silent reads_silent padded_silent 12
+  message_silent = message_has S header IsSilent rest_silent
+      (λ section T past. reads_silent section T) padded_silent (reads_silent sections.Header) 12
 
 rest_by : (offset : ℕ) (held : List ℕ) (n : ℕ) (test : Bool) →
-    Prompt n (if test then ReadTo (line_at n (RestLine offset held) ∷ []) n
+    Prompt n (if test then ReadTo (only_lines (line_at n (RestLine offset held) ∷ [])) n
     (In_rest (offset + 32) [])
-    else ReadTo [] n (In_rest offset held))
+    else ReadTo nothing_said n (In_rest offset held))
 unfolding line_at line_class_of
 rest_by offset held n true = search (arith)
 rest_by offset held n false = ((tt, inl refl), inl refl)
@@ -165,7 +168,7 @@ step_prompt S header at (In_typed section k outer leaf) b =
 step_prompt S header at (In_padding t) b = go (nat_lt 1 (padding at 8))
   where
     go : (test : Bool) → Prompt (at + 1)
-        (if test then ReadTo [] (at + 1) (In_padding t) else body S header t (at + 1) [])
+        (if test then ReadTo nothing_said (at + 1) (In_padding t) else body S header t (at + 1) [])
     go true = ((tt, inl refl), inl refl)
     go false = search (arith, silent_prompt, body_silent)
 step_prompt S header at (In_rest offset held) b = search (arith, rest_by)
@@ -173,13 +176,13 @@ step_prompt S header at Over b = ((tt, inl refl), inr refl)
 
 -- a message after so many octets is at that offset, unless it is over
 abbrev pub Stands : ℕ → Message → Type 0
-Stands n (ReadTo emitted at stage) = (at ≡ n) ⊎ (stage ≡ Over)
+Stands n (ReadTo said at stage) = (at ≡ n) ⊎ (stage ≡ Over)
 
 stands_more : (S : Signatures) (header : List ℕ) (n : ℕ) (m : Message) (b : ℕ) → Stands n m →
     Stands (n + 1) (advance S header m b)
 unfolding advance with_front message_step
-stands_more S header n (ReadTo emitted at stage) b (inl h) = search (arith, step_prompt)
-stands_more S header n (ReadTo emitted at stage) b (inr h) = rw h (inr refl)
+stands_more S header n (ReadTo said at stage) b (inl h) = search (arith, step_prompt)
+stands_more S header n (ReadTo said at stage) b (inr h) = rw h (inr refl)
 
 -- Induction that adds at the end.
 pub grown : {A : Type 0} (P : List A → Type 0) → ((xs : List A) (x : A) → P xs → P (xs ++ x ∷ [])) →
@@ -197,7 +200,7 @@ stands S header xs = grown (λ xs. Stands (12 + length xs) (message S header xs)
     (none (message S header []) (message_silent S header))
   where
     none : (m : Message) → Silent 12 m → Stands 12 m
-    none (ReadTo emitted at stage) h = inl h.1
+    none (ReadTo said at stage) h = inl h.1
 
     more : (xs : List ℕ) (b : ℕ) → Stands (12 + length xs) (message S header xs) →
         Stands (12 + length (xs ++ b ∷ [])) (message S header (xs ++ b ∷ []))
@@ -219,14 +222,14 @@ pub one_more : (S : Signatures) (header : List ℕ) (n : ℕ) (m : Message) (b :
     (more : List LineAt) × (message_lines (advance S header m b) ≡ message_lines m ++ more)
     × Turn (n + 1) more
 unfolding advance with_front message_step message_lines
-one_more S header n (ReadTo emitted at stage) b (inl h) =
+one_more S header n (ReadTo said at stage) b (inl h) =
     go (message_step S header at stage b) (step_prompt S header at stage b)
   where
     go : (m : Message) → Prompt (at + 1) m →
-        (more : List LineAt) × (message_lines (with_front emitted m) ≡ emitted ++ more)
+        (more : List LineAt) × (message_lines (with_front said m) ≡ said.lines ++ more)
         × Turn (n + 1) more
-    go (ReadTo more at' stage') k = (more, refl, rw (← h) k.0)
-one_more S header n (ReadTo emitted at stage) b (inr h) = search (arith)
+    go (ReadTo more at' stage') k = (more.lines, refl, rw (← h) k.0)
+one_more S header n (ReadTo said at stage) b (inr h) = search (arith)
 
 pub told_begins : (S : Signatures) (header xs more : List ℕ) → (later : List LineAt)
     × (message_lines (message S header (xs ++ more)) ≡ message_lines (message S header xs) ++ later)
@@ -335,7 +338,7 @@ module _ (k : ℕ) where
     ordered_none : (m : Message) → Silent 12 m →
         Each (λ t. t.at ≤ 12) (message_lines m) × AreInLineOrder (LineClasses (message_lines m))
     unfolding message_lines
-    ordered_none (ReadTo emitted at stage) h = rw h.0 (tt, inl refl)
+    ordered_none (ReadTo said at stage) h = rw h.0 (tt, inl refl)
 
     ordered_more : (xs : List ℕ) (b : ℕ) → Ordered xs → Ordered (xs ++ b ∷ [])
     ordered_more xs b h =

@@ -4,7 +4,7 @@ use Rattle.std.proofs.Math.Seq.{drop-append_seam}
 use Rattle.std.proofs.lemmas.List.{length-take-le, take-append-drop}
 use Rattle.std.proofs.lemmas.List.Concat.{flat_map-append}
 use Rattle.giop_message.specs.Signatures.{Signatures}
-use Rattle.giop_message.specs.Messages.{LineAt, Over, Message, ReadTo, message, message_lines, stage_of}
+use Rattle.giop_message.specs.Messages.{LineAt, Said, Over, Message, ReadTo, message, message_lines, stage_of}
 use Rattle.giop_message.specs.StageSteps.{goes_on}
 use Rattle.giop_message.specs.ReaderOfTable.{is_over}
 use Rattle.giop_message.specs.MessageState.{message_line_text, message_lines_text, due, due_text, FaultedAt}
@@ -65,17 +65,23 @@ text_none S number place header s =
     drop_all_of emitted = ap (drop (length emitted)) (sym (append-nil emitted))
         ∙ drop-append_seam emitted []
 
--- after a fault there are no lines
-over_goes : (S : Signatures) (header : List ℕ) (emitted : List LineAt) (at : ℕ) (t : List ℕ) →
-    goes_on S header (ReadTo emitted at Over) t ≡ ReadTo emitted at Over
-over_goes S header emitted at [] = refl
-over_goes S header emitted at (b ∷ t) = search (arith, stays, over_goes S header emitted at t)
+-- after a fault a message stays the same
+over_goes : (S : Signatures) (header : List ℕ) (said : Said) (at : ℕ) (t : List ℕ) →
+    goes_on S header (ReadTo said at Over) t ≡ ReadTo said at Over
+over_goes S header said at [] = refl
+over_goes S header said at (b ∷ t) = search (arith, stays, over_goes S header said at t)
 
 over_same : (S : Signatures) (header t : List ℕ) (m : Message) → is_over (stage_of m) ≡ true →
-    message_lines (goes_on S header m t) ≡ message_lines m
+    goes_on S header m t ≡ m
 unfolding is_over stage_of
-over_same S header t (ReadTo emitted at Over) e = search (arith, over_goes)
+over_same S header t (ReadTo said at Over) e = search (arith, over_goes)
 over_same S header t _ e = absurd cc
+
+pub over_stays : (S : Signatures) (header s more : List ℕ) →
+    is_over (stage_of (message S header s)) ≡ true →
+    message S header (s ++ more) ≡ message S header s
+over_stays S header s more e = message_resumes S header s more
+    ∙ over_same S header more (message S header s) e
 
 pub text_over : (S : Signatures) (number place : ℕ) (header s more : List ℕ) →
     is_over (stage_of (message S header s)) ≡ true → due_text S number place header s more ≡ []
@@ -83,9 +89,8 @@ unfolding due_text message_lines_text due
 text_over S number place header s more e =
     let same : message_lines (message S header (s ++ more)) ≡ message_lines (message S header s)
     ++ [] =
-    ap message_lines (message_resumes S header s more)
-    ∙ (over_same S header more (message S header s) e
-    ∙ sym (append-nil (message_lines (message S header s)))) in
+    ap message_lines (over_stays S header s more e)
+    ∙ sym (append-nil (message_lines (message S header s))) in
     rw (same, drop-append_seam (message_lines (message S header s)) []) refl
 
 -- ---- the octets so far, and more of them

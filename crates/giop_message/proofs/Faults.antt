@@ -8,15 +8,16 @@ use Rattle.giop_decode.specs.ReadResult.{plain, Line, Read, Done, Short, Fault}
 use Rattle.giop_decode.specs.Reading.{reading}
 use Rattle.giop_decode.specs.Noted.{Noted, nothing_noted, note, is_header_root}
 use Rattle.giop_message.specs.declared.part.Section.{Section}
+use Rattle.giop_message.specs.declared.part.Section.TheVariants as sections
 use Rattle.giop_message.specs.Headers.{minor, kind, order}
 use Rattle.giop_message.specs.Signatures.{Signatures}
-use Rattle.giop_message.specs.Messages.{LineAt, line_at, calls, section_lines, BodyType, Message, ReadTo, with_front, section_then, rest_in, rest, body, padded, of_header, message, message_lines, stage_of, root_of, after, section_and_rest}
+use Rattle.giop_message.specs.Messages.{Said, LineAt, line_at, calls, section_lines, BodyType, Message, ReadTo, with_front, section_then, rest_in, rest, body, padded, of_header, message, message_lines, stage_of, root_of, after, section_and_rest}
 use Rattle.giop_message.specs.ReaderOfTable.{line_class_of, is_over, is_wrong}
 use Rattle.giop_message.proofs.Going.{after_has, message_has}
 use Rattle.giop_message.proofs.Causal.{MayCall, calls_is}
 
 abbrev pub Tallies : Message → Type 0
-Tallies (ReadTo emitted at stage) = is_over stage ≡ list_any is_wrong emitted
+Tallies (ReadTo said at stage) = is_over stage ≡ list_any is_wrong said.lines
 
 step_by : (a b c d : Bool) → (a || b) ≡ false → (b ≡ false → c ≡ d) → (a || c) ≡ d
 step_by true b c d h f = absurd cc
@@ -42,10 +43,10 @@ none_told root is h (l ∷ ls) =
     any_append (calls is l now) (section_lines root is now ls)
     (none_call l.at (calls is l now) (calls_is is l now)) ∙ none_told root is now ls
 
-front_tallies : (front : List LineAt) (m : Message) → list_any is_wrong front ≡ false → Tallies m →
+front_tallies : (front : Said) (m : Message) → list_any is_wrong front.lines ≡ false → Tallies m →
     Tallies (with_front front m)
 unfolding with_front
-front_tallies front (ReadTo emitted at stage) h k = search (arith, any_append)
+front_tallies front (ReadTo said at stage) h k = search (arith, any_append)
 
 module _ (section : Section) (is : Bool) (next : Noted → ℕ → List ℕ → Message)
     (tallies : (k : Noted) (at : ℕ) (s : List ℕ) → Tallies (next k at s)) where
@@ -89,15 +90,16 @@ module _ (S : Signatures) (header : List ℕ) where
   padded_tallies t tallies at s = search (arith, drop)
 
   pub after_tallies : (section : Section) (k : Noted) → AllTally (after S header section k)
-  after_tallies section k = after_has S header AllTally all_rest reads_tally padded_tallies section
-      k
+  after_tallies section k = after_has S header AllTally all_rest
+      (λ section T past. reads_tally section T) padded_tallies section k
 
   message_tallies : AllTally (of_header S header (S.header (minor header) (kind header)))
-  message_tallies = message_has S header AllTally all_rest reads_tally padded_tallies
+  message_tallies = message_has S header AllTally all_rest
+      (λ section T past. reads_tally section T) padded_tallies (reads_tally sections.Header)
 
 over_of : (m : Message) → Tallies m → is_over (stage_of m) ≡ list_any is_wrong (message_lines m)
 unfolding stage_of message_lines
-over_of (ReadTo emitted at stage) h = h
+over_of (ReadTo said at stage) h = h
 
 pub over_where_faulted : (S : Signatures) (header s : List ℕ) →
     is_over (stage_of (message S header s)) ≡ list_any is_wrong (message_lines (message S header s))

@@ -31,7 +31,7 @@ use Rattle.giop_message.proofs.Octets.{told_front, stage_front, told_silent, wro
 
 none_over : (n : ℕ) (m : Message) → Silent n m → Tallies m → is_over (stage_of m) ≡ false
 unfolding stage_of
-none_over n (ReadTo emitted at stage) silent tallies = rw silent.0 at tallies
+none_over n (ReadTo said at stage) silent tallies = rw silent.0 at tallies
 
 module _ (S : Signatures) (header : List ℕ) (section : Section) (C : Table) (d : Decoder)
     (lines : List Line) (at : ℕ) where

@@ -17,7 +17,8 @@ use Rattle.giop_message.specs.declared.part.Section.{Section}
 use Rattle.giop_message.specs.declared.part.Section.TheVariants as sections
 use Rattle.giop_message.specs.Headers.{minor, kind, order}
 use Rattle.giop_message.specs.Signatures.{Signatures}
-use Rattle.giop_message.specs.Messages.{ValueLine, RestLine, LineAt, line_at, calls, section_lines, BodyType, Untyped, Typed, UserException, SystemException, In_padding, In_rest, Over, Message, ReadTo, with_front, section_then, rest_in, rest, typed, option_typed, after_exception, body, body_of, has_body, padded, after_header, of_header, message, root_of, may_call, after, section_and_rest}
+use Rattle.giop_message.specs.Messages.{Said, only_lines, nothing_said, said_both, ValueLine, RestLine, line_at, calls, section_lines, BodyType, Untyped, Typed, UserException, SystemException, Stage, In_padding, In_rest, Over, Message, ReadTo, with_front, section_then, rest_in, rest, typed, option_typed, after_exception, body, body_of, has_body, padded, after_header, of_header, message, root_of, may_call, after, section_and_rest}
+use Rattle.giop_message.specs.MessageState.{is_header}
 use Rattle.giop_message.specs.StageSteps.{rest_step, message_step, advance, goes_on}
 
 -- a reader for which one octet more is one step
@@ -25,24 +26,32 @@ abbrev pub Goes : Signatures → List ℕ → (ℕ → List ℕ → Message) →
 Goes S header reader = (at : ℕ) (s : List ℕ) (b : ℕ) →
     reader at (s ++ b ∷ []) ≡ advance S header (reader at s) b
 
-pub front_twice : (front mid : List LineAt) (m : Message) →
-    with_front front (with_front mid m) ≡ with_front (front ++ mid) m
+pub front_twice : (front mid : Said) (m : Message) →
+    with_front front (with_front mid m) ≡ with_front (said_both front mid) m
 unfolding with_front
-front_twice front mid (ReadTo emitted at stage) = search (arith, append_assoc)
+front_twice front mid (ReadTo said at stage) = rw (
+  append_assoc front.lines mid.lines said.lines,
+  append_assoc front.marks mid.marks said.marks,
+) refl
 
-pub front_none : (m : Message) → with_front [] m ≡ m
+pub front_none : (m : Message) → with_front nothing_said m ≡ m
 unfolding with_front
-front_none (ReadTo emitted at stage) = refl
+front_none (ReadTo said at stage) = refl
 
-pub front_advance : (S : Signatures) (header : List ℕ) (front : List LineAt) (m : Message) (b : ℕ) →
+pub none_front : (front : Said) (at : ℕ) (stage : Stage) →
+    with_front front (ReadTo nothing_said at stage) ≡ ReadTo front at stage
+unfolding with_front
+none_front front at stage = rw (append-nil front.lines, append-nil front.marks) refl
+
+pub front_advance : (S : Signatures) (header : List ℕ) (front : Said) (m : Message) (b : ℕ) →
     with_front front (advance S header m b) ≡ advance S header (with_front front m) b
 unfolding with_front advance
-front_advance S header front (ReadTo emitted at stage) b = search (arith, front_twice)
+front_advance S header front (ReadTo said at stage) b = search (arith, front_twice)
 
-pub stays : (S : Signatures) (header : List ℕ) (emitted : List LineAt) (at b : ℕ) →
-    ReadTo emitted at Over ≡ advance S header (ReadTo emitted at Over) b
-unfolding with_front advance message_step
-stays S header emitted at b = search (arith, append-nil)
+pub stays : (S : Signatures) (header : List ℕ) (said : Said) (at b : ℕ) →
+    ReadTo said at Over ≡ advance S header (ReadTo said at Over) b
+unfolding advance message_step
+stays S header said at b = search (arith, none_front)
 
 -- ---- lines in two parts
 
@@ -64,7 +73,7 @@ module _ (section : Section) (is : Bool) (next : Noted → ℕ → List ℕ → 
 
   pub passes_front : (h : Noted) (front : List Line) (r : Read) →
       section_then section is next h (ReadResult.with_front front r)
-      ≡ with_front (section_lines R is h front)
+      ≡ with_front (only_lines (section_lines R is h front))
       (section_then section is next (noted (is_header_root R) h front) r)
   unfolding section_then with_front
   passes_front h front (Done lines at s) = search (
@@ -95,13 +104,13 @@ through_goes S header section goes h (Fault lines at why T) b = search (arith, s
 -- ---- the rest
 
 pub rest_step_full : (offset : ℕ) (held : List ℕ) (at : ℕ) → length held ≡ 32 →
-    rest_step offset held at ≡ ReadTo (line_at at (RestLine offset held) ∷ []) at
+    rest_step offset held at ≡ ReadTo (only_lines (line_at at (RestLine offset held) ∷ [])) at
     (In_rest (offset + 32) [])
 unfolding rest_step
 rest_step_full offset held at e = rw eq-eqb refl
 
 pub rest_step_more : (offset : ℕ) (held : List ℕ) (at : ℕ) → length held < 32 →
-    rest_step offset held at ≡ ReadTo [] at (In_rest offset held)
+    rest_step offset held at ≡ ReadTo nothing_said at (In_rest offset held)
 unfolding rest_step
 rest_step_more offset held at h = search (arith, ne_eqb)
 
@@ -125,7 +134,7 @@ rest_in_goes S header zero (suc (suc more)) offset at s b e f = absurd (omega ar
 rest_in_goes S header (suc full) zero offset at s b e f = absurd (omega arith)
 rest_in_goes S header (suc full) (suc more) offset at s b e f =
     let l : 32 ≤ length s = omega arith in
-    let front = line_at (at + 32) (RestLine offset (take 32 s)) ∷ [] in
+    let front = only_lines (line_at (at + 32) (RestLine offset (take 32 s)) ∷ []) in
     rw (take-append-le 32 s (b ∷ []) l, drop-append-le 32 s (b ∷ []) l)
     (ap (with_front front)
     (rest_in_goes S header full more (offset + 32) (at + 32) (drop 32 s) b
@@ -139,7 +148,8 @@ rest_goes S header at s b = search (arith, rest_in_goes, length_one_more)
 -- ---- the padding
 
 pub padded_waits : (S : Signatures) (header : List ℕ) (t : BodyType) (at : ℕ) (s : List ℕ) →
-    length s < padding at 8 → padded S header t at s ≡ ReadTo [] (at + length s) (In_padding t)
+    length s < padding at 8 →
+    padded S header t at s ≡ ReadTo nothing_said (at + length s) (In_padding t)
 unfolding padded
 padded_waits S header t at s h = rw lt-ltb refl
 
@@ -156,14 +166,14 @@ pad_less at k h = omega arith
 
 module _ (S : Signatures) (header : List ℕ) (t : BodyType) (at b : ℕ) (s : List ℕ) where
   padding_waits : 1 < padding (at + length s) 8 →
-      ReadTo [] (at + length (s ++ b ∷ [])) (In_padding t)
-      ≡ advance S header (ReadTo [] (at + length s) (In_padding t)) b
+      ReadTo nothing_said (at + length (s ++ b ∷ [])) (In_padding t)
+      ≡ advance S header (ReadTo nothing_said (at + length s) (In_padding t)) b
   unfolding advance message_step
   padding_waits m = search (arith, lt-ltb, front_none, length_one_more, add_assoc)
 
   padding_begins : padding at 8 ≡ length (s ++ b ∷ []) → padding (at + length s) 8 ≤ 1 →
       body S header t (at + padding at 8) (drop (padding at 8) (s ++ b ∷ []))
-      ≡ advance S header (ReadTo [] (at + length s) (In_padding t)) b
+      ≡ advance S header (ReadTo nothing_said (at + length s) (In_padding t)) b
   unfolding advance message_step
   padding_begins l m = search (arith, length_one_more, le-ltb, front_none, drop_all, le_of_eq)
 
@@ -189,16 +199,17 @@ padded_goes S header t goes at s b = go (cases_lt (length s) (padding at 8))
 
 -- ---- a message
 
--- What holds of each part of a message and of what follows it: of the rest, of a section where it
+-- What holds of each part after a header and of what follows it: of the rest, of a section where it
 -- holds after that, and of a body after padding where it holds of the body.
 module _ (S : Signatures) (header : List ℕ) (P : (ℕ → List ℕ → Message) → Type 0) (rests : P rest)
-    (reads : (section : Section) (T : Ty) → ((h : Noted) → P (after S header section h)) →
+    (reads : (section : Section) (T : Ty) → is_header section ≡ false →
+    ((h : Noted) → P (after S header section h)) →
     P (λ at s. section_and_rest S header section nothing_noted
     (reading (plain (order header)) [] T at s)))
     (pads : (t : BodyType) → P (body S header t) → P (padded S header t)) where
   typed_has : (T : Ty) → P (typed (order header) T)
   unfolding typed
-  typed_has T = reads sections.Body T (λ h. rests)
+  typed_has T = reads sections.Body T refl (λ h. rests)
 
   option_has : (found : Option Ty) → P (option_typed (order header) found)
   unfolding option_typed
@@ -213,8 +224,9 @@ module _ (S : Signatures) (header : List ℕ) (P : (ℕ → List ℕ → Message
   unfolding body
   body_has Untyped = rests
   body_has (Typed T) = typed_has T
-  body_has UserException = reads sections.Exception S.exception_id exception_has
-  body_has SystemException = reads sections.SystemException S.system_exception (λ h. rests)
+  body_has UserException = reads sections.Exception S.exception_id refl exception_has
+  body_has SystemException = reads sections.SystemException S.system_exception refl
+      (λ h. rests)
 
   header_has : (h : Noted) → P (after_header S header h)
   unfolding after_header
@@ -233,13 +245,17 @@ module _ (S : Signatures) (header : List ℕ) (P : (ℕ → List ℕ → Message
   after_has sections.SystemException h = rests
   after_has sections.Body h = rests
 
-  message_by : (found : Option Ty) → P (of_header S header found)
-  unfolding of_header
-  message_by None = rests
-  message_by (Some T) = reads sections.Header T header_has
+  -- and of a message, where it holds of a header before that
+  module _ (heads : (T : Ty) → ((h : Noted) → P (after S header sections.Header h)) →
+      P (λ at s. section_and_rest S header sections.Header nothing_noted
+      (reading (plain (order header)) [] T at s))) where
+    message_by : (found : Option Ty) → P (of_header S header found)
+    unfolding of_header
+    message_by None = rests
+    message_by (Some T) = heads T header_has
 
-  pub message_has : P (of_header S header (S.header (minor header) (kind header)))
-  message_has = search (arith, message_by)
+    pub message_has : P (of_header S header (S.header (minor header) (kind header)))
+    message_has = search (arith, message_by)
 
 reads_go : (S : Signatures) (header : List ℕ) (section : Section) (T : Ty) →
     ((h : Noted) → Goes S header (after S header section h)) →
@@ -249,16 +265,17 @@ reads_go S header section T goes at s b = search (arith, reading_goes, through_g
 
 pub after_goes : (S : Signatures) (header : List ℕ) (section : Section) (h : Noted) →
     Goes S header (after S header section h)
-after_goes S header = after_has S header (Goes S header) (rest_goes S header) (reads_go S header)
-    (padded_goes S header)
+after_goes S header = after_has S header (Goes S header) (rest_goes S header)
+    (λ section T past. reads_go S header section T) (padded_goes S header)
 
 -- One octet more is one step.
 pub message_goes : (S : Signatures) (header s : List ℕ) (b : ℕ) →
     message S header (s ++ b ∷ []) ≡ advance S header (message S header s) b
 unfolding message
 message_goes S header s b =
-    message_has S header (Goes S header) (rest_goes S header) (reads_go S header)
-    (padded_goes S header) 12 s b
+    message_has S header (Goes S header) (rest_goes S header)
+    (λ section T past. reads_go S header section T) (padded_goes S header)
+    (reads_go S header sections.Header) 12 s b
 
 -- and so are many
 pub message_resumes : (S : Signatures) (header s t : List ℕ) →

@@ -1,146 +1,83 @@
 -- The headers and the names of exceptions that end in octets of a message, and the state of a
 -- correspondent after them.
-use Rattle.std.proofs.Common.{◌≡◌, ℕ, ◌+◌, ◌-◌, ◌<◌, ◌≤◌, arith, Bool, true, false, List, [], ◌∷◌, ◌++◌, Option, Some, None, refl, sym, ap, subst, ◌∙◌, append-nil, append_assoc, take, drop, take-add, map, ◌⊎◌, inl, inr}
+use Rattle.std.proofs.Common.{◌≡◌, ℕ, zero, suc, ◌+◌, ◌-◌, ◌<◌, ◌≤◌, arith, Bool, true, false, List, [], ◌∷◌, ◌++◌, length, Option, Some, None, refl, sym, ap, subst, ◌∙◌, append-nil, append_assoc, take, drop, take-add, map, ◌⊎◌, inl, inr}
+use Rattle.std.specs.List.{AllByRecursion as Each}
 use Rattle.std.proofs.lemmas.List.{take-append-drop}
-use Rattle.std.proofs.lemmas.Bool.{cases_lt, false≢true}
+use Rattle.std.proofs.lemmas.Bool.{cases_lt}
 use Rattle.giop_sig.specs.Types.{Ty}
 use Rattle.giop_sig.specs.Table.{Table}
+use Rattle.giop_sig.specs.Builtin.{builtin_table}
 use Rattle.giop_decode.specs.ReadResult.{plain, Read, Done, Short, Fault}
 use Rattle.giop_decode.specs.Reading.{reading}
-use Rattle.giop_decode.specs.ReadingSteps.{root_advance}
-use Rattle.giop_decode.specs.Noted.{Noted, nothing_noted}
-use Rattle.giop_decode.proofs.ReadingLaws.{reading_goes}
+use Rattle.giop_decode.specs.Noted.{Noted, nothing_noted, noted}
 use Rattle.giop_message.specs.declared.part.Section.TheVariants as sections
 use Rattle.giop_message.specs.Headers.{order}
-use Rattle.giop_message.specs.Signatures.{Answer, Answers, signatures_of}
-use Rattle.giop_message.specs.Messages.{Stage, In_typed, In_padding, In_rest, Over, section_then, of_header, rest, message, stage_of, is_request, after_header}
+use Rattle.giop_message.specs.Signatures.{Signatures, Answer, Answers, signatures_of}
+use Rattle.giop_message.specs.Messages.{Mark, Message, HeaderMark, NameMark, section_then, has_body, after_header, of_header, message, message_marks, stage_of, section_and_rest}
+use Rattle.giop_message.specs.StageSteps.{advance}
 use Rattle.giop_message.specs.ReaderOfTable.{is_over, remarks_by, closes_by}
-use Rattle.giop_message.specs.MessageState.{is_header}
-use Rattle.giop_message.proofs.Raises.{is_settled, raised_stays, raised_settled, raised_before, raised_apart}
 use Rattle.giop_message.specs.DueOctets.{StaysUndue}
-use Rattle.giop_message.specs.HeaderEnds.{HeaderEnd, Header_end, Exception_end, CallEvent, noted_if_whole, noted_by_type, header_noted, ends_between, raised, raises_between, header_ends, call_event, after_event, after_ends, AgreesAtEnds}
+use Rattle.giop_message.specs.HeaderEnds.{HeaderEnd, Header_end, Exception_end, CallEvent, marks, noted_in, header_noted, end_of, header_ends, call_event, after_event, after_ends, AgreesAtEnds}
+use Rattle.giop_message.proofs.Going.{message_goes}
+use Rattle.giop_message.proofs.Causal.{map_both}
+use Rattle.giop_message.proofs.Dues.{over_stays}
+use Rattle.giop_message.proofs.Marks.{OneMark, marks_front, rest_unmarked, marks_are, marks_on, ends_by, unmarked, marks_of_octet, head_unmarked}
 
--- ---- what is noted of a whole header stays the same
+-- ---- what is noted of a header that has ended
 
-module _ (header : List ℕ) (T : Ty) where
-  abbrev Reads : List ℕ → Read
-  Reads s = reading (plain (order header)) [] T 12 s
+noted_front : (xs ys : List Mark) → noted_in (xs ++ ys) ≡ None → noted_in xs ≡ None
+noted_front [] ys e = refl
+noted_front (HeaderMark n ∷ xs) ys e = absurd cc
+noted_front (NameMark name ∷ xs) ys e = noted_front xs ys e
 
-  faulted : Read → Bool
-  faulted (Done lines at s) = false
-  faulted (Short lines at outer leaf) = false
-  faulted (Fault lines at why U) = true
+noted_later : (xs ys : List Mark) → noted_in xs ≡ None → noted_in (xs ++ ys) ≡ noted_in ys
+noted_later [] ys e = refl
+noted_later (HeaderMark n ∷ xs) ys e = absurd cc
+noted_later (NameMark name ∷ xs) ys e = noted_later xs ys e
 
-  whole_on : (r : Read) (b : ℕ) (h : Noted) → noted_if_whole r ≡ Some h →
-      noted_if_whole (root_advance (plain (order header)) [] r b) ≡ Some h
-  whole_on (Done lines at s) b h e = e
-  whole_on (Short lines at outer leaf) b h e = absurd cc
-  whole_on (Fault lines at why U) b h e = absurd cc
-
-  fault_on : (r : Read) (b : ℕ) → faulted r ≡ true →
-      faulted (root_advance (plain (order header)) [] r b) ≡ true
-  unfolding faulted
-  fault_on (Done lines at s) b e = absurd (false≢true e)
-  fault_on (Short lines at outer leaf) b e = absurd (false≢true e)
-  fault_on (Fault lines at why U) b e = refl
-
-  whole_stays : (more s : List ℕ) (h : Noted) → noted_if_whole (Reads s) ≡ Some h →
-      noted_if_whole (Reads (s ++ more)) ≡ Some h
-  whole_stays [] s h e = search (arith, append-nil)
-  whole_stays (b ∷ more) s h e =
-      let one = ap noted_if_whole (reading_goes (plain (order header)) [] T 12 s b)
-      ∙ whole_on (Reads s) b h e in
-      ap (λ z. noted_if_whole (Reads z)) (sym (append_assoc s (b ∷ []) more))
-      ∙ whole_stays more (s ++ b ∷ []) h one
-
-  fault_stays : (more s : List ℕ) → faulted (Reads s) ≡ true → faulted (Reads (s ++ more)) ≡ true
-  fault_stays [] s e = search (arith, append-nil)
-  fault_stays (b ∷ more) s e =
-      let one = ap faulted (reading_goes (plain (order header)) [] T 12 s b)
-      ∙ fault_on (Reads s) b e in
-      ap (λ z. faulted (Reads z)) (sym (append_assoc s (b ∷ []) more))
-      ∙ fault_stays more (s ++ b ∷ []) one
-
-  fault_none : (r : Read) → faulted r ≡ true → noted_if_whole r ≡ None
-  unfolding faulted
-  fault_none (Done lines at s) e = absurd (false≢true e)
-  fault_none (Short lines at outer leaf) e = absurd (false≢true e)
-  fault_none (Fault lines at why U) e = refl
-
-stays_by : (header : List ℕ) (found : Option Ty) (s more : List ℕ) (h : Noted) →
-    noted_by_type header found s ≡ Some h → noted_by_type header found (s ++ more) ≡ Some h
-stays_by header None s more h e = absurd cc
-stays_by header (Some T) s more h e = whole_stays header T more s h e
-
-header_noted_stays : (header s more : List ℕ) (h : Noted) → header_noted header s ≡ Some h →
-    header_noted header (s ++ more) ≡ Some h
+pub header_noted_before : (header s more : List ℕ) → header_noted header (s ++ more) ≡ None →
+    header_noted header s ≡ None
 unfolding header_noted
-header_noted_stays header s more h e = search (arith, stays_by)
+header_noted_before header s more e =
+    let all = marks_on header s more in
+    noted_front (marks header s) all.0 (ap noted_in (sym all.1) ∙ e)
 
--- ---- the headers that end in octets of two parts
+-- A header that ends in octets is among what ends in them.
+pub header_ended : (P : HeaderEnd → Type 0) (number : ℕ) (header s more : List ℕ) →
+    header_noted header s ≡ None → Each P (header_ends number header s more) →
+    (header_noted header (s ++ more) ≡ None) ⊎ ((n : Noted) × P (Header_end number header n))
+unfolding header_noted
+header_ended P number header s more e each =
+    let all = marks_on header s more in
+    go all.0 (ap noted_in all.1 ∙ noted_later (marks header s) all.0 e)
+    (subst (Each P) (ends_by number header s more all.0 all.1) each)
+  where
+    go : (later : List Mark) → noted_in (marks header (s ++ more)) ≡ noted_in later →
+        Each P (map (end_of number header) later) →
+        (noted_in (marks header (s ++ more)) ≡ None)
+        ⊎ ((n : Noted) × P (Header_end number header n))
+    go [] is h = inl is
+    go (HeaderMark n ∷ ms) is h = inr (n, h.0)
+    go (NameMark name ∷ ms) is h = go ms is h.1
 
-both_between : (number : ℕ) (header : List ℕ) (a b c : Option Noted) →
-    ((h : Noted) → a ≡ Some h → b ≡ Some h) → ((h : Noted) → b ≡ Some h → c ≡ Some h) →
-    ends_between number header a c ≡ ends_between number header a b
-    ++ ends_between number header b c
-both_between number header (Some h) (Some k) c f g = refl
-both_between number header (Some h) None c f g = search (arith)
-both_between number header None None c f g = refl
-both_between number header None (Some k) c f g = ap (ends_between number header None) (g k refl)
-
-raises_both : (number : ℕ) (a b c : Option (List ℕ)) →
-    ((n : List ℕ) → a ≡ Some n → b ≡ Some n) → ((n : List ℕ) → b ≡ Some n → c ≡ Some n) →
-    raises_between number a c ≡ raises_between number a b ++ raises_between number b c
-raises_both number (Some n) (Some m) c f g = refl
-raises_both number (Some n) None c f g = search (arith)
-raises_both number None None c f g = refl
-raises_both number None (Some m) c f g = ap (raises_between number None) (g m refl)
-
--- Where a name is complete no header ends.
-crossed : (number : ℕ) (header : List ℕ) (a b : Option (List ℕ)) (k l : Option Noted) →
-    (k ≡ None → b ≡ None) →
-    ends_between number header k l ++ raises_between number a b ≡ raises_between number a b
-    ++ ends_between number header k l
-crossed number header a b (Some h) l f = search (arith, append-nil)
-crossed number header (Some n) b None l f = search (arith, append-nil)
-crossed number header None b None l f = search (arith, append-nil)
-
-exchanged : (us bs cs ds : List HeaderEnd) → bs ++ cs ≡ cs ++ bs → (us ++ bs)
-    ++ (cs ++ ds) ≡ (us ++ cs) ++ (bs ++ ds)
-exchanged us bs cs ds e = search (arith, append_assoc)
+-- ---- octets of two parts, and none
 
 pub header_ends_both : (number : ℕ) (header s xs ys : List ℕ) →
     header_ends number header s (xs ++ ys) ≡ header_ends number header s xs
     ++ header_ends number header (s ++ xs) ys
-unfolding header_ends
 header_ends_both number header s xs ys =
-    let one = header_noted header s in
-    let two = header_noted header (s ++ xs) in
-    let three = header_noted header ((s ++ xs) ++ ys) in
-    let uno = raised header s in
-    let due = raised header (s ++ xs) in
-    let tre = raised header ((s ++ xs) ++ ys) in
-    ap (λ z. ends_between number header one (header_noted header z)
-    ++ raises_between number uno (raised header z)) (sym (append_assoc s xs ys))
-    ∙ (ap (λ (z : List HeaderEnd). z ++ raises_between number uno tre)
-    (both_between number header one two three (λ h e. header_noted_stays header s xs h e)
-    (λ h e. header_noted_stays header (s ++ xs) ys h e))
-    ∙ (ap (λ (z : List HeaderEnd). (ends_between number header one two
-    ++ ends_between number header two three) ++ z)
-    (raises_both number uno due tre (λ n e. raised_stays header s xs n e)
-    (λ n e. raised_stays header (s ++ xs) ys n e))
-    ∙ exchanged (ends_between number header one two) (ends_between number header two three)
-    (raises_between number uno due)
-    (raises_between number due tre) (crossed number header uno due two three
-    (raised_before header (s ++ xs)))))
-
-raises_same : (number : ℕ) (a : Option (List ℕ)) → raises_between number a a ≡ []
-raises_same number None = refl
-raises_same number (Some n) = refl
+    let one = marks_on header s xs in
+    let two = marks_on header (s ++ xs) ys in
+    ends_by number header s (xs ++ ys) (one.0 ++ two.0)
+    (ap (marks header) (sym (append_assoc s xs ys)) ∙ (two.1
+    ∙ (ap (λ (ms : List Mark). ms ++ two.0) one.1 ∙ append_assoc (marks header s) one.0 two.0)))
+    ∙ rw (ends_by number header s xs one.0 one.1, ends_by number header (s ++ xs) ys two.0 two.1)
+    (map_both (end_of number header) one.0 two.0)
 
 pub header_ends_none : (number : ℕ) (header s : List ℕ) → header_ends number header s [] ≡ []
-unfolding header_ends
-header_ends_none number header s = search (arith, append-nil, raises_same)
+header_ends_none number header s =
+    ends_by number header s [] []
+    (ap (marks header) (append-nil s) ∙ sym (append-nil (marks header s)))
 
 -- after octets, of which more end neither
 pub ends_further : (number : ℕ) (header s octets : List ℕ) (t j : ℕ) →
@@ -173,98 +110,96 @@ module _ {St : Type 0} (due : St → Bool) (notified : St → CallEvent → St) 
 
 -- ---- one octet ends a header, or a name, or neither
 
-name_or_none : (number : ℕ) (a b : Option (List ℕ)) →
-    (raises_between number a b ≡ []) ⊎ ((name : List ℕ)
-    × (raises_between number a b ≡ Exception_end number name ∷ []))
-name_or_none number (Some n) b = inl refl
-name_or_none number None None = inl refl
-name_or_none number None (Some n) = inr (n, refl)
-
 pub one_octet : (number : ℕ) (header s : List ℕ) (x : ℕ) →
     (header_ends number header s (x ∷ []) ≡ [])
     ⊎ (((n : Noted) × (header_noted header s ≡ None) × (header_noted header (s ++ x ∷ []) ≡ Some n)
     × (header_ends number header s (x ∷ []) ≡ Header_end number header n ∷ []))
     ⊎ ((name : List ℕ) × (header_ends number header s (x ∷ []) ≡ Exception_end number name ∷ [])))
-unfolding header_ends
-one_octet number header s x = search (arith, name_or_none, raised_before, raised_apart)
-
--- ---- none where a message is past its header
-
--- in the header, or after a fault
-unfoldable pub waits : Stage → Bool
-waits (In_typed section h outer leaf) = is_header section
-waits (In_padding b) = false
-waits (In_rest offset held) = false
-waits Over = true
-
-past_by : (C : Table) (answer : Answer) (number : ℕ) (header : List ℕ) (found : Option Ty)
-    (s more : List ℕ) →
-    waits (stage_of (of_header (signatures_of C answer) header found 12 s)) ≡ false →
-    ends_between number header (noted_by_type header found s)
-    (noted_by_type header found (s ++ more)) ≡ []
-unfolding waits section_then stage_of of_header
-past_by C answer number header None s more e = refl
-past_by C answer number header (Some T) s more e = search (arith, false≢true)
-
-pub past_none : (C : Table) (answer : Answer) (number : ℕ) (header s more : List ℕ) →
-    waits (stage_of (message (signatures_of C answer) header s)) ≡ false →
-    ends_between number header (header_noted header s) (header_noted header (s ++ more)) ≡ []
-unfolding header_noted message signatures_of
-past_none C answer number header s more e = search (arith, past_by)
-
--- nor a name, where none is to come any more
-pub settled_none : (C : Table) (answer : Answer) (number : ℕ) (header s more : List ℕ) →
-    is_settled (stage_of (message (signatures_of C answer) header s)) ≡ true →
-    raises_between number (raised header s) (raised header (s ++ more)) ≡ []
-settled_none C answer number header s more e = search (arith, raised_settled, raises_same)
-
-over_by : (C : Table) (answer : Answer) (number : ℕ) (header : List ℕ) (found : Option Ty)
-    (s more : List ℕ) →
-    is_over (stage_of (of_header (signatures_of C answer) header found 12 s)) ≡ true →
-    ends_between number header (noted_by_type header found s)
-    (noted_by_type header found (s ++ more)) ≡ []
-unfolding is_over section_then stage_of of_header faulted
-over_by C answer number header None s more e = refl
-over_by C answer number header (Some T) s more e =
-    go (reading (plain (order header)) [] T 12 s) refl e
+unfolding marks header_noted
+one_octet number header s x = go one.0 one.1 one.2
   where
-    Later : Option Noted
-    Later = noted_if_whole (reading (plain (order header)) [] T 12 (s ++ more))
+    S : Signatures
+    S = signatures_of builtin_table (λ id. None)
 
-    go : (r : Read) → reading (plain (order header)) [] T 12 s ≡ r →
-        is_over (stage_of (section_then sections.Header (is_request header)
-        (after_header (signatures_of C answer) header) nothing_noted r)) ≡ true →
-        ends_between number header (noted_if_whole r)
-        (noted_if_whole (reading (plain (order header)) [] T 12 (s ++ more))) ≡ []
-    go (Done lines at rest) is e = refl
-    go (Short lines at outer leaf) is e = absurd (false≢true e)
-    go (Fault lines at why U) is e =
-        let late = fault_none header T (reading (plain (order header)) [] T 12 (s ++ more))
-        (fault_stays header T more s (ap (faulted header T) is)) in
-        rw late refl
+    now : Message
+    now = message S header s
 
-over_header : (C : Table) (answer : Answer) (number : ℕ) (header s more : List ℕ) →
-    is_over (stage_of (message (signatures_of C answer) header s)) ≡ true →
-    ends_between number header (header_noted header s) (header_noted header (s ++ more)) ≡ []
-unfolding header_noted message signatures_of
-over_header C answer number header s more e = search (arith, over_by)
+    one : (ms : List Mark) × (message_marks (advance S header now x) ≡ message_marks now ++ ms)
+        × OneMark (stage_of now) ms
+    one = marks_of_octet S header now x
 
-over_settled : (g : Stage) → is_over g ≡ true → is_settled g ≡ true
-unfolding is_over is_settled
-over_settled Over e = refl
-over_settled (In_typed section h outer leaf) e = absurd (false≢true e)
-over_settled (In_padding b) e = absurd (false≢true e)
-over_settled (In_rest offset held) e = refl
+    go : (ms : List Mark) → message_marks (advance S header now x) ≡ message_marks now ++ ms →
+        OneMark (stage_of now) ms →
+        (header_ends number header s (x ∷ []) ≡ [])
+        ⊎ (((n : Noted) × (header_noted header s ≡ None)
+        × (header_noted header (s ++ x ∷ []) ≡ Some n)
+        × (header_ends number header s (x ∷ []) ≡ Header_end number header n ∷ []))
+        ⊎ ((name : List ℕ)
+        × (header_ends number header s (x ∷ []) ≡ Exception_end number name ∷ [])))
+    go ms grows one' =
+        let grown : marks header (s ++ x ∷ []) ≡ marks header s ++ ms =
+        ap message_marks (message_goes S header s x) ∙ grows in
+        let ends = ends_by number header s (x ∷ []) ms grown in
+        elim one' [
+          | inl none ↦ inl (ends ∙ ap (map (end_of number header)) none)
+          | inr some ↦ elim some [
+            | inl head ↦
+                let before = ap noted_in (head_unmarked S header s head.2) in
+                inr (inl (
+                  head.0,
+                  before,
+                  ap noted_in grown ∙ (noted_later (marks header s) ms before
+                      ∙ ap noted_in head.1),
+                  ends ∙ ap (map (end_of number header)) head.1,
+                ))
+            | inr name ↦ inr (inr (name.0, ends ∙ ap (map (end_of number header)) name.1))
+          ]
+        ]
 
--- none ends after a fault
+-- ---- none after a fault
+
 pub over_none : (C : Table) (answer : Answer) (number : ℕ) (header s more : List ℕ) →
     is_over (stage_of (message (signatures_of C answer) header s)) ≡ true →
     header_ends number header s more ≡ []
-unfolding header_ends
 over_none C answer number header s more e =
-    rw (over_header C answer number header s more e)
-    (settled_none C answer number header s more
-    (over_settled (stage_of (message (signatures_of C answer) header s)) e))
+    unmarked C answer number header s more
+    (ap message_marks (over_stays (signatures_of C answer) header s more e))
+
+-- ---- and no name in a message that has no body
+
+module _ (P : HeaderEnd → Type 0) (number : ℕ) (header : List ℕ) (none : has_body header ≡ false)
+    (heads : (n : Noted) → P (Header_end number header n)) where
+  abbrev few : List Mark → Type 0
+  few ms = (k : ℕ) → Each P (map (end_of number header) (drop k ms))
+
+  bare : few []
+  bare zero = tt
+  bare (suc k) = tt
+
+  one_head : (n : Noted) → few (HeaderMark n ∷ [])
+  one_head n zero = (heads n, tt)
+  one_head n (suc k) = bare k
+
+  alone : (S : Signatures) (r : Read) →
+      few (message_marks (section_and_rest S header sections.Header nothing_noted r))
+  unfolding section_then after_header message_marks
+  alone S (Done lines at s) =
+      let n = noted true nothing_noted lines in
+      subst few (sym (marks_front _ _
+      ∙ ap (λ (ms : List Mark). HeaderMark n ∷ ms) (rw none (rest_unmarked at s)))) (one_head n)
+  alone S (Short lines at outer leaf) = bare
+  alone S (Fault lines at why T) = bare
+
+  by_type : (S : Signatures) (found : Option Ty) (s : List ℕ) →
+      few (message_marks (of_header S header found 12 s))
+  unfolding of_header
+  by_type S None s = subst few (sym (rest_unmarked 12 s)) bare
+  by_type S (Some T) s = alone S (reading (plain (order header)) [] T 12 s)
+
+  pub bodiless_ends : (s more : List ℕ) → Each P (header_ends number header s more)
+  unfolding header_ends marks message
+  bodiless_ends s more = by_type (signatures_of builtin_table (λ id. None)) _ (s ++ more)
+      (length (marks header s))
 
 -- ---- events, and then others
 
@@ -321,22 +256,31 @@ module _ (number : ℕ) (header s octets : List ℕ) (t : ℕ) where
 
 -- ---- a message whose header has not ended is read alike, whatever the ids answer
 
+pub through_header : (C : Table) (x y : Answer) (header : List ℕ) (r : Read) →
+    noted_in (message_marks (section_and_rest (signatures_of C x) header sections.Header
+    nothing_noted r)) ≡ None →
+    section_and_rest (signatures_of C x) header sections.Header nothing_noted r
+    ≡ section_and_rest (signatures_of C y) header sections.Header nothing_noted r
+unfolding section_then
+through_header C x y header (Done lines at s) none =
+    absurd (let no : Some _ ≡ None = sym (ap noted_in (marks_front _ _)) ∙ none in cc)
+through_header C x y header (Short lines at outer leaf) none = refl
+through_header C x y header (Fault lines at why T) none = refl
+
 unended_by : (C : Table) (x y : Answer) (header : List ℕ) (found : Option Ty) (s : List ℕ) →
-    noted_by_type header found s ≡ None →
+    noted_in (message_marks (of_header (signatures_of C x) header found 12 s)) ≡ None →
     of_header (signatures_of C x) header found 12 s
     ≡ of_header (signatures_of C y) header found 12 s
-unfolding of_header section_then
+unfolding of_header
 unended_by C x y header None s e = refl
-unended_by C x y header (Some T) s e = search (arith)
+unended_by C x y header (Some T) s e =
+    through_header C x y header (reading (plain (order header)) [] T 12 s) e
 
 pub unended_agree : (C : Table) (x y : Answer) (header s : List ℕ) → header_noted header s ≡ None →
     message (signatures_of C x) header s ≡ message (signatures_of C y) header s
 unfolding header_noted message signatures_of
-unended_agree C x y header s e = search (arith, unended_by)
-
-pub header_noted_before : (header s more : List ℕ) → header_noted header (s ++ more) ≡ None →
-    header_noted header s ≡ None
-header_noted_before header s more e = search (arith, header_noted_stays)
+unended_agree C x y header s e = unended_by C x y header _ s
+    (ap noted_in (sym (marks_are C x header s)) ∙ e)
 
 -- by answers that agree, or before the header ends, a message has the same lines
 pub alike_remarks : (C : Table) (x y : Answer) (header s : List ℕ) → (x ≡ y)

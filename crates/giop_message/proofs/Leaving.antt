@@ -14,7 +14,7 @@ use Rattle.giop_decode.proofs.ReadingLaws.{root_now}
 use Rattle.giop_message.specs.declared.part.Section.{Section}
 use Rattle.giop_message.specs.Headers.{order}
 use Rattle.giop_message.specs.MessageState.{due}
-use Rattle.giop_message.specs.Messages.{RestLine, LineAt, line_at, calls, section_lines, Stage, In_typed, In_padding, In_rest, Over, Message, ReadTo, with_front, section_then, message, message_lines, stage_of, root_of, may_call, after}
+use Rattle.giop_message.specs.Messages.{Said, only_lines, nothing_said, RestLine, LineAt, line_at, calls, section_lines, Stage, In_typed, In_padding, In_rest, Over, Message, ReadTo, with_front, section_then, message, message_lines, stage_of, root_of, may_call, after}
 use Rattle.giop_message.specs.ReaderOfTable.{line_class_of, timed_line_of, due_by}
 use Rattle.giop_message.specs.MessageReader.{LineClass, Rest, is_fault}
 use Rattle.giop_message.specs.Signatures.{Signatures}
@@ -33,10 +33,10 @@ Leaves line_classes stage = (line_classes ≡ Rest ∷ [] → (offset : ℕ) × 
     × (list_any is_fault line_classes ≡ true → stage ≡ Over)
 
 abbrev Settles : Message → Type 0
-Settles (ReadTo emitted at stage) = Leaves (LineClasses emitted) stage
+Settles (ReadTo said at stage) = Leaves (LineClasses said.lines) stage
 
 silent_settles : (n : ℕ) (m : Message) → Silent n m → Settles m
-silent_settles n (ReadTo emitted at stage) h = search (arith, false≢true)
+silent_settles n (ReadTo said at stage) h = search (arith, false≢true)
 
 -- lines of a typed part are no faults
 section_lines_faultless : (root : Root) (is : Bool) (h : Noted) (lines : List Line) →
@@ -65,10 +65,11 @@ section_lines_leave root is h (l ∷ ls) stage = (
       (sym (section_lines_faultless root is h (l ∷ ls)) ∙ e)),
 )
 
-front_settles : (n : ℕ) (front : List LineAt) (m : Message) →
-    ((stage : Stage) → Leaves (LineClasses front) stage) → Silent n m → Settles (with_front front m)
+front_settles : (n : ℕ) (front : Said) (m : Message) →
+    ((stage : Stage) → Leaves (LineClasses front.lines) stage) → Silent n m →
+    Settles (with_front front m)
 unfolding with_front
-front_settles n front (ReadTo emitted at stage) h k = rw (k.0, append-nil front) (h stage)
+front_settles n front (ReadTo said at stage) h k = rw (k.0, append-nil front.lines) (h stage)
 
 module _ (section : Section) (is : Bool) (next : Noted → ℕ → List ℕ → Message) (n : ℕ)
     (silent : (k : Noted) → Silent n (next k n [])) where
@@ -80,16 +81,16 @@ module _ (section : Section) (is : Bool) (next : Noted → ℕ → List ℕ → 
   unfolding section_then line_at line_class_of section_lines
   passes_settles k (Done lines at s) h =
       let now = noted (is_header_root R) k lines in
-      rw (h.1, h.2) (front_settles n (section_lines R is k lines) (next now n [])
+      rw (h.1, h.2) (front_settles n _ (next now n [])
       (section_lines_leave R is k lines) (silent now))
   passes_settles k (Short lines at outer leaf) h = search (arith, section_lines_leave)
   passes_settles k (Faulted [] at why T) h = (λ e. absurd cc, λ e. refl)
   passes_settles k (Faulted (l ∷ ls) at why T) h = (λ e. absurd cc, λ e. refl)
 
 rest_settles : (offset : ℕ) (held : List ℕ) (n : ℕ) (test : Bool) →
-    Settles (if test then ReadTo (line_at n (RestLine offset held) ∷ []) n
+    Settles (if test then ReadTo (only_lines (line_at n (RestLine offset held) ∷ [])) n
     (In_rest (offset + 32) [])
-    else ReadTo [] n (In_rest offset held))
+    else ReadTo nothing_said n (In_rest offset held))
 unfolding line_at line_class_of
 rest_settles offset held n true = search (arith, false≢true)
 rest_settles offset held n false = search (arith, false≢true)
@@ -111,7 +112,7 @@ advance_settles : (S : Signatures) (header : List ℕ) (m : Message) (b : ℕ) �
     Leaves (LineClasses (drop (length (message_lines m)) (message_lines (advance S header m b))))
     (stage_of (advance S header m b))
 unfolding advance with_front message_lines stage_of
-advance_settles S header (ReadTo emitted at stage) b = search (
+advance_settles S header (ReadTo said at stage) b = search (
   arith,
   step_settles,
   drop,

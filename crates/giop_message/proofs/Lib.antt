@@ -17,7 +17,7 @@ mod Runs
 mod SectionRuns
 mod Rests
 mod Dues
-mod Raises
+mod Marks
 mod HeaderEndLaws
 mod MessageAgreement
 mod Closing

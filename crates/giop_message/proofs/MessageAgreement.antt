@@ -1,5 +1,5 @@
 -- Answers that agree, or a header that has not ended: a message then follows the same octets.
-use Rattle.std.proofs.Common.{arith, ◌≡◌, ℕ, ◌+◌, List, [], length, Option, Some, None, refl, sym, ap, ◌∙◌, ◌⊎◌, inl, inr}
+use Rattle.std.proofs.Common.{arith, ◌≡◌, ℕ, ◌+◌, List, [], ◌++◌, length, Option, Some, None, refl, sym, ap, ◌∙◌, ◌⊎◌, inl, inr}
 use Rattle.giop_sig.specs.Table.{Table}
 use Rattle.giop_decode.specs.declared.decoder.Decoder.{Decoder}
 use Rattle.giop_decode.specs.ReadResult.{plain, Read, Done, Short, Fault}
@@ -12,25 +12,23 @@ use Rattle.giop_message.specs.declared.part.Section.{Section}
 use Rattle.giop_message.specs.declared.part.Section.TheVariants as sections
 use Rattle.giop_message.specs.Headers.{order}
 use Rattle.giop_message.specs.Signatures.{Answer, Answers, signatures_of}
-use Rattle.giop_message.specs.Messages.{section_then, section_and_rest, after_exception, members_of, with_front}
+use Rattle.giop_message.specs.Messages.{Said, message_marks, section_then, section_and_rest, after_exception, members_of, with_front}
 use Rattle.giop_message.specs.MessageState.{Decodes, Stands, Follows}
-use Rattle.giop_message.specs.HeaderEnds.{noted_if_whole, header_noted}
-use Rattle.giop_message.proofs.HeaderEndLaws.{unended_agree}
+use Rattle.giop_message.specs.HeaderEnds.{noted_in, header_noted}
+use Rattle.giop_message.proofs.HeaderEndLaws.{through_header, unended_agree}
+use Rattle.giop_message.proofs.Marks.{marks_front, marks_are}
 
 header_read : (C : Table) (x : Answer) (number : ℕ) (header s : List ℕ) (d : Decoder)
     (e : Decodes C (signatures_of C x) number header s sections.Header d) →
-    header_noted header s ≡ noted_if_whole
-    (reading (plain (order header)) [] e.T (12 + length e.front) e.octets)
+    header_noted header s ≡ noted_in (message_marks (section_and_rest (signatures_of C x) header
+    sections.Header nothing_noted (reading (plain (order header)) [] e.T (12 + length e.front)
+    e.octets)))
 unfolding header_noted
-header_read C x number header s d e = search (arith)
-
-through_header : (C : Table) (x y : Answer) (header : List ℕ) (r : Read) → noted_if_whole r ≡ None →
-    section_and_rest (signatures_of C x) header sections.Header nothing_noted r
-    ≡ section_and_rest (signatures_of C y) header sections.Header nothing_noted r
-unfolding section_then
-through_header C x y header (Done lines at rest) none = absurd cc
-through_header C x y header (Short lines at outer leaf) none = refl
-through_header C x y header (Fault lines at why T) none = refl
+header_read C x number header s d e =
+    let m = section_and_rest (signatures_of C x) header sections.Header nothing_noted
+    (reading (plain (order header)) [] e.T (12 + length e.front) e.octets) in
+    ap noted_in (marks_are C x header s ∙ (ap message_marks e.is ∙ (marks_front e.before m
+    ∙ ap (λ (said : Said). said.marks ++ message_marks m) e.first.1)))
 
 members_agree : (C : Table) (x y : Answer) (name : Option (List ℕ)) →
     members_of (signatures_of C x) name ≡ members_of (signatures_of C y) name

@@ -28,8 +28,8 @@ pub use Rattle.giop_message.proofs.Dues.{text_both, text_none, text_over, text_e
 pub use Rattle.giop_message.proofs.AtOctet.{octet_text, octet_over, close_short}
 pub use Rattle.giop_message.proofs.AtOctet.{close_is}
 -- where headers and names end, and what is told of some and then of others
-pub use Rattle.giop_message.proofs.HeaderEndLaws.{header_ends_both, header_ends_none, one_octet, over_none, ends_over, told_both, answers_first, answers_then}
-pub use Rattle.giop_message.proofs.HeaderEndLaws.{header_noted_before, alike_remarks, alike_closes}
+pub use Rattle.giop_message.proofs.HeaderEndLaws.{header_ends_both, header_ends_none, one_octet, over_none, bodiless_ends, ends_over, told_both, answers_first, answers_then}
+pub use Rattle.giop_message.proofs.HeaderEndLaws.{header_noted_before, header_ended, alike_remarks, alike_closes}
 pub use Rattle.giop_message.proofs.MessageAgreement.{follows_agree}
 
 -- and by a catalogue's table and the operations that the ids of each message answer

@@ -9,7 +9,7 @@ use Rattle.giop_decode.specs.ReadingSteps.{IsOctetResult, OneAt}
 use Rattle.giop_decode.specs.Noted.{Noted, note, ends_operation, is_header_root}
 use Rattle.giop_decode.specs.Spelling.{line_text, lines_text}
 use Rattle.giop_message.specs.Signatures.{Signatures}
-use Rattle.giop_message.specs.Messages.{ValueLine, FaultLine, LineAt, line_at, calls, section_lines, Message, ReadTo, with_front, message, message_lines, stage_of}
+use Rattle.giop_message.specs.Messages.{Said, ValueLine, FaultLine, LineAt, line_at, calls, section_lines, Message, ReadTo, with_front, message, message_lines, stage_of}
 use Rattle.giop_message.specs.ReaderOfTable.{line_class_of, text_of}
 use Rattle.giop_message.specs.MessageState.{message_line_text, message_lines_text, due}
 use Rattle.giop_message.specs.MessageSteps.{fault_text}
@@ -18,23 +18,23 @@ use Rattle.giop_message.proofs.LastParts.{CallsNone}
 use Rattle.giop_message.proofs.StepLines.{one_of}
 use Rattle.giop_message.proofs.Spelling.{said_is_line}
 
-pub told_front : (front : List LineAt) (m : Message) →
-    message_lines (with_front front m) ≡ front ++ message_lines m
+pub told_front : (front : Said) (m : Message) →
+    message_lines (with_front front m) ≡ front.lines ++ message_lines m
 unfolding message_lines with_front
-told_front front (ReadTo emitted at stage) = refl
+told_front front (ReadTo said at stage) = refl
 
-pub stage_front : (front : List LineAt) (m : Message) → stage_of (with_front front m) ≡ stage_of m
+pub stage_front : (front : Said) (m : Message) → stage_of (with_front front m) ≡ stage_of m
 unfolding stage_of with_front
-stage_front front (ReadTo emitted at stage) = refl
+stage_front front (ReadTo said at stage) = refl
 
 pub told_silent : (n : ℕ) (m : Message) → Silent n m → message_lines m ≡ []
 unfolding message_lines
-told_silent n (ReadTo emitted at stage) h = h.0
+told_silent n (ReadTo said at stage) h = h.0
 
 -- the lines of more octets are those after the lines so far
-pub due_is : (S : Signatures) (header s more : List ℕ) (before : List LineAt) (m n : Message) →
+pub due_is : (S : Signatures) (header s more : List ℕ) (before : Said) (m n : Message) →
     message S header s ≡ m →
-    message S header (s ++ more) ≡ with_front before n → message_lines m ≡ before →
+    message S header (s ++ more) ≡ with_front before n → message_lines m ≡ before.lines →
     due S header s more ≡ message_lines n
 unfolding due
 due_is S header s more before m n is now same = search (arith, told_front, drop-append_seam)

@@ -17,7 +17,7 @@ use Rattle.giop_sig.specs.Types.{Ty}
 use Rattle.giop_message.specs.declared.part.Section.{Section}
 use Rattle.giop_message.specs.Headers.{order}
 use Rattle.giop_message.specs.Signatures.{Signatures}
-use Rattle.giop_message.specs.Messages.{LineAt, section_lines, Message, with_front, section_then, message, message_lines, root_of, may_call, section_and_rest}
+use Rattle.giop_message.specs.Messages.{Said, section_lines, Message, with_front, section_then, message, message_lines, root_of, may_call, section_and_rest}
 use Rattle.giop_message.specs.MessageState.{message_lines_text, due, due_text, IsFirst}
 use Rattle.giop_message.specs.MessageSteps.{fault_text}
 use Rattle.giop_message.proofs.Going.{front_twice, front_advance, passes_front, through_goes, after_goes, message_goes}
@@ -26,14 +26,14 @@ use Rattle.giop_message.proofs.LastParts.{CallsNone, root_none}
 use Rattle.giop_message.proofs.Octets.{told_front, told_silent, due_is, wrongs, first_call, step_text}
 
 -- A section that a message has begun: the message's number and header, the section and its type,
--- and the lines and the octets in front of it.
+-- and what is said and the octets in front of it.
 pub record Begun : Type 0 where
   pub S : Signatures
   pub number : ℕ
   pub header : List ℕ
   pub section : Section
   pub T : Ty
-  pub before : List LineAt
+  pub before : Said
   pub front : List ℕ
 
 module _ (w : Begun) where
@@ -93,11 +93,11 @@ passed_section_lines S header section h (Done lines at rest) all = search (
 passed_section_lines S header section h (Short lines at outer leaf) all = search (arith, append-nil)
 passed_section_lines S header section h (Fault lines at why T) all = refl
 
-short_told : (S : Signatures) (header : List ℕ) (section : Section) (before : List LineAt)
+short_told : (S : Signatures) (header : List ℕ) (section : Section) (before : Said)
     (lines : List Line) (at : ℕ) (outer : List OpenPart) (leaf : Leaf) →
     message_lines (with_front before (section_and_rest S header section nothing_noted
     (Short lines at outer leaf)))
-    ≡ before ++ section_lines (root_of section) (may_call header section) nothing_noted lines
+    ≡ before.lines ++ section_lines (root_of section) (may_call header section) nothing_noted lines
 unfolding section_then with_front message_lines
 short_told S header section before lines at outer leaf = refl
 

@@ -11,36 +11,36 @@ use Rattle.giop_message.specs.declared.part.Part.TheVariants as parts
 use Rattle.giop_message.specs.declared.part.Rest.{Rest}
 use Rattle.giop_message.specs.declared.body_type.BodyTypeId.{BodyTypeId}
 use Rattle.giop_message.specs.Signatures.{Signatures, Answers, signatures_of}
-use Rattle.giop_message.specs.Messages.{LineAt, line_at, BodyType, Stage, In_padding, In_rest, Message, ReadTo, with_front, body, message, message_lines, stage_of}
+use Rattle.giop_message.specs.Messages.{LineAt, Said, only_lines, nothing_said, said_both, line_at, BodyType, Stage, In_padding, In_rest, Message, ReadTo, with_front, body, message, message_lines, stage_of}
 use Rattle.giop_message.specs.StageSteps.{rest_step, message_step, advance, goes_on}
 use Rattle.giop_message.specs.ReaderOfTable.{line_class_of, text_of, id_in, first_id, first_request_id}
 use Rattle.giop_message.specs.MessageState.{message_line_text, message_lines_text, due, due_text, body_type, Stands, in_header, Follows}
 use Rattle.giop_message.specs.MessageSteps.{Arrives}
-use Rattle.giop_message.proofs.Going.{message_goes, message_resumes, rest_step_full, rest_step_more}
+use Rattle.giop_message.proofs.Going.{none_front, message_goes, message_resumes, rest_step_full, rest_step_more}
 use Rattle.giop_message.proofs.Causal.{body_silent}
 use Rattle.giop_message.proofs.Octets.{due_is, told_silent}
 use Rattle.giop_message.proofs.Spelling.{rest_said}
 use Rattle.giop_message.proofs.Followings.{Moved, is_at, id_kept, follows_on}
 
 -- the lines of one octet more, by the step from where the message is
-pub comes_more : (S : Signatures) (header s : List ℕ) (b : ℕ) (emitted : List LineAt) (at : ℕ)
-    (stage : Stage) → message S header s ≡ ReadTo emitted at stage →
-    message S header (s ++ b ∷ []) ≡ with_front emitted (message_step S header at stage b)
+pub comes_more : (S : Signatures) (header s : List ℕ) (b : ℕ) (said : Said) (at : ℕ)
+    (stage : Stage) → message S header s ≡ ReadTo said at stage →
+    message S header (s ++ b ∷ []) ≡ with_front said (message_step S header at stage b)
 unfolding advance
-comes_more S header s b emitted at stage e = search (arith, message_goes)
+comes_more S header s b said at stage e = search (arith, message_goes)
 
-pub comes_due : (S : Signatures) (header s : List ℕ) (b : ℕ) (emitted : List LineAt) (at : ℕ)
-    (stage : Stage) (m : Message) → message S header s ≡ ReadTo emitted at stage →
+pub comes_due : (S : Signatures) (header s : List ℕ) (b : ℕ) (said : Said) (at : ℕ)
+    (stage : Stage) (m : Message) → message S header s ≡ ReadTo said at stage →
     message_step S header at stage b ≡ m → due S header s (b ∷ []) ≡ message_lines m
 unfolding message_lines
-comes_due S header s b emitted at stage m e f =
-    due_is S header s (b ∷ []) emitted (ReadTo emitted at stage) m e
-    (comes_more S header s b emitted at stage e ∙ ap (with_front emitted) f) refl
+comes_due S header s b said at stage m e f =
+    due_is S header s (b ∷ []) said (ReadTo said at stage) m e
+    (comes_more S header s b said at stage e ∙ ap (with_front said) f) refl
 
-comes_next : (before emitted : List LineAt) (n m : ℕ) (stage : Stage) → n ≡ m →
-    with_front before (ReadTo emitted n stage) ≡ ReadTo (before ++ emitted) m stage
+comes_next : (before said : Said) (n m : ℕ) (stage : Stage) → n ≡ m →
+    with_front before (ReadTo said n stage) ≡ ReadTo (said_both before said) m stage
 unfolding with_front
-comes_next before emitted n m stage e = rw e refl
+comes_next before said n m stage e = rw e refl
 
 next_at : (s : List ℕ) (b : ℕ) → (12 + length s) + 1 ≡ 12 + length (s ++ b ∷ [])
 next_at s b = search (arith, length_one_more)
@@ -48,7 +48,7 @@ next_at s b = search (arith, length_one_more)
 -- ---- in the padding
 
 padding_on : (S : Signatures) (header : List ℕ) (at b : ℕ) (t : BodyType) → 1 < padding at 8 →
-    message_step S header at (In_padding t) b ≡ ReadTo [] (at + 1) (In_padding t)
+    message_step S header at (In_padding t) b ≡ ReadTo nothing_said (at + 1) (In_padding t)
 unfolding message_step
 padding_on S header at b t h = search (arith, lt-ltb)
 
@@ -82,7 +82,7 @@ module _ {C : Table} {answers : Answers} {number : ℕ} {header : List ℕ} {m :
     abbrev further : List ℕ
     further = s ++ b ∷ []
 
-    padded : (emitted : List LineAt) × (message S header s ≡ ReadTo emitted Here (In_padding T))
+    padded : (said : Said) × (message S header s ≡ ReadTo said Here (In_padding T))
     padded = search (arith)
 
     one_due : (x : Message) → message_step S header Here (In_padding T) b ≡ x →
@@ -95,7 +95,8 @@ module _ {C : Table} {answers : Answers} {number : ℕ} {header : List ℕ} {m :
 
     pub padding_told : (1 < padding Here 8) → due S header s (b ∷ []) ≡ []
     unfolding message_lines
-    padding_told h = one_due (ReadTo [] (Here + 1) (In_padding T)) (padding_on S header Here b T h)
+    padding_told h = one_due (ReadTo nothing_said (Here + 1) (In_padding T))
+        (padding_on S header Here b T h)
 
     pub last_told : padding Here 8 ≤ 1 → due S header s (b ∷ []) ≡ []
     last_told h = search (arith, one_due, padding_last, told_silent, body_silent)
@@ -107,14 +108,13 @@ module _ {C : Table} {answers : Answers} {number : ℕ} {header : List ℕ} {m :
     pub padding_follows : (1 < padding Here 8) → {n : Struct_of} → Moved m n 1 → n.id ≡ m.id →
         n.part ≡ m.part → Follows C answers number header n further
     padding_follows h {n} move id part =
-        let comes = one_comes (ReadTo [] (Here + 1) (In_padding T)) (padding_on S header Here b T h)
-        in
-        let at = comes_next padded.0 [] (Here + 1) (12 + length further) (In_padding T)
-        (next_at s b)
-        in
+        let comes = one_comes (ReadTo nothing_said (Here + 1) (In_padding T))
+        (padding_on S header Here b T h) in
+        let at = comes_next padded.0 nothing_said (Here + 1) (12 + length further) (In_padding T)
+        (next_at s b) in
         follows_on f (b ∷ []) move (id ∙ rw (part, is) (same_id (padding_told h)))
         (subst (Stands C answers number header further n.decoder) (sym (part ∙ is))
-        (padded.0 ++ [], comes ∙ at))
+        (_, comes ∙ at))
 
     pub last_follows : padding Here 8 ≤ 1 → {k n : Struct_of} → Moved m k 1 →
         Arrives C answers number header k n further (body S header T (12 + length further) []) →
@@ -130,7 +130,7 @@ module _ {C : Table} {answers : Answers} {number : ℕ} {header : List ℕ} {m :
 
 -- a message after a step in the rest, none of whose lines has a request id
 pub record Rested (m : Message) (at : ℕ) : Type 0 where
-  pub comes : m ≡ ReadTo (message_lines m) at (stage_of m)
+  pub comes : m ≡ ReadTo (only_lines (message_lines m)) at (stage_of m)
   pub no_id : first_request_id (message_lines m) ≡ None
 
 rested : (offset : ℕ) (held : List ℕ) (at : ℕ) → Rested (rest_step offset held at) at
@@ -138,21 +138,21 @@ unfolding rest_step message_lines stage_of first_request_id id_in first_id line_
 rested offset held at = search (arith)
 
 -- octets of one part are one step
-part_goes : (S : Signatures) (header : List ℕ) (emitted : List LineAt) (at offset : ℕ)
+part_goes : (S : Signatures) (header : List ℕ) (said : Said) (at offset : ℕ)
     (held : List ℕ)
     (b : ℕ) (bs : List ℕ) → length held + length (b ∷ bs) ≤ 32 →
-    goes_on S header (ReadTo emitted at (In_rest offset held)) (b ∷ bs)
-    ≡ with_front emitted (rest_step offset (held ++ b ∷ bs) (at + length (b ∷ bs)))
+    goes_on S header (ReadTo said at (In_rest offset held)) (b ∷ bs)
+    ≡ with_front said (rest_step offset (held ++ b ∷ bs) (at + length (b ∷ bs)))
 unfolding advance message_step
-part_goes S header emitted at offset held b [] h = refl
-part_goes S header emitted at offset held b (b' ∷ bs) h = search (
+part_goes S header said at offset held b [] h = refl
+part_goes S header said at offset held b (b' ∷ bs) h = search (
   arith,
   length_one_more,
   rest_step_more,
   comes_next,
-  append-nil,
+  none_front,
   append_assoc,
-  part_goes S header emitted (at + 1)
+  part_goes S header said (at + 1)
       offset (held ++ b ∷ []) b' bs (omega (arith, length_one_more held b, h)),
 )
 
@@ -174,11 +174,10 @@ module _ {C : Table} {answers : Answers} {number : ℕ} {header : List ℕ} {m :
   abbrev Step : Message
   Step = rest_step r.offset (r.held.items ++ xs) (At + length xs)
 
-  abbrev Stood : List LineAt → Message
-  Stood emitted = ReadTo emitted At (In_rest r.offset r.held.items)
+  abbrev Stood : Said → Message
+  Stood said = ReadTo said At (In_rest r.offset r.held.items)
 
-  stood : (emitted : List LineAt) × (message (signatures_of C (answers number)) header s
-      ≡ Stood emitted)
+  stood : (said : Said) × (message (signatures_of C (answers number)) header s ≡ Stood said)
   stood = search (arith)
 
   rest_comes : message (signatures_of C (answers number)) header (s ++ xs) ≡ with_front stood.0 Step
@@ -199,14 +198,15 @@ module _ {C : Table} {answers : Answers} {number : ℕ} {header : List ℕ} {m :
   rest_follows {m' = m'} {r' = r'} move id part stage =
       let step = rested r.offset (r.held.items ++ xs) (At + length xs) in
       let e : At + length xs ≡ 12 + length (s ++ xs) = omega (arith, length-append s xs) in
-      let next = comes_next stood.0 (message_lines Step) (At + length xs) (12 + length (s ++ xs))
+      let said = only_lines (message_lines Step) in
+      let next = comes_next stood.0 said (At + length xs) (12 + length (s ++ xs))
       (In_rest r'.offset r'.held.items) e in
       let comes = ap (with_front stood.0) (step.comes
-      ∙ ap (ReadTo (message_lines Step) (At + length xs)) stage) in
+      ∙ ap (ReadTo said (At + length xs)) stage) in
       follows_on f xs (rw size move) (id ∙ rw part
       (id_kept f xs (ap first_request_id rest_due ∙ step.no_id) (rw is refl)))
       (subst (Stands C answers number header (s ++ xs) m'.decoder) (sym part)
-      (stood.0 ++ message_lines Step, rest_comes ∙ (comes ∙ next)))
+      (_, rest_comes ∙ (comes ∙ next)))
 
 -- the text of a step in the rest
 pub few_told : (number place offset at : ℕ) (from : ℕ) (held : List ℕ) → length held < 32 →

@@ -14,7 +14,7 @@ use Rattle.giop_decode.specs.declared.progress.Kind.{Kind}
 use Rattle.giop_decode.specs.declared.progress.Progress.{Progress}
 use Rattle.giop_decode.specs.declared.progress.Progress.TheVariants as progress
 use Rattle.giop_decode.specs.ReadResult.{Read, Done, Fault}
-use Rattle.giop_decode.specs.Noted.{nothing_noted, noted_of, is_header_root}
+use Rattle.giop_decode.specs.Noted.{nothing_noted, noted, noted_of, is_header_root}
 use Rattle.giop_decode.specs.DecoderState as decoders
 use Rattle.giop_decode.specs.Runs.{added_lines_of_run, Answers, AreAnswered, BreaksOff}
 use Rattle.giop_decode.specs.Spelling.{lines_text}
@@ -23,7 +23,7 @@ use Rattle.giop_message.specs.declared.part.Section.{Section}
 use Rattle.giop_message.specs.declared.part.Section.TheVariants as sections
 use Rattle.giop_message.specs.Headers.{order}
 use Rattle.giop_message.specs.Signatures.{Signatures}
-use Rattle.giop_message.specs.Messages.{LineAt, section_lines, with_front, section_then, message, message_lines, stage_of, root_of, may_call, after, section_and_rest}
+use Rattle.giop_message.specs.Messages.{Said, end_mark, section_lines, with_front, said_both, section_then, message, message_lines, stage_of, root_of, may_call, after, section_and_rest}
 use Rattle.giop_message.specs.ReaderOfTable.{first_request_id, is_over}
 use Rattle.giop_message.specs.Text.{fault_word}
 use Rattle.giop_message.specs.MessageState.{due_text, Decodes, is_header, FaultedAt}
@@ -139,7 +139,7 @@ module _ (w : Begun) where
 
 told_before : (w : Begun) (s : List ℕ) (r : Read) → is_header w.section ≡ false →
     message w.S w.header s ≡ comes w r → ReadsAll r →
-    first_request_id (message_lines (message w.S w.header s)) ≡ first_request_id w.before
+    first_request_id (message_lines (message w.S w.header s)) ≡ first_request_id w.before.lines
 told_before w s r other is all = search (
   arith,
   told_front,
@@ -149,8 +149,8 @@ told_before w s r other is all = search (
   first_none,
 )
 
-answer_all : (end : ℕ) (named : Bool) (p : Progress) (r : Read) → decoders.IsAnswer end named p r →
-    ReadsAll r
+pub answer_all : (end : ℕ) (named : Bool) (p : Progress) (r : Read) →
+    decoders.IsAnswer end named p r → ReadsAll r
 answer_all end named progress.Done (Done lines at rest) answer = answer
 answer_all end named progress.More (Done lines at rest) answer = absurd answer
 answer_all end named progress.Named (Done lines at rest) answer = absurd answer
@@ -160,12 +160,15 @@ answer_all end named p r answer = tt
 -- ---- where it ends
 
 done_by : (S : Signatures) (header : List ℕ) (section : Section) (end : ℕ) (named : Bool) (n : ℕ)
-    (r : Read) → decoders.IsAnswer end named progress.Done r → EndsAt n r → (more : List LineAt)
+    (r : Read) → decoders.IsAnswer end named progress.Done r → EndsAt n r → (more : Said)
     × (section_and_rest S header section nothing_noted r
     ≡ with_front more (after S header section (noted_of (is_header_root (root_of section)) r) n []))
 unfolding section_then
 done_by S header section end named n (Done lines at rest) answer e = (
-  section_lines (root_of section) (may_call header section) nothing_noted lines,
+  record {
+    lines = section_lines (root_of section) (may_call header section) nothing_noted lines;
+    marks = end_mark section (noted (is_header_root (root_of section)) nothing_noted lines);
+  },
   rw (answer, e) refl,
 )
 done_by S header section end named n r answer e = absurd answer
@@ -323,7 +326,7 @@ module _ (w : Begun) (s octets : List ℕ) (i : Inside w s octets) where
       ∙ sym (told_before w s (reading w octets) other i.is (rw i.was_short tt))
 
   pub done_comes : (xs : List ℕ) → Last w octets xs progress.Done →
-      (more : List LineAt) × (message S header (s ++ xs) ≡ with_front more
+      (more : Said) × (message S header (s ++ xs) ≡ with_front more
       (after S header section (noted_of (is_header_root (R w)) (With xs))
       (12 + length (s ++ xs)) []))
   done_comes xs l =
@@ -333,7 +336,7 @@ module _ (w : Begun) (s octets : List ℕ) (i : Inside w s octets) where
       let ends : EndsAt (12 + length (s ++ xs)) (With xs) =
       rw (← last_so_far xs l.front l.octet l.all, ← last_octets xs l.front l.octet l.all) last in
       let g = done_by S header section a.0 a.1 (12 + length (s ++ xs)) (With xs) a.2 ends in
-      (before ++ g.0, behind xs ∙ (ap (with_front before) g.1 ∙ front_twice before g.0 _))
+      (said_both before g.0, behind xs ∙ (ap (with_front before) g.1 ∙ front_twice before g.0 _))
 
   pub fault_comes : (ys : List ℕ) (n : ℕ) (why : Kind) → n ≤ length ys →
       Last w octets (take n ys) (progress.Fault why) → FaultedAt S header s ys n

@@ -1,6 +1,6 @@
 -- A message that follows a list, in a section whose decoder took a run of octets: what it wrote,
 -- and where the message is after them.
-use Rattle.std.proofs.Common.{◌≡◌, append-nil, Result, Ok, Err, IsErr, ℕ, zero, suc, ◌+◌, ◌<◌, ◌≤◌, Bool, true, false, List, [], ◌∷◌, ◌++◌, length, take, drop, get_or, Option, Some, None, refl, sym, ap, subst, ◌∙◌, append_assoc, length-append, arith}
+use Rattle.std.proofs.Common.{◌≡◌, append-nil, Result, Ok, Err, IsErr, ℕ, zero, suc, ◌+◌, ◌<◌, ◌≤◌, Bool, true, false, List, [], ◌∷◌, ◌++◌, length, take, drop, map, get_or, Option, Some, None, refl, sym, ap, subst, ◌∙◌, append_assoc, length-append, arith}
 use Rattle.std.specs.Prelude.{cond, IfOk}
 use Rattle.std.proofs.lemmas.List.{length-take-le, length_push, take-append-drop, take-append-le, take-take, take_at}
 use Rattle.std.proofs.lemmas.Bool.{false≢true}
@@ -12,15 +12,12 @@ use Rattle.giop_print.specs.declared.path.Root.{Root}
 use Rattle.giop_print.specs.declared.path.Root.TheVariants as roots
 use Rattle.giop_sig.specs.Types.{Ty}
 use Rattle.giop_sig.specs.Table.{Table}
-use Rattle.giop_sig.specs.HeaderTypes.{header_type}
 use Rattle.giop_decode.specs.declared.decoder.Decoder.{Decoder}
 use Rattle.giop_decode.specs.declared.progress.Kind.{Kind}
 use Rattle.giop_decode.specs.declared.progress.Progress.{Progress}
 use Rattle.giop_decode.specs.declared.progress.Progress.TheVariants as progress
-use Rattle.giop_decode.specs.ReadResult.{plain, Line, OpenPart, Leaf, Read, Done, Short, Fault}
-use Rattle.giop_decode.specs.Reading.{reading as whole_of}
-use Rattle.giop_decode.specs.ReadingSteps.{root_resumes}
-use Rattle.giop_decode.specs.Noted.{Noted, nothing_noted, noted, noted_of, is_header_root}
+use Rattle.giop_decode.specs.ReadResult.{Read, Done, Short, Fault}
+use Rattle.giop_decode.specs.Noted.{nothing_noted, noted_of, is_header_root}
 use Rattle.giop_decode.specs.DecoderState as decoders
 use Rattle.giop_decode.specs.Runs.{AreAnswered, TakesRun, BreaksOff}
 use Rattle.giop_message.specs.declared.message.Message.{Message as Struct_of}
@@ -29,21 +26,23 @@ use Rattle.giop_message.specs.declared.part.Part.TheVariants as parts
 use Rattle.giop_message.specs.declared.part.Section.TheVariants as sections
 use Rattle.giop_message.specs.declared.part.Rest.{Rest}
 use Rattle.giop_message.specs.declared.body_type.BodyTypeId.{BodyTypeId}
-use Rattle.giop_message.specs.Headers.{minor, kind, order}
+use Rattle.giop_message.specs.Headers.{kind, order}
 use Rattle.giop_message.specs.Signatures.{Signatures, Answer, Answers, signatures_of}
-use Rattle.giop_message.specs.Messages.{LineAt, with_front, section_then, section_and_rest, message, message_lines, stage_of, root_of, after}
-use Rattle.giop_message.specs.HeaderEnds.{HeaderEnd, CallEvent, Header_end, noted_if_whole, noted_by_type, header_noted, ends_between, named_if_whole, raised, raises_between, header_ends, operation_of, raise_event, after_event, after_ends, AgreesAtEnds}
+use Rattle.giop_message.specs.Messages.{Mark, name_mark, end_mark, message_marks, section_then, message, message_lines, root_of, after}
+use Rattle.giop_message.specs.HeaderEnds.{HeaderEnd, CallEvent, Header_end, end_of, header_ends, operation_of, raise_event, after_event, after_ends, AgreesAtEnds}
 use Rattle.giop_message.specs.ReaderOfTable.{first_request_id}
 use Rattle.giop_message.specs.Text.{fault_word}
-use Rattle.giop_message.specs.MessageState.{due_text, IsFirst, Decodes, Stands, FitsPart, Fits, is_header, in_header, Follows, FaultedAt}
+use Rattle.giop_message.specs.MessageState.{due_text, body_type, Decodes, Stands, FitsPart, Fits, is_header, in_header, Follows, FaultedAt}
+use Rattle.giop_message.specs.StageSteps.{goes_on}
 use Rattle.giop_message.specs.MessageSteps.{request_call, section_event, Arrives}
 use Rattle.giop_message.specs.DueOctets.{TakesFront}
-use Rattle.giop_message.proofs.HeaderEndLaws.{waits, past_none, settled_none, header_ends_both, header_ends_none, answers_first}
-use Rattle.giop_message.proofs.Raises.{is_raising, raises_here, pads_here, is_settled, offset_of, tail_name, named_on, EndsHere, raised_before, raised_inside, raised_pads, raised_ended}
-use Rattle.giop_message.proofs.Octets.{stage_front}
-use Rattle.giop_message.proofs.Parts.{Begun, start, reading, Inside}
+use Rattle.giop_message.proofs.HeaderEndLaws.{header_ends_both, header_ends_none, answers_first}
+use Rattle.giop_message.proofs.Marks.{marks_front, ended, ends_are, unmarked, marks_ended, rest_goes_unmarked, padding_step_marks}
+use Rattle.giop_message.proofs.Going.{message_resumes}
+use Rattle.giop_message.proofs.Rests.{comes_more}
+use Rattle.giop_message.proofs.Parts.{Begun, start, reading, comes, Inside}
 use Rattle.giop_message.proofs.Followings.{header_only, id_noted, Moved, is_at, follows_on}
-use Rattle.giop_message.proofs.Runs.{Last, LinesOf, last_one, more_fronts, run_more, run_done, run_named_in, run_named, run_wrong, run_broken, decodes, same_id, last_answer, done_comes, fault_comes}
+use Rattle.giop_message.proofs.Runs.{Last, LinesOf, last_one, more_fronts, run_more, run_done, run_named_in, run_named, run_wrong, run_broken, decodes, same_id, answer_all, behind, last_answer, done_comes, fault_comes}
 
 -- nothing is said of the result of a call that failed
 pub if_err : {A E : Type 0} (P : A → Type 0) (r : Result A E) → IsErr r → IfOk r P
@@ -283,166 +282,38 @@ module _ {t : Standing} {octets : List ℕ} {n : ℕ} {d' : Decoder} where
 
 -- ---- where a header ends, or a name
 
-waits_short : (S : Signatures) (header : List ℕ) (section : Section) (h : Noted) (lines : List Line)
-    (at : ℕ) (outer : List OpenPart) (leaf : Leaf) →
-    waits (stage_of (section_and_rest S header section h (Short lines at outer leaf)))
-    ≡ is_header section
-unfolding section_then stage_of waits
-waits_short S header section h lines at outer leaf = refl
-
-raises_short : (S : Signatures) (header : List ℕ) (section : Section) (h : Noted)
-    (lines : List Line)
-    (at : ℕ) (outer : List OpenPart) (leaf : Leaf) →
-    raises_here (stage_of (section_and_rest S header section h (Short lines at outer leaf)))
-    ≡ is_raising section
-unfolding section_then stage_of raises_here
-raises_short S header section h lines at outer leaf = refl
-
-body_short : (S : Signatures) (header : List ℕ) (h : Noted) (lines : List Line) (at : ℕ)
-    (outer : List OpenPart) (leaf : Leaf) →
-    is_settled (stage_of (section_and_rest S header sections.Body h (Short lines at outer leaf)))
-    ≡ true
-unfolding section_then stage_of is_settled
-body_short S header h lines at outer leaf = refl
-
-short_tail : (S : Signatures) (header : List ℕ) (section : Section) (before : List LineAt)
-    (lines : List Line)
-    (at : ℕ) (outer : List OpenPart) (leaf : Leaf) (xs : List ℕ) →
-    tail_name header (offset_of (with_front before
-    (section_and_rest S header section nothing_noted (Short lines at outer leaf)))) xs
-    (stage_of (with_front before (section_and_rest S header section nothing_noted
-    (Short lines at outer leaf))))
-    ≡ named_if_whole (noted (is_header_root (root_of section)) nothing_noted lines)
-    (root_resumes (plain (order header)) [] (Short [] at outer leaf) xs)
-unfolding section_then with_front offset_of stage_of tail_name
-short_tail S header section before lines at outer leaf xs = refl
-
-raising_root : (section : Section) → is_raising section ≡ true →
-    is_header_root (root_of section) ≡ false
-raising_root sections.Header e = absurd (false≢true e)
-raising_root sections.Exception e = refl
-raising_root sections.SystemException e = refl
-raising_root sections.Body e = absurd (false≢true e)
-
-module _ (t : Standing) where
-  open t use {C, answers, number, header, m, s, follows, section, is}
-
-  header_reads : section ≡ sections.Header → (xs : List ℕ) →
-      (header_type (minor header) (kind header) ≡ Some (opened t).T)
-      × (whole_of (plain (order header)) [] (opened t).T 12 (s ++ xs) ≡ ReadWith t xs)
-  header_reads in_it xs =
-      let o = opened t in
-      let first = subst (λ x. IsFirst header x o.T o.before o.front) in_it o.first in
-      let P = plain (order header) in (
-        first.0,
-        ap (λ (z : List ℕ). whole_of P [] o.T 12 (z ++ xs))
-            (o.since ∙ ap (λ (f : List ℕ). f ++ o.octets) first.2)
-            ∙ ap (λ (f : List ℕ). whole_of P [] o.T (12 + length f) (o.octets ++ xs)) (sym first.2),
-      )
-
-  -- what is noted of a header is what its decoder reads
-  header_is : section ≡ sections.Header → (xs : List ℕ) →
-      header_noted header (s ++ xs) ≡ noted_if_whole (ReadWith t xs)
-  unfolding header_noted
-  header_is in_it xs =
-      let both = header_reads in_it xs in
-      ap (λ f. noted_by_type header f (s ++ xs)) both.0 ∙ ap noted_if_whole both.1
-
-  header_short : section ≡ sections.Header → header_noted header s ≡ None
-  header_short in_it =
-      let i = inside t in
-      ap (header_noted header) (sym (append-nil s))
-      ∙ (header_is in_it [] ∙ (ap (λ (z : List ℕ). noted_if_whole (reading (begun t) z))
-      (append-nil (octets_of t)) ∙ ap noted_if_whole i.was_short))
-
-  -- the message, by what its section has begun and not ended
-  stands_short : message (S t) header s
-      ≡ with_front (begun t).before (section_and_rest (S t) header section nothing_noted
-      (Short (inside t).lines (start (begun t) + length (octets_of t)) (inside t).outer
-      (inside t).leaf))
-  stands_short = search (arith, inside)
-
-  -- another section ends none
-  section_none : is_header section ≡ false → (more : List ℕ) →
-      ends_between number header (header_noted header s) (header_noted header (s ++ more)) ≡ []
-  section_none past more =
-      past_none C (answers number) number header s more
-      (ap (λ z. waits (stage_of z)) stands_short
-      ∙ (ap waits (stage_front _ _) ∙ (waits_short (S t) header section nothing_noted _ _ _ _
-      ∙ past)))
-
-  body_none : section ≡ sections.Body → (more : List ℕ) →
-      raises_between number (raised header s) (raised header (s ++ more)) ≡ []
-  body_none in_it more =
-      settled_none C (answers number) number header s more
-      (ap (λ z. is_settled (stage_of z)) stands_short
-      ∙ (ap is_settled (stage_front _ _)
-      ∙ (ap (λ x. is_settled (stage_of (section_and_rest (S t) header x nothing_noted
-      (Short (inside t).lines (start (begun t) + length (octets_of t)) (inside t).outer
-      (inside t).leaf)))) in_it
-      ∙ body_short (S t) header nothing_noted _ _ _ _)))
-
-  -- the name of an exception is what its decoder reads
-  name_is : is_raising section ≡ true → (xs : List ℕ) →
-      raised header (s ++ xs) ≡ named_if_whole nothing_noted (ReadWith t xs)
-  name_is raises xs =
-      let i = inside t in
-      let n = start (begun t) + length (octets_of t) in
-      let here = ap (λ z. raises_here (stage_of z)) stands_short
-      ∙ (ap raises_here (stage_front _ _) ∙
-      (raises_short (S t) header section nothing_noted _ _ _ _ ∙ raises)) in
-      raised_inside C (answers number) header s xs here
-      ∙ (ap (λ z. tail_name header (offset_of z) xs (stage_of z)) stands_short
-      ∙ (short_tail (S t) header section (begun t).before i.lines n i.outer i.leaf xs
-      ∙ (ap (λ b. named_if_whole (noted b nothing_noted i.lines)
-      (root_resumes (plain (order header)) [] (Short [] n i.outer i.leaf) xs))
-      (raising_root section raises)
-      ∙ sym (named_on header nothing_noted (opened t).T (start (begun t)) (octets_of t) xs i.lines n
-      i.outer i.leaf i.was_short))))
-
-  name_short : is_raising section ≡ true → raised header s ≡ None
-  name_short raises =
-      let i = inside t in
-      ap (raised header) (sym (append-nil s))
-      ∙ (name_is raises [] ∙ (ap (λ (z : List ℕ).
-      named_if_whole nothing_noted (reading (begun t) z)) (append-nil (octets_of t))
-      ∙ ap (named_if_whole nothing_noted) i.was_short))
-
 -- an answer other than the end
 abbrev IsNoEnd : Progress → Type 0
 IsNoEnd progress.Done = ⊥
 IsNoEnd p = Unit {0}
 
-answer_none : (end : ℕ) (named : Bool) (p : Progress) (r : Read) → decoders.IsAnswer end named p r →
-    IsNoEnd p →
-    (noted_if_whole r ≡ None) × (named_if_whole nothing_noted r ≡ None)
-answer_none end named p (Short lines at outer leaf) a other = (refl, refl)
-answer_none end named p (Fault lines at why T) a other = (refl, refl)
-answer_none end named progress.More (Done lines at rest) a other = absurd a
-answer_none end named progress.Named (Done lines at rest) a other = absurd a
-answer_none end named progress.Done (Done lines at rest) a other = absurd other
-answer_none end named (progress.Fault kind) (Done lines at rest) a other = absurd a
+answer_unended : (section : Section) (end : ℕ) (named : Bool) (p : Progress) (r : Read) →
+    decoders.IsAnswer end named p r → IsNoEnd p → ended section nothing_noted r ≡ []
+answer_unended section end named p (Short lines at outer leaf) a other = refl
+answer_unended section end named p (Fault lines at why T) a other = refl
+answer_unended section end named progress.More (Done lines at rest) a other = absurd a
+answer_unended section end named progress.Named (Done lines at rest) a other = absurd a
+answer_unended section end named progress.Done (Done lines at rest) a other = absurd other
+answer_unended section end named (progress.Fault kind) (Done lines at rest) a other = absurd a
 
-answer_whole : (end : ℕ) (named : Bool) (r : Read) → decoders.IsAnswer end named progress.Done r →
-    (noted_if_whole r ≡ Some (noted_of true r))
-    × (named_if_whole nothing_noted r ≡ (noted_of false r).name) × EndsHere r
-answer_whole end named (Done lines at rest) a = (refl, refl, a)
-answer_whole end named (Short lines at outer leaf) a = absurd a
-answer_whole end named (Fault lines at why T) a = absurd a
+answer_ended : (section : Section) (end : ℕ) (named : Bool) (r : Read) →
+    decoders.IsAnswer end named progress.Done r →
+    ended section nothing_noted r
+    ≡ end_mark section (noted_of (is_header_root (root_of section)) r)
+answer_ended section end named (Done lines at rest) a = refl
+answer_ended section end named (Short lines at outer leaf) a = absurd a
+answer_ended section end named (Fault lines at why T) a = absurd a
 
 -- what ends where a section does, by its reading
 abbrev section_ends : Section → ℕ → List ℕ → Read → List HeaderEnd
-section_ends sections.Header number header r = Header_end number header (noted_of true r) ∷ []
-section_ends sections.Exception number header r = raises_between number None (noted_of false r).name
-section_ends sections.SystemException number header r =
-    raises_between number None (noted_of false r).name
-section_ends sections.Body number header r = []
+section_ends section number header r =
+    map (end_of number header) (end_mark section (noted_of (is_header_root (root_of section)) r))
 
 module _ (C : Table) (number : ℕ) (header : List ℕ) {St : Type 0} (notified : St → CallEvent → St)
     (st : St) where
   name_ends : (name : Option (List ℕ)) →
       after_event notified st (raise_event number name)
-      ≡ after_ends notified C st (raises_between number None name)
+      ≡ after_ends notified C st (map (end_of number header) (name_mark name))
   name_ends None = refl
   name_ends (Some name) = refl
 
@@ -451,43 +322,35 @@ module _ (C : Table) (number : ℕ) (header : List ℕ) {St : Type 0} (notified 
       (operation_of C header (noted_of true r)))
       ≡ after_ends notified C st (section_ends x number header r)
   event_ends sections.Header r = refl
-  event_ends sections.Exception r = search (arith, name_ends)
-  event_ends sections.SystemException r = search (arith, name_ends)
+  event_ends sections.Exception r = name_ends (noted_of false r).name
+  event_ends sections.SystemException r = name_ends (noted_of false r).name
   event_ends sections.Body r = refl
 
-module _ (t : Standing) (xs : List ℕ) (p : Progress) (l : LastOf t xs p) (other : IsNoEnd p) where
-  open t use {number, header, s, section}
+module _ (t : Standing) (xs : List ℕ) (p : Progress) (l : LastOf t xs p) where
+  open t use {C, answers, number, header, s, section}
 
-  none_read : (noted_if_whole (ReadWith t xs) ≡ None)
-      × (named_if_whole nothing_noted (ReadWith t xs) ≡ None)
-  none_read =
+  -- the marks that the message then has more are those of its section
+  here_ends : header_ends number header s xs
+      ≡ map (end_of number header) (ended section nothing_noted (ReadWith t xs))
+  unfolding section_then message_marks
+  here_ends =
+      let i = inside t in
+      let before = (begun t).before in
+      let a = last_answer (begun t) s (octets_of t) i xs p l in
+      let so_far : message_marks (message (S t) header s) ≡ before.marks =
+      ap message_marks (i.is ∙ ap (comes (begun t)) i.was_short)
+      ∙ (marks_front before _ ∙ append-nil before.marks) in
+      ends_are C (answers number) number header s xs _
+      (ap message_marks (behind (begun t) s (octets_of t) i xs) ∙ (marks_front before _
+      ∙ (ap (λ (ms : List Mark). before.marks ++ ms) (marks_ended (S t) header section nothing_noted
+      (ReadWith t xs) (answer_all a.0 a.1 p (ReadWith t xs) a.2))
+      ∙ ap (λ (ms : List Mark). ms ++ ended section nothing_noted (ReadWith t xs)) (sym so_far))))
+
+  ends_none : IsNoEnd p → header_ends number header s xs ≡ []
+  ends_none other =
       let a = last_answer (begun t) s (octets_of t) (inside t) xs p l in
-      answer_none a.0 a.1 p (ReadWith t xs) a.2 other
-
-  ends_none : header_ends number header s xs ≡ []
-  unfolding header_ends
-  ends_none = go section refl
-    where
-      raising : is_raising section ≡ true → is_header section ≡ false →
-          ends_between number header (header_noted header s) (header_noted header (s ++ xs))
-          ++ raises_between number (raised header s) (raised header (s ++ xs)) ≡ []
-      raising raises past = rw (
-        section_none t past xs,
-        name_short t raises,
-        name_is t raises xs,
-        none_read.1,
-      ) refl
-
-      go : (x : Section) → section ≡ x →
-          ends_between number header (header_noted header s) (header_noted header (s ++ xs))
-          ++ raises_between number (raised header s) (raised header (s ++ xs)) ≡ []
-      go sections.Header e =
-          let before = header_short t e in
-          let now = header_is t e xs ∙ none_read.0 in
-          rw (raised_before header s before, raised_before header (s ++ xs) now, before, now) refl
-      go sections.Exception e = search (arith, raising, is_raising)
-      go sections.SystemException e = search (arith, raising, is_raising)
-      go sections.Body e = search (arith, section_none, body_none)
+      here_ends ∙ ap (map (end_of number header))
+      (answer_unended section a.0 a.1 p (ReadWith t xs) a.2 other)
 
 -- nor do fronts of octets after which the section goes on
 ends_sooner : (t : Standing) (front more : List ℕ) →
@@ -536,7 +399,7 @@ module _ {t : Standing} {octets : List ℕ} {n : ℕ} {d' : Decoder} where
   -- octets that end no section end no header and no name
   pub none_ends : {p : Progress} → Took t octets n d' p → IsNoEnd p →
       header_ends number header s (take n octets) ≡ []
-  none_ends {p} k other = search (arith, ends_none, last)
+  none_ends {p} k other = ends_none t (take n octets) p (last p k) other
 
   -- nor do those before the last of a run
   none_sooner : {p : Progress} → Took t octets n d' p → (k : ℕ) → k < n →
@@ -571,50 +434,18 @@ module _ {t : Standing} {octets : List ℕ} {n : ℕ} {d' : Decoder} where
   done_ends : Took t octets n d' progress.Done →
       header_ends number header s (take n octets)
       ≡ section_ends section number header (ReadWith t (take n octets))
-  unfolding header_ends
-  done_ends k = go section refl ∙ ap (λ x. section_ends x number header (ReadWith t xs)) refl
-    where
-      xs : List ℕ
-      xs = take n octets
-
-      whole : (noted_if_whole (ReadWith t xs) ≡ Some (noted_of true (ReadWith t xs)))
-          × (named_if_whole nothing_noted (ReadWith t xs) ≡ (noted_of false (ReadWith t xs)).name)
-          × EndsHere (ReadWith t xs)
-      whole =
-          let a = last_answer (begun t) s (octets_of t) (inside t) xs progress.Done
-          (last progress.Done k) in
-          answer_whole a.0 a.1 (ReadWith t xs) a.2
-
-      raising : is_raising section ≡ true → is_header section ≡ false →
-          ends_between number header (header_noted header s) (header_noted header (s ++ xs))
-          ++ raises_between number (raised header s) (raised header (s ++ xs))
-          ≡ raises_between number None (noted_of false (ReadWith t xs)).name
-      raising raises past = rw (
-        section_none t past xs,
-        name_short t raises,
-        name_is t raises xs,
-        whole.1,
-      ) refl
-
-      go : (x : Section) → section ≡ x →
-          ends_between number header (header_noted header s) (header_noted header (s ++ xs))
-          ++ raises_between number (raised header s) (raised header (s ++ xs))
-          ≡ section_ends x number header (ReadWith t xs)
-      go sections.Header e =
-          let before = header_short t e in
-          let now = header_is t e xs ∙ whole.0 in
-          let reads = header_reads t e xs in
-          let none = raised_ended header (s ++ xs) (opened t).T reads.0
-          (subst EndsHere (sym reads.1) whole.2) in
-          rw (raised_before header s before, none, before, now) refl
-      go sections.Exception e = raising (ap is_raising e) (ap is_header e)
-      go sections.SystemException e = raising (ap is_raising e) (ap is_header e)
-      go sections.Body e = search (arith, section_none, body_none)
+  done_ends k =
+      let xs = take n octets in
+      let l = last progress.Done k in
+      let a = last_answer (begun t) s (octets_of t) (inside t) xs progress.Done l in
+      here_ends t xs progress.Done l ∙ ap (map (end_of number header))
+      (answer_ended section a.0 a.1 (ReadWith t xs) a.2)
 
   one_ends : Took t octets n d' progress.Done → section ≡ sections.Header →
       header_ends number header s (take n octets)
       ≡ Header_end number header (noted_of true (ReadWith t (take n octets))) ∷ []
-  one_ends k in_it = search (arith, done_ends, take)
+  one_ends k in_it =
+      done_ends k ∙ ap (λ x. section_ends x number header (ReadWith t (take n octets))) in_it
 
   module _ {St : Type 0} (answer : St → Answer) (notified : St → CallEvent → St) (st : St) where
     -- a header that ends is answered by the state before it,
@@ -654,26 +485,27 @@ module _ {C : Table} {answers : Answers} {number : ℕ} {header : List ℕ} {m :
     (f : Follows C answers number header m s) where
   pub padding_none : {body_type_id : BodyTypeId} → m.part ≡ parts.Padding body_type_id → (x : ℕ) →
       header_ends number header s (x ∷ []) ≡ []
-  unfolding header_ends waits pads_here stage_of
+  unfolding message_marks
   padding_none {body_type_id} is x =
+      let S = signatures_of C (answers number) in
       let stands = subst (Stands C answers number header s m.decoder) is f.stands in
-      let names = raised_pads C (answers number) header s x
-      (ap (λ z. pads_here (stage_of z)) stands.1) in
-      rw (
-        past_none C (answers number) number header s (x ∷ [])
-            (ap (λ z. waits (stage_of z)) stands.1),
-        names.0,
-        names.1,
-      ) refl
+      unmarked C (answers number) number header s (x ∷ [])
+      (ap message_marks (comes_more S header s x stands.0 (12 + length s) _ stands.1)
+      ∙ (marks_front stands.0 _ ∙ (ap (λ (ms : List Mark). stands.0.marks ++ ms)
+      (padding_step_marks S header (12 + length s) (body_type C body_type_id) x)
+      ∙ (append-nil stands.0.marks ∙ sym (ap message_marks stands.1)))))
 
   pub rest_none : {r : Rest} → m.part ≡ parts.Rest r → (more : List ℕ) →
       header_ends number header s more ≡ []
-  unfolding header_ends waits is_settled stage_of
+  unfolding message_marks
   rest_none {r} is more =
+      let S = signatures_of C (answers number) in
       let stands = subst (Stands C answers number header s m.decoder) is f.stands in
-      rw (past_none C (answers number) number header s more (ap (λ z. waits (stage_of z)) stands.1))
-      (settled_none C (answers number) number header s more
-      (ap (λ z. is_settled (stage_of z)) stands.1))
+      unmarked C (answers number) number header s more
+      (ap message_marks (message_resumes S header s more
+      ∙ ap (λ x. goes_on S header x more) stands.1)
+      ∙ (rest_goes_unmarked S header more stands.0 (12 + length s) r.offset r.held.items
+      ∙ sym (ap message_marks stands.1)))
 
   -- what a call took of a rest, and wrote
   pub rest_front : {r : Rest} → m.part ≡ parts.Rest r → (octets : List ℕ) (place : ℕ) {E : Type 0}

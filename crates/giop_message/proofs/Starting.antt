@@ -1,5 +1,5 @@
 -- A message whose header has come, and what begins after a part of it.
-use Rattle.std.proofs.Common.{◌≡◌, ℕ, zero, ◌<◌, Bool, true, false, List, [], Option, option_map, option_and_then, Some, None, refl, sym, append-nil, add-zero, arith}
+use Rattle.std.proofs.Common.{◌≡◌, ℕ, zero, ◌<◌, Bool, true, false, List, [], Option, option_map, option_and_then, Some, None, refl, sym, add-zero, arith}
 use Rattle.std.specs.Prelude.{◌&&◌, nat_lt, if◌then◌else◌}
 use Rattle.std.proofs.lemmas.Bool.{ltb-false, ne_eqb, false≢true}
 use Rattle.giop_cdr.specs.Alignment.{padding}
@@ -16,9 +16,9 @@ use Rattle.giop_sig.specs.Table.{Table}
 use Rattle.giop_message.specs.Signatures.{Signatures, Answer, request_type, signatures_of}
 use Rattle.giop_message.specs.HeaderEnds.{operation_of}
 use Rattle.giop_message.specs.MessageState.{is_header}
-use Rattle.giop_message.specs.Messages.{LineAt, section_lines, Stage, ReadTo, In_rest, In_padding, with_front, section_then, rest, rest_in, typed, body, body_of, has_body, padded, option_typed, members_of, type_if, after_exception, BodyType, Untyped, Typed, body_may_be_missing, is_request, request_body, reply_body, after_header, of_header, message_lines, message, after, section_and_rest}
+use Rattle.giop_message.specs.Messages.{Said, nothing_said, section_lines, ReadTo, In_rest, In_padding, with_front, section_then, rest, rest_in, typed, body, body_of, has_body, padded, option_typed, members_of, type_if, after_exception, Untyped, Typed, body_may_be_missing, is_request, request_body, reply_body, after_header, of_header, message_lines, message, after, section_and_rest}
 use Rattle.giop_message.specs.MessageSteps.{is_unaligned, is_padded, body_type_after}
-use Rattle.giop_message.proofs.Going.{front_none}
+use Rattle.giop_message.proofs.Going.{front_none, none_front}
 use Rattle.giop_message.proofs.Causal.{message_silent}
 use Rattle.giop_message.proofs.Octets.{told_silent}
 
@@ -34,13 +34,13 @@ none_told S header = search (arith, told_silent, message_silent)
 
 -- and without a header type it is in the rest
 pub none_rests : (S : Signatures) (header : List ℕ) → S.header (minor header) (kind header) ≡ None →
-    message S header [] ≡ ReadTo [] 12 (In_rest 0 [])
+    message S header [] ≡ ReadTo nothing_said 12 (In_rest 0 [])
 unfolding message of_header rest rest_in
 none_rests S header e = rw e refl
 
 -- or in the header
 pub header_first : (S : Signatures) (header : List ℕ) (T : Ty) →
-    S.header (minor header) (kind header) ≡ Some T → message S header [] ≡ with_front []
+    S.header (minor header) (kind header) ≡ Some T → message S header [] ≡ with_front nothing_said
     (section_and_rest S header sections.Header nothing_noted
     (reading (plain (order header)) [] T 12 []))
 unfolding message of_header
@@ -48,22 +48,13 @@ header_first S header T e = rw (e, front_none) refl
 
 -- ---- after a part that has ended, with no octet
 
-pub rest_is : (n : ℕ) → rest n [] ≡ ReadTo [] n (In_rest 0 [])
+pub rest_is : (n : ℕ) → rest n [] ≡ ReadTo nothing_said n (In_rest 0 [])
 unfolding rest rest_in
 rest_is n = rw add-zero refl
 
-front_comes : (before : List LineAt) (n : ℕ) (stage : Stage) →
-    with_front before (ReadTo [] n stage) ≡ ReadTo before n stage
-unfolding with_front
-front_comes before n stage = rw (append-nil before) refl
-
-pub front_rests : (before : List LineAt) (n : ℕ) →
+pub front_rests : (before : Said) (n : ℕ) →
     with_front before (rest n []) ≡ ReadTo before n (In_rest 0 [])
-front_rests before n = search (arith, rest_is, front_comes)
-
-pub front_pads : (before : List LineAt) (n : ℕ) (b : BodyType) →
-    with_front before (ReadTo [] n (In_padding b)) ≡ ReadTo before n (In_padding b)
-front_pads before n b = search (arith, front_comes)
+front_rests before n = search (arith, rest_is, none_front)
 
 -- a section that ends with no octet after it: in front of what follows there is padding, or there
 -- is none
@@ -71,7 +62,7 @@ by_tests : (S : Signatures) (header : List ℕ) (h : Noted) (n : ℕ) (has two s
     nat_lt 0 (padding n 8) ≡ some → (if has then
     (if two then padded S header (body_of S header h) n []
     else body S header (body_of S header h) n []) else rest n [])
-    ≡ (if has && (two && some) then ReadTo [] n
+    ≡ (if has && (two && some) then ReadTo nothing_said n
     (In_padding (if has then body_of S header h else Untyped))
     else body S header (if has then body_of S header h else Untyped) n [])
 unfolding padded body
@@ -88,7 +79,7 @@ option_body S header (Some T) n = refl
 
 follows_by : (S : Signatures) (header : List ℕ) (section : Section) (h : Noted) (n : ℕ) →
     after S header section h n []
-    ≡ (if is_padded header section n then ReadTo [] n
+    ≡ (if is_padded header section n then ReadTo nothing_said n
     (In_padding (body_type_after S header section h))
     else body S header (body_type_after S header section h) n [])
 unfolding after_header after_exception body is_unaligned
@@ -99,7 +90,8 @@ follows_by S header sections.Body h n = refl
 
 pub left_padded : (S : Signatures) (header : List ℕ) (section : Section) (h : Noted) (n : ℕ) →
     is_padded header section n ≡ true →
-    after S header section h n [] ≡ ReadTo [] n (In_padding (body_type_after S header section h))
+    after S header section h n []
+    ≡ ReadTo nothing_said n (In_padding (body_type_after S header section h))
 left_padded S header section h n e = search (arith, follows_by)
 
 pub left_bare : (S : Signatures) (header : List ℕ) (section : Section) (h : Noted) (n : ℕ) →

@@ -1,20 +1,15 @@
 -- Where the header of a message ends, where the name of an exception that a Reply raises does, and
 -- what the correspondent, the other side of the conversation, is told there (meaning).
-use Rattle.std.specs.Prelude.{◌≡◌, ◌<◌, ℕ, Bool, true, false, List, [], ◌∷◌, ◌++◌, length, Option, Some, None, IfSome, option_and_then, option_map, ◌==◌, ◌+◌, nat_lt, drop, if◌then◌else◌}
+use Rattle.std.specs.Prelude.{◌≡◌, ◌<◌, ℕ, Bool, true, List, [], ◌∷◌, ◌++◌, length, map, drop, Option, Some, None, IfSome, option_and_then, option_map, ◌==◌, if◌then◌else◌}
 use Rattle.giop_sig.specs.declared.types.OpId.{OpId}
-use Rattle.giop_cdr.specs.Alignment.{padding}
-use Rattle.giop_sig.specs.declared.types.Fixed.TheVariants.{ExceptionId, SystemException}
-use Rattle.giop_sig.specs.Types.{Ty}
+use Rattle.giop_sig.specs.Builtin.{builtin_table}
 use Rattle.giop_sig.specs.Table.{Table, operation_in}
-use Rattle.giop_sig.specs.HeaderTypes.{header_type, fixed_type}
-use Rattle.giop_decode.specs.ReadResult.{plain, Read, Done, Short, Fault}
-use Rattle.giop_decode.specs.Reading.{reading}
-use Rattle.giop_decode.specs.Noted.{Noted, nothing_noted, noted}
-use Rattle.giop_message.specs.Headers.{minor, kind, order}
-use Rattle.giop_message.specs.Signatures.{Answer, Answers}
-use Rattle.giop_message.specs.Messages.{is_shown}
+use Rattle.giop_decode.specs.Noted.{Noted}
+use Rattle.giop_message.specs.Headers.{kind}
+use Rattle.giop_message.specs.Signatures.{Answer, Answers, signatures_of}
+use Rattle.giop_message.specs.Messages.{Mark, HeaderMark, NameMark, message, message_marks, is_shown}
 
--- ---- where a header ends
+-- ---- what ends
 
 -- what ends in a message of this number
 pub data HeaderEnd : Type 0 where
@@ -23,84 +18,28 @@ pub data HeaderEnd : Type 0 where
   -- the exception that it raises: its name, of at most 128 octets
   Exception_end : ℕ → List ℕ → HeaderEnd
 
-abbrev pub noted_if_whole : Read → Option Noted
-noted_if_whole (Done lines at s) = Some (noted true nothing_noted lines)
-noted_if_whole (Short lines at outer leaf) = None
-noted_if_whole (Fault lines at why T) = None
+-- The marks of a message, by the octets `s` that follow the 12 of `header`. A message has the same
+-- by any table and whatever the ids answer, so these are by the built-in types alone.
+unfoldable pub marks : List ℕ → List ℕ → List Mark
+marks header s = message_marks (message (signatures_of builtin_table (λ id. None)) header s)
 
--- by the type of the header, where it has one
-abbrev pub noted_by_type : List ℕ → Option Ty → List ℕ → Option Noted
-noted_by_type header None s = None
-noted_by_type header (Some T) s = noted_if_whole (reading (plain (order header)) [] T 12 s)
+abbrev pub noted_in : List Mark → Option Noted
+noted_in [] = None
+noted_in (HeaderMark n ∷ ms) = Some n
+noted_in (NameMark name ∷ ms) = noted_in ms
 
--- what is noted of a message's header once it is complete, by the octets `s` that follow the 12 of
--- `header`
+-- what is noted of a message's header once it is complete
 unfoldable pub header_noted : List ℕ → List ℕ → Option Noted
-header_noted header s = noted_by_type header (header_type (minor header) (kind header)) s
+header_noted header s = noted_in (marks header s)
 
-abbrev pub ends_between : ℕ → List ℕ → Option Noted → Option Noted → List HeaderEnd
-ends_between number header (Some before) now = []
-ends_between number header None None = []
-ends_between number header None (Some n) = Header_end number header n ∷ []
-
--- ---- what a Reply raises
-
--- the name that a whole reading has, after what was noted before: the last string, where that has
--- at most 128 octets
-abbrev pub named_if_whole : Noted → Read → Option (List ℕ)
-named_if_whole h (Done lines at s) = (noted false h lines).name
-named_if_whole h (Short lines at outer leaf) = None
-named_if_whole h (Fault lines at why T) = None
-
--- by the type that has the name, where there is one
-abbrev pub named_by_type : List ℕ → Option Ty → ℕ → List ℕ → Option (List ℕ)
-named_by_type header None at s = None
-named_by_type header (Some T) at s = named_if_whole nothing_noted
-    (reading (plain (order header)) [] T at s)
-
--- after a header that ends at this offset: in 1.2 a body begins at the next multiple of 8
-abbrev pub named_behind : List ℕ → Option Ty → ℕ → List ℕ → Option (List ℕ)
-named_behind header found at s =
-    if minor header == 2
-    then (if nat_lt (length s) (padding at 8) then None else named_by_type header found
-    (at + padding at 8) (drop (padding at 8) s))
-    else named_by_type header found at s
-
--- The type that has the name, by the status of a Reply: of USER_EXCEPTION the repository id, of
--- SYSTEM_EXCEPTION its body.
-abbrev pub raising : Option ℕ → Option Ty
-raising None = None
-raising (Some status) =
-    if status == 1 then Some (fixed_type ExceptionId) else
-    (if status == 2 then Some (fixed_type SystemException) else None)
-
-abbrev pub raised_after : List ℕ → Read → Option (List ℕ)
-raised_after header (Done lines at s) = named_behind header
-    (raising (noted true nothing_noted lines).status) at s
-raised_after header (Short lines at outer leaf) = None
-raised_after header (Fault lines at why T) = None
-
-abbrev pub raised_by_type : List ℕ → Option Ty → List ℕ → Option (List ℕ)
-raised_by_type header None s = None
-raised_by_type header (Some T) s = raised_after header (reading (plain (order header)) [] T 12 s)
-
--- The name of the exception that a Reply raises, once the repository id or the body of the system
--- exception is complete, by the octets `s` that follow the 12 of its header (GIOP Message Formats,
--- Reply Body).
-unfoldable pub raised : List ℕ → List ℕ → Option (List ℕ)
-raised header s = if kind header == 1 then raised_by_type header
-    (header_type (minor header) (kind header)) s else None
-
-abbrev pub raises_between : ℕ → Option (List ℕ) → Option (List ℕ) → List HeaderEnd
-raises_between number (Some before) now = []
-raises_between number None None = []
-raises_between number None (Some name) = Exception_end number name ∷ []
+abbrev pub end_of : ℕ → List ℕ → Mark → HeaderEnd
+end_of number header (HeaderMark n) = Header_end number header n
+end_of number header (NameMark name) = Exception_end number name
 
 -- what ends in these octets after `s`: the header, and the name of an exception
 unfoldable pub header_ends : ℕ → List ℕ → List ℕ → List ℕ → List HeaderEnd
-header_ends number header s more =
-    ends_between number header (header_noted header s) (header_noted header (s ++ more))
-    ++ raises_between number (raised header s) (raised header (s ++ more))
+header_ends number header s more = map (end_of number header)
+    (drop (length (marks header s)) (marks header (s ++ more)))
 
 -- ---- what is told there
 

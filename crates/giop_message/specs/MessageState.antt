@@ -22,7 +22,7 @@ use Rattle.giop_message.specs.Headers.{minor, kind, order}
 use Rattle.giop_message.specs.MessageReader.{LineClass, TimedLine}
 use Rattle.giop_message.specs.Text.{line_class_text}
 use Rattle.giop_message.specs.Signatures.{Signatures, RequestTable, Answer, Answers, signatures_of}
-use Rattle.giop_message.specs.Messages.{MessageLine, ShortLine, LineAt, BodyType, Untyped, Typed, UserException, SystemException, In_padding, In_rest, ReadTo, with_front, section_and_rest, root_of, message, message_lines, stage_of}
+use Rattle.giop_message.specs.Messages.{MessageLine, ShortLine, LineAt, Said, nothing_said, BodyType, Untyped, Typed, UserException, SystemException, In_padding, In_rest, ReadTo, with_front, section_and_rest, root_of, message, message_lines, stage_of}
 use Rattle.giop_message.specs.ReaderOfTable.{line_class_of, text_of, first_request_id, is_over}
 
 -- ---- what is written
@@ -104,22 +104,22 @@ reach m = m.at
 
 -- ---- a message of a list
 
--- The header is the first section of a message: there is no line before it, no octet, and its type
--- is the header's.
-abbrev pub IsFirst : List ℕ → Section → Ty → List LineAt → List ℕ → Type 0
+-- The header is the first section of a message: nothing is said before it, there is no octet, and
+-- its type is the header's.
+abbrev pub IsFirst : List ℕ → Section → Ty → Said → List ℕ → Type 0
 IsFirst header sections.Header T before front =
-    (header_type (minor header) (kind header) ≡ Some T) × (before ≡ []) × (front ≡ [])
+    (header_type (minor header) (kind header) ≡ Some T) × (before ≡ nothing_said) × (front ≡ [])
 IsFirst header sections.Exception T before front = Unit {0}
 IsFirst header sections.SystemException T before front = Unit {0}
 IsFirst header sections.Body T before front = Unit {0}
 
--- Lines, and then a section that begins after them: a decoder reads its octets as a value of a
+-- What is said, and then a section that begins after it: a decoder reads its octets as a value of a
 -- type.
 pub record Decodes (C : Table) (S : Signatures) (number : ℕ) (header s : List ℕ) (section : Section)
     (d : Decoder)
     : Type 0 where
   pub T : Ty
-  pub before : List LineAt
+  pub before : Said
   pub front : List ℕ
   pub octets : List ℕ
   pub since : s ≡ front ++ octets
@@ -135,11 +135,11 @@ abbrev pub Stands : Table → Answers → ℕ → List ℕ → List ℕ → Deco
 Stands C answers number header s d (parts.Typed section) =
     Decodes C (signatures_of C (answers number)) number header s section d
 Stands C answers number header s d (parts.Padding body_type_id) =
-    (emitted : List LineAt) × (message (signatures_of C (answers number)) header s
-    ≡ ReadTo emitted (12 + length s) (In_padding (body_type C body_type_id)))
+    (said : Said) × (message (signatures_of C (answers number)) header s
+    ≡ ReadTo said (12 + length s) (In_padding (body_type C body_type_id)))
 Stands C answers number header s d (parts.Rest r) =
-    (emitted : List LineAt) × (message (signatures_of C (answers number)) header s
-    ≡ ReadTo emitted (12 + length s) (In_rest r.offset r.held.items))
+    (said : Said) × (message (signatures_of C (answers number)) header s
+    ≡ ReadTo said (12 + length s) (In_rest r.offset r.held.items))
 
 -- in the header
 abbrev pub is_header : Section → Bool

@@ -20,7 +20,7 @@ use Rattle.giop_message.specs.Headers.{minor, order}
 use Rattle.giop_message.specs.Text.{fault_word}
 use Rattle.giop_message.specs.Signatures.{Signatures, Answers, signatures_of}
 use Rattle.giop_message.specs.Messages
-use Rattle.giop_message.specs.Messages.{LineAt, BodyType, Untyped, is_shown, is_request, has_body, body_of, members_of, type_if, with_front, section_and_rest, root_of, message}
+use Rattle.giop_message.specs.Messages.{Said, BodyType, Untyped, is_shown, is_request, has_body, body_of, members_of, type_if, with_front, section_and_rest, root_of, message}
 use Rattle.giop_message.specs.HeaderEnds.{CallEvent, header_event, raise_event}
 use Rattle.giop_message.specs.MessageState.{IsFirst, Stands, Follows, FaultedAt}
 
@@ -65,20 +65,20 @@ pub record IsAt (number : ℕ) (header : List ℕ) (m : Message) (s : List ℕ) 
   pub same_header : m.header ≡ header
   pub at : m.at ≡ 12 + length s
 
--- a message that is read to these lines and then as `m` has the part that fits `m`
+-- a message that has what is said before and then reads as `m` has the part that fits `m`
 abbrev pub Arrives : Table → Answers → ℕ → List ℕ → Message → Message → List ℕ → Messages.Message →
     Type 0
 Arrives C answers number header old new s m =
-    IsAt number header old s → (before : List LineAt) →
+    IsAt number header old s → (before : Said) →
     message (signatures_of C (answers number)) header s ≡ with_front before m →
     Stands C answers number header s new.decoder new.part
 
--- A message that is read to these lines, and then to a section of this type of which no octet has
+-- A message that has what is said before, and then a section of this type of which no octet has
 -- come, is in that section.
 abbrev pub Enters : Table → Answers → ℕ → List ℕ → Message → Message → List ℕ → Section → Ty →
     Type 0
 Enters C answers number header old new s section T =
-    IsAt number header old s → (before : List LineAt) → IsFirst header section T before s →
+    IsAt number header old s → (before : Said) → IsFirst header section T before s →
     message (signatures_of C (answers number)) header s
     ≡ with_front before (section_and_rest (signatures_of C (answers number)) header section
     nothing_noted (reading (plain (order header)) [] T (12 + length s) [])) →

@@ -40,6 +40,23 @@ pub record LineAt : Type 0 where
 unfoldable pub line_at : ℕ → MessageLine → LineAt
 line_at at message_line = record { at = at; message_line = message_line }
 
+-- What ends in a message, which has no text: its header, with what is noted of it, and the name of
+-- the exception that it raises, of at most 128 octets (GIOP Message Formats, Reply Body).
+pub data Mark : Type 0 where
+  HeaderMark : Noted → Mark
+  NameMark : List ℕ → Mark
+
+-- what a message has so far
+pub record Said : Type 0 where
+  pub lines : List LineAt
+  pub marks : List Mark
+
+abbrev pub only_lines : List LineAt → Said
+only_lines lines = record { lines = lines; marks = [] }
+
+abbrev pub nothing_said : Said
+nothing_said = only_lines []
+
 -- a printable octet of ASCII other than the space
 abbrev pub is_graphic : ℕ → Bool
 is_graphic octet = nat_le 33 octet && nat_le octet 126
@@ -91,12 +108,31 @@ pub data Stage : Type 0 where
   -- after a fault
   Over : Stage
 
--- The result of reading a message: its lines, the offset at its end, and where it is there.
+-- The result of reading a message: what it has, the offset at its end, and where it is there.
 pub data Message : Type 0 where
-  ReadTo : List LineAt → ℕ → Stage → Message
+  ReadTo : Said → ℕ → Stage → Message
 
-unfoldable pub with_front : List LineAt → Message → Message
-with_front front (ReadTo emitted at stage) = ReadTo (front ++ emitted) at stage
+-- one after the other
+abbrev pub said_both : Said → Said → Said
+said_both front said = record {
+  lines = front.lines ++ said.lines;
+  marks = front.marks ++ said.marks;
+}
+
+unfoldable pub with_front : Said → Message → Message
+with_front front (ReadTo said at stage) = ReadTo (said_both front said) at stage
+
+abbrev pub name_mark : Option (List ℕ) → List Mark
+name_mark None = []
+name_mark (Some name) = NameMark name ∷ []
+
+-- The mark of a section's end, by what is noted of it. An exception's name is the last string of
+-- its section: the repository id, or that of a system exception.
+abbrev pub end_mark : Section → Noted → List Mark
+end_mark sections.Header h = HeaderMark h ∷ []
+end_mark sections.Exception h = name_mark h.name
+end_mark sections.SystemException h = name_mark h.name
+end_mark sections.Body h = []
 
 -- A section, of a Request's header or not, and what follows it by what is noted of it. A fault has
 -- its line instead of the value's, and ends the message.
@@ -104,22 +140,25 @@ unfoldable pub section_then : Section → Bool → (Noted → ℕ → List ℕ �
     Message
 section_then section is_request next h (Done lines at s) =
     let root = root_of section in
-    with_front (section_lines root is_request h lines)
-    (next (noted (is_header_root root) h lines) at s)
+    let now = noted (is_header_root root) h lines in
+    with_front
+    (record { lines = section_lines root is_request h lines; marks = end_mark section now })
+    (next now at s)
 section_then section is_request next h (Short lines at outer leaf) =
     let root = root_of section in
-    ReadTo (section_lines root is_request h lines) at
+    ReadTo (only_lines (section_lines root is_request h lines)) at
     (In_typed section (noted (is_header_root root) h lines) outer leaf)
 section_then section is_request next h (Fault lines at why T) =
-    ReadTo (section_lines (root_of section) is_request h lines ++ line_at at (FaultLine why) ∷ [])
-    at Over
+    ReadTo (only_lines (section_lines (root_of section) is_request h lines
+    ++ line_at at (FaultLine why) ∷ [])) at Over
 
 -- ---- the rest
 
 -- the rest in parts of 32 octets, of which so many are full
 unfoldable pub rest_in : ℕ → ℕ → ℕ → List ℕ → Message
-rest_in zero offset at s = ReadTo [] (at + length s) (In_rest offset s)
-rest_in (suc full) offset at s = with_front (line_at (at + 32) (RestLine offset (take 32 s)) ∷ [])
+rest_in zero offset at s = ReadTo nothing_said (at + length s) (In_rest offset s)
+rest_in (suc full) offset at s =
+    with_front (only_lines (line_at (at + 32) (RestLine offset (take 32 s)) ∷ []))
     (rest_in full (offset + 32) (at + 32) (drop 32 s))
 
 unfoldable pub rest : ℕ → List ℕ → Message
@@ -195,7 +234,7 @@ has_body header = (kind header == 0) || (kind header == 1)
 -- In 1.2 a body begins at the next multiple of 8.
 unfoldable pub padded : Signatures → List ℕ → BodyType → ℕ → List ℕ → Message
 padded S header b at s =
-    if nat_lt (length s) (padding at 8) then ReadTo [] (at + length s) (In_padding b)
+    if nat_lt (length s) (padding at 8) then ReadTo nothing_said (at + length s) (In_padding b)
     else body S header b (at + padding at 8) (drop (padding at 8) s)
 
 unfoldable pub after_header : Signatures → List ℕ → Noted → ℕ → List ℕ → Message
@@ -249,7 +288,10 @@ close (In_rest offset (x ∷ held)) = RestLine offset (x ∷ held) ∷ EndLine �
 close Over = EndLine ∷ []
 
 unfoldable pub message_lines : Message → List LineAt
-message_lines (ReadTo emitted at stage) = emitted
+message_lines (ReadTo said at stage) = said.lines
+
+unfoldable pub message_marks : Message → List Mark
+message_marks (ReadTo said at stage) = said.marks
 
 unfoldable pub stage_of : Message → Stage
-stage_of (ReadTo emitted at stage) = stage
+stage_of (ReadTo said at stage) = stage

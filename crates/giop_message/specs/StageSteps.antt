@@ -5,12 +5,12 @@ use Rattle.giop_decode.specs.ReadResult.{plain}
 use Rattle.giop_decode.specs.ReadingSteps as decoder
 use Rattle.giop_message.specs.Headers.{order}
 use Rattle.giop_message.specs.Signatures.{Signatures}
-use Rattle.giop_message.specs.Messages.{line_at, RestLine, Stage, In_typed, In_padding, In_rest, Over, Message, ReadTo, with_front, body, section_and_rest}
+use Rattle.giop_message.specs.Messages.{only_lines, nothing_said, line_at, RestLine, Stage, In_typed, In_padding, In_rest, Over, Message, ReadTo, with_front, body, section_and_rest}
 
 unfoldable pub rest_step : ℕ → List ℕ → ℕ → Message
 rest_step offset held at =
-    if length held == 32 then ReadTo (line_at at (RestLine offset held) ∷ []) at
-    (In_rest (offset + 32) []) else ReadTo [] at (In_rest offset held)
+    if length held == 32 then ReadTo (only_lines (line_at at (RestLine offset held) ∷ [])) at
+    (In_rest (offset + 32) []) else ReadTo nothing_said at (In_rest offset held)
 
 -- The octet is at that offset. After a part that ends, what follows it is read with no octets.
 unfoldable pub message_step : Signatures → List ℕ → ℕ → Stage → ℕ → Message
@@ -18,13 +18,13 @@ message_step S header at (In_typed section h outer leaf) b =
     section_and_rest S header section h
     (decoder.root_step (plain (order header)) [] outer leaf at b)
 message_step S header at (In_padding t) b =
-    if nat_lt 1 (padding at 8) then ReadTo [] (at + 1) (In_padding t) else body S header t (at + 1)
-    []
+    if nat_lt 1 (padding at 8) then ReadTo nothing_said (at + 1) (In_padding t)
+    else body S header t (at + 1) []
 message_step S header at (In_rest offset held) b = rest_step offset (held ++ b ∷ []) (at + 1)
-message_step S header at Over b = ReadTo [] at Over
+message_step S header at Over b = ReadTo nothing_said at Over
 
 unfoldable pub advance : Signatures → List ℕ → Message → ℕ → Message
-advance S header (ReadTo emitted at stage) b = with_front emitted (message_step S header at stage b)
+advance S header (ReadTo said at stage) b = with_front said (message_step S header at stage b)
 
 -- a message after these octets more
 abbrev pub goes_on : Signatures → List ℕ → Message → List ℕ → Message

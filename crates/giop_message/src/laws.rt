@@ -1,6 +1,6 @@
 //! The laws of the reading of a message: what one octet more, or many, do to it, and what the stream needs of it.
 
-ghost use Rattle.std.specs.Prelude.{◌≡◌, ℕ, List, [], ◌∷◌, ◌++◌, length, drop, Some};
+ghost use Rattle.std.specs.Prelude.{◌≡◌, ℕ, List, [], ◌∷◌, ◌++◌, length, map, drop, Some};
 ghost use Rattle.std.specs.List.{list_any};
 ghost use Rattle.giop_cdr.specs.Numbers.{num};
 ghost use Rattle.giop_sig.specs.Types.{Ty};
@@ -10,7 +10,8 @@ ghost use Rattle.giop_message.specs.Headers.{minor, kind, order};
 ghost use Rattle.giop_message.specs.Apart.{IsApart};
 ghost use Rattle.giop_message.specs.MessageReader.{IsCausal, IsEnding, HasOnlyValuesInId, IsOrdered, IsClosing};
 ghost use Rattle.giop_message.specs.Signatures.{Answer, Answers, signatures_of};
-ghost use Rattle.giop_message.specs.Messages.{message, message_lines, stage_of, close};
+ghost use Rattle.giop_message.specs.Messages.{message, message_lines, message_marks, stage_of, close};
+ghost use Rattle.giop_message.specs.HeaderEnds.{end_of, header_ends};
 ghost use Rattle.giop_message.specs.MessageState.{due_text, timed_lines_text, closing_text, closes_text};
 ghost use Rattle.giop_message.specs.StageSteps.{advance, goes_on};
 ghost use Rattle.giop_message.specs.ReaderOfTable.{message_reader, first_request_id, is_over, is_wrong};
@@ -57,6 +58,12 @@ pub fn message_laws()
         closing_text number place (close (stage_of
         (message (signatures_of C (answers number)) header s)))
         ≡ closes_text number place ((message_reader C answers).closes number header s) }
+    // What ends in octets, of which the correspondent is told, are the marks that the message then has more, by any table
+    // and whatever the ids answer.
+    ensures told { (C : Table) (answer : Answer) (number : ℕ) (header s more : List ℕ) →
+        header_ends number header s more ≡ map (end_of number header)
+        (drop (length (message_marks (message (signatures_of C answer) header s)))
+        (message_marks (message (signatures_of C answer) header (s ++ more)))) }
 {}
 
 /// No octet of a message has two lines of one class, with those of a close at it. It has no body, and is called for its

@@ -12,19 +12,19 @@ use Rattle.giop_sig.specs.declared.types.Shape.TheVariants as shapes
 use Rattle.giop_sig.proofs.Depths.{depth_tree, depth_within}
 use Rattle.giop_sig.proofs.Nodes.{has_shape}
 use Rattle.giop_sig.proofs.Solid.{fit_in_room}
-use Rattle.giop_sig.proofs.Tables.{Entered, entered, part_below, part_tree, root_entered, shape_at, switch_room}
+use Rattle.giop_sig.proofs.Tables.{Entered, entered, part_below, part_room, root_entered, shape_at, switch_room}
 
--- the part at a place has a smaller number, and is the tree's part
+-- the part at a place has a smaller number, and is the tree's part, in one level less room
 pub record PartIs (t : Table) (id i part : ℕ) : Type 0 where
   pub below : part < id
-  pub same : tree t part ≡ part_of (tree t id) i
+  pub same : (room : ℕ) → tree_at t room part ≡ part_of (tree_at t (suc room) id) i
 
 at_number : (t : Table) (id : ℕ) → IsTable t → id < length t.types → Entered t id (node_at t id)
 at_number t id laws known = search (arith, entered)
 
 pub part_is : (t : Table) (id i : ℕ) → IsTable t → id < length t.types
     → HasPlace (shape_in (tree t id)) i → PartIs t id i (part_number t id i)
-part_is t id i laws known has = search (arith, at_number, part_below, part_tree)
+part_is t id i laws known has = search (arith, at_number, part_below, part_room)
 
 pub root_is : (t : Table) (id : ℕ) → IsTable t → id < length t.types → IsRoot (tree t id)
 root_is t id laws known = search (arith, root_entered, at_number)
@@ -57,11 +57,11 @@ has_shape_room t a b id s has =
     subst (HasShape (tree_at t b id))
     (sym (shape_is (tree_at t a id) s has ∙ shape_room t a b id)) (has_shape (tree_at t b id))
 
--- a type that fits does so in each room
-pub fit_room : (t : Table) (id d room : ℕ) → IsTable t → IsFit d (tree t id)
+-- a type that fits in one room does so in each
+pub fit_room : (t : Table) (id d a room : ℕ) → IsTable t → IsFit d (tree_at t a id)
     → IsFit (suc (suc room)) (tree_at t room id)
-fit_room t id d room laws fit =
-    fit_in_room t id d room laws.types.placed fit (cases_lt id (length t.types))
+fit_room t id d a room laws fit =
+    fit_in_room t id d a room laws.types.placed fit (cases_lt id (length t.types))
 
 -- a discriminator takes no room
 pub switch_same : (t : Table) (a b id : ℕ) → IsTable t → id < length t.types

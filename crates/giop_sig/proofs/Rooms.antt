@@ -1,14 +1,14 @@
--- The trees of types by their rooms: one that has room has one tree, and a table that grows keeps
--- its trees.
-use Rattle.std.proofs.Common.{◌≡◌, ℕ, zero, suc, ◌<◌, ◌≤◌, List, [], ◌∷◌, length, refl, ap, ◌∙◌, arith}
+-- The trees of types by their rooms: a discriminator has one tree, and a table that grows keeps its
+-- trees.
+use Rattle.std.proofs.Common.{◌≡◌, ℕ, zero, suc, ◌<◌, List, [], ◌∷◌, length, refl, ap, ◌∙◌, arith}
 use mathlib.Core.Path.{fun_ext}
 use Rattle.std.specs.Prelude.{slice_get}
 use Rattle.giop_sig.specs.Types.{Choice, Cases, Tag, Ty, Single, Struct, HasPlace, IsUnion, switch_of}
 use Rattle.giop_sig.specs.Table.{Node, Part, Case, Table, node_in, node_at, shape_of, part_at, type_of, name_of, switch_at, case_part, IsScalarNode, IsFormed}
 use Rattle.giop_sig.specs.Table as nodes
-use Rattle.giop_sig.specs.Trees.{grow, grown_part, grown_union, union_of, octet_type, scalar_of, tree_at, depth_in, AreFormed}
+use Rattle.giop_sig.specs.Trees.{grow, grown_part, grown_union, union_of, octet_type, scalar_of, tree_at}
 use Rattle.giop_sig.proofs.Formed.{SameNodes, part_formed, switch_formed}
-use Rattle.giop_sig.proofs.Depths.{FormedBelow, part_shallower, some_depth}
+use Rattle.giop_sig.proofs.Depths.{FormedBelow}
 
 -- ---- a node over trees that agree on its parts
 
@@ -91,23 +91,6 @@ pub switch_grown : (f : ℕ → Ty) (node : Node) → IsUnion (shape_of node)
 switch_grown f (nodes.union switch cases otherwise) is e = e
 switch_grown f (nodes.tagged special tag inner other) is e = e
 switch_grown f _ is e = absurd is
-
--- ---- rooms
-
--- a type that has room has one tree
-pub room_same : (t : Table) (a b i : ℕ) → AreFormed t.types → i < length t.types
-    → depth_in t.types i ≤ a → depth_in t.types i ≤ b → tree_at t a i ≡ tree_at t b i
-unfolding tree_at
-room_same t zero b i are lt la lb = absurd (omega (arith, some_depth t.types i))
-room_same t (suc a) zero i are lt la lb = absurd (omega (arith, some_depth t.types i))
-room_same t (suc a) (suc b) i are lt la lb =
-    let node = node_at t i in
-    grow_same (tree_at t a) (tree_at t b) node
-    (λ k has. let below = (part_formed t.types i node k (are.formed i lt) has).below in
-    let less = part_shallower t.types i k are lt has in
-    room_same t a b (type_of (part_at node k)) are (omega arith) (omega arith) (omega arith))
-    (λ is. scalar_room t a b (switch_at node)
-    (switch_formed t.types i node (are.formed i lt) is).scalar)
 
 -- ---- a table that grows
 

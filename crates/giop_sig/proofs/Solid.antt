@@ -125,12 +125,14 @@ past_fits t zero i e = subst (λ node. IsFit 2 (grow (λ k. octet_type) node)) (
 past_fits t (suc room) i e =
     subst (λ node. IsFit (suc (suc (suc room))) (grow (tree_at t room) node)) (sym e) tt
 
-pub fit_in_room : (t : Table) (i d room : ℕ) → AreFormed t.types → IsFit d (tree t i)
+pub fit_in_room : (t : Table) (i d a room : ℕ) → AreFormed t.types → IsFit d (tree_at t a i)
     → (i < length t.types) ⊎ (length t.types ≤ i) → IsFit (suc (suc room)) (tree_at t room i)
 unfolding tree_at
-fit_in_room t i d room are fit (inl lt) =
-    fit_each t room i are lt (takes_fit (tree_at t 23) (node_at t i) d fit)
-fit_in_room t i d room are fit (inr le) =
+fit_in_room t i d zero room are fit (inl lt) =
+    fit_each t room i are lt (takes_fit (λ k. octet_type) (node_at t i) d fit)
+fit_in_room t i d (suc a) room are fit (inl lt) =
+    fit_each t room i are lt (takes_fit (tree_at t a) (node_at t i) d fit)
+fit_in_room t i d a room are fit (inr le) =
     past_fits t room i (get_or_past t.types i (nodes.prim Octet) le)
 
 pub fit_at : (t : Table) (i : ℕ) → AreTypes t.types → i < length t.types

@@ -8,12 +8,11 @@ use Rattle.giop_sig.specs.declared.types.Selected.TheVariants as selecteds
 use Rattle.giop_sig.specs.Types.{part_of, name_in, enum_name_in, switch_of, select_in, interpreted_in, shape_in, HasShape, HasMember, HasPlace, IsUnion}
 use Rattle.giop_sig.specs.Fits.{IsRoot}
 use Rattle.giop_sig.specs.Table.{Node, Table, node_at, shape_of, part_at, type_of, name_of, name_at, switch_at, selected, IsFormed}
-use Rattle.giop_sig.specs.Trees.{octet_type, tree_at, tree, depth_in, AreTypes}
+use Rattle.giop_sig.specs.Trees.{octet_type, tree_at, tree, AreTypes}
 use Rattle.giop_sig.specs.HeaderTypes.{IsTable}
-use Rattle.giop_sig.proofs.Rooms.{room_same, scalar_room, single_at, switch_grown}
+use Rattle.giop_sig.proofs.Rooms.{scalar_room, single_at, switch_grown}
 use Rattle.giop_sig.proofs.Nodes.{shape_grown, has_shape, part_grown, name_grown, enum_name_grown, select_grown}
 use Rattle.giop_sig.proofs.Formed.{part_formed, name_short, switch_formed, enum_name_short}
-use Rattle.giop_sig.proofs.Depths.{depth_within, part_shallower}
 use Rattle.giop_sig.proofs.Solid.{root_at, selected_below}
 
 -- ---- a node and its tree, in each room
@@ -110,27 +109,6 @@ pub part_room : (t : Table) (i k p room : ℕ) (node : Node) → Entered t i nod
 part_room t i k p room node e has is =
     let there = subst (λ n. HasPlace (shape_of n) k) e.is (place_entered t i k node e has) in
     ap (tree_at t room) (at_node t i k p node e is) ∙ part_tree_at t room i k there
-
--- a part has one level more room than its whole leaves it
-part_twice : (t : Table) (i k p : ℕ) → AreTypes t.types → i < length t.types → p < i
-    → HasPlace (shape_of (node_at t i)) k → p ≡ type_of (part_at (node_at t i) k)
-    → tree t p ≡ tree_at t 23 p
-part_twice t i k p are known below has is =
-    let less : depth_in t.types (type_of (part_at (node_at t i) k)) < depth_in t.types i =
-    part_shallower t.types i k are.placed known has in
-    let whole = depth_within t.types i known in
-    let shallow = are.shallow in
-    let part = ap (depth_in t.types) is in
-    room_same t 24 23 p are.placed (omega arith) (omega arith) (omega arith)
-
-pub part_tree : (t : Table) (i k p : ℕ) (node : Node) → Entered t i node
-    → HasPlace (shape_in (tree t i)) k → p ≡ type_of (part_at node k)
-    → tree t p ≡ part_of (tree t i) k
-part_tree t i k p node e has is =
-    let there = subst (λ n. HasPlace (shape_of n) k) e.is (place_entered t i k node e has) in
-    part_twice t i k p e.types e.known (part_below t i k p node e has is) there
-    (at_node t i k p node e is)
-    ∙ part_room t i k p 23 node e has is
 
 pub name_tree : (t : Table) (i k room : ℕ) (node : Node) (name : List ℕ) → Entered t i node
     → HasMember (shape_in (tree t i)) k → name ≡ name_of (part_at node k)

@@ -150,7 +150,6 @@ impl Catalogue {
         requires place { HasPlace (shape_in (tree self.now t.0)) place }
         ensures number { result.0 ≡ part_number self.now t.0 place }
         ensures below { result.0 < t.0 }
-        ensures tree { tree self.now result.0 ≡ part_of (tree self.now t.0) place }
         // A part has one level less room than its whole.
         ensures rooms { (n : ℕ) →
             tree_at self.now n result.0 ≡ part_of (tree_at self.now (suc n) t.0) place }

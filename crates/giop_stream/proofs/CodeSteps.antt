@@ -19,3 +19,4 @@ pub mod DueSteps
 pub mod StreamAgreement
 pub mod AnswersGoOn
 pub mod AgreementAtHeaders
+pub mod Lacking

@@ -1,7 +1,7 @@
 -- How a stream is cut into messages, and which octet of it is a stream fault (GIOP Message Formats,
 -- GIOP Message Header;
 -- meaning). Places count stream octets from 1.
-use Rattle.std.specs.Prelude.{ℕ, zero, suc, Bool, true, false, ◌+◌, ◌^◌, List, [], ◌∷◌, ◌++◌, length, take, drop, Option, Some, None, nat_lt, if◌then◌else◌, option_to_list}
+use Rattle.std.specs.Prelude.{ℕ, zero, suc, Bool, true, false, ◌+◌, ◌-◌, ◌^◌, List, [], ◌∷◌, ◌++◌, length, take, drop, Option, Some, None, nat_lt, if◌then◌else◌, option_to_list}
 use Rattle.giop_checkpoint.specs.declared.fault.StreamFault.{StreamFault}
 use Rattle.giop_checkpoint.specs.declared.fault.StreamFault.TheVariants.{StreamLimit}
 use Rattle.giop_stream.specs.HeaderOctets.{first_wrong_octet}
@@ -90,3 +90,16 @@ read_of p (Some found) = found.0
 abbrev pub fault_of : Option (ℕ × StreamFault) → Option StreamFault
 fault_of None = None
 fault_of (Some found) = Some found.1
+
+-- how many octets the message lacks that a stream is in, by its stream fault, the last message and what
+-- is held of the next header
+abbrev pub lacking_by : Option (ℕ × StreamFault) → Option Message → List ℕ → Option ℕ
+lacking_by (Some found) current held = None
+lacking_by None (Some m) held = Some (size m.header - length m.payload)
+lacking_by None None [] = Some 0
+lacking_by None None (x ∷ xs) = None
+
+-- how many octets the message that the stream is in lacks until its end, if its header is complete; 0
+-- between two messages; none within a header, and after a stream fault
+abbrev pub lacking : Cut → Option ℕ
+lacking c = lacking_by c.stop c.current c.held

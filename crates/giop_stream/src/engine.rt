@@ -11,7 +11,7 @@ ghost use Rattle.giop_message.specs.HeaderEnds.{after_ends};
 ghost use Rattle.giop_stream.specs.HeaderEndsOfStream.{header_ends_from};
 ghost use Rattle.giop_message.specs.MessageState.{AreKnown};
 ghost use Rattle.giop_stream.specs.Rules.{rules, most_open};
-ghost use Rattle.giop_stream.specs.Framing.{cut, fault_of, messages};
+ghost use Rattle.giop_stream.specs.Framing.{cut, fault_of, lacking, messages};
 ghost use Rattle.giop_stream.specs.AnswersAgree.{AgreesOver};
 ghost use Rattle.giop_message.specs.DueOctets.{TakesFront};
 ghost use Rattle.giop_stream.specs.DueOctets.{is_due_after, begun_in};
@@ -330,6 +330,13 @@ impl<'a> Engine<'a> {
             result.messages ≡ length (messages (cut p)) }
     {
         self.framing.totals
+    }
+
+    /// How many octets the message that the stream is in lacks until its end, if its header is complete; 0 between two messages.
+    pub fn lacking(&self) -> Option<u32>
+        ensures { (a : Answers) (p : List ℕ) → HoldsBy self.now a p → result ≡ lacking (cut p) }
+    {
+        self.framing.lacking()
     }
 
     /// Whether a put failed.

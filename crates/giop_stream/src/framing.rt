@@ -62,7 +62,7 @@ impl Framing {
     ghost use Rattle.giop_stream.specs.ViewOfState.{Shows, IsReached, Does};
     ghost use Rattle.giop_message.specs.MessageState.{AreKnown};
     ghost use Rattle.giop_stream.specs.FramingSteps.{held_on, stop, end_message};
-    ghost use Rattle.giop_stream.specs.Framing.{cut};
+    ghost use Rattle.giop_stream.specs.Framing.{cut, lacking};
     ghost use Rattle.giop_stream.specs.HeaderEndsOfStream.{current_header_ends, header_ends_at};
     ghost use Rattle.giop_message.specs.HeaderEnds.{AgreesAtEnds, after_ends};
     ghost use Rattle.giop_message.specs.DueOctets.{TakesFront, StaysUndue};
@@ -163,6 +163,24 @@ impl Framing {
             place: self.totals.octets,
             payload_count: self.payload_count,
         }
+    }
+
+    /// How many octets the message lacks that the stream is in, if its header is complete; 0 between two messages.
+    pub fn lacking(&self) -> Option<u32>
+        ensures { (C : Table) (l : Answers) (most : ℕ) (s : State) (r : IsReached C l most s) →
+            Shows C l (framing_view self.now) s → result ≡ lacking (cut r.stream) }
+    {
+        if self.stopped.is_some() {
+            return None;
+        }
+        if self.header.is_empty() {
+            return Some(0);
+        }
+        if self.header.len() < 12 {
+            return None;
+        }
+        let now = self.current();
+        Some(size_of(&now.header).saturating_sub(now.payload_count))
     }
 
     /// At a header's last octet a message begins.

@@ -18,13 +18,13 @@ use Rattle.giop_decode.specs.ReadResult.{Leaf}
 use Rattle.giop_decode.specs.Fits.{FitsIn, HasParts}
 use Rattle.giop_decode.specs.Transitions.{part_in, leaf_of, IsWithin}
 use Rattle.giop_decode.specs.DecoderState as decoder
-use Rattle.giop_decode.proofs.ReadingLaws.{fits_depth}
+use Rattle.giop_decode.proofs.ReadingLaws.{fits_depth, within_in_room}
 use Rattle.giop_decode.specs.Stored as decoders
 use Rattle.giop_message.specs.declared.message.Message.{Message}
 use Rattle.giop_message.specs.declared.part.Part.TheVariants as parts
 use Rattle.giop_message.specs.declared.part.Rest.{Rest}
 use Rattle.giop_message.specs.declared.part.Section.TheVariants as sections
-use Rattle.giop_message.specs.Messages.{message, message_lines}
+use Rattle.giop_message.specs.Messages.{Said, Message as Reading, message, message_lines, message_marks}
 use Rattle.giop_message.specs.ReaderOfTable.{id_in, first_id, first_request_id}
 use Rattle.giop_message.specs.Signatures.{signatures_of, by_list}
 use Rattle.giop_message.specs.MessageState.{Follows}
@@ -295,6 +295,9 @@ first_reads = record {
   offset = (refl, (tt, tt));
 }
 
+abbrev said_of : Reading → Said
+said_of m = record { lines = message_lines m; marks = message_marks m }
+
 first_follows : Follows bigs (by_list []) 1 (header 40) first (first_front ++ some_octets)
 unfolding one_message told_with kept_messages first_front some_octets
 first_follows = record {
@@ -304,7 +307,7 @@ first_follows = record {
   at = refl;
   stands = record {
     T = tree bigs parameters;
-    before = message_lines (message (signatures_of bigs (by_list [] 1)) (header 40) first_front);
+    before = said_of (message (signatures_of bigs (by_list [] 1)) (header 40) first_front);
     front = first_front;
     octets = some_octets;
     since = refl;
@@ -322,7 +325,7 @@ second_follows = record {
   id = refl;
   at = refl;
   stands = (
-    message_lines (message (signatures_of bigs (by_list [] 2)) (header 36) second_octets),
+    said_of (message (signatures_of bigs (by_list [] 2)) (header 36) second_octets),
     refl,
   );
 }
@@ -339,7 +342,8 @@ number_fits : IsFit 23 (part_of (tree bigs parameters) 0)
 unfolding one_message told_with kept_messages IsFit
 number_fits = tt
 
-number_begun : FitsIn (part_of (tree bigs parameters) 0) [] (leaf_of bigs number some_octets [])
+number_begun : FitsIn (part_of (tree bigs parameters) 0) []
+    (leaf_of bigs (parameters_frame ∷ []) number some_octets [])
 unfolding one_message told_with kept_messages some_octets
 number_begun = record { same = refl; kind = tt; room = omega arith }
 
@@ -347,10 +351,11 @@ number_begun = record { same = refl; kind = tt; room = omega arith }
 FitsOne : Ty → Leaf → Type 0
 FitsOne T leaf = IsFit 24 T × FitsIn T (part_in T 0 1 ∷ []) leaf × IsWithin None 0 1 T
 
-fits_one : FitsOne (tree bigs parameters) (leaf_of bigs number some_octets [])
+fits_one : FitsOne (tree bigs parameters)
+    (leaf_of bigs (parameters_frame ∷ []) number some_octets [])
 unfolding FitsOne
 fits_one =
-    let leaf = leaf_of bigs number some_octets [] in
+    let leaf = leaf_of bigs (parameters_frame ∷ []) number some_octets [] in
     one_part 23 (tree bigs parameters) leaf has_one number_fits number_begun
 
 known : parameters < length (bigs.types)
@@ -379,7 +384,13 @@ first_fits = record {
   fits = fits_one.1;
   ahead = (tt, tt);
   inside = refl;
-  known_outer = (record { known = known; within = fits_one.2 }, tt);
+  known_outer = (
+    record {
+      known = known;
+      within = λ room. within_in_room bigs 24 room parameters None 0 1 fits_one.2;
+    },
+    tt,
+  );
   known = below_all;
   clean = refl;
   at = omega arith;

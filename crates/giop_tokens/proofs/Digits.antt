@@ -1,7 +1,7 @@
 -- Digits, and the number that they spell.
 use Rattle.std.proofs.Common.{◌≡◌, ℕ, zero, suc, ◌-◌, ◌^◌, ◌<◌, ◌≤◌, Bool, true, false, cond, List, [], ◌∷◌, length, get_or, take, refl, sym, ap, subst, ◌∙◌, arith}
 use Rattle.std.proofs.Math.Nat.{pow-le-pow_right}
-use Rattle.std.specs.Prelude.{◌&&◌, ◌||◌, not, ◌==◌, nat_le, nat_lt, Some, None, decimal, slice_index}
+use Rattle.std.specs.Prelude.{◌&&◌, ◌||◌, not, ◌==◌, Some, None, decimal, slice_index}
 use Rattle.std.specs.List.{list_all, AllByRecursion}
 use Rattle.std.proofs.lemmas.Fmt.{decimal_is_IsNumeral, length-decimal-le, first_decimal, decimal-digits_value, decimal_digit}
 use Rattle.std.proofs.lemmas.Str.Parse.{IsNumeralModel, numerals_by_value, tells_digits, digit_from_value}
@@ -14,20 +14,19 @@ use Rattle.std.proofs.lemmas.Bool.{and_parts, leb-true, ltb-true, eqb-true, eqb-
 use Rattle.giop_tokens.specs.Tokens.{is_digit, is_word, is_number, number_of}
 
 pub digit_bounds : (b : ℕ) → is_digit b ≡ true → (48 ≤ b) × (b ≤ 57)
-digit_bounds b e = let k = and_parts (nat_le 48 b) (nat_le b 57) e in
-    (leb-true 48 b k.0, leb-true b 57 k.1)
+digit_bounds b e = search (arith, and_parts, leb-true)
 
 pub digit_is : (b : ℕ) → is_digit b ≡ true → digit_value b ≡ b - 48
-digit_is b e = let k = digit_bounds b e in omega (arith, digit_value_digit b k)
+digit_is b e = search (arith, digit_bounds, digit_value_digit)
 
 pub digit_small : (b : ℕ) → is_digit b ≡ true → digit_value b < 10
-digit_small b e = let k = digit_bounds b e in omega (arith, digit_is b e)
+digit_small b e = search (arith, digit_bounds, digit_is)
 
 -- each of the octets passes
 pub digit_at : (ds : List ℕ) (i : ℕ) → list_all is_digit ds ≡ true → i < length ds →
     is_digit (get_or ds i 0) ≡ true
 digit_at [] i h lt = absurd (omega arith)
-digit_at (d ∷ ds) zero h lt = (and_parts (is_digit d) (list_all is_digit ds) h).0
+digit_at (d ∷ ds) zero h lt = search (arith, and_parts)
 digit_at (d ∷ ds) (suc i) h lt = digit_at ds i (and_parts (is_digit d) (list_all is_digit ds) h).1
     (omega arith)
 
@@ -39,9 +38,7 @@ all_digits (d ∷ ds) h = let k = and_parts (is_digit d) (list_all is_digit ds) 
 -- the digits before the last of at most twenty
 pub value_small : (ds : List ℕ) (i : ℕ) → i < length ds → length ds ≤ 20 →
     AllDigits 10 (take i ds) → digits_value 10 (take i ds) < 10 ^ 19
-value_small ds i lt most h =
-    let l : length (take i ds) ≤ 19 = omega (arith, length-take i ds) in
-    omega (arith, digits_value-lt 10 (take i ds) h, pow-le-pow_right {n = 10} (omega arith) l)
+value_small ds i lt most h = search (arith, take, length-take, digits_value-lt, pow-le-pow_right)
 
 -- ---- The number that a word is, and its decimal spelling.
 
@@ -52,11 +49,7 @@ own : IsNumeralModel (AllDigits 10) (digits_value 10)
 own = numerals_by_value (AllDigits 10) tells_digits
 
 is_digit_from : (b : ℕ) → digit_value b < 10 → is_digit b ≡ true
-is_digit_from b h =
-    let k = digit_from_value b h in
-    let low : nat_le 48 b ≡ true = le-leb 48 b (omega arith) in
-    let high : nat_le b 57 ≡ true = le-leb b 57 (omega arith) in
-    rw (low, high) refl
+is_digit_from b h = search (arith, digit_from_value, le-leb)
 
 are_digits_from : (ds : List ℕ) → AllDigits 10 ds → list_all is_digit ds ≡ true
 are_digits_from [] h = refl
@@ -72,16 +65,11 @@ pub record IsNumber (w : List ℕ) : Type 0 where
 
 pub number_true : (w : List ℕ) → IsNumber w → is_number w ≡ true
 unfolding is_number
-number_true w n =
-    let some : nat_le 1 (length w) ≡ true = le-leb 1 (length w) n.some in
-    let few : nat_le (length w) 20 ≡ true = le-leb (length w) 20 n.few in
-    let value : nat_lt (digits_value 10 w) (2 ^ 64) ≡ true =
-    lt-ltb (digits_value 10 w) (2 ^ 64) n.value in
-    rw (some, few, n.digits, n.leading, value) refl
+number_true w n = search (arith, le-leb, lt-ltb)
 
 five : (a b c d e : Bool) → (a && b && c && d && e) ≡ true → (a ≡ true) × (b ≡ true) × (c ≡ true)
     × (d ≡ true) × (e ≡ true)
-five true true true true true h = (refl, refl, refl, refl, refl)
+five true true true true true h = search (arith)
 five false b c d e h = absurd cc
 five true false c d e h = absurd cc
 five true true false d e h = absurd cc
@@ -90,32 +78,20 @@ five true true true true false h = absurd cc
 
 pub number_parts : (w : List ℕ) → is_number w ≡ true → IsNumber w
 unfolding is_number
-number_parts w h =
-    let k = five (nat_le 1 (length w)) (nat_le (length w) 20) (list_all is_digit w)
-    (length w == 1 || not (slice_index w 0 == 48)) (nat_lt (digits_value 10 w) (2 ^ 64)) h in
-    record {
-      some = leb-true 1 (length w) k.0;
-      few = leb-true (length w) 20 k.1;
-      digits = k.2;
-      leading = k.3;
-      value = ltb-true (digits_value 10 w) (2 ^ 64) k.4;
-    }
+number_parts w h = search (arith, five, leb-true, ltb-true)
 
 leading_by : (n : ℕ) (v : Bool) → n == 1 ≡ v → (b : ℕ) → (b ≡ 48 → n ≡ 1) → (u : Bool) →
     b == 48 ≡ u → (n == 1 || not (b == 48)) ≡ true
 leading_by n true e b h u f = rw e refl
 leading_by n false e b h false f = rw (e, f) refl
-leading_by n false e b h true f = absurd (eqb-false n 1 e (h (eqb-true b 48 f)))
+leading_by n false e b h true f = search (arith, eqb-false, eqb-true)
 
 leading_from : (n : ℕ) (b : ℕ) → (n == 1 || not (b == 48)) ≡ true → b ≡ 48 → n ≡ 1
-leading_from n b h e = leading_is n (n == 1) refl (rw e at h) where
-  leading_is : (n : ℕ) (v : Bool) → n == 1 ≡ v → (v || false) ≡ true → n ≡ 1
-  leading_is n true e h = eqb-true n 1 e
-  leading_is n false e h = absurd cc
+leading_from n b h e = search (arith, eqb-true)
 
 decimal_leading : (n : ℕ) → n < 2 ^ 64 → slice_index (decimal n) 0 ≡ 48 → length (decimal n) ≡ 1
-decimal_leading zero lt e = ap length (decimal_digit 0 (omega arith))
-decimal_leading (suc n) lt e = absurd (omega (arith, first_decimal (suc n) (omega arith) lt))
+decimal_leading zero lt e = search (arith, decimal_digit)
+decimal_leading (suc n) lt e = search (arith, first_decimal)
 
 pub decimal_value : (n : ℕ) → n < 2 ^ 64 → digits_value 10 (decimal n) ≡ n
 decimal_value n lt = (decimal_is_IsNumeral n lt).1
@@ -139,8 +115,7 @@ number_is_decimal w n = decimal-digits_value own w (all_digits w n.digits) n.som
 
 -- the number of its spelling
 pub number_of_decimal : (n : ℕ) → n < 2 ^ 64 → number_of (decimal n) ≡ Some n
-number_of_decimal n lt = rw (number_true (decimal n) (decimal_is_number n lt))
-    (ap (λ k. Some k) (decimal_value n lt))
+number_of_decimal n lt = search (arith, number_true, decimal_is_number, decimal_value)
 
 number_by : (w : List ℕ) (v : Bool) (n : ℕ) → is_number w ≡ v →
     cond v (Some (digits_value 10 w)) None ≡ Some n → IsNumber w × (w ≡ decimal n) × (n < 2 ^ 64)
@@ -162,8 +137,7 @@ or_third false false c d e = rw e refl
 
 -- a digit is a word octet
 pub digit_is_word : (b : ℕ) → is_digit b ≡ true → is_word b ≡ true
-digit_is_word b e = or_third (nat_le 97 b && nat_le b 122) (nat_le 65 b && nat_le b 90) (is_digit b)
-    (b == 95) e
+digit_is_word b e = search (arith, or_third)
 
 pub digits_are_word : (w : List ℕ) → list_all is_digit w ≡ true →
     AllByRecursion (λ b. is_word b ≡ true) w

@@ -13,7 +13,7 @@ gap_at (b ∷ d ∷ bs) zero comment lt = refl
 gap_at (b ∷ bs) (suc i) comment lt = rw (suc-add i 1) (gap_at bs i comment (omega arith))
 
 pub to_end : (n : ℕ) (xs : List ℕ) → take (length xs - n) (drop n xs) ≡ drop n xs
-to_end n xs = take_all (length xs - n) (drop n xs) (omega (arith, length-drop n xs))
+to_end n xs = search (arith, take_all, drop, length-drop)
 
 pub gap_none : (comment : Bool) → gap comment [] ≡ []
 unfolding gap

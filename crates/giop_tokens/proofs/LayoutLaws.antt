@@ -1,6 +1,6 @@
 -- A text in which tokens are written by the rules of layout has exactly these tokens.
-use Rattle.std.proofs.Common.{◌≡◌, ℕ, ◌<◌, ◌^◌, Bool, true, false, eqb, List, [], ◌∷◌, ◌++◌, inl, inr, length, map, Option, Some, None, Result, Ok, append_assoc, refl, sym, ap, subst, ◌∙◌, arith}
-use Rattle.std.specs.Prelude.{◌||◌, nat_le, decimal, slice_index}
+use Rattle.std.proofs.Common.{◌≡◌, ℕ, ◌<◌, ◌^◌, Bool, true, false, eqb, List, [], ◌∷◌, ◌++◌, inl, inr, length, map, Option, Some, None, Result, Ok, append_assoc, refl, arith}
+use Rattle.std.specs.Prelude.{decimal, slice_index}
 use Rattle.std.specs.List.{AllByRecursion, prefix_len}
 use Rattle.std.proofs.lemmas.Bool.{eqb-true, le-leb, ne_eqb, true≢false}
 use Rattle.std.proofs.lemmas.List.{take_at, drop_at}
@@ -8,7 +8,7 @@ use Rattle.giop_tokens.specs.declared.fault.Refusal.{Refusal}
 use Rattle.giop_tokens.specs.declared.marks.Mark.{Mark}
 use Rattle.giop_tokens.specs.declared.marks.Mark.TheVariants as marks
 use Rattle.giop_tokens.specs.Marks.{octet_of, mark_of}
-use Rattle.giop_tokens.specs.Tokens.{Token, word, number, negative, repository, mark, is_white, is_digit, is_word, is_id, gap, run, past, number_of, word_token, below_zero, first, next, AreTokens}
+use Rattle.giop_tokens.specs.Tokens.{Token, word, number, negative, repository, mark, is_white, is_digit, is_word, gap, run, past, number_of, word_token, below_zero, first, next, AreTokens}
 use Rattle.giop_tokens.proofs.Digits.{decimal_is_number, digits_are_word, digit_at, number_of_decimal}
 use Rattle.giop_tokens.specs.Layout.{IsId, IsToken, written, is_run, Space, white, comment, IsLine, IsSpace, space, spaces, IsTail, Laid, printed, AreLaid, IsFirst, IsLayout}
 
@@ -16,21 +16,21 @@ use Rattle.giop_tokens.specs.Layout.{IsId, IsToken, written, is_run, Space, whit
 
 not_slash : (b : ℕ) (v : Bool) → eqb b 47 ≡ v → is_white b ≡ true → eqb b 47 ≡ false
 not_slash b false e w = e
-not_slash b true e w = absurd (true≢false (sym w ∙ ap is_white (eqb-true b 47 e)))
+not_slash b true e w = search (arith, true≢false, eqb-true)
 
 gap_white : (b : ℕ) (bs : List ℕ) → is_white b ≡ true → gap false (b ∷ bs) ≡ gap false bs
 unfolding gap
-gap_white b bs w = rw (not_slash b (eqb b 47) refl w, w) refl
+gap_white b bs w = search (arith, not_slash, eqb)
 
 gap_line : (c bs : List ℕ) → IsLine c → gap true (c ++ 10 ∷ bs) ≡ gap false bs
 unfolding gap
 gap_line [] bs l = refl
-gap_line (b ∷ c) bs l = let e : eqb b 10 ≡ false = ne_eqb b 10 l.0 in rw e (gap_line c bs l.1)
+gap_line (b ∷ c) bs l = search (arith, eqb, ne_eqb, gap_line c bs l.1)
 
 gap_open : (c : List ℕ) → IsLine c → gap true c ≡ []
 unfolding gap
 gap_open [] l = refl
-gap_open (b ∷ c) l = let e : eqb b 10 ≡ false = ne_eqb b 10 l.0 in rw e (gap_open c l.1)
+gap_open (b ∷ c) l = search (arith, eqb, ne_eqb, gap_open c l.1)
 
 gap_slashes : (c : List ℕ) → gap false (47 ∷ 47 ∷ c) ≡ gap true c
 unfolding gap
@@ -38,8 +38,7 @@ gap_slashes c = refl
 
 gap_comment : (c bs : List ℕ) → IsLine c →
     gap false ((47 ∷ 47 ∷ (c ++ 10 ∷ [])) ++ bs) ≡ gap false bs
-gap_comment c bs l = gap_slashes ((c ++ 10 ∷ []) ++ bs)
-    ∙ ap (gap true) (append_assoc c (10 ∷ []) bs) ∙ gap_line c bs l
+gap_comment c bs l = search (arith, gap_slashes, append_assoc, gap_line)
 
 gap_space : (s : Space) (bs : List ℕ) → IsSpace s → gap false (space s ++ bs) ≡ gap false bs
 gap_space (white b) bs h = gap_white b bs h
@@ -48,13 +47,12 @@ gap_space (comment c) bs h = gap_comment c bs h
 gap_spaces : (ss : List Space) (bs : List ℕ) → AllByRecursion IsSpace ss →
     gap false (spaces ss ++ bs) ≡ gap false bs
 gap_spaces [] bs h = refl
-gap_spaces (s ∷ ss) bs h = ap (gap false) (append_assoc (space s) (spaces ss) bs)
-    ∙ gap_space s (spaces ss ++ bs) h.0 ∙ gap_spaces ss bs h.1
+gap_spaces (s ∷ ss) bs h = search (arith, append_assoc, gap_space, gap_spaces ss bs h.1)
 
 gap_tail : (tail : List ℕ) → IsTail tail → gap false tail ≡ []
 unfolding gap
 gap_tail tail (inl e) = rw e refl
-gap_tail tail (inr h) = ap (gap false) h.2 ∙ gap_slashes h.0 ∙ gap_open h.0 h.1
+gap_tail tail (inr h) = search (arith, gap_slashes, gap_open)
 
 -- ---- A token is no space.
 
@@ -69,15 +67,15 @@ run_len : (is : ℕ → Bool) (w bs : List ℕ) → AllByRecursion (λ b. is b �
     is (slice_index bs 0) ≡ false → prefix_len is (w ++ bs) ≡ length w
 run_len is [] [] h e = refl
 run_len is [] (b ∷ bs) h e = rw e refl
-run_len is (c ∷ w) bs h e = rw h.0 (omega (arith, run_len is w bs h.1 e))
+run_len is (c ∷ w) bs h e = search (arith, run_len is w bs h.1 e)
 
 run_is : (is : ℕ → Bool) (w bs : List ℕ) → AllByRecursion (λ b. is b ≡ true) w →
     is (slice_index bs 0) ≡ false → run is (w ++ bs) ≡ w
-run_is is w bs h e = take_at w bs (prefix_len is (w ++ bs)) (sym (run_len is w bs h e))
+run_is is w bs h e = search (arith, take_at, run_len)
 
 past_is : (is : ℕ → Bool) (w bs : List ℕ) → AllByRecursion (λ b. is b ≡ true) w →
     is (slice_index bs 0) ≡ false → past is (w ++ bs) ≡ bs
-past_is is w bs h e = drop_at w bs (prefix_len is (w ++ bs)) (sym (run_len is w bs h e))
+past_is is w bs h e = search (arith, drop_at, run_len)
 
 -- ---- A token is read as it is written.
 
@@ -110,29 +108,16 @@ first_negative : (w after : List ℕ) (t : Token) → AllByRecursion (λ b. is_w
     is_word (slice_index after 0) ≡ false → below_zero (number_of w) ≡ Some t →
     first (45 ∷ (w ++ after)) ≡ lexed t after
 unfolding first
-first_negative w after t h e told = rw (
-  run_is is_word w after h e,
-  past_is is_word w after h e,
-  told,
-) refl
+first_negative w after t h e told = search (arith, run_is, past_is)
 
 negative_told : (w : List ℕ) (n : ℕ) → 0 < n → number_of w ≡ Some n →
     below_zero (number_of w) ≡ Some (negative n)
-negative_told w n pos e = let k : eqb n 0 ≡ false = ne_eqb n 0 (λ z. omega (arith, z)) in
-    rw (e, k) refl
+negative_told w n pos e = search (arith, eqb, ne_eqb)
 
 first_repository : (r after : List ℕ) → IsId r →
     first (34 ∷ (r ++ 34 ∷ after)) ≡ lexed (repository r) after
 unfolding first
-first_repository r after h =
-    let some : nat_le 1 (length r) ≡ true = le-leb 1 (length r) h.some in
-    let few : nat_le (length r) 128 ≡ true = le-leb (length r) 128 h.few in
-    rw (
-      run_is is_id r (34 ∷ after) h.octets refl,
-      past_is is_id r (34 ∷ after) h.octets refl,
-      some,
-      few,
-    ) refl
+first_repository r after h = search (arith, le-leb, run_is, past_is)
 
 first_mark : (m : Mark) (after : List ℕ) → first (octet_of m ∷ after) ≡ lexed (mark m) after
 unfolding first mark_of
@@ -144,7 +129,7 @@ first_run : (w after : List ℕ) (t : Token) → 0 < length w →
     AllByRecursion (λ b. is_word b ≡ true) w → is_word (slice_index after 0) ≡ false →
     word_token w ≡ Some t → first (w ++ after) ≡ lexed t after
 first_run [] after t some h e told = absurd (omega arith)
-first_run (b ∷ w) after t some h e told = first_word b w after t h e told
+first_run (b ∷ w) after t some h e told = search (arith, first_word)
 
 first_number : (n : ℕ) (after : List ℕ) → n < 2 ^ 64 → is_word (slice_index after 0) ≡ false →
     first (decimal n ++ after) ≡ lexed (number n) after
@@ -157,16 +142,13 @@ first_number n after lt e =
 pub first_written : (t : Token) (after : List ℕ) → IsToken t →
     (is_run t ≡ true → is_word (slice_index after 0) ≡ false) →
     first (written t ++ after) ≡ lexed t after
-first_written (word w) after h e = first_run w after (word w) h.some h.octets (e refl)
-    (word_told w h.begins)
-first_written (number n) after h e = first_number n after h (e refl)
+first_written (word w) after h e = search (arith, first_run, word_told)
+first_written (number n) after h e = search (arith, first_number)
 first_written (negative n) after h e =
     let k = decimal_is_number n h.1 in
     first_negative (decimal n) after (negative n) (digits_are_word (decimal n) k.digits) (e refl)
     (negative_told (decimal n) n h.0 (number_of_decimal n h.1))
-first_written (repository r) after h e =
-    ap (λ (bs : List ℕ). first (34 ∷ bs)) (append_assoc r (34 ∷ []) after)
-    ∙ first_repository r after h
+first_written (repository r) after h e = search (arith, append_assoc, first_repository)
 first_written (mark m) after h e = first_mark m after
 
 -- ---- No token begins like a space or a comment.
@@ -176,30 +158,14 @@ IsStop b = (is_white b ≡ false) × (eqb b 47 ≡ false)
 
 word_white : (b : ℕ) (v : Bool) → is_white b ≡ v → is_word b ≡ true → is_white b ≡ false
 word_white b false e w = e
-word_white b true e w = absurd (white_word b (eqb b 32) (eqb b 9) (eqb b 13) (eqb b 10) refl refl
-    refl refl e w) where
-      white_word : (b : ℕ) (s t u v : Bool) → eqb b 32 ≡ s → eqb b 9 ≡ t → eqb b 13 ≡ u →
-          eqb b 10 ≡ v →
-          (eqb b 32 || eqb b 9 || eqb b 13 || eqb b 10) ≡ true → is_word b ≡ true → ⊥
-      white_word b true t u v e f g h i w = true≢false (sym w ∙ ap is_word (eqb-true b 32 e))
-      white_word b false true u v e f g h i w = true≢false (sym w ∙ ap is_word (eqb-true b 9 f))
-      white_word b false false true v e f g h i w =
-          true≢false (sym w ∙ ap is_word (eqb-true b 13 g))
-      white_word b false false false true e f g h i w =
-          true≢false (sym w ∙ ap is_word (eqb-true b 10 h))
-      white_word b false false false false e f g h i w =
-          true≢false (sym i ∙ all_false b e f g h) where
-            all_false : (b : ℕ) → eqb b 32 ≡ false → eqb b 9 ≡ false → eqb b 13 ≡ false →
-                eqb b 10 ≡ false →
-                (eqb b 32 || eqb b 9 || eqb b 13 || eqb b 10) ≡ false
-            all_false b e f g h = rw (e, f, g, h) refl
+word_white b true e w = search (arith, eqb, true≢false, eqb-true)
 
 word_slash : (b : ℕ) (v : Bool) → eqb b 47 ≡ v → is_word b ≡ true → eqb b 47 ≡ false
 word_slash b false e w = e
-word_slash b true e w = absurd (true≢false (sym w ∙ ap is_word (eqb-true b 47 e)))
+word_slash b true e w = search (arith, true≢false, eqb-true)
 
 word_stop : (b : ℕ) → is_word b ≡ true → IsStop b
-word_stop b w = (word_white b (is_white b) refl w, word_slash b (eqb b 47) refl w)
+word_stop b w = search (arith, word_white, word_slash, eqb)
 
 mark_stop : (m : Mark) → IsStop (octet_of m)
 mark_stop marks.OpenBrace = (refl, refl)
@@ -208,16 +174,15 @@ mark_stop _ = (refl, refl)
 gap_run : (w after : List ℕ) → 0 < length w → AllByRecursion (λ b. is_word b ≡ true) w →
     gap false (w ++ after) ≡ w ++ after
 gap_run [] after some h = absurd (omega arith)
-gap_run (b ∷ w) after some h = let k = word_stop b h.0 in gap_stop b (w ++ after) k.0 k.1
+gap_run (b ∷ w) after some h = search (arith, word_stop, gap_stop)
 
 pub gap_written : (t : Token) (after : List ℕ) → IsToken t →
     gap false (written t ++ after) ≡ written t ++ after
-gap_written (word w) after h = gap_run w after h.some h.octets
-gap_written (number n) after h = let k = decimal_is_number n h in
-    gap_run (decimal n) after k.some (digits_are_word (decimal n) k.digits)
-gap_written (negative n) after h = gap_stop 45 (decimal n ++ after) refl refl
-gap_written (repository r) after h = gap_stop 34 ((r ++ 34 ∷ []) ++ after) refl refl
-gap_written (mark m) after h = let k = mark_stop m in gap_stop (octet_of m) after k.0 k.1
+gap_written (word w) after h = search (arith, gap_run)
+gap_written (number n) after h = search (arith, decimal_is_number, gap_run, digits_are_word)
+gap_written (negative n) after h = search (arith, gap_stop)
+gap_written (repository r) after h = search (arith, gap_stop)
+gap_written (mark m) after h = search (arith, mark_stop, gap_stop)
 
 -- ---- A layout is its tokens.
 
@@ -225,18 +190,17 @@ next_laid : (front : List Space) (t : Token) (after : List ℕ) → AllByRecursi
     IsToken t → (is_run t ≡ true → is_word (slice_index after 0) ≡ false) →
     next (spaces front ++ (written t ++ after)) ≡ lexed t after
 unfolding next
-next_laid front t after f h e = ap first
-    (gap_spaces front (written t ++ after) f ∙ gap_written t after h) ∙ first_written t after h e
+next_laid front t after f h e = search (arith, gap_spaces, gap_written, first_written)
 
 -- the token that is written first is read first
 pub first_next : (text : List ℕ) (t : Token) (rest : List ℕ) → IsFirst text t rest →
     next text ≡ Ok (Some t, rest)
-first_next text t rest k = ap next k.octets ∙ next_laid k.front t rest k.fronts k.token k.apart
+first_next text t rest k = search (arith, next_laid)
 
 next_tail : (front : List Space) (tail : List ℕ) → AllByRecursion IsSpace front → IsTail tail →
     next (spaces front ++ tail) ≡ Ok (None, [])
 unfolding next first
-next_tail front tail f h = ap first (gap_spaces front tail f ∙ gap_tail tail h)
+next_tail front tail f h = search (arith, gap_spaces, gap_tail)
 
 are_laid : (front : List Space) (ls : List Laid) (tail : List ℕ) → AllByRecursion IsSpace front →
     AreLaid ls tail → AreTokens (spaces front ++ printed ls tail) (map (λ l. l.token) ls)
@@ -248,7 +212,4 @@ are_laid front (l ∷ ls) tail f h = (
 )
 
 pub layout_tokens : (text : List ℕ) (ts : List Token) → IsLayout text ts → AreTokens text ts
-layout_tokens text ts k =
-    subst (λ (bs : List ℕ). AreTokens bs ts) (sym k.octets)
-    (subst (λ (us : List Token). AreTokens (spaces k.front ++ printed k.laid k.tail) us)
-    k.tokens (are_laid k.front k.laid k.tail k.fronts k.each))
+layout_tokens text ts k = search (arith, are_laid)

@@ -1,6 +1,6 @@
 -- The readers of one token, both ways: what they give of a text of known tokens, and which tokens a
 -- text that they read has.
-use Rattle.std.proofs.Common.{◌≡◌, ℕ, ◌≤◌, ◌<◌, Bool, true, false, cond, eqb, ltb, List, [], ◌∷◌, length, Option, Some, None, Result, Ok, Err, refl, sym, ap, subst, ◌∙◌}
+use Rattle.std.proofs.Common.{arith, ◌≡◌, ℕ, ◌≤◌, ◌<◌, Bool, true, false, cond, eqb, ltb, List, [], ◌∷◌, length, Option, Some, None, Result, Ok, Err, refl, ap}
 use Rattle.std.specs.Prelude.{option_and_then}
 use Rattle.std.specs.Str.{bytes_eq}
 use Rattle.std.proofs.lemmas.Slice.Eq.{bytes_eq-Decides}
@@ -89,31 +89,31 @@ octet_self _ = refl
 
 pub word_again : (text w : List ℕ) (ts : List Token) (h : AreTokens text (word w ∷ ts)) →
     word_at text ≡ Ok (w, h.0)
-word_again text w ts h = as_again as_word text (word w) ts w h refl
+word_again text w ts h = search (arith, as_again)
 
 pub number_again : (text : List ℕ) (n : ℕ) (ts : List Token) (h : AreTokens text (number n ∷ ts)) →
     number_at text ≡ Ok (n, h.0)
-number_again text n ts h = as_again as_number text (number n) ts n h refl
+number_again text n ts h = search (arith, as_again)
 
 pub repository_again : (text r : List ℕ) (ts : List Token)
     (h : AreTokens text (repository r ∷ ts)) → repository_at text ≡ Ok (r, h.0)
-repository_again text r ts h = as_again as_repository text (repository r) ts r h refl
+repository_again text r ts h = search (arith, as_again)
 
 pub mark_again : (m : Mark) (text : List ℕ) (ts : List Token) (h : AreTokens text (mark m ∷ ts)) →
     mark_at m text ≡ Ok h.0
-mark_again m text ts h = is_again (is_the_mark m) text (mark m) ts h (octet_self m)
+mark_again m text ts h = search (arith, is_again, octet_self)
 
 pub keyword_again : (w text : List ℕ) (ts : List Token) (h : AreTokens text (word w ∷ ts)) →
     keyword_at w text ≡ Ok h.0
-keyword_again w text ts h = is_again (is_the_word w) text (word w) ts h (bytes_self w)
+keyword_again w text ts h = search (arith, is_again, bytes_self)
 
 pub mark_if_again : (m : Mark) (text : List ℕ) (ts : List Token)
     (h : AreTokens text (mark m ∷ ts)) → mark_if m text ≡ Ok (Some h.0)
-mark_if_again m text ts h = if_again (is_the_mark m) text (mark m) ts h (octet_self m)
+mark_if_again m text ts h = search (arith, if_again, octet_self)
 
 pub keyword_if_again : (w text : List ℕ) (ts : List Token) (h : AreTokens text (word w ∷ ts)) →
     keyword_if w text ≡ Ok (Some h.0)
-keyword_if_again w text ts h = if_again (is_the_word w) text (word w) ts h (bytes_self w)
+keyword_if_again w text ts h = search (arith, if_again, bytes_self)
 
 pub end_again : (text : List ℕ) → AreTokens text [] → end_at text ≡ Ok true
 unfolding end_at
@@ -164,28 +164,20 @@ told_by : {X : Type 0} (tells : Token → Option X) (text : List ℕ) (t : Token
     wanted (misplaced text) o rest ≡ Ok x → (s : Token) × (tells s ≡ Some x.0)
     × (next text ≡ Ok (Some s, x.1))
 told_by tells text t rest x None o n e = absurd cc
-told_by {X} tells text t rest x (Some y) o n e =
-    let same = ok_is (y, rest) x e in (
-      t,
-      o ∙ ap (λ (z : X × List ℕ). Some z.0) same,
-      n ∙ ap (λ (z : X × List ℕ). Ok (Some t, z.1)) same,
-    )
+told_by {X} tells text t rest x (Some y) o n e = search (arith, ok_is)
 
 wanted_by : {X : Type 0} (tells : Token → Option X) (text : List ℕ) (t : Option Token)
     (rest : List ℕ) (x : X × List ℕ) → next text ≡ Ok (t, rest) →
     wanted (misplaced text) (option_and_then tells t) rest ≡ Ok x → (s : Token)
     × (tells s ≡ Some x.0) × (next text ≡ Ok (Some s, x.1))
 wanted_by tells text None rest x n e = absurd cc
-wanted_by tells text (Some t) rest x n e = told_by tells text t rest x (tells t) refl n e
+wanted_by tells text (Some t) rest x n e = search (arith, told_by)
 
 -- what is read follows from the first token
 pub as_takes : {X : Type 0} (tells : Token → Option X) (text : List ℕ) (x : X × List ℕ) →
     next_as tells text ≡ Ok x → (t : Token) × (tells t ≡ Some x.0) × (next text ≡ Ok (Some t, x.1))
 unfolding next_as
-as_takes tells text x e =
-    let a = bind_ok (next text) (λ t. wanted (misplaced text) (option_and_then tells t.0) t.1) x e
-    in
-    wanted_by tells text a.0.0 a.0.1 x a.1 a.2
+as_takes tells text x e = search (arith, bind_ok, wanted_by)
 
 passed_by : (is : Token → Bool) (text : List ℕ) (t : Option Token) (b : Bool)
     (rest after : List ℕ) → passes is t ≡ b → next text ≡ Ok (t, rest) →
@@ -193,30 +185,24 @@ passed_by : (is : Token → Bool) (text : List ℕ) (t : Option Token) (b : Bool
     × (next text ≡ Ok (Some s, after))
 passed_by is text t false rest after p n e = absurd cc
 passed_by is text None true rest after p n e = absurd cc
-passed_by is text (Some t) true rest after p n e =
-    (t, p, n ∙ ap (λ (r : List ℕ). Ok (Some t, r)) (ok_is rest after e))
+passed_by is text (Some t) true rest after p n e = search (arith, ok_is)
 
 pub is_takes : (is : Token → Bool) (text after : List ℕ) → next_is is text ≡ Ok after → (t : Token)
     × (is t ≡ true) × (next text ≡ Ok (Some t, after))
 unfolding next_is
-is_takes is text after e =
-    let a = bind_ok (next text) (λ t. cond (passes is t.0) (done t.1) (Err (misplaced text))) after
-    e in
-    passed_by is text a.0.0 (passes is a.0.0) a.0.1 after refl a.1 a.2
+is_takes is text after e = search (arith, bind_ok, cond, passed_by)
 
 found_by : (is : Token → Bool) (text : List ℕ) (t : Option Token) (b : Bool) (rest after : List ℕ) →
     passes is t ≡ b → next text ≡ Ok (t, rest) → done (cond b (Some rest) None) ≡ Ok (Some after) →
     (s : Token) × (is s ≡ true) × (next text ≡ Ok (Some s, after))
 found_by is text t false rest after p n e = absurd cc
 found_by is text None true rest after p n e = absurd cc
-found_by is text (Some t) true rest after p n e = (t, p, n ∙ ap (λ (r : List ℕ). Ok (Some t, r)) cc)
+found_by is text (Some t) true rest after p n e = search (arith)
 
 pub if_takes : (is : Token → Bool) (text after : List ℕ) → next_if is text ≡ Ok (Some after) →
     (t : Token) × (is t ≡ true) × (next text ≡ Ok (Some t, after))
 unfolding next_if
-if_takes is text after e =
-    let a = bind_ok (next text) (λ t. Ok (cond (passes is t.0) (Some t.1) None)) (Some after) e in
-    found_by is text a.0.0 (passes is a.0.0) a.0.1 after refl a.1 a.2
+if_takes is text after e = search (arith, bind_ok, cond, found_by)
 
 -- ---- Reader by reader: the first token, and the text.
 
@@ -239,83 +225,76 @@ mark_again_of _ = refl
 
 -- marks of one octet are equal
 pub mark_same : (m n : Mark) → octet_of m ≡ octet_of n → m ≡ n
-mark_same m n e = some_is m n (sym (mark_again_of m) ∙ ap mark_of e ∙ mark_again_of n)
+mark_same m n e = search (arith, some_is, mark_again_of)
 
 mark_told : (m : Mark) (t : Token) → is_the_mark m t ≡ true → t ≡ mark m
-mark_told m (mark n) e = ap mark (mark_same n m (eqb-true (octet_of n) (octet_of m) e))
+mark_told m (mark n) e = search (arith, mark_same, eqb-true)
 mark_told m _ e = absurd cc
 
 keyword_told : (w : List ℕ) (t : Token) → is_the_word w t ≡ true → t ≡ word w
-keyword_told w (word v) e = ap word ((bytes_eq-Decides v w).0 e)
+keyword_told w (word v) e = search (arith, bytes_eq-Decides)
 keyword_told w _ e = absurd cc
 
 -- the first token, where it is known to be another
 first_is : (text : List ℕ) (s t : Token) (rest : List ℕ) → next text ≡ Ok (Some s, rest) → s ≡ t →
     next text ≡ Ok (Some t, rest)
-first_is text s t rest n e = n ∙ ap (λ (k : Token). Ok (Some k, rest)) e
+first_is text s t rest n e = search (arith)
 
 pub word_next : (text : List ℕ) (x : List ℕ × List ℕ) → word_at text ≡ Ok x →
     next text ≡ Ok (Some (word x.0), x.1)
-word_next text x e = let k = as_takes as_word text x e in
-    first_is text k.0 (word x.0) x.1 k.2 (word_told k.0 x.0 k.1)
+word_next text x e = search (arith, as_takes, first_is, word_told)
 
 pub number_next : (text : List ℕ) (x : ℕ × List ℕ) → number_at text ≡ Ok x →
     next text ≡ Ok (Some (number x.0), x.1)
-number_next text x e = let k = as_takes as_number text x e in
-    first_is text k.0 (number x.0) x.1 k.2 (number_told k.0 x.0 k.1)
+number_next text x e = search (arith, as_takes, first_is, number_told)
 
 pub repository_next : (text : List ℕ) (x : List ℕ × List ℕ) → repository_at text ≡ Ok x →
     next text ≡ Ok (Some (repository x.0), x.1)
-repository_next text x e = let k = as_takes as_repository text x e in
-    first_is text k.0 (repository x.0) x.1 k.2 (repository_told k.0 x.0 k.1)
+repository_next text x e = search (arith, as_takes, first_is, repository_told)
 
 pub mark_next : (m : Mark) (text rest : List ℕ) → mark_at m text ≡ Ok rest →
     next text ≡ Ok (Some (mark m), rest)
-mark_next m text rest e = let k = is_takes (is_the_mark m) text rest e in
-    first_is text k.0 (mark m) rest k.2 (mark_told m k.0 k.1)
+mark_next m text rest e = search (arith, is_takes, first_is, mark_told)
 
 pub keyword_next : (w text rest : List ℕ) → keyword_at w text ≡ Ok rest →
     next text ≡ Ok (Some (word w), rest)
-keyword_next w text rest e = let k = is_takes (is_the_word w) text rest e in
-    first_is text k.0 (word w) rest k.2 (keyword_told w k.0 k.1)
+keyword_next w text rest e = search (arith, is_takes, first_is, keyword_told)
 
 pub mark_if_next : (m : Mark) (text rest : List ℕ) → mark_if m text ≡ Ok (Some rest) →
     next text ≡ Ok (Some (mark m), rest)
-mark_if_next m text rest e = let k = if_takes (is_the_mark m) text rest e in
-    first_is text k.0 (mark m) rest k.2 (mark_told m k.0 k.1)
+mark_if_next m text rest e = search (arith, if_takes, first_is, mark_told)
 
 pub keyword_if_next : (w text rest : List ℕ) → keyword_if w text ≡ Ok (Some rest) →
     next text ≡ Ok (Some (word w), rest)
-keyword_if_next w text rest e = let k = if_takes (is_the_word w) text rest e in
-    first_is text k.0 (word w) rest k.2 (keyword_told w k.0 k.1)
+keyword_if_next w text rest e = search (arith, if_takes, first_is, keyword_told)
 
 -- the text has the token that was read, and then what the rest has
 pub word_takes : (text : List ℕ) (x : List ℕ × List ℕ) → word_at text ≡ Ok x →
     Takes text (word x.0) x.1
-word_takes text x e = next_takes text (word x.0) x.1 (word_next text x e)
+word_takes text x e = search (arith, next_takes, word_next)
 
 pub number_takes : (text : List ℕ) (x : ℕ × List ℕ) → number_at text ≡ Ok x →
     Takes text (number x.0) x.1
-number_takes text x e = next_takes text (number x.0) x.1 (number_next text x e)
+number_takes text x e = search (arith, next_takes, number_next)
 
 pub repository_takes : (text : List ℕ) (x : List ℕ × List ℕ) → repository_at text ≡ Ok x →
     Takes text (repository x.0) x.1
-repository_takes text x e = next_takes text (repository x.0) x.1 (repository_next text x e)
+repository_takes text x e = search (arith, next_takes, repository_next)
 
 pub mark_takes : (m : Mark) (text rest : List ℕ) → mark_at m text ≡ Ok rest →
     Takes text (mark m) rest
-mark_takes m text rest e = next_takes text (mark m) rest (mark_next m text rest e)
+mark_takes m text rest e = search (arith, next_takes, mark_next)
 
 pub keyword_takes : (w text rest : List ℕ) → keyword_at w text ≡ Ok rest → Takes text (word w) rest
-keyword_takes w text rest e = next_takes text (word w) rest (keyword_next w text rest e)
+keyword_takes w text rest e = search (arith, next_takes, keyword_next)
 
 pub mark_if_takes : (m : Mark) (text rest : List ℕ) → mark_if m text ≡ Ok (Some rest) →
     Takes text (mark m) rest
-mark_if_takes m text rest e = next_takes text (mark m) rest (mark_if_next m text rest e)
+mark_if_takes m text rest e = search (arith, next_takes, mark_if_next)
 
 pub keyword_if_takes : (w text rest : List ℕ) → keyword_if w text ≡ Ok (Some rest) →
     Takes text (word w) rest
-keyword_if_takes w text rest e = next_takes text (word w) rest (keyword_if_next w text rest e)
+keyword_if_takes w text rest e = search (arith, next_takes, keyword_if_next)
 
 -- a repository id that was read is not too long, since a longer one is no token
 pub repository_few : (text : List ℕ) (x : List ℕ × List ℕ) → repository_at text ≡ Ok x →
@@ -330,36 +309,21 @@ name_by : (text : List ℕ) (w x : List ℕ × List ℕ) (b c : Bool) → is_res
     (word_at text ≡ Ok x) × (is_reserved x.0 ≡ false) × (length x.0 ≤ 64)
 name_by text w x true c p q n e = absurd cc
 name_by text w x false true p q n e = absurd cc
-name_by text w x false false p q n e =
-    let same : (w.0, w.1) ≡ x = ok_is (w.0, w.1) x e in (
-      n ∙ ap (λ (y : List ℕ × List ℕ). Ok y) same,
-      subst (λ (y : List ℕ × List ℕ). is_reserved y.0 ≡ false) same p,
-      subst (λ (y : List ℕ × List ℕ). length y.0 ≤ 64) same (ltb-false 64 (length w.0) q),
-    )
+name_by text w x false false p q n e = search (arith, ok_is, ltb-false)
 
 pub identifier_word : (text : List ℕ) (x : List ℕ × List ℕ) → identifier_at text ≡ Ok x →
     (word_at text ≡ Ok x) × (is_reserved x.0 ≡ false) × (length x.0 ≤ 64)
 unfolding identifier_at
-identifier_word text x e =
-    let a = bind_ok (word_at text) (λ w. cond (is_reserved w.0) (Err (misplaced text))
-    (cond (ltb 64 (length w.0)) (Err (too_long text)) (done (w.0, w.1)))) x e in
-    name_by text a.0 x (is_reserved a.0.0) (ltb 64 (length a.0.0)) refl refl a.1 a.2
+identifier_word text x e = search (arith, bind_ok, cond, ltb, name_by)
 
 operation_by : (text : List ℕ) (w x : List ℕ × List ℕ) (c : Bool) → ltb 128 (length w.0) ≡ c →
     word_at text ≡ Ok w
     → cond c (Err (too_long text)) (done (w.0, w.1)) ≡ Ok x → (word_at text ≡ Ok x)
     × (length x.0 ≤ 128)
 operation_by text w x true q n e = absurd cc
-operation_by text w x false q n e =
-    let same : (w.0, w.1) ≡ x = ok_is (w.0, w.1) x e in (
-      n ∙ ap (λ (y : List ℕ × List ℕ). Ok y) same,
-      subst (λ (y : List ℕ × List ℕ). length y.0 ≤ 128) same (ltb-false 128 (length w.0) q),
-    )
+operation_by text w x false q n e = search (arith, ok_is, ltb-false)
 
 pub operation_name_word : (text : List ℕ) (x : List ℕ × List ℕ) → operation_name_at text ≡ Ok x →
     (word_at text ≡ Ok x) × (length x.0 ≤ 128)
 unfolding operation_name_at
-operation_name_word text x e =
-    let a = bind_ok (word_at text) (λ w. cond (ltb 128 (length w.0)) (Err (too_long text))
-    (done (w.0, w.1))) x e in
-    operation_by text a.0 x (ltb 128 (length a.0.0)) refl a.1 a.2
+operation_name_word text x e = search (arith, bind_ok, cond, ltb, operation_by)

@@ -1,10 +1,10 @@
 -- The place where a text goes on with no token, and that such a text has no list of tokens.
-use Rattle.std.proofs.Common.{◌≡◌, ℕ, Bool, true, false, cond, eqb, List, [], ◌∷◌, length, drop, Option, Some, None, Result, Ok, Err, sym, ◌∙◌}
+use Rattle.std.proofs.Common.{arith, ◌≡◌, ℕ, Bool, true, false, cond, eqb, List, [], ◌∷◌, length, drop, Option, Some, None, Result, Ok, Err}
 use Rattle.std.specs.Prelude.{option_map}
 use Rattle.giop_tokens.specs.declared.fault.Refusal.{Refusal}
 use Rattle.giop_tokens.specs.declared.fault.SigFaultKind.TheVariants as kinds
 use Rattle.giop_tokens.specs.Marks.{mark_of}
-use Rattle.giop_tokens.specs.Tokens.{Token, mark, is_word, is_id, gap, run, past, number_of, word_token, below_zero, repository_token, as_token, first, next, AreTokens}
+use Rattle.giop_tokens.specs.Tokens.{Token, mark, is_word, is_id, run, past, number_of, word_token, below_zero, repository_token, as_token, first, next, AreTokens}
 use Rattle.giop_tokens.specs.Readers.{no_token}
 
 abbrev failed : {A : Type 0} → Refusal → Result A Refusal
@@ -19,9 +19,8 @@ not_both x e h = cc
 
 as_token_refused : (text rest : List ℕ) (o : Option Token) (r : Refusal) →
     as_token text o rest ≡ Err r → r ≡ record { kind = kinds.Token; left = length text }
-as_token_refused text rest None r e = sym (err_is
-    (record { kind = kinds.Token; left = length text }) r e)
-as_token_refused text rest (Some t) r e = absurd (not_both (Some t, rest) r e)
+as_token_refused text rest None r e = search (arith, err_is)
+as_token_refused text rest (Some t) r e = search (arith, not_both)
 
 first_refused_by : (b : ℕ) (bs : List ℕ) (r : Refusal) (u v w : Bool)
     → cond u (as_token (b ∷ bs) (word_token (run is_word (b ∷ bs))) (past is_word (b ∷ bs)))
@@ -30,29 +29,24 @@ first_refused_by : (b : ℕ) (bs : List ℕ) (r : Refusal) (u v w : Bool)
     (drop 1 (past is_id bs)))
     (as_token (b ∷ bs) (option_map mark (mark_of b)) bs))) ≡ Err r →
     r ≡ record { kind = kinds.Token; left = length (b ∷ bs) }
-first_refused_by b bs r true v w h = as_token_refused (b ∷ bs) (past is_word (b ∷ bs))
-    (word_token (run is_word (b ∷ bs))) r h
-first_refused_by b bs r false true w h =
-    as_token_refused (b ∷ bs) (past is_word bs) (below_zero (number_of (run is_word bs))) r h
-first_refused_by b bs r false false true h =
-    as_token_refused (b ∷ bs) (drop 1 (past is_id bs))
-    (repository_token (run is_id bs) (past is_id bs)) r h
-first_refused_by b bs r false false false h =
-    as_token_refused (b ∷ bs) bs (option_map mark (mark_of b)) r h
+first_refused_by b bs r true v w h = search (arith, as_token_refused)
+first_refused_by b bs r false true w h = search (arith, as_token_refused)
+first_refused_by b bs r false false true h = search (arith, as_token_refused, drop)
+first_refused_by b bs r false false false h = search (arith, as_token_refused)
 
 first_refused : (text : List ℕ) (r : Refusal) → first text ≡ Err r →
     r ≡ record { kind = kinds.Token; left = length text }
 unfolding first
-first_refused [] r e = absurd (not_both (None, []) r e)
-first_refused (b ∷ bs) r e = first_refused_by b bs r (is_word b) (eqb b 45) (eqb b 34) e
+first_refused [] r e = search (arith, not_both)
+first_refused (b ∷ bs) r e = search (arith, first_refused_by, eqb)
 
 -- where no token is found, the refusal is Token at that place
 pub next_refused : (text : List ℕ) (r : Refusal) → next text ≡ Err r → r ≡ no_token text
 unfolding next
-next_refused text r e = first_refused (gap false text) r e
+next_refused text r e = search (arith, first_refused)
 
 -- a text that goes on with no token has no list of tokens
 pub no_tokens : (text : List ℕ) (r : Refusal) → next text ≡ Err r → (ts : List Token) →
     AreTokens text ts → ⊥
-no_tokens text r e [] h = not_both (None, []) r (sym h ∙ e)
-no_tokens text r e (t ∷ ts) h = not_both (Some t, h.0) r (sym h.1 ∙ e)
+no_tokens text r e [] h = search (arith, not_both)
+no_tokens text r e (t ∷ ts) h = search (arith, not_both)

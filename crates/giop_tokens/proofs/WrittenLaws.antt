@@ -1,14 +1,14 @@
 -- The tokens of a text are written in it, with white space and comments between them.
-use Rattle.std.proofs.Common.{◌≡◌, ℕ, suc, ◌+◌, ◌<◌, ◌^◌, Bool, true, false, cond, eqb, List, [], ◌∷◌, ◌++◌, ◌⊎◌, inl, inr, length, drop, Option, Some, None, Result, Ok, append_assoc, refl, sym, ap, subst, ◌∙◌, arith}
+use Rattle.std.proofs.Common.{◌≡◌, ℕ, ◌<◌, ◌^◌, Bool, true, false, cond, eqb, List, [], ◌∷◌, ◌++◌, ◌⊎◌, inl, inr, length, drop, Option, Some, None, Result, Ok, append_assoc, refl, sym, ap, subst, ◌∙◌, arith}
 use Rattle.std.specs.Prelude.{nat_le, decimal, option_map, slice_index}
-use Rattle.std.specs.List.{AllByRecursion, prefix_len}
+use Rattle.std.specs.List.{AllByRecursion}
 use Rattle.std.proofs.lemmas.Bool.{eqb-true, eqb-false, leb-true}
 use Rattle.std.proofs.lemmas.List.{take-append-drop}
 use Rattle.giop_tokens.specs.declared.fault.Refusal.{Refusal}
 use Rattle.giop_tokens.specs.declared.marks.Mark.{Mark}
 use Rattle.giop_tokens.specs.declared.marks.Mark.TheVariants as marks
 use Rattle.giop_tokens.specs.Marks.{octet_of, mark_of}
-use Rattle.giop_tokens.specs.Tokens.{Token, word, number, negative, repository, mark, is_white, is_digit, is_word, is_id, gap, run, past, number_of, word_token, below_zero, repository_token, as_token, first, next, AreTokens}
+use Rattle.giop_tokens.specs.Tokens.{Token, number, negative, repository, mark, is_white, is_digit, is_word, is_id, gap, run, past, number_of, word_token, below_zero, repository_token, as_token, first, next, AreTokens}
 use Rattle.giop_tokens.proofs.Digits.{IsNumber, number_of_is}
 use Rattle.giop_tokens.specs.Layout.{IsId, IsToken, written, is_run, Space, white, comment, IsLine, IsSpace, spaces, IsTail, IsFirst, IsLayout}
 
@@ -56,18 +56,7 @@ line_on b bs e (c, l, inr k) = (
 
 line_end : (b : ℕ) (bs : List ℕ) → eqb b 10 ≡ true → Split bs → SplitFrom true (b ∷ bs)
 unfolding gap
-line_end b bs e s = (
-  [],
-  tt,
-  inl (
-    bs,
-    record {
-      parts = ap (λ (k : ℕ). k ∷ bs) (eqb-true b 10 e);
-      gaps = rw e refl;
-      split = s;
-    },
-  ),
-)
+line_end b bs e s = search (arith, eqb-true)
 
 white_on : (b : ℕ) (bs : List ℕ) → gap false (b ∷ bs) ≡ gap false bs → is_white b ≡ true →
     Split bs → Split (b ∷ bs)
@@ -84,18 +73,14 @@ white_on b bs g w s = record {
   white_by (inr k) = inr (g ∙ k.0, k.1)
 
 stop_here : (b : ℕ) (bs : List ℕ) → gap false (b ∷ bs) ≡ b ∷ bs → Split (b ∷ bs)
-stop_here b bs g = record { front = []; tail = b ∷ bs; fronts = tt; parts = refl; gaps = inl g }
+stop_here b bs g = search (arith)
 
 -- the second slash is the first octet of what the line holds
 slashes_by : (b : ℕ) (bs c : List ℕ) → eqb b 47 ≡ true → eqb (slice_index bs 0) 47 ≡ true →
     gap false (b ∷ bs) ≡ gap true bs → IsLine c
     → (((rest : List ℕ) × Ends bs c rest) ⊎ ((bs ≡ c) × (gap true bs ≡ []))) → Split (b ∷ bs)
-slashes_by b bs [] e f g l (inl (rest, k)) =
-    absurd (eqb-false 10 47 refl (sym (ap (λ (x : List ℕ). slice_index x 0) k.parts)
-    ∙ eqb-true (slice_index bs 0) 47 f))
-slashes_by b bs [] e f g l (inr k) = absurd
-    (eqb-false 0 47 refl (sym (ap (λ (x : List ℕ). slice_index x 0) k.0)
-    ∙ eqb-true (slice_index bs 0) 47 f))
+slashes_by b bs [] e f g l (inl (rest, k)) = search (arith, eqb-false, eqb-true)
+slashes_by b bs [] e f g l (inr k) = search (arith, eqb-false, eqb-true)
 slashes_by b bs (d ∷ c) e f g l (inl (rest, k)) =
     let s : d ≡ 47 = sym (ap (λ (x : List ℕ). slice_index x 0) k.parts)
     ∙ eqb-true (slice_index bs 0) 47 f in
@@ -115,31 +100,21 @@ slashes_by b bs (d ∷ c) e f g l (inl (rest, k)) =
       gaps = subst (λ (x : List ℕ). (x ≡ k.split.tail) ⊎ ((x ≡ []) × IsTail k.split.tail))
           (sym (g ∙ k.gaps)) k.split.gaps;
     }
-slashes_by b bs (d ∷ c) e f g l (inr k) =
-    let s : d ≡ 47 = sym (ap (λ (x : List ℕ). slice_index x 0) k.0)
-    ∙ eqb-true (slice_index bs 0) 47 f in
-    record {
-      front = [];
-      tail = 47 ∷ 47 ∷ c;
-      fronts = tt;
-      parts = ap (λ (x : ℕ). x ∷ bs) (eqb-true b 47 e)
-          ∙ ap (λ (x : List ℕ). 47 ∷ x) (k.0 ∙ ap (λ (x : ℕ). x ∷ c) s);
-      gaps = inr (g ∙ k.1, inr (c, l.1, refl));
-    }
+slashes_by b bs (d ∷ c) e f g l (inr k) = search (arith, eqb-true)
 
 slashes_on : (b : ℕ) (bs : List ℕ) → eqb b 47 ≡ true → eqb (slice_index bs 0) 47 ≡ true →
     SplitFrom true bs → Split (b ∷ bs)
 unfolding gap
-slashes_on b bs e f (c, l, k) = slashes_by b bs c e f (rw (e, f) refl) l k
+slashes_on b bs e f (c, l, k) = search (arith, slashes_by)
 
 split_step : (b : ℕ) (bs : List ℕ) (u v w : Bool) → eqb b 47 ≡ u → eqb (slice_index bs 0) 47 ≡ v →
     is_white b ≡ w → Split bs → SplitFrom true bs → Split (b ∷ bs)
 unfolding gap
 split_step b bs true true w e f g s c = slashes_on b bs e f c
-split_step b bs true false true e f g s c = white_on b bs (rw (e, f, g) refl) g s
-split_step b bs true false false e f g s c = stop_here b bs (rw (e, f, g) refl)
-split_step b bs false v true e f g s c = white_on b bs (rw (e, g) refl) g s
-split_step b bs false v false e f g s c = stop_here b bs (rw (e, g) refl)
+split_step b bs true false true e f g s c = search (arith, white_on)
+split_step b bs true false false e f g s c = search (arith, stop_here)
+split_step b bs false v true e f g s c = search (arith, white_on)
+split_step b bs false v false e f g s c = search (arith, stop_here)
 
 line_step : (b : ℕ) (bs : List ℕ) (v : Bool) → eqb b 10 ≡ v → Split bs → SplitFrom true bs →
     SplitFrom true (b ∷ bs)
@@ -148,10 +123,7 @@ line_step b bs false e s c = line_on b bs e c
 
 split_from : (text : List ℕ) → Split text × SplitFrom true text
 unfolding gap
-split_from [] = (
-  record { front = []; tail = []; fronts = tt; parts = refl; gaps = inl refl },
-  ([], tt, inr (refl, refl)),
-)
+split_from [] = search (arith)
 split_from (b ∷ bs) =
     let k = split_from bs in (
       split_step b bs (eqb b 47) (eqb (slice_index bs 0) 47) (is_white b) refl refl refl k.0 k.1,
@@ -170,26 +142,23 @@ pub record Begins (text : List ℕ) (t : Token) (rest : List ℕ) : Type 0 where
   pub apart : is_run t ≡ true → is_word (slice_index rest 0) ≡ false
 
 run_past : (is : ℕ → Bool) (text : List ℕ) → run is text ++ past is text ≡ text
-run_past is text = take-append-drop (prefix_len is text) text
+run_past is text = search (arith, take-append-drop)
 
 run_step : (is : ℕ → Bool) (b : ℕ) (bs : List ℕ) → is b ≡ true → run is (b ∷ bs) ≡ b ∷ run is bs
-run_step is b bs e = let k : 1 + prefix_len is bs ≡ suc (prefix_len is bs) = omega arith in
-    rw (e, k) refl
+run_step is b bs e = search (arith)
 
 past_step : (is : ℕ → Bool) (b : ℕ) (bs : List ℕ) → is b ≡ true → past is (b ∷ bs) ≡ past is bs
-past_step is b bs e = let k : 1 + prefix_len is bs ≡ suc (prefix_len is bs) = omega arith in
-    rw (e, k) refl
+past_step is b bs e = search (arith)
 
 run_all_by : (is : ℕ → Bool) (b : ℕ) (bs : List ℕ) (v : Bool) → is b ≡ v →
     AllByRecursion (λ b. is b ≡ true) (run is bs) →
     AllByRecursion (λ b. is b ≡ true) (run is (b ∷ bs))
-run_all_by is b bs true e h = subst (AllByRecursion (λ b. is b ≡ true)) (sym (run_step is b bs e))
-    (e, h)
+run_all_by is b bs true e h = search (arith, run_step)
 run_all_by is b bs false e h = rw e tt
 
 run_all : (is : ℕ → Bool) (text : List ℕ) → AllByRecursion (λ b. is b ≡ true) (run is text)
 run_all is [] = tt
-run_all is (b ∷ bs) = run_all_by is b bs (is b) refl (run_all is bs)
+run_all is (b ∷ bs) = search (arith, run_all_by, run_all is bs)
 
 past_ends_by : (is : ℕ → Bool) (b : ℕ) (bs : List ℕ) (v : Bool) → is b ≡ v →
     is (slice_index (past is bs) 0) ≡ false → is (slice_index (past is (b ∷ bs)) 0) ≡ false
@@ -199,7 +168,7 @@ past_ends_by is b bs false e h = rw e e
 past_ends : (is : ℕ → Bool) (text : List ℕ) → is 0 ≡ false →
     is (slice_index (past is text) 0) ≡ false
 past_ends is [] z = z
-past_ends is (b ∷ bs) z = past_ends_by is b bs (is b) refl (past_ends is bs z)
+past_ends is (b ∷ bs) z = search (arith, past_ends_by, past_ends is bs z)
 
 -- ---- Token by token.
 
@@ -219,33 +188,22 @@ ok_same : (x y : Option Token × List ℕ) → done x ≡ done y → x ≡ y
 ok_same x y e = cc
 
 lexed_same : (s t : Token) (front bs : List ℕ) → lexed s front ≡ lexed t bs → (s ≡ t) × (front ≡ bs)
-lexed_same s t front bs e =
-    let k = ok_same (Some s, front) (Some t, bs) e in (
-      some_same s t (ap (λ (x : Option Token × List ℕ). x.0) k),
-      ap (λ (x : Option Token × List ℕ). x.1) k,
-    )
+lexed_same s t front bs e = search (arith, ok_same, some_same)
 
 -- the end of a text is no token
 no_end : (t : Token) (rest : List ℕ) → Ok (None, []) ≡ lexed t rest → ⊥
-no_end t rest e = none_some t (ap (λ (x : Option Token × List ℕ). x.0)
-    (ok_same (None, []) (Some t, rest) e)) where
-      none_some : (t : Token) → None ≡ Some t → ⊥
-      none_some t e = cc
+no_end t rest e = search (arith, ok_same)
 
 as_token_is : (text : List ℕ) (o : Option Token) (t : Token) (bs rest : List ℕ) →
     as_token text o bs ≡ lexed t rest → (o ≡ Some t) × (bs ≡ rest)
 as_token_is text None t bs rest e = absurd cc
-as_token_is text (Some s) t bs rest e = let k = lexed_same s t bs rest e in
-    (ap (λ (u : Token). Some u) k.0, k.1)
+as_token_is text (Some s) t bs rest e = search (arith, lexed_same)
 
 -- what a run of word octets is
 run_token : (w : List ℕ) (t : Token) (v : Bool) → 0 < length w →
     AllByRecursion (λ b. is_word b ≡ true) w → is_digit (slice_index w 0) ≡ v →
     word_token w ≡ Some t → IsToken t × (w ≡ written t)
-run_token w t false some h d e = token_by t (some_same (word w) t (rw d at e)) where
-  token_by : (t : Token) → word w ≡ t → IsToken t × (w ≡ written t)
-  token_by t e = subst (λ (t : Token). IsToken t × (w ≡ written t)) e
-      (record { some = some; octets = h; begins = d }, refl)
+run_token w t false some h d e = search (arith, some_same)
 run_token w t true some h d e = number_by w t (number_of w) refl (rw d at e) where
   number_by : (w : List ℕ) (t : Token) (o : Option ℕ) → number_of w ≡ o →
       option_map number o ≡ Some t → IsToken t × (w ≡ written t)
@@ -262,19 +220,12 @@ negative_token w t (Some n) o e = signed_by w t n (eqb n 0) refl (number_of_is w
       × (w ≡ decimal n) × (n < 2 ^ 64) → cond v None (Some (negative n)) ≡ Some t → IsToken t
       × (45 ∷ w ≡ written t)
   signed_by w t n true z k e = absurd cc
-  signed_by w t n false z k e =
-      let pos : 0 < n = omega (arith, eqb-false n 0 z) in
-      subst (λ (t : Token). IsToken t × (45 ∷ w ≡ written t)) (some_same (negative n) t e)
-      ((pos, k.2), ap (λ (x : List ℕ). 45 ∷ x) k.1)
+  signed_by w t n false z k e = search (arith, eqb-false, some_same)
 
 begins_by : (text octets bs rest : List ℕ) (t : Token) → IsToken t × (octets ≡ written t) →
     text ≡ octets ++ bs → bs ≡ rest → (is_run t ≡ true → is_word (slice_index bs 0) ≡ false) →
     Begins text t rest
-begins_by text octets bs rest t h p r e = record {
-  token = h.0;
-  parts = p ∙ ap (λ (x : List ℕ). octets ++ x) r ∙ ap (λ (x : List ℕ). x ++ rest) h.1;
-  apart = λ u. subst (λ (x : List ℕ). is_word (slice_index x 0) ≡ false) r (e u);
-}
+begins_by text octets bs rest t h p r e = search (arith)
 
 begins_run : (b : ℕ) (bs rest : List ℕ) (t : Token) → is_word b ≡ true →
     as_token (b ∷ bs) (word_token (run is_word (b ∷ bs))) (past is_word (b ∷ bs)) ≡ lexed t rest →
@@ -310,49 +261,38 @@ repository_by : (id after : List ℕ) (t : Token) (u v w : Bool) → nat_le 1 (l
     nat_le (length id) 128 ≡ v → eqb (slice_index after 0) 34 ≡ w →
     AllByRecursion (λ b. is_id b ≡ true) id → repository_token id after ≡ Some t
     → IsId id × (repository id ≡ t) × (after ≡ 34 ∷ drop 1 after)
-repository_by id after t false v w e f g h r = absurd (none_some (rw e at r)) where
-  none_some : None ≡ Some t → ⊥
-  none_some e = cc
-repository_by id after t true false w e f g h r = absurd (none_some (rw (e, f) at r)) where
-  none_some : None ≡ Some t → ⊥
-  none_some e = cc
-repository_by id after t true true false e f g h r = absurd (none_some (rw (e, f, g) at r)) where
-  none_some : None ≡ Some t → ⊥
-  none_some e = cc
-repository_by id after t true true true e f g h r = (
-  record {
-    some = omega (arith, leb-true 1 (length id) e);
-    few = leb-true (length id) 128 f;
-    octets = h;
-  },
-  some_same (repository id) t (rw (e, f, g) at r),
-  head_is after (eqb-true (slice_index after 0) 34 g),
+repository_by id after t false v w e f g h r = search (arith)
+repository_by id after t true false w e f g h r = search (arith)
+repository_by id after t true true false e f g h r = search (arith)
+repository_by id after t true true true e f g h r = search (
+  arith,
+  leb-true,
+  some_same,
+  head_is,
+  eqb-true,
 )
 
 begins_repository : (b : ℕ) (bs rest : List ℕ) (t : Token) → b ≡ 34 →
     as_token (b ∷ bs) (repository_token (run is_id bs) (past is_id bs)) (drop 1 (past is_id bs))
     ≡ lexed t rest → Begins (b ∷ bs) t rest
-begins_repository b bs rest t m e =
-    let id = run is_id bs in
-    let after = past is_id bs in
-    let k = as_token_is (b ∷ bs) (repository_token id after) t (drop 1 after) rest e in
-    let h = repository_by id after t (nat_le 1 (length id)) (nat_le (length id) 128)
-    (eqb (slice_index after 0) 34) refl refl refl (run_all is_id bs) k.0 in
-    let p : b ∷ bs ≡ 34 ∷ (id ++ 34 ∷ drop 1 after) =
-    ap (λ (x : ℕ). x ∷ bs) m ∙ ap (λ (x : List ℕ). 34 ∷ x)
-    (sym (run_past is_id bs) ∙ ap (λ (x : List ℕ). id ++ x) h.2) in
-    let q : b ∷ bs ≡ (34 ∷ (id ++ 34 ∷ [])) ++ drop 1 after =
-    p ∙ ap (λ (x : List ℕ). 34 ∷ x) (sym (append_assoc id (34 ∷ []) (drop 1 after))) in
-    subst (λ (t : Token). Begins (b ∷ bs) t rest) h.1
-    (begins_by (b ∷ bs) (34 ∷ (id ++ 34 ∷ [])) (drop 1 after) rest (repository id) (h.0, refl) q
-    k.1 (λ u. absurd cc))
+begins_repository b bs rest t m e = search (
+  arith,
+  as_token_is,
+  drop,
+  repository_by,
+  eqb,
+  run_all,
+  run_past,
+  append_assoc,
+  begins_by,
+)
 
 -- ---- Marks.
 
 mark_step : (b k : ℕ) (n m : Mark) (o : Option Mark) → octet_of n ≡ k →
     (o ≡ Some m → octet_of m ≡ b) → (v : Bool) → eqb b k ≡ v → cond v (Some n) o ≡ Some m →
     octet_of m ≡ b
-mark_step b k n m o e on true f h = sym (ap octet_of (some_same n m h)) ∙ e ∙ sym (eqb-true b k f)
+mark_step b k n m o e on true f h = search (arith, some_same, eqb-true)
 mark_step b k n m o e on false f h = on h
 
 mark_of_is : (b : ℕ) (m : Mark) → mark_of b ≡ Some m → octet_of m ≡ b
@@ -375,11 +315,7 @@ mark_of_is b m h =
 begins_mark : (b : ℕ) (bs rest : List ℕ) (t : Token) (o : Option Mark) → mark_of b ≡ o →
     as_token (b ∷ bs) (option_map mark o) bs ≡ lexed t rest → Begins (b ∷ bs) t rest
 begins_mark b bs rest t None m e = absurd cc
-begins_mark b bs rest t (Some n) m e =
-    let k = lexed_same (mark n) t bs rest e in
-    let p : b ∷ bs ≡ (octet_of n ∷ []) ++ bs = ap (λ (x : ℕ). x ∷ bs) (sym (mark_of_is b n m)) in
-    subst (λ (t : Token). Begins (b ∷ bs) t rest) k.0
-    (begins_by (b ∷ bs) (octet_of n ∷ []) bs rest (mark n) (tt, refl) p k.1 (λ u. absurd cc))
+begins_mark b bs rest t (Some n) m e = search (arith, lexed_same, mark_of_is, begins_by)
 
 -- ---- The first token.
 
@@ -391,15 +327,14 @@ begins_with : (b : ℕ) (bs rest : List ℕ) (t : Token) (u v w : Bool) → is_w
     (drop 1 (past is_id bs)))
     (as_token (b ∷ bs) (option_map mark (mark_of b)) bs))) ≡ lexed t rest → Begins (b ∷ bs) t rest
 begins_with b bs rest t true v w e f g h = begins_run b bs rest t e h
-begins_with b bs rest t false true w e f g h = begins_negative b bs rest t (eqb-true b 45 f) h
-begins_with b bs rest t false false true e f g h = begins_repository b bs rest t (eqb-true b 34 g) h
-begins_with b bs rest t false false false e f g h = begins_mark b bs rest t (mark_of b) refl h
+begins_with b bs rest t false true w e f g h = search (arith, begins_negative, eqb-true)
+begins_with b bs rest t false false true e f g h = search (arith, begins_repository, eqb-true)
+begins_with b bs rest t false false false e f g h = search (arith, begins_mark)
 
 pub first_begins : (text rest : List ℕ) (t : Token) → first text ≡ lexed t rest → Begins text t rest
 unfolding first
 first_begins [] rest t e = absurd (no_end t rest e)
-first_begins (b ∷ bs) rest t e = begins_with b bs rest t (is_word b) (eqb b 45) (eqb b 34) refl refl
-    refl e
+first_begins (b ∷ bs) rest t e = search (arith, begins_with, eqb)
 
 -- ---- All of a text.
 
@@ -410,20 +345,7 @@ ended_by text bs (Some t) e = no_end t bs (sym e)
 first_ended : (text : List ℕ) → first text ≡ Ok (None, []) → text ≡ []
 unfolding first
 first_ended [] e = refl
-first_ended (b ∷ bs) e = absurd (ended_with b bs (is_word b) (eqb b 45) (eqb b 34) e) where
-  ended_with : (b : ℕ) (bs : List ℕ) (u v w : Bool)
-      → cond u (as_token (b ∷ bs) (word_token (run is_word (b ∷ bs))) (past is_word (b ∷ bs)))
-      (cond v (as_token (b ∷ bs) (below_zero (number_of (run is_word bs))) (past is_word bs))
-      (cond w (as_token (b ∷ bs) (repository_token (run is_id bs) (past is_id bs))
-      (drop 1 (past is_id bs)))
-      (as_token (b ∷ bs) (option_map mark (mark_of b)) bs))) ≡ Ok (None, []) → ⊥
-  ended_with b bs true v w h = ended_by (b ∷ bs) (past is_word (b ∷ bs))
-      (word_token (run is_word (b ∷ bs))) h
-  ended_with b bs false true w h = ended_by (b ∷ bs) (past is_word bs)
-      (below_zero (number_of (run is_word bs))) h
-  ended_with b bs false false true h = ended_by (b ∷ bs) (drop 1 (past is_id bs))
-      (repository_token (run is_id bs) (past is_id bs)) h
-  ended_with b bs false false false h = ended_by (b ∷ bs) bs (option_map mark (mark_of b)) h
+first_ended (b ∷ bs) e = search (arith, eqb, cond, drop, ended_by)
 
 tail_of : (text : List ℕ) (s : Split text) → gap false text ≡ [] → (gap false text ≡ s.tail)
     ⊎ ((gap false text ≡ []) × IsTail s.tail) → IsTail s.tail
@@ -469,9 +391,8 @@ layout_step : (text rest : List ℕ) (t : Token) (ts : List Token) (s : Split te
     first (gap false text) ≡ lexed t rest → IsLayout rest ts → (gap false text ≡ s.tail)
     ⊎ ((gap false text ≡ []) × IsTail s.tail) → IsLayout text (t ∷ ts)
 unfolding first
-layout_step text rest t ts s e k (inl g) =
-    layout_on text rest t ts s g (first_begins (gap false text) rest t e) k
-layout_step text rest t ts s e k (inr g) = absurd (no_end t rest (rw g.0 at e))
+layout_step text rest t ts s e k (inl g) = search (arith, layout_on, first_begins)
+layout_step text rest t ts s e k (inr g) = search (arith, no_end)
 
 first_by : (text rest : List ℕ) (t : Token) (s : Split text) →
     first (gap false text) ≡ lexed t rest → (gap false text ≡ s.tail)
@@ -487,7 +408,7 @@ first_by text rest t s e (inl g) =
       octets =
           s.parts ∙ ap (λ (x : List ℕ). spaces s.front ++ x) (sym g ∙ b.parts);
     }
-first_by text rest t s e (inr g) = absurd (no_end t rest (rw g.0 at e))
+first_by text rest t s e (inr g) = search (arith, no_end)
 
 -- the token that is read first is written first
 pub next_first : (text : List ℕ) (t : Token) (rest : List ℕ) → next text ≡ Ok (Some t, rest) →
@@ -505,13 +426,13 @@ tokens_layout text (t ∷ ts) h = let s = split text in
 
 next_same : (text : List ℕ) (s t : Token) (bs cs : List ℕ) → next text ≡ lexed s bs →
     next text ≡ lexed t cs → (s ≡ t) × (bs ≡ cs)
-next_same text s t bs cs e f = lexed_same s t bs cs (sym e ∙ f)
+next_same text s t bs cs e f = search (arith, lexed_same)
 
 pub one_list : (text : List ℕ) (ts us : List Token) → AreTokens text ts → AreTokens text us →
     ts ≡ us
 one_list text [] [] h k = refl
-one_list text [] (u ∷ us) h k = absurd (no_end u k.0 (sym h ∙ k.1))
-one_list text (t ∷ ts) [] h k = absurd (no_end t h.0 (sym k ∙ h.1))
+one_list text [] (u ∷ us) h k = search (arith, no_end)
+one_list text (t ∷ ts) [] h k = search (arith, no_end)
 one_list text (t ∷ ts) (u ∷ us) h k =
     let e = next_same text t u h.0 k.0 h.1 k.1 in
     ap (λ (x : Token). x ∷ ts) e.0 ∙ ap (λ (x : List Token). u ∷ x)

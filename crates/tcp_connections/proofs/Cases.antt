@@ -65,7 +65,7 @@ forgot_some w id cause s e = rw (e, flow_forgotten) refl
 none_missed : (A : Setting) (f : Flow) (h : Heard) → length f.held ≡ 0 →
     flow_step A f (Hears h) ≡ f
 unfolding flow_step
-none_missed A f h none = heard_none A.faulted (length f.held) h f (omega (arith, none))
+none_missed A f h none = heard_none A.reader (length f.held) h f (omega (arith, none))
 
 same_flow : (w : State) (id : ℕ) (s : FlowState) → flow_at w id ≡ Some s →
     with_flow w id (state s w.held w.events) ≡ w
@@ -313,28 +313,6 @@ gaps_next F (suc count) rank w z l h =
     let goes : gaps_from F (suc count) rank w ≡ gaps_from F count (suc rank) w =
     rw (e, h, gaps_from) refl in
     rw (k, add-one) goes
-
-pub closes_none : (count : ℕ) (w : State) → count ≤ 0 → all_closed count w ≡ w
-unfolding all_closed
-closes_none zero w l = refl
-closes_none (suc count) w l = absurd (omega (arith, l))
-
-pub closes_over : (count : ℕ) (w : State) → length (lives w.events) ≤ 0 → all_closed count w ≡ w
-unfolding all_closed
-closes_over zero w l = refl
-closes_over (suc count) w l = let e : nat_lt 0 (length (lives w.events)) ≡ false =
-    le-ltb 0 (length (lives w.events)) l in rw (e, all_closed) refl
-
-pub closes_one : (count : ℕ) (w : State) → 0 < count → 0 < length (lives w.events)
-    → all_closed count w ≡ all_closed (count - 1)
-    (closed_at w (get_or (lives w.events) 0 0)
-    (end_cause (flow_at w (get_or (lives w.events) 0 0))))
-unfolding all_closed
-closes_one zero w z l = absurd (omega (arith, z))
-closes_one (suc count) w z l =
-    let k : suc count - 1 ≡ count = omega arith in
-    let e : nat_lt 0 (length (lives w.events)) ≡ true = lt-ltb 0 (length (lives w.events)) l in
-    rw (k, e, all_closed) refl
 
 -- ---- Which connection makes room.
 

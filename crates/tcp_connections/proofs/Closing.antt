@@ -1,161 +1,135 @@
--- Where all live streams have closed, none lives.
-use Rattle.std.proofs.Common.{◌≡◌, ℕ, zero, suc, ◌+◌, ◌-◌, ◌<◌, ◌≤◌, true, List, [], ◌∷◌, ◌++◌, length, set, get_or, Option, Some, None, is_some, refl, sym, ◌∙◌, ap, subst, arith, inl, inr, true≢false, get_or-set_same, get_or-set_other, length-set}
+-- Where all streams have closed, no flow has one, or waits for one.
+use Rattle.std.proofs.Common.{◌≡◌, ◌⊎◌, ℕ, suc, ◌+◌, ◌<◌, Bool, true, false, cond, nat_eq, List, [], ◌∷◌, length, drop, get_or, set, Option, Some, None, is_some, refl, sym, ◌∙◌, ap, subst, arith, inl, inr, true≢false, add-one, get_or-set_same, get_or-set_other}
+use Rattle.std.proofs.Math.Seq.{drop-cons}
 use Rattle.std.specs.Prelude.{Result, Ok, Err, OnOk}
-use Rattle.std.proofs.lemmas.Bool.{cases_eq, cases_lt, cond-true, lt-ltb}
+use Rattle.std.proofs.lemmas.Bool.{cases_Bool, cases_eq, cond-true, cond-false, ne_eqb}
 use Rattle.tcp_flow.specs.declared.flow.CloseCause.{CloseCause}
+use Rattle.tcp_flow.specs.declared.flow.CloseCause.TheVariants.{Gap, End}
 use Rattle.tcp_flow.specs.declared.flow.FlowState.{FlowState}
 use Rattle.tcp_flow.specs.declared.flow.ListenerFault.{ListenerFault}
-use Rattle.tcp_flow.specs.Flow.{Flow, Event, Closes, Reader, closed, gap, with_event, stopped}
+use Rattle.tcp_flow.specs.Flow.{Flow, Event, Closes, closed, stopped, out_of_step, with_event, lives as has_stream}
 use Rattle.tcp_flow.specs.State.{state}
-use Rattle.tcp_streams.specs.Lives.{lives, behind, without, most_ids}
+use Rattle.tcp_flow.proofs.Room.{closed_dead}
+use Rattle.tcp_streams.specs.Lives.{lives, behind, ended}
 use Rattle.tcp_streams.proofs.Order.{lives_more}
 use Rattle.tcp_connections.specs.declared.connections.Connections.{Connections}
-use Rattle.tcp_connections.specs.Connections.{State, flow_at, flow_state, live_of, live_at, with_flow, gapped, gaps_from, closed_at, end_cause, all_closed}
-use Rattle.tcp_connections.specs.State.{IsSound, IsAt, AreTold, times}
-use Rattle.tcp_connections.proofs.Cases.{gapped_none, gapped_some, closed_some, closes_none, closes_over, closes_one}
-use Rattle.tcp_connections.proofs.Ending.{length_without}
-use Rattle.tcp_connections.proofs.Living.{IsTurn, no_turn, closed_turn, gap_turn}
-use Rattle.tcp_connections.proofs.Repeated.{gaps_keep}
-use Rattle.tcp_connections.proofs.Sound.{some_same, some_within}
-use Rattle.tcp_connections.proofs.States.{told_flow}
-use Rattle.tcp_connections.proofs.Times.{times_at}
+use Rattle.tcp_connections.specs.Connections.{State, flow_at, flow_state, live_of, live_at, with_flow, closed_at, end_cause, all_closed}
+use Rattle.tcp_connections.specs.State.{IsAt, times}
+use Rattle.tcp_connections.proofs.Cases.{closed_none, closed_some}
+use Rattle.tcp_connections.proofs.Sound.{some_within}
 
--- each flow has its id, of which there are not too many, and the streams of flows that live are
--- those that are told
-pub record IsClosing (w : State) : Type 0 where
-  pub ids : (id : ℕ) (s : FlowState) → flow_at w id ≡ Some s → s.id ≡ id
-  pub told : AreTold w
-  pub few : length w.flows ≤ most_ids
+none_is : (o : Option ℕ) → is_some o ≡ false → o ≡ None
+none_is None e = refl
+none_is (Some n) e = absurd (true≢false e)
 
-pub starts_closing : (w : State) → IsSound w → AreTold w → IsClosing w
-starts_closing w sound told = record {
-  ids = sound.ids;
-  told = told;
-  few = omega (arith, sound.flows, sound.most);
-}
+-- ---- What is so of each flow that is out of step, and of each that there is not, is so of all in
+-- the end.
 
--- one that lives closes
-record HasOneLess (w v : State) : Type 0 where
-  pub closing : IsClosing v
-  pub less : length (lives v.events) + 1 ≡ length (lives w.events)
+module _ (Q : Option FlowState → Type 0) (none : Q None)
+    (gives : (s : FlowState) → s.live ≡ None → Q (Some s)) where
+  -- a flow that closes is out of step
+  closed_quiet : (w : State) (id : ℕ) (cause : CloseCause) → Q (flow_at (closed_at w id cause) id)
+  unfolding with_flow
+  closed_quiet w id cause = by (flow_at w id) refl
+    where
+      by : (o : Option FlowState) → flow_at w id ≡ o → Q (flow_at (closed_at w id cause) id)
+      by None e = subst (λ (v : State). Q (flow_at v id)) (sym (closed_none w id cause e))
+          (subst Q (sym e) none)
+      by (Some s) e =
+          let g : Flow = closed (state s w.held w.events) cause in
+          subst (λ (v : State). Q (flow_at v id)) (sym (closed_some w id cause s e))
+          (subst Q (sym (get_or-set_same w.flows id (Some (flow_state g)) None
+          (some_within w.flows id s e)))
+          (gives (flow_state g)
+          (none_is g.live (closed_dead (state s w.held w.events) cause))))
 
--- a flow is another
-flow_closing : (w : State) (id : ℕ) (g : Flow) → IsClosing w → id < length w.flows →
-    IsTurn true id w.events g → IsClosing (with_flow w id g)
-unfolding with_flow live_of
-flow_closing w id g h within turn =
-    let o : Option FlowState = Some (flow_state g) in
-    let here : get_or (set w.flows id o) id None ≡ o = get_or-set_same w.flows id o None within in
-    record {
-      ids =
-          λ j t d.
-          elim (cases_eq j id) [
-            | inl y ↦
-                (let same : flow_state g ≡ t = some_same (flow_state g) t (sym here
-                ∙ ap (λ (k : ℕ). get_or (set w.flows id o) k None) (sym y) ∙ d) in
-                sym (ap (λ (u : FlowState). u.id) same) ∙ turn.same ∙ sym y)
-            | inr n ↦ h.ids j t (sym (get_or-set_other w.flows id j o None n) ∙ d)
-          ];
-      told = told_flow true w id o g.events h.told within turn.own turn.beside;
-      few = omega (arith, h.few, length-set w.flows id o);
-    }
+  -- others stay
+  beside_quiet : (w : State) (id j : ℕ) (cause : CloseCause) → (j ≡ id → ⊥) → Q (flow_at w j) →
+      Q (flow_at (closed_at w id cause) j)
+  unfolding with_flow
+  beside_quiet w id j cause apart q = by (flow_at w id) refl
+    where
+      by : (o : Option FlowState) → flow_at w id ≡ o → Q (flow_at (closed_at w id cause) j)
+      by None e = subst (λ (v : State). Q (flow_at v j)) (sym (closed_none w id cause e)) q
+      by (Some s) e =
+          let g : Flow = closed (state s w.held w.events) cause in
+          subst (λ (v : State). Q (flow_at v j)) (sym (closed_some w id cause s e))
+          (subst Q (sym (get_or-set_other w.flows id j (Some (flow_state g)) None apart)) q)
 
--- what a flow has done so far is nothing yet
-turn_before : (w : State) (id : ℕ) (s : FlowState) → IsClosing w → flow_at w id ≡ Some s
-    → IsTurn true id w.events (state s w.held w.events)
-unfolding live_of
-turn_before w id s h e = no_turn {exact = true} id (state s w.held w.events) (h.ids id s e)
-    (sym (ap (λ (o : Option FlowState). is_some (live_of o)) e) ∙ h.told id)
+  pub all_quiet : (ids : List ℕ) (w : State) (j : ℕ) → (0 < times j ids) ⊎ Q (flow_at w j) →
+      Q (flow_at (all_closed ids w) j)
+  unfolding all_closed times
+  all_quiet [] w j (inl l) = absurd (omega (arith, l))
+  all_quiet [] w j (inr q) = q
+  all_quiet (id ∷ ids) w j h =
+      let cause : CloseCause = end_cause (flow_at w id) in
+      let v : State = closed_at w id cause in
+      all_quiet ids v j (elim (cases_eq j id) [
+        | inl y ↦ inr (subst (λ (n : ℕ). Q (flow_at v n)) (sym y) (closed_quiet w id cause))
+        | inr n ↦ elim h [
+          | inl l ↦
+              (let other : ◌≡◌ {A = ℕ} (cond (nat_eq id j) 1 0) 0 =
+              rw (ne_eqb id j (λ o. n (sym o))) refl in
+              inl (omega (arith, l, other)))
+          | inr q ↦ inr (beside_quiet w id j cause n q)
+        ]
+      ])
 
-gapped_closing : (F : Reader) (w : State) (id : ℕ) → IsClosing w → IsClosing (gapped F w id)
-gapped_closing F w id h = by (flow_at w id) refl
-  where
-    by : (o : Option FlowState) → flow_at w id ≡ o → IsClosing (gapped F w id)
-    by None e = subst IsClosing (sym (gapped_none F w id e)) h
-    by (Some s) e =
-        let within : id < length w.flows = some_within w.flows id s e in
-        subst IsClosing (sym (gapped_some F w id s e))
-        (flow_closing w id (gap F (state s w.held w.events)) h within
-        (gap_turn F id w.events (state s w.held w.events) (omega (arith, within, h.few))
-        (turn_before w id s h e)))
+-- ---- The end of a capture.
 
-pub gaps_closing : (F : Reader) (count rank : ℕ) (w : State) → IsClosing w →
-    IsClosing (gaps_from F count rank w)
-gaps_closing F count rank w h = gaps_keep F IsClosing (gapped_closing F) count rank w h
-
--- the flow at the front closes
-front_closes : (w : State) (id : ℕ) (s : FlowState) (cause : CloseCause) → IsClosing w →
-    flow_at w id ≡ Some s → is_some s.live ≡ true → 0 < length (lives w.events)
-    → get_or (lives w.events) 0 0 ≡ id
-    → HasOneLess w (with_flow w id (closed (state s w.held w.events) cause))
-unfolding with_flow closed with_event behind
-front_closes w id s cause h e live some front =
+-- a stream that closes there keeps its place in the order
+keeps_place : (w : State) (id : ℕ) (s : FlowState) (cause : CloseCause) → flow_at w id ≡ Some s →
+    ((xs : List ℕ) → ended s.id cause xs ≡ xs)
+    → lives (closed (state s w.held w.events) cause).events ≡ lives w.events
+unfolding closed with_event behind
+keeps_place w id s cause e keeps =
     let f : Flow = state s w.held w.events in
-    let c : Flow = closed f cause in
-    let own : s.id ≡ id = h.ids id s e in
-    let events : c.events ≡ w.events ++ Closes s.id cause ∷ [] =
-    ap (λ (g : Flow). g.events) (cond-true (is_some s.live) (stopped f f.next cause) f live) in
-    let less : lives c.events ≡ without s.id (lives w.events) =
-    ap lives events ∙ lives_more [] w.events (Closes s.id cause) in
-    record {
-      closing = flow_closing w id c h (some_within w.flows id s e)
-          (closed_turn id w.events f cause (turn_before w id s h e));
-      less = omega (
-        arith,
-        ap {B = ℕ} length less,
-        length_without s.id (lives w.events) 0 some (front ∙ sym own),
-      );
-    }
-
-one_closes : (w : State) → IsClosing w → 0 < length (lives w.events)
-    → HasOneLess w (closed_at w (get_or (lives w.events) 0 0)
-    (end_cause (flow_at w (get_or (lives w.events) 0 0))))
-unfolding live_of
-one_closes w h some = by (flow_at w id) refl
-  where
-    id : ℕ
-    id = get_or (lives w.events) 0 0
-
-    cause : CloseCause
-    cause = end_cause (flow_at w id)
-
-    lives_there : is_some (live_at w id) ≡ true
-    lives_there = h.told id
-        ∙ lt-ltb 0 (times id (lives w.events)) (times_at (lives w.events) 0 some)
-
-    by : (o : Option FlowState) → flow_at w id ≡ o → HasOneLess w (closed_at w id cause)
-    by None e = absurd (true≢false (sym lives_there
-        ∙ ap (λ (o : Option FlowState). is_some (live_of o)) e))
-    by (Some s) e = subst (HasOneLess w) (sym (closed_some w id cause s e))
-        (front_closes w id s cause h e
-        (sym (ap (λ (o : Option FlowState). is_some (live_of o)) e) ∙ lives_there) some refl)
-
-nothing : (xs : List ℕ) → length xs ≤ 0 → xs ≡ []
-nothing [] l = refl
-nothing (x ∷ xs) l = absurd (omega (arith, l))
-
-pub all_close : (count : ℕ) (w : State) → IsClosing w → length (lives w.events) ≤ count →
-    lives (all_closed count w).events ≡ []
-all_close zero w h l = ap (λ (v : State). lives v.events) (closes_none 0 w (omega arith))
-    ∙ nothing (lives w.events) l
-all_close (suc count) w h l =
-    let k : suc count - 1 ≡ count = omega arith in
-    let id : ℕ = get_or (lives w.events) 0 0 in
-    let next : State = closed_at w id (end_cause (flow_at w id)) in
-    elim (cases_lt 0 (length (lives w.events))) [
-      | inr g ↦ ap (λ (v : State). lives v.events) (closes_over (suc count) w g)
-          ∙ nothing (lives w.events) g
-      | inl some ↦
-          (let one : HasOneLess w next = one_closes w h some in
-          ap (λ (v : State). lives v.events) (closes_one (suc count) w (omega arith) some
-          ∙ ap (λ (n : ℕ). all_closed n next) k)
-          ∙ all_close count next one.closing (omega (arith, l, one.less)))
+    elim (cases_Bool (has_stream s.live s.waits)) [
+      | inl y ↦ ap (λ (g : Flow). lives g.events)
+          (cond-true (has_stream s.live s.waits) (stopped f f.next cause) (out_of_step f) y)
+          ∙ lives_more [] w.events (Closes s.id cause) ∙ keeps (lives w.events)
+      | inr z ↦ ap (λ (g : Flow). lives g.events)
+          (cond-false (has_stream s.live s.waits) (stopped f f.next cause) (out_of_step f) z)
     ]
+
+end_keeps : (b : Bool) (id : ℕ) (xs : List ℕ) → ended id (cond b Gap End) xs ≡ xs
+end_keeps true id xs = refl
+end_keeps false id xs = refl
+
+pub end_lives : (w : State) (id : ℕ) →
+    lives (closed_at w id (end_cause (flow_at w id))).events ≡ lives w.events
+unfolding with_flow end_cause
+end_lives w id = by (flow_at w id) refl
+  where
+    by : (o : Option FlowState) → flow_at w id ≡ o →
+        lives (closed_at w id (end_cause (flow_at w id))).events ≡ lives w.events
+    by None e = ap (λ (v : State). lives v.events) (closed_none w id (end_cause (flow_at w id)) e)
+    by (Some s) e =
+        ap (λ (o : Option FlowState). lives (closed_at w id (end_cause o)).events) e
+        ∙ ap (λ (v : State). lives v.events) (closed_some w id (end_cause (Some s)) s e)
+        ∙ keeps_place w id s (end_cause (Some s)) e (λ xs. end_keeps (is_some s.fin) s.id xs)
+
+-- one more of those that close
+pub closes_next : (xs : List ℕ) (i : ℕ) (w : State) → i < length xs →
+    all_closed (drop i xs) w ≡ all_closed (drop (i + 1) xs)
+    (closed_at w (get_or xs i 0) (end_cause (flow_at w (get_or xs i 0))))
+unfolding all_closed
+closes_next xs i w l =
+    let d : drop i xs ≡ get_or xs i 0 ∷ drop (suc i) xs = drop-cons xs i 0 l in
+    rw (add-one, d) refl
 
 -- the code is at the end of a capture
 pub none_at_end : {X : Type 0} (r : Result X ListenerFault) (O : List Event → Type 0)
-    (live : List ℕ) (c : Connections) (w : State) → IsClosing w
-    → OnOk r (IsAt O live c (all_closed (length (lives w.events)) w)) → OnOk r (live ≡ [])
-none_at_end (Ok x) O live c w closing h =
-    h.live ∙ all_close (length (lives w.events)) w closing (omega arith)
-none_at_end (Err x) O live c w closing h = tt
+    (live : List ℕ) (c : Connections) (w : State)
+    → ((id : ℕ) → is_some (live_at w id) ≡ true → 0 < times id (lives w.events))
+    → OnOk r (IsAt O live c (all_closed (lives w.events) w))
+    → OnOk r ((id : ℕ) → live_of (get_or c.flows.items id None) ≡ None)
+unfolding live_of
+none_at_end (Ok x) O live c w told h = λ id.
+    ap (λ (v : State). live_at v id) h.same
+    ∙ all_quiet (λ o. live_of o ≡ None) refl (λ s e. e) (lives w.events) w id
+    (elim (cases_Bool (is_some (live_at w id))) [
+      | inl y ↦ inl (told id y)
+      | inr z ↦ inr (none_is (live_at w id) z)
+    ])
+none_at_end (Err x) O live c w told h = tt

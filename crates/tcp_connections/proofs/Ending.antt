@@ -1,21 +1,22 @@
--- Gaps in the order of the live streams leave nothing held.
+-- Gaps in the order of the last streams leave nothing held.
 use Rattle.std.proofs.Common.{◌≡◌, ℕ, zero, suc, ◌+◌, ◌-◌, ◌<◌, ◌≤◌, ◌⊎◌, Bool, true, false, cond, eqb, nat_eq, nat_lt, List, [], ◌∷◌, ◌++◌, length, get_or, Option, Some, None, is_some, refl, sym, ◌∙◌, ap, subst, arith, inl, inr, true≢false, length-append}
 use Rattle.std.specs.List.{AllByRecursion, IsDistinct, remove}
 use Rattle.std.proofs.lemmas.Bool.{cases_Bool, cond-true, cond-false, eqb-true, eq-eqb, ne_eqb, lt-ltb, ltb-true, ltb-false}
 use Rattle.std.proofs.lemmas.List.{get_or_append_left}
 use Rattle.std.proofs.lemmas.Map.Keys.{apart_from_distinct}
 use Rattle.tcp_flow.specs.declared.flow.CloseCause.{CloseCause}
-use Rattle.tcp_flow.specs.declared.flow.CloseCause.TheVariants.{Fault, Gap}
+use Rattle.tcp_flow.specs.declared.flow.CloseCause.TheVariants.{Fin, Reset, Syn, Fault, Gap, Room}
+use Rattle.tcp_flow.specs.declared.flow.CloseCause.TheVariants as causes
 use Rattle.tcp_flow.specs.declared.flow.FlowState.{FlowState}
 use Rattle.tcp_waiting.specs.Payload.{Payload, first, count_of}
-use Rattle.tcp_flow.specs.Flow.{Flow, Begins, Delivers, Closes, OfCapture, ComesFrom, Reader, left, with_event, delivered, looked_through as flow_looked, tail_before, told_from, taken, at, closed, gap, first_of, held_by_others, CaptureEvent, Passes, stopped, checked, number_after, handed, start_at, started}
+use Rattle.tcp_flow.specs.Flow.{Flow, Begins, Delivers, Closes, OfCapture, ComesFrom, Reader, left, with_event, delivered, looked_through as flow_looked, tail_before, told_from, taken, at, closed, gap, first_of, held_by_others, CaptureEvent, Passes, stopped, checked, number_after, handed, start_at, started, resumed, out_of_step, lives as has_stream}
 use Rattle.tcp_flow.specs.State.{state}
 use Rattle.tcp_flow.specs.declared.tail.Tail.{Tail}
 use Rattle.tcp_flow.proofs.Tails.{looked_by}
-use Rattle.tcp_flow.proofs.Preserving.{Keeps, gone_on_keeps}
+use Rattle.tcp_flow.proofs.Preserving.{Keeps, gap_keeps}
 use Rattle.tcp_flow.proofs.Room.{gap_fewer}
 use Rattle.tcp_flow.proofs.Others.{gap_others, others_all}
-use Rattle.tcp_streams.specs.Lives.{lives, behind, begun, without, most_ids}
+use Rattle.tcp_streams.specs.Lives.{lives, behind, begun, ended, without, most_ids}
 use Rattle.tcp_streams.proofs.Ids.{none_left}
 use Rattle.tcp_streams.proofs.Order.{lives_more}
 use Rattle.tcp_connections.specs.Connections.{State, flow_at, live_of, live_at, with_flow, gapped, is_holding}
@@ -97,11 +98,16 @@ without_last n [] h = cond-true (nat_eq n n) [] (n ∷ []) (eq-eqb n n refl)
 without_last n (x ∷ xs) h = cond-false (nat_eq x n) (xs ++ n ∷ []) (x ∷ without n (xs ++ n ∷ []))
     (not_own n x h.0) ∙ ap (λ (ys : List ℕ). x ∷ ys) (without_last n xs h.1)
 
--- ---- A gap of a live stream: its flow's is the last from then on, or lives no longer.
+-- ---- A gap of a flow: it stands where it stood, or is the last from then on, or stands there no
+-- longer.
 
-record IsTail (id : ℕ) (others : List ℕ) (g : Flow) : Type 0 where
+-- where the flow of an id stands, of flows that stood so
+abbrev StandsSo : ℕ → List ℕ → List ℕ → Type 0
+StandsSo id all xs = (xs ≡ all) ⊎ ((xs ≡ without id all) ⊎ (xs ≡ without id all ++ id ∷ []))
+
+record IsTail (id : ℕ) (all : List ℕ) (g : Flow) : Type 0 where
   pub same : g.id ≡ id
-  pub tail : (lives g.events ≡ others) ⊎ (lives g.events ≡ others ++ id ∷ [])
+  pub tail : StandsSo id all (lives g.events)
 
 -- the id is none of the others
 record IsOther (id : ℕ) (others : List ℕ) : Type 0 where
@@ -112,135 +118,149 @@ either : {X : Type 0} (P : X → Type 0) (b : Bool) (x y : X) → P x → P y �
 either P true x y p q = p
 either P false x y p q = q
 
-closing_tail : (id : ℕ) (others : List ℕ) (g : Flow) (n : ℕ) (cause : CloseCause) →
-    IsOther id others → IsTail id others g → IsTail id others (stopped g n cause)
+-- it is taken away
+gone_so : (id : ℕ) (all xs : List ℕ) → IsOther id (without id all) → StandsSo id all xs →
+    StandsSo id all (without id xs)
+gone_so id all xs o (inl e) = inr (inl (ap (without id) e))
+gone_so id all xs o (inr (inl e)) =
+    inr (inl (ap (without id) e ∙ without_none id (without id all) o.none))
+gone_so id all xs o (inr (inr e)) =
+    inr (inl (ap (without id) e ∙ without_last id (without id all) o.none))
+
+ended_so : (id : ℕ) (all xs : List ℕ) (cause : CloseCause) → IsOther id (without id all) →
+    StandsSo id all xs → StandsSo id all (ended id cause xs)
+ended_so id all xs Gap o h = h
+ended_so id all xs causes.End o h = h
+ended_so id all xs Fin o h = gone_so id all xs o h
+ended_so id all xs Reset o h = gone_so id all xs o h
+ended_so id all xs Syn o h = gone_so id all xs o h
+ended_so id all xs Fault o h = gone_so id all xs o h
+ended_so id all xs Room o h = gone_so id all xs o h
+
+closing_tail : (id : ℕ) (all : List ℕ) (g : Flow) (n : ℕ) (cause : CloseCause) →
+    IsOther id (without id all) → IsTail id all g → IsTail id all (stopped g n cause)
 unfolding with_event behind
-closing_tail id others g n cause o t =
-    let more : lives (g.events ++ Closes g.id cause ∷ []) ≡ without id (lives g.events) =
+closing_tail id all g n cause o t =
+    let more : lives (g.events ++ Closes g.id cause ∷ []) ≡ ended id cause (lives g.events) =
     lives_more [] g.events (Closes g.id cause)
-    ∙ ap (λ (n : ℕ). without n (lives g.events)) t.same in
+    ∙ ap (λ (n : ℕ). ended n cause (lives g.events)) t.same in
     record {
       same = t.same;
-      tail =
-          elim t.tail [
-            | inl e ↦ inl (more ∙ ap (without id) e ∙ without_none id others o.none)
-            | inr e ↦ inl (more ∙ ap (without id) e ∙ without_last id others o.none)
-          ];
+      tail = subst (StandsSo id all) (sym more) (ended_so id all (lives g.events) cause o t.tail);
     }
 
-closed_tail : (id : ℕ) (others : List ℕ) (g : Flow) (cause : CloseCause) → IsOther id others →
-    IsTail id others g → IsTail id others (closed g cause)
+closed_tail : (id : ℕ) (all : List ℕ) (g : Flow) (cause : CloseCause) →
+    IsOther id (without id all) → IsTail id all g → IsTail id all (closed g cause)
 unfolding closed
-closed_tail id others g cause o t =
-    either (IsTail id others) (is_some g.live) (stopped g g.next cause) g
-    (closing_tail id others g g.next cause o t) t
+closed_tail id all g cause o t =
+    either (IsTail id all) (has_stream g.live g.waits) (stopped g g.next cause) (out_of_step g)
+    (closing_tail id all g g.next cause o t) (record { same = t.same; tail = t.tail })
 
-checked_tail : (id : ℕ) (others : List ℕ) (g : Flow) (r : Option ℕ) → IsOther id others →
-    IsTail id others g → IsTail id others (checked g r)
+checked_tail : (id : ℕ) (all : List ℕ) (g : Flow) (r : Option ℕ) → IsOther id (without id all) →
+    IsTail id all g → IsTail id all (checked g r)
 unfolding checked
-checked_tail id others g None o t = t
-checked_tail id others g (Some at) o t = closing_tail id others g (number_after g at) Fault o t
+checked_tail id all g None o t = t
+checked_tail id all g (Some at) o t = closing_tail id all g (number_after g at) Fault o t
 
-capture_tail : (id : ℕ) (others : List ℕ) (g : Flow) (e : CaptureEvent) → IsTail id others g →
-    IsTail id others (with_event g (OfCapture e))
+capture_tail : (id : ℕ) (all : List ℕ) (g : Flow) (e : CaptureEvent) → IsTail id all g →
+    IsTail id all (with_event g (OfCapture e))
 unfolding with_event behind
-capture_tail id others g e t =
+capture_tail id all g e t =
     let more = lives_more [] g.events (OfCapture e) in
-    record {
-      same = t.same;
-      tail = elim t.tail [ inl e ↦ inl (more ∙ e) | inr e ↦ inr (more ∙ e) ];
-    }
+    record { same = t.same; tail = subst (StandsSo id all) (sym more) t.tail }
 
-delivered_tail : (F : Reader) (id : ℕ) (others : List ℕ) (g : Flow) (p : Payload) →
-    IsOther id others → IsTail id others g → IsTail id others (delivered F g p)
+delivered_tail : (F : Reader) (id : ℕ) (all : List ℕ) (g : Flow) (p : Payload) →
+    IsOther id (without id all) → IsTail id all g → IsTail id all (delivered F g p)
 unfolding delivered with_event behind
-delivered_tail F id others g p o t =
+delivered_tail F id all g p o t =
     let more = lives_more [] g.events (Delivers g.id p.octets) in
     let d : Flow = handed g p in
-    let u : IsTail id others d = record {
-      same = t.same;
-      tail =
-          elim t.tail [ inl e ↦ inl (more ∙ e) | inr e ↦ inr (more ∙ e) ];
-    } in
-    checked_tail id others d (F d.events) o u
+    let u : IsTail id all d =
+    record { same = t.same; tail = subst (StandsSo id all) (sym more) t.tail } in
+    checked_tail id all d (F.faulted d.events) o u
 
-begun_last : (id : ℕ) (others xs : List ℕ) → IsOther id others → without id xs ≡ others →
-    begun id xs ≡ others ++ id ∷ []
+-- a stream of it begins: it is the last
+begun_so : (id : ℕ) (all xs : List ℕ) → IsOther id (without id all) → StandsSo id all xs →
+    StandsSo id all (begun id xs)
 unfolding begun
-begun_last id others xs o e = cond-true (nat_lt id most_ids) (without id xs ++ id ∷ []) xs
-    (lt-ltb id most_ids o.small) ∙ ap (λ (ys : List ℕ). ys ++ id ∷ []) e
+begun_so id all xs o h =
+    let goes : begun id xs ≡ without id xs ++ id ∷ [] =
+    cond-true (nat_lt id most_ids) (without id xs ++ id ∷ []) xs (lt-ltb id most_ids o.small) in
+    let rest : without id xs ≡ without id all = elim h [
+      | inl e ↦ ap (without id) e
+      | inr e ↦ elim e [
+        | inl d ↦ ap (without id) d ∙ without_none id (without id all) o.none
+        | inr d ↦ ap (without id) d ∙ without_last id (without id all) o.none
+      ]
+    ] in
+    inr (inr (goes ∙ ap (λ (ys : List ℕ). ys ++ id ∷ []) rest))
 
-started_tail : (id : ℕ) (others : List ℕ) (g : Flow) (n : ℕ) → IsOther id others →
-    IsTail id others g → IsTail id others (started g n)
+started_tail : (id : ℕ) (all : List ℕ) (g : Flow) (n : ℕ) → IsOther id (without id all) →
+    IsTail id all g → IsTail id all (started g n)
 unfolding with_event behind
-started_tail id others g n o t =
+started_tail id all g n o t =
     let more : lives (started g n).events ≡ begun id (lives g.events) =
-    lives_more [] g.events (Begins g.id (start_at g.since g.has_begun n))
+    lives_more [] g.events (Begins g.id (start_at g n))
     ∙ ap (λ (k : ℕ). begun k (lives g.events)) t.same in
     record {
       same = t.same;
-      tail =
-          elim t.tail [
-            | inl e ↦ inr (more ∙ ap (begun id) e
-                ∙ begun_last id others others o (without_none id others o.none))
-            | inr e ↦ inr (more ∙ ap (begun id) e
-                ∙ begun_last id others (others ++ id ∷ []) o (without_last id others o.none))
-          ];
+      tail = subst (StandsSo id all) (sym more) (begun_so id all (lives g.events) o t.tail);
     }
 
-looked_tail : (F : Reader) (id : ℕ) (others : List ℕ) (g : Flow) (q : Payload) (r : Option Tail) →
-    IsOther id others → IsTail id others g → IsTail id others (flow_looked F g q r)
-looked_tail F id others g q r o t =
-    looked_by F (IsTail id others) (λ g p t. delivered_tail F id others g p o t)
-    (λ g n t. started_tail id others g n o t)
-    (λ g u xs t. capture_tail id others (record g { tail = u }) (Passes xs)
+resumed_tail : (id : ℕ) (all : List ℕ) (g : Flow) → IsOther id (without id all) →
+    IsTail id all g → IsTail id all (resumed g)
+resumed_tail id all g o t = either (IsTail id all) g.waits (started g g.next) g
+    (started_tail id all g g.next o t) t
+
+looked_tail : (F : Reader) (id : ℕ) (all : List ℕ) (g : Flow) (q : Payload) (r : Option Tail) →
+    IsOther id (without id all) → IsTail id all g → IsTail id all (flow_looked F g q r)
+looked_tail F id all g q r o t =
+    looked_by F (IsTail id all) (λ g p t. delivered_tail F id all g p o t)
+    (λ g n t. started_tail id all g n o t)
+    (λ g u xs t. capture_tail id all (record g { tail = u }) (Passes xs)
     (record { same = t.same; tail = t.tail })) g q r t
 
-from_tail : (id : ℕ) (others : List ℕ) (g : Flow) (p : Payload) → IsTail id others g →
-    IsTail id others (told_from g p)
+from_tail : (id : ℕ) (all : List ℕ) (g : Flow) (p : Payload) → IsTail id all g →
+    IsTail id all (told_from g p)
 unfolding told_from
-from_tail id others g p t = capture_tail id others g (ComesFrom p.arrival) t
+from_tail id all g p t = capture_tail id all g (ComesFrom p.arrival) t
 
-taken_tail : (F : Reader) (id : ℕ) (others : List ℕ) (g : Flow) (p : Payload) → IsOther id others →
-    IsTail id others g → IsTail id others (taken F g p)
+taken_tail : (F : Reader) (id : ℕ) (all : List ℕ) (g : Flow) (p : Payload) →
+    IsOther id (without id all) → IsTail id all g → IsTail id all (taken F g p)
 unfolding taken
-taken_tail F id others g p o t =
+taken_tail F id all g p o t =
     let q : Payload = left g.next (is_some g.live) p in
     let h : Flow = told_from g p in
-    let u : IsTail id others h = from_tail id others g p t in
-    let d : Flow = delivered F h q in
+    let u : IsTail id all h = from_tail id all g p t in
+    let d : Flow = delivered F (resumed h) q in
     let r : Option Tail = tail_before g.tail q.number q.octets in
     let b : Flow = flow_looked F h q r in
-    either (IsTail id others) (nat_eq (length q.octets) 0) g (cond (is_some g.live) d b) t
-    (either (IsTail id others) (is_some g.live) d b (delivered_tail F id others h q o u)
-    (looked_tail F id others h q r o u))
+    either (IsTail id all) (nat_eq (length q.octets) 0) g (cond (is_some g.live) d b) t
+    (either (IsTail id all) (is_some g.live) d b
+    (delivered_tail F id all (resumed h) q o (resumed_tail id all h o u))
+    (looked_tail F id all h q r o u))
 
-tail_keeps : (F : Reader) (id : ℕ) (others : List ℕ) → IsOther id others →
-    Keeps F (IsTail id others)
-tail_keeps F id others o =
+tail_keeps : (F : Reader) (id : ℕ) (all : List ℕ) → IsOther id (without id all) →
+    Keeps F (IsTail id all)
+tail_keeps F id all o =
     record {
-      takes = λ f i e d t. taken_tail F id others (record f { held = remove f.held i }) (at f i) o
+      takes = λ f i e d t. taken_tail F id all (record f { held = remove f.held i }) (at f i) o
           (record { same = t.same; tail = t.tail });
-      closes = λ f cause t. closed_tail id others f cause o t;
+      closes = λ f cause t. closed_tail id all f cause o t;
+      waits = λ f count live t. (let c : IsTail id all (closed f Gap) = closed_tail id all f Gap o t
+          in record { same = c.same; tail = c.tail });
       fins = λ f n t. record { same = t.same; tail = t.tail };
     }
 
-gap_tail : (F : Reader) (id : ℕ) (f : Flow) → id < most_ids → f.id ≡ id → is_some f.live ≡ true →
-    IsTail id (without id (lives f.events)) (gap F f)
-unfolding gap closed with_event behind
-gap_tail F id f l same live =
-    let others : List ℕ = without id (lives f.events) in
-    let o : IsOther id others = record {
+gap_tail : (F : Reader) (id : ℕ) (f : Flow) → id < most_ids → f.id ≡ id →
+    IsTail id (lives f.events) (gap F f)
+gap_tail F id f l same =
+    let o : IsOther id (without id (lives f.events)) = record {
       small = l;
-      none =
-          none_left id (lives f.events) (lives_ids f.events).1;
+      none = none_left id (lives f.events) (lives_ids f.events).1;
     } in
-    let c : Flow = stopped f f.next Gap in
-    let e : lives c.events ≡ others = lives_more [] f.events (Closes f.id Gap)
-    ∙ ap (λ (n : ℕ). without n (lives f.events)) same in
-    let t : IsTail id others c = record { same = same; tail = inl e } in
-    gone_on_keeps F (IsTail id others) (tail_keeps F id others o) (cond (is_some f.live) c f)
-    (subst (IsTail id others) (sym (cond-true (is_some f.live) c f live)) t)
+    gap_keeps F (IsTail id (lives f.events)) (tail_keeps F id (lives f.events) o) f
+    (record { same = same; tail = inl refl })
 
 -- ---- What the gaps have come to: the flows before a rank hold nothing, and the gaps to come
 -- suffice for the rest.
@@ -300,7 +320,7 @@ next_so_far left rank w h some l e t =
 by_gap : (left rank : ℕ) (w : State) (g : Flow) (id : ℕ) → id ≡ get_or (lives w.events) rank 0 →
     0 < left → rank < length (lives w.events)
     → length g.held < length w.held → held_by_others id g.held ≡ held_by_others id w.held →
-    IsTail id (without id (lives w.events)) g
+    IsTail id (lives w.events) g
     → SoFar left rank w → SoFar (left - 1) rank (with_flow w id g)
 unfolding with_flow
 by_gap left rank w g id same some l fewer others t so =
@@ -315,21 +335,27 @@ by_gap left rank w g id same some l fewer others t so =
     × ((r : ℕ) → r < rank → get_or (lives g.events) r 0 ≡ get_or all r 0)) =
     elim t.tail [
       | inl e ↦ (
-        omega (arith, ap length e, long, l),
-        (
-          omega (arith, ap length e, long),
-          λ r b. ap (λ (xs : List ℕ). get_or xs r 0) e
-              ∙ stay r b,
-        ),
+        omega (arith, ap length e, l),
+        (omega (arith, ap length e), λ r b. ap (λ (xs : List ℕ). get_or xs r 0) e),
       )
-      | inr e ↦ (
-        omega (arith, ap length e, length-append rest (id ∷ []), long, l),
-        (
-          omega (arith, ap length e, length-append rest (id ∷ []), long),
-          λ r b. ap (λ (xs : List ℕ). get_or xs r 0) e
-              ∙ get_or_append_left rest (id ∷ []) 0 r (omega (arith, b, long, l)) ∙ stay r b,
-        ),
-      )
+      | inr x ↦ elim x [
+        | inl e ↦ (
+          omega (arith, ap length e, long, l),
+          (
+            omega (arith, ap length e, long),
+            λ r b. ap (λ (xs : List ℕ). get_or xs r 0) e
+                ∙ stay r b,
+          ),
+        )
+        | inr e ↦ (
+          omega (arith, ap length e, length-append rest (id ∷ []), long, l),
+          (
+            omega (arith, ap length e, length-append rest (id ∷ []), long),
+            λ r b. ap (λ (xs : List ℕ). get_or xs r 0) e
+                ∙ get_or_append_left rest (id ∷ []) 0 r (omega (arith, b, long, l)) ∙ stay r b,
+          ),
+        )
+      ]
     ] in
     record {
       reach = here.0;
@@ -344,7 +370,7 @@ by_gap left rank w g id same some l fewer others t so =
           ∙ ap (count_of j) others ∙ count_beside id j w.held apart ∙ so.before r b;
     }
 
--- a flow that holds something has a live stream
+-- a flow that holds something is in step
 holds_live : (w : State) (id : ℕ) (s : FlowState) → IsSound w → flow_at w id ≡ Some s →
     is_some (first s.id s.next w.held) ≡ true → is_some s.live ≡ true
 unfolding first_of
@@ -375,8 +401,7 @@ gap_so_far F left rank w h some l e so = by (flow_at w id) refl
         (by_gap left rank w (gap F f) id refl some l (gap_fewer F f holds)
         (subst (λ (n : ℕ). held_by_others n (gap F f).held ≡ held_by_others n w.held) own
         (gap_others F f))
-        (gap_tail F id f (small_id w id h (some_within w.flows id s a)) own
-        (holds_live w id s h a holds)) so)
+        (gap_tail F id f (small_id w id h (some_within w.flows id s a)) own) so)
 
 empty_by : (ps : List Payload) → ((id : ℕ) → count_of id ps ≡ 0) → ps ≡ []
 unfolding count_of
@@ -385,7 +410,7 @@ empty_by (p ∷ ps) h = absurd (let own : nat_eq p.flow p.flow ≡ true = eq-eqb
     let one : ◌≡◌ {A = ℕ} (cond (nat_eq p.flow p.flow) 1 0) 1 = rw own refl in
     omega (arith, h p.flow, one))
 
--- where all flows whose streams live hold nothing, nothing is held
+-- where all flows in step hold nothing, nothing is held
 pub all_so_far : (left rank : ℕ) (w : State) → IsSound w →
     ((id : ℕ) → is_some (live_at w id) ≡ true → 0 < times id (lives w.events)) →
     length (lives w.events) ≤ rank → SoFar left rank w → w.held ≡ []

@@ -7,7 +7,7 @@ use Rattle.tcp_waiting.proofs.Counts.{first_none}
 use Rattle.tcp_flow.specs.declared.flow.CloseCause.{CloseCause}
 use Rattle.tcp_flow.specs.declared.flow.FlowState.{FlowState}
 use Rattle.tcp_flow.specs.declared.tail.Tail.{Tail}
-use Rattle.tcp_flow.specs.Flow.{Flow, Reader, Setting, Arrival, Octets, End, Hears, setting, fresh, first_of, payload_came, closed, gap, step as flow_step, first_payload}
+use Rattle.tcp_flow.specs.Flow.{Flow, Reader, Setting, Arrival, Octets, End, Hears, setting, fresh, first_of, lives as has_stream, payload_came, closed, gap, step as flow_step, first_payload}
 use Rattle.tcp_flow.specs.Laws.{AllFollow, AllArePartsOf, IsPartOf, IsTailOf, IsGapless, IsSettled, due_of}
 use Rattle.tcp_flow.specs.State.{state}
 use Rattle.tcp_flow.proofs.Direct.{came_settled, fin_settled, heard_settled, gap_settled, fresh_settled}
@@ -32,7 +32,7 @@ some_same {X = X} x y e = ap (λ (o : Option X). unwrap_or o x) e
 -- the number that is due where a flow's stream lives
 abbrev pub due_in : Option FlowState → Option ℕ
 due_in None = None
-due_in (Some s) = cond (is_some s.live) (Some s.next) None
+due_in (Some s) = cond (has_stream s.live s.waits) (Some s.next) None
 
 -- the flows follow these payloads, each from its first event on
 pub record Follow (payloads : List Payload) (w : State) : Type 0 where
@@ -121,16 +121,16 @@ step_blocks : (A : Setting) (f : Flow) (a : Arrival) → blocks_of f.held ≤ A.
     blocks_of (flow_step A f a).held ≤ A.blocks
 unfolding flow_step
 step_blocks A f (Octets n octets arrival) l = room_after A f (payload f.id n octets arrival) refl l
-step_blocks A f (End n) l = omega (arith, l, fin_blocks A.faulted f n)
-step_blocks A f (Hears h) l = omega (arith, l, heard_blocks A.faulted (length f.held) h f)
+step_blocks A f (End n) l = omega (arith, l, fin_blocks A.reader f n)
+step_blocks A f (Hears h) l = omega (arith, l, heard_blocks A.reader (length f.held) h f)
 
 step_settled : (A : Setting) (f : Flow) (a : Arrival) → IsSettled f →
     (flow_step A f a).next < 2 ^ 32 → IsSettled (flow_step A f a)
 unfolding flow_step
 step_settled A f (Octets n octets arrival) t l = came_settled A f
     (payload f.id n octets arrival) t l
-step_settled A f (End n) t l = fin_settled A.faulted f n t l
-step_settled A f (Hears h) t l = heard_settled A.faulted (length f.held) h f t l
+step_settled A f (End n) t l = fin_settled A.reader f n t l
+step_settled A f (Hears h) t l = heard_settled A.reader (length f.held) h f t l
 
 -- what comes for a flow that has these payloads leaves it with those
 unfoldable pub Goes : List Payload → List Payload → Reader → State → ℕ → Arrival → Type 0
@@ -274,7 +274,8 @@ closed_follow payloads w id cause h = by (flow_at w id) refl
         (record { same = own; told = tt })).same in
         subst (Follow payloads) (sym (closed_some w id cause s e))
         (flow_behind payloads w id (closed f cause) h (some_within w.flows id s e) same
-        ((true_keeps (λ events. None) payloads).closes f cause
+        ((true_keeps
+        (record { faulted = λ es. None; lacking = λ es id. None }) payloads).closes f cause
         (flow_before payloads w id s h e)) (λ other apart.
         (closed_told (λ es. AllFollow payloads other None es (due_in (flow_at w other))) id
         (others_kept payloads id other (due_in (flow_at w other)) apart) f cause
@@ -285,7 +286,7 @@ pub gaps_follow : (payloads : List Payload) (F : Reader) (count rank : ℕ) (w :
 gaps_follow payloads F count rank w h =
     gaps_keep F (Follow payloads) (gapped_follow payloads F) count rank w h
 
-pub closes_follow : (payloads : List Payload) (count : ℕ) (w : State) → Follow payloads w →
-    Follow payloads (all_closed count w)
-closes_follow payloads count w h =
-    closes_keep (Follow payloads) (closed_follow payloads) count w h
+pub closes_follow : (payloads : List Payload) (ids : List ℕ) (w : State) → Follow payloads w →
+    Follow payloads (all_closed ids w)
+closes_follow payloads ids w h =
+    closes_keep (Follow payloads) (closed_follow payloads) ids w h

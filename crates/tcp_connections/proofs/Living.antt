@@ -1,18 +1,19 @@
 -- A flow whose stream lives is one of those of whose streams the listener was told that they live.
-use Rattle.std.proofs.Common.{◌≡◌, ℕ, ◌+◌, ◌<◌, Bool, true, false, cond, eqb, nat_eq, nat_lt, ◌&&◌, ◌||◌, List, [], ◌∷◌, ◌++◌, length, Option, Some, None, is_some, refl, sym, ◌∙◌, ap, subst, arith, inl, inr, true≢false}
+use Rattle.std.proofs.Common.{◌≡◌, ℕ, ◌+◌, ◌<◌, Bool, true, false, cond, eqb, nat_eq, nat_lt, not, ◌&&◌, ◌||◌, List, [], ◌∷◌, ◌++◌, length, Option, Some, None, is_some, refl, sym, ◌∙◌, ap, subst, arith, inl, inr, true≢false}
 use Rattle.std.specs.List.{AllByRecursion, IsDistinct, remove}
-use Rattle.std.proofs.lemmas.Bool.{cases_Bool, cond-true, cond-false, eqb-true, eq-eqb, ne_eqb, lt-ltb}
+use Rattle.std.proofs.lemmas.Bool.{and_parts, cases_Bool, cond-true, cond-false, eqb-true, eq-eqb, ne_eqb, lt-ltb}
 use Rattle.tcp_flow.specs.declared.flow.CloseCause.{CloseCause}
-use Rattle.tcp_flow.specs.declared.flow.CloseCause.TheVariants.{Fault}
-use Rattle.tcp_waiting.specs.Numbers.{age}
+use Rattle.tcp_flow.specs.declared.flow.CloseCause.TheVariants.{Fin, Reset, Syn, Fault, Gap, Room}
+use Rattle.tcp_flow.specs.declared.flow.CloseCause.TheVariants as causes
+use Rattle.tcp_waiting.specs.Numbers.{age, onward}
 use Rattle.tcp_waiting.specs.declared.arrival.Arrival as origin
 use Rattle.tcp_waiting.specs.Payload.{Payload, payload, has_as_much, put}
-use Rattle.tcp_flow.specs.Flow.{Flow, Event, Opens, Begins, Delivers, Closes, OfCapture, ComesFrom, Reader, Setting, Arrival, Octets, End, Hears, left, with_event, delivered, looked_through as flow_looked, tail_before, told_from, taken, at, closed, holding, gone_on, within_bounds, payload_came, fin_came, gap, fresh, first_payload, step, CaptureEvent, Passes, stopped, checked, number_after, handed, start_at, started}
+use Rattle.tcp_flow.specs.Flow.{Flow, Event, Opens, Begins, Delivers, Closes, OfCapture, ComesFrom, Reader, Setting, Arrival, Octets, End, Hears, left, with_event, delivered, looked_through as flow_looked, tail_before, told_from, taken, at, closed, holding, gone_on, within_bounds, payload_came, fin_came, gap, fresh, first_payload, step, CaptureEvent, Passes, stopped, checked, number_after, handed, start_at, started, resumed, awaiting, out_of_step, lives as has_stream}
 use Rattle.tcp_flow.specs.declared.tail.Tail.{Tail}
 use Rattle.tcp_flow.proofs.Tails.{looked_by}
 use Rattle.tcp_flow.proofs.Preserving.{Keeps, gone_on_keeps, relieved_keeps, heard_keeps, gap_keeps}
-use Rattle.tcp_streams.specs.Lives.{lives, lives_from, behind, begun, without, most_ids, AreIds}
-use Rattle.tcp_streams.proofs.Ids.{none_ids, begun_ids, without_ids, none_left}
+use Rattle.tcp_streams.specs.Lives.{lives, lives_from, behind, begun, ended, without, most_ids, AreIds}
+use Rattle.tcp_streams.proofs.Ids.{none_ids, begun_ids, ended_ids}
 use Rattle.tcp_streams.proofs.Order.{lives_more}
 use Rattle.tcp_connections.specs.State.{times}
 use Rattle.tcp_connections.proofs.Times.{times_last, times_own}
@@ -24,7 +25,7 @@ unfolding behind
 behind_ids live (Opens id endpoints) h = h
 behind_ids live (Begins id number) h = begun_ids id live h
 behind_ids live (Delivers id octets) h = h
-behind_ids live (Closes id cause) h = without_ids id live h
+behind_ids live (Closes id cause) h = ended_ids id cause live h
 behind_ids live (OfCapture event) h = h
 
 from_ids : (live : List ℕ) (es : List Event) → AreIds live → AreIds (lives_from live es)
@@ -51,19 +52,6 @@ times_without n j [] apart = refl
 times_without n j (x ∷ xs) apart = without_by n j x xs (nat_eq x n) refl apart
     (times_without n j xs apart)
 
-pub times_none : (n : ℕ) (xs : List ℕ) → AllByRecursion (λ y. eqb n y ≡ false) xs → times n xs ≡ 0
-unfolding times
-times_none n [] h = refl
-times_none n (x ∷ xs) h =
-    let other : nat_eq x n ≡ false =
-    ne_eqb x n (λ o. absurd (true≢false (sym (eq-eqb n x (sym o)) ∙ h.0))) in
-    let zero : ◌≡◌ {A = ℕ} (cond (nat_eq x n) 1 0) 0 = rw other refl in
-    omega (arith, zero, times_none n xs h.1)
-
--- what is taken away of ids that differ stands there no longer
-pub times_gone : (n : ℕ) (xs : List ℕ) → IsDistinct eqb xs → times n (without n xs) ≡ 0
-times_gone n xs d = times_none n (without n xs) (none_left n xs d)
-
 pub begun_own : (id : ℕ) (xs : List ℕ) → id < most_ids → 0 < times id (begun id xs)
 unfolding begun
 begun_own id xs l =
@@ -83,188 +71,209 @@ begun_beside id j xs apart =
       | inr e ↦ ap (times j) (cond-false (nat_lt id most_ids) (without id xs ++ id ∷ []) xs e)
     ]
 
--- a stream that lives is told so often; where `exact`, one that is told lives too
-abbrev pub IsTold : Bool → Bool → ℕ → Type 0
-IsTold true live n = live ≡ nat_lt 0 n
-IsTold false live n = live ≡ true → 0 < n
-
-pub told_on : (exact : Bool) (n : ℕ) → 0 < n → IsTold exact true n
-told_on true n l = sym (lt-ltb 0 n l)
-told_on false n l = λ e. l
-
-pub told_off : (exact : Bool) (n : ℕ) → n ≡ 0 → IsTold exact false n
-told_off true n e = sym (ap (nat_lt 0) e)
-told_off false n e = λ x. absurd (true≢false (sym x))
+-- a flow that is in step is told, if it is so often
+abbrev pub IsTold : Bool → ℕ → Type 0
+IsTold live n = live ≡ true → 0 < n
 
 -- what a flow of this id has done since: its stream is told where it lives, and those of others
 -- stay
-pub record IsTurn (exact : Bool) (id : ℕ) (es : List Event) (g : Flow) : Type 0 where
+pub record IsTurn (id : ℕ) (es : List Event) (g : Flow) : Type 0 where
   pub same : g.id ≡ id
-  pub own : IsTold exact (is_some g.live) (times id (lives g.events))
+  pub own : IsTold (is_some g.live) (times id (lives g.events))
   pub beside : (j : ℕ) → (j ≡ id → ⊥) → times j (lives g.events) ≡ times j (lives es)
 
 either : {X : Type 0} (P : X → Type 0) (b : Bool) (x y : X) → P x → P y → P (cond b x y)
 either P true x y p q = p
 either P false x y p q = q
 
-closing_turn : {exact : Bool} (id : ℕ) (es : List Event) (g : Flow) (n : ℕ) (cause : CloseCause) →
-    IsTurn exact id es g
-    → IsTurn exact id es (stopped g n cause)
+-- a close leaves how often other flows stand there
+pub times_ended : (n j : ℕ) (cause : CloseCause) (xs : List ℕ) → (j ≡ n → ⊥) →
+    times j (ended n cause xs) ≡ times j xs
+times_ended n j Gap xs apart = refl
+times_ended n j causes.End xs apart = refl
+times_ended n j Fin xs apart = times_without n j xs apart
+times_ended n j Reset xs apart = times_without n j xs apart
+times_ended n j Syn xs apart = times_without n j xs apart
+times_ended n j Fault xs apart = times_without n j xs apart
+times_ended n j Room xs apart = times_without n j xs apart
+
+closing_turn : (id : ℕ) (es : List Event) (g : Flow) (n : ℕ) (cause : CloseCause) →
+    IsTurn id es g → IsTurn id es (stopped g n cause)
 unfolding with_event behind
-closing_turn {exact} id es g n cause t =
+closing_turn id es g n cause t =
     record {
       same = t.same;
-      own = told_off exact (times id (lives (g.events ++ Closes g.id cause ∷ [])))
-          (ap (times id) (lives_more [] g.events (Closes g.id cause)
-          ∙ ap (λ (n : ℕ). without n (lives g.events)) t.same)
-          ∙ times_gone id (lives g.events) (lives_ids g.events).1);
+      own = λ e. absurd (true≢false (sym e));
       beside = λ j n. ap (times j) (lives_more [] g.events (Closes g.id cause))
-          ∙ times_without g.id j (lives g.events) (λ o. n (o ∙ t.same)) ∙ t.beside j n;
+          ∙ times_ended g.id j cause (lives g.events) (λ o. n (o ∙ t.same)) ∙ t.beside j n;
     }
 
-pub closed_turn : {exact : Bool} (id : ℕ) (es : List Event) (g : Flow) (cause : CloseCause) →
-    IsTurn exact id es g → IsTurn exact id es (closed g cause)
+pub closed_turn : (id : ℕ) (es : List Event) (g : Flow) (cause : CloseCause) →
+    IsTurn id es g → IsTurn id es (closed g cause)
 unfolding closed
-closed_turn {exact} id es g cause t =
-    either (IsTurn exact id es) (is_some g.live) (stopped g g.next cause) g
-    (closing_turn id es g g.next cause t) t
+closed_turn id es g cause t =
+    either (IsTurn id es) (has_stream g.live g.waits) (stopped g g.next cause) (out_of_step g)
+    (closing_turn id es g g.next cause t)
+    (record { same = t.same; own = λ e. absurd (true≢false (sym e)); beside = t.beside })
 
-checked_turn : {exact : Bool} (id : ℕ) (es : List Event) (g : Flow) (r : Option ℕ) →
-    IsTurn exact id es g → IsTurn exact id es (checked g r)
+-- a flow whose stream a gap closes may wait, since it keeps its place
+awaiting_turn : (id : ℕ) (es : List Event) (g : Flow) (count : ℕ) →
+    has_stream g.live g.waits ≡ true → IsTurn id es g → IsTurn id es (awaiting g count)
+unfolding closed with_event behind
+awaiting_turn id es g count live t =
+    let more = lives_more [] g.events (Closes g.id Gap) in
+    let next : ℕ = onward g.next count in
+    subst (λ (c : Flow). IsTurn id es (record c { next = next; live = Some next; waits = true }))
+    (sym (cond-true (has_stream g.live g.waits) (stopped g g.next Gap) (out_of_step g) live))
+    (record {
+      same = t.same;
+      own = λ e. subst (λ (xs : List ℕ). 0 < times id xs) (sym more)
+          (t.own (and_parts (is_some g.live) (not g.waits) live).0);
+      beside = λ j n. ap (times j) more ∙ t.beside j n;
+    })
+
+checked_turn : (id : ℕ) (es : List Event) (g : Flow) (r : Option ℕ) →
+    IsTurn id es g → IsTurn id es (checked g r)
 unfolding checked
-checked_turn {exact} id es g None t = t
-checked_turn {exact} id es g (Some at) t = closing_turn id es g (number_after g at) Fault t
+checked_turn id es g None t = t
+checked_turn id es g (Some at) t = closing_turn id es g (number_after g at) Fault t
 
-capture_turn : {exact : Bool} (id : ℕ) (es : List Event) (g : Flow) (e : CaptureEvent) →
-    IsTurn exact id es g → IsTurn exact id es (with_event g (OfCapture e))
+capture_turn : (id : ℕ) (es : List Event) (g : Flow) (e : CaptureEvent) →
+    IsTurn id es g → IsTurn id es (with_event g (OfCapture e))
 unfolding with_event behind
-capture_turn {exact} id es g e t =
+capture_turn id es g e t =
     let more = lives_more [] g.events (OfCapture e) in
     record {
       same = t.same;
-      own = subst (λ (xs : List ℕ). IsTold exact (is_some g.live) (times id xs)) (sym more) t.own;
+      own = subst (λ (xs : List ℕ). IsTold (is_some g.live) (times id xs)) (sym more) t.own;
       beside = λ j n. ap (times j) more ∙ t.beside j n;
     }
 
-delivered_turn : {exact : Bool} (F : Reader) (id : ℕ) (es : List Event) (g : Flow) (p : Payload) →
-    IsTurn exact id es g →
-    IsTurn exact id es (delivered F g p)
+delivered_turn : (F : Reader) (id : ℕ) (es : List Event) (g : Flow) (p : Payload) →
+    IsTurn id es g →
+    IsTurn id es (delivered F g p)
 unfolding delivered with_event behind
-delivered_turn {exact} F id es g p t =
+delivered_turn F id es g p t =
     let more = lives_more [] g.events (Delivers g.id p.octets) in
     let d : Flow = handed g p in
-    let u : IsTurn exact id es d =
+    let u : IsTurn id es d =
     record {
       same = t.same;
-      own = subst (λ (xs : List ℕ). IsTold exact (is_some g.live) (times id xs)) (sym more) t.own;
+      own = subst (λ (xs : List ℕ). IsTold (is_some g.live) (times id xs)) (sym more) t.own;
       beside = λ j n. ap (times j) more ∙ t.beside j n;
     } in
-    checked_turn id es d (F d.events) u
+    checked_turn id es d (F.faulted d.events) u
 
-started_turn : {exact : Bool} (id : ℕ) (es : List Event) (g : Flow) (n : ℕ) → id < most_ids →
-    IsTurn exact id es g → IsTurn exact id es (started g n)
+started_turn : (id : ℕ) (es : List Event) (g : Flow) (n : ℕ) → id < most_ids →
+    IsTurn id es g → IsTurn id es (started g n)
 unfolding with_event behind
-started_turn {exact} id es g n l t =
-    let more = lives_more [] g.events (Begins g.id (start_at g.since g.has_begun n)) in
+started_turn id es g n l t =
+    let more = lives_more [] g.events (Begins g.id (start_at g n)) in
     record {
       same = t.same;
-      own = told_on exact (times id (lives (started g n).events))
-          (subst (λ (xs : List ℕ). 0 < times id xs)
+      own = λ e. subst (λ (xs : List ℕ). 0 < times id xs)
           (sym (more ∙ ap (λ (k : ℕ). begun k (lives g.events)) t.same))
-          (begun_own id (lives g.events) l));
+          (begun_own id (lives g.events) l);
       beside = λ j k. ap (times j) more ∙ begun_beside g.id j (lives g.events) (λ o. k (o ∙ t.same))
           ∙ t.beside j k;
     }
 
-looked_turn : {exact : Bool} (F : Reader) (id : ℕ) (es : List Event) (g : Flow) (q : Payload)
-    (o : Option Tail) → id < most_ids → IsTurn exact id es g →
-    IsTurn exact id es (flow_looked F g q o)
-looked_turn {exact} F id es g q o l t =
-    looked_by F (IsTurn exact id es) (λ g p t. delivered_turn F id es g p t)
+resumed_turn : (id : ℕ) (es : List Event) (g : Flow) → id < most_ids → IsTurn id es g →
+    IsTurn id es (resumed g)
+resumed_turn id es g l t = either (IsTurn id es) g.waits (started g g.next) g
+    (started_turn id es g g.next l t) t
+
+looked_turn : (F : Reader) (id : ℕ) (es : List Event) (g : Flow) (q : Payload)
+    (o : Option Tail) → id < most_ids → IsTurn id es g →
+    IsTurn id es (flow_looked F g q o)
+looked_turn F id es g q o l t =
+    looked_by F (IsTurn id es) (λ g p t. delivered_turn F id es g p t)
     (λ g n t. started_turn id es g n l t)
     (λ g u xs t. capture_turn id es (record g { tail = u }) (Passes xs)
     (record { same = t.same; own = t.own; beside = t.beside })) g q o t
 
-from_turn : {exact : Bool} (id : ℕ) (es : List Event) (g : Flow) (p : Payload) →
-    IsTurn exact id es g → IsTurn exact id es (told_from g p)
+from_turn : (id : ℕ) (es : List Event) (g : Flow) (p : Payload) →
+    IsTurn id es g → IsTurn id es (told_from g p)
 unfolding told_from
-from_turn {exact} id es g p t = capture_turn id es g (ComesFrom p.arrival) t
+from_turn id es g p t = capture_turn id es g (ComesFrom p.arrival) t
 
-taken_turn : {exact : Bool} (F : Reader) (id : ℕ) (es : List Event) (g : Flow) (p : Payload) →
+taken_turn : (F : Reader) (id : ℕ) (es : List Event) (g : Flow) (p : Payload) →
     id < most_ids →
-    IsTurn exact id es g → IsTurn exact id es (taken F g p)
+    IsTurn id es g → IsTurn id es (taken F g p)
 unfolding taken
-taken_turn {exact} F id es g p l t =
+taken_turn F id es g p l t =
     let q : Payload = left g.next (is_some g.live) p in
     let h : Flow = told_from g p in
-    let u : IsTurn exact id es h = from_turn id es g p t in
-    let d : Flow = delivered F h q in
+    let u : IsTurn id es h = from_turn id es g p t in
+    let d : Flow = delivered F (resumed h) q in
     let o : Option Tail = tail_before g.tail q.number q.octets in
     let b : Flow = flow_looked F h q o in
-    either (IsTurn exact id es) (nat_eq (length q.octets) 0) g (cond (is_some g.live) d b) t
-    (either (IsTurn exact id es) (is_some g.live) d b (delivered_turn F id es h q u)
+    either (IsTurn id es) (nat_eq (length q.octets) 0) g (cond (is_some g.live) d b) t
+    (either (IsTurn id es) (is_some g.live) d b (delivered_turn F id es (resumed h) q
+    (resumed_turn id es h l u))
     (looked_turn F id es h q o l u))
 
-pub turn_keeps : {exact : Bool} (F : Reader) (id : ℕ) (es : List Event) → id < most_ids →
-    Keeps F (IsTurn exact id es)
-turn_keeps {exact} F id es l =
+pub turn_keeps : (F : Reader) (id : ℕ) (es : List Event) → id < most_ids →
+    Keeps F (IsTurn id es)
+turn_keeps F id es l =
     record {
       takes = λ f i e d t. taken_turn F id es (record f { held = remove f.held i }) (at f i) l
           (record { same = t.same; own = t.own; beside = t.beside });
       closes = λ f cause t. closed_turn id es f cause t;
+      waits = λ f count live t. awaiting_turn id es f count live t;
       fins = λ f n t. record { same = t.same; own = t.own; beside = t.beside };
     }
 
-came_turn : {exact : Bool} (A : Setting) (id : ℕ) (es : List Event) (f : Flow) (p : Payload) →
+came_turn : (A : Setting) (id : ℕ) (es : List Event) (f : Flow) (p : Payload) →
     id < most_ids →
-    IsTurn exact id es f → IsTurn exact id es (payload_came A f p)
+    IsTurn id es f → IsTurn id es (payload_came A f p)
 unfolding payload_came holding
-came_turn {exact} A id es f p l t =
+came_turn A id es f p l t =
     let q : Payload = left f.next (is_some f.live) p in
-    let k : Keeps A.faulted (IsTurn exact id es) = turn_keeps A.faulted id es l in
+    let k : Keeps A.reader (IsTurn id es) = turn_keeps A.reader id es l in
     let h : Flow = record f { held = put q f.held } in
-    either (IsTurn exact id es) (nat_eq (length q.octets) 0
+    either (IsTurn id es) (nat_eq (length q.octets) 0
     || has_as_much f.id q.number (length q.octets) f.held) f
-    (within_bounds A (length f.held + 1) (gone_on A.faulted h)) t
-    (relieved_keeps A (IsTurn exact id es) k (length f.held + 1) (gone_on A.faulted h)
-    (gone_on_keeps A.faulted (IsTurn exact id es) k h
+    (within_bounds A (length f.held + 1) (gone_on A.reader h)) t
+    (relieved_keeps A (IsTurn id es) k (length f.held + 1) (gone_on A.reader h)
+    (gone_on_keeps A.reader (IsTurn id es) k h
     (record { same = t.same; own = t.own; beside = t.beside })))
 
-fin_turn : {exact : Bool} (F : Reader) (id : ℕ) (es : List Event) (f : Flow) (n : ℕ) →
+fin_turn : (F : Reader) (id : ℕ) (es : List Event) (f : Flow) (n : ℕ) →
     id < most_ids →
-    IsTurn exact id es f → IsTurn exact id es (fin_came F f n)
+    IsTurn id es f → IsTurn id es (fin_came F f n)
 unfolding fin_came
-fin_turn {exact} F id es f n l t =
-    let k : Keeps F (IsTurn exact id es) = turn_keeps F id es l in
-    either (IsTurn exact id es) (is_some f.live && nat_eq (age f.next n) 0)
+fin_turn F id es f n l t =
+    let k : Keeps F (IsTurn id es) = turn_keeps F id es l in
+    either (IsTurn id es) (is_some f.live && nat_eq (age f.next n) 0)
     (gone_on F (record f { fin = Some n })) f
-    (gone_on_keeps F (IsTurn exact id es) k (record f { fin = Some n })
+    (gone_on_keeps F (IsTurn id es) k (record f { fin = Some n })
     (record { same = t.same; own = t.own; beside = t.beside })) t
 
-pub step_turn : {exact : Bool} (A : Setting) (id : ℕ) (es : List Event) (f : Flow) (a : Arrival) →
+pub step_turn : (A : Setting) (id : ℕ) (es : List Event) (f : Flow) (a : Arrival) →
     id < most_ids →
-    IsTurn exact id es f → IsTurn exact id es (step A f a)
+    IsTurn id es f → IsTurn id es (step A f a)
 unfolding step
-step_turn {exact} A id es f (Octets n octets arrival) l t = came_turn A id es f
+step_turn A id es f (Octets n octets arrival) l t = came_turn A id es f
     (payload f.id n octets arrival) l t
-step_turn {exact} A id es f (End n) l t = fin_turn A.faulted id es f n l t
-step_turn {exact} A id es f (Hears h) l t =
-    heard_keeps A.faulted (IsTurn exact id es) (turn_keeps A.faulted id es l) (length f.held) h f t
+step_turn A id es f (End n) l t = fin_turn A.reader id es f n l t
+step_turn A id es f (Hears h) l t =
+    heard_keeps A.reader (IsTurn id es) (turn_keeps A.reader id es l) (length f.held) h f t
 
-pub gap_turn : {exact : Bool} (F : Reader) (id : ℕ) (es : List Event) (f : Flow) →
-    id < most_ids → IsTurn exact id es f →
-    IsTurn exact id es (gap F f)
-gap_turn {exact} F id es f l t = gap_keeps F (IsTurn exact id es) (turn_keeps F id es l) f t
+pub gap_turn : (F : Reader) (id : ℕ) (es : List Event) (f : Flow) →
+    id < most_ids → IsTurn id es f →
+    IsTurn id es (gap F f)
+gap_turn F id es f l t = gap_keeps F (IsTurn id es) (turn_keeps F id es l) f t
 
 pub first_turn : (A : Setting) (id n : ℕ) (octets : List ℕ) (arrival : origin.Arrival)
     (held : List Payload) (es : List Event) → id < most_ids →
-    IsTurn false id es (first_payload A id n octets arrival held es)
+    IsTurn id es (first_payload A id n octets arrival held es)
 unfolding first_payload
 first_turn A id n octets arrival held es l =
     came_turn A id es (fresh id n held es) (payload id n octets arrival) l
     (record { same = refl; own = λ e. absurd (true≢false (sym e)); beside = λ j k. refl })
 
 -- what a flow has done so far is nothing yet
-pub no_turn : {exact : Bool} (id : ℕ) (f : Flow) → f.id ≡ id →
-    IsTold exact (is_some f.live) (times id (lives f.events)) → IsTurn exact id f.events f
-no_turn {exact} id f same own = record { same = same; own = own; beside = λ j n. refl }
+pub no_turn : (id : ℕ) (f : Flow) → f.id ≡ id →
+    IsTold (is_some f.live) (times id (lives f.events)) → IsTurn id f.events f
+no_turn id f same own = record { same = same; own = own; beside = λ j n. refl }

@@ -1,23 +1,23 @@
 -- What a flow delivers is of its own segments, whatever comes for it.
 use Rattle.std.proofs.Common.{◌≡◌, ℕ, ◌+◌, ◌^◌, ◌<◌, Bool, true, false, cond, nat_eq, nat_lt, ◌&&◌, ◌||◌, not, List, [], ◌∷◌, ◌++◌, length, drop, get_or, Option, Some, None, is_some, unwrap_or, refl, sym, ◌∙◌, ap, subst, arith, inl, inr, true≢false}
 use Rattle.std.specs.List.{AllByRecursion, remove}
-use Rattle.std.proofs.lemmas.Bool.{cases_Bool, cond-true, cond-false, and_cases, not-true, and_right, not_from_true, both_ways, eq-eqb}
+use Rattle.std.proofs.lemmas.Bool.{cases_Bool, cond-true, cond-false, and_cases, not-true, and_left, and_right, not_from_true, both_ways, eq-eqb}
 use Rattle.std.proofs.lemmas.List.{drop-drop}
 use Rattle.tcp_segment.specs.declared.endpoint.Flow.{Flow as Endpoints}
 use Rattle.tcp_segment.specs.Segments.{Segment}
 use Rattle.tcp_flow.specs.declared.flow.CloseCause.{CloseCause}
 use Rattle.tcp_flow.specs.declared.tail.Tail.{Tail}
-use Rattle.tcp_flow.specs.declared.flow.CloseCause.TheVariants.{Fault}
+use Rattle.tcp_flow.specs.declared.flow.CloseCause.TheVariants.{Fault, Gap}
 use Rattle.tcp_waiting.specs.Numbers.{onward, age, is_to_come}
 use Rattle.tcp_waiting.specs.declared.arrival.Arrival as origin
 use Rattle.tcp_waiting.specs.Payload.{without_first, Payload, payload, no_payload, window, has_as_much, put, place_of, key_of}
 use Rattle.tcp_waiting.proofs.Held.{all_at, all_insert, all_remove}
 use Rattle.tcp_waiting.proofs.Order.{first_within, first_own}
-use Rattle.tcp_flow.specs.Flow.{Flow, Event, Begins, Delivers, Closes, OfCapture, ComesFrom, Reader, Setting, Arrival, Octets, End, Hears, left, with_event, delivered, looked_through, tail_before, told_from, taken, first_of, is_due, at, closed, holding, gone_on, within_bounds, payload_came, fin_came, gap, step, CaptureEvent, Passes, stopped, checked, number_after, handed, start_at, started}
+use Rattle.tcp_flow.specs.Flow.{Flow, Event, Begins, Delivers, Closes, OfCapture, ComesFrom, Reader, Setting, lives, out_of_step, resumed, awaiting, Arrival, Octets, End, Hears, left, with_event, delivered, looked_through, tail_before, told_from, taken, first_of, is_due, at, closed, holding, gone_on, within_bounds, payload_came, fin_came, gap, step, CaptureEvent, Passes, stopped, checked, number_after, handed, start_at, started}
 use Rattle.tcp_flow.proofs.Preserving.{Keeps, gone_on_keeps, relieved_keeps, heard_keeps, gap_keeps}
 use Rattle.tcp_flow.specs.Laws.{IsTailOf}
 use Rattle.tcp_flow.proofs.Tails.{Looks, looked_keeps, in_vain}
-use Rattle.tcp_flow.proofs.Truth.{reached}
+use Rattle.tcp_flow.proofs.Truth.{reached, closed_idle, resumed_lives, resumed_next}
 use Rattle.tcp_connections.specs.Connections.{first_number}
 use Rattle.tcp_connections.specs.Owned.{IsPartOf, Standing, Unopened, Idle, Live, is_of, behind, MayCome, standing, AllMayCome}
 
@@ -143,7 +143,7 @@ pub record IsOwn (segments : List Segment) (owners : ℕ → Option Endpoints) (
   pub next : f.next < 2 ^ 32
   pub held : AllByRecursion (IsPartOfOwn segments owners) f.held
   pub tail : HasOwnTail segments o f.tail
-  pub stands : Stands segments id f.events (stand_of o (is_some f.live) f.next)
+  pub stands : Stands segments id f.events (stand_of o (lives f.live f.waits) f.next)
 
 pub all_push : (P : Payload → Type 0) (ps : List Payload) (p : Payload) → AllByRecursion P ps →
     P p → AllByRecursion P (ps ++ p ∷ [])
@@ -152,12 +152,12 @@ all_push P (q ∷ ps) p h x = (h.0, all_push P ps p h.1 x)
 
 module _ (segments : List Segment) (owners : ℕ → Option Endpoints) (id : ℕ) (o : Endpoints)
     (own : owners id ≡ Some o) where
-  live_stands : (g : Flow) → is_some g.live ≡ true → IsOwn segments owners id o g →
+  live_stands : (g : Flow) → lives g.live g.waits ≡ true → IsOwn segments owners id o g →
       Stands segments id g.events (Live o g.next)
   live_stands g live t = subst (Stands segments id g.events)
-      (cond-true (is_some g.live) (Live o g.next) (Idle o) live) t.stands
+      (cond-true (lives g.live g.waits) (Live o g.next) (Idle o) live) t.stands
 
-  closing_own : (g : Flow) (n : ℕ) (cause : CloseCause) → is_some g.live ≡ true →
+  closing_own : (g : Flow) (n : ℕ) (cause : CloseCause) → lives g.live g.waits ≡ true →
       IsOwn segments owners id o g → IsOwn segments owners id o (stopped g n cause)
   unfolding with_event
   closing_own g n cause live t = record {
@@ -169,7 +169,7 @@ module _ (segments : List Segment) (owners : ℕ → Option Endpoints) (id : ℕ
         (eq-eqb g.id id t.same) tt (live_stands g live t);
   }
 
-  checked_own : (g : Flow) (r : Option ℕ) → is_some g.live ≡ true →
+  checked_own : (g : Flow) (r : Option ℕ) → lives g.live g.waits ≡ true →
       IsOwn segments owners id o g → IsOwn segments owners id o (checked g r)
   unfolding checked
   checked_own g None live t = t
@@ -183,8 +183,20 @@ module _ (segments : List Segment) (owners : ℕ → Option Endpoints) (id : ℕ
     next = t.next;
     held = t.held;
     tail = t.tail;
-    stands = other_more segments id g.events (stand_of o (is_some g.live) g.next)
+    stands = other_more segments id g.events (stand_of o (lives g.live g.waits) g.next)
         (OfCapture e) refl t.stands;
+  }
+
+  -- a flow that isn't live is as well out of step
+  idle_own : (g : Flow) → lives g.live g.waits ≡ false → IsOwn segments owners id o g →
+      IsOwn segments owners id o (out_of_step g)
+  idle_own g dead t = record {
+    same = t.same;
+    next = t.next;
+    held = t.held;
+    tail = t.tail;
+    stands = subst (Stands segments id g.events)
+        (cond-false (lives g.live g.waits) (Live o g.next) (Idle o) dead) t.stands;
   }
 
   pub closed_own : (g : Flow) (cause : CloseCause) → IsOwn segments owners id o g →
@@ -192,16 +204,34 @@ module _ (segments : List Segment) (owners : ℕ → Option Endpoints) (id : ℕ
   unfolding closed
   closed_own g cause t =
       let c : Flow = stopped g g.next cause in
-      elim (cases_Bool (is_some g.live)) [
-        | inl e ↦ subst (IsOwn segments owners id o) (sym (cond-true (is_some g.live) c g e))
-            (closing_own g g.next cause e t)
-        | inr e ↦ subst (IsOwn segments owners id o) (sym (cond-false (is_some g.live) c g e)) t
+      let idle : Flow = out_of_step g in
+      elim (cases_Bool (lives g.live g.waits)) [
+        | inl e ↦ subst (IsOwn segments owners id o)
+            (sym (cond-true (lives g.live g.waits) c idle e)) (closing_own g g.next cause e t)
+        | inr e ↦ subst (IsOwn segments owners id o)
+            (sym (cond-false (lives g.live g.waits) c idle e)) (idle_own g e t)
       ]
+
+  -- a flow that waits stands idle
+  awaiting_own : (g : Flow) (count : ℕ) → IsOwn segments owners id o g →
+      IsOwn segments owners id o (awaiting g count)
+  awaiting_own g count t =
+      let c : IsOwn segments owners id o (closed g Gap) = closed_own g Gap t in
+      let small : onward g.next count < 2 ^ 32 = omega arith in
+      record {
+        same = c.same;
+        next = small;
+        held = c.held;
+        tail = c.tail;
+        stands = subst (Stands segments id (closed g Gap).events)
+            (cond-false (lives (closed g Gap).live (closed g Gap).waits)
+            (Live o (closed g Gap).next) (Idle o) (closed_idle g Gap)) c.stands;
+      }
 
   delivered_own : (F : Reader) (g : Flow) (p : Payload) (n : ℕ) → g.id ≡ id →
       AllByRecursion (IsPartOfOwn segments owners) g.held → HasOwnTail segments o g.tail →
       Stands segments id g.events (Live o n)
-      → IsPartOf segments o n p.octets → p.number ≡ n → is_some g.live ≡ true
+      → IsPartOf segments o n p.octets → p.number ≡ n → lives g.live g.waits ≡ true
       → IsOwn segments owners id o (delivered F g p)
   unfolding delivered with_event
   delivered_own F g p n same held tail stands part e live =
@@ -212,37 +242,37 @@ module _ (segments : List Segment) (owners : ℕ → Option Endpoints) (id : ℕ
       subst (λ (k : ℕ). Stands segments id d.events (Live o (onward k (length p.octets)))) (sym e)
       (own_more segments id g.events (Live o n) (Delivers g.id p.octets) (eq-eqb g.id id same) part
       stands) in
-      checked_own d (F d.events) live
+      checked_own d (F.faulted d.events) live
       (record {
         same = same;
         next = small;
         held = held;
         tail = tail;
         stands = subst (Stands segments id d.events)
-            (sym (cond-true (is_some g.live) (Live o next) (Idle o) live)) there;
+            (sym (cond-true (lives g.live g.waits) (Live o next) (Idle o) live)) there;
       })
 
   delivered_live : (F : Reader) (g : Flow) (p : Payload) → IsOwn segments owners id o g →
-      is_some g.live ≡ true → p.number ≡ g.next → IsPartOf segments o p.number p.octets →
+      lives g.live g.waits ≡ true → p.number ≡ g.next → IsPartOf segments o p.number p.octets →
       IsOwn segments owners id o (delivered F g p)
   delivered_live F g p t live due part =
       delivered_own F g p g.next t.same t.held t.tail (live_stands g live t)
       (subst (λ (n : ℕ). IsPartOf segments o n p.octets) due part) due live
 
-  started_own : (g : Flow) (n : ℕ) → n < 2 ^ 32 → is_some g.live ≡ false →
+  started_own : (g : Flow) (n : ℕ) → n < 2 ^ 32 → lives g.live g.waits ≡ false →
       IsOwn segments owners id o g → IsOwn segments owners id o (started g n)
   unfolding with_event
   started_own g n small dead t =
       let idle : Stands segments id g.events (Idle o) =
       subst (Stands segments id g.events)
-      (cond-false (is_some g.live) (Live o g.next) (Idle o) dead) t.stands in
+      (cond-false (lives g.live g.waits) (Live o g.next) (Idle o) dead) t.stands in
       record {
         same = t.same;
         next = small;
         held = t.held;
         tail = λ u e. absurd (true≢false (sym (ap is_some e)));
         stands = own_more segments id g.events (Idle o)
-            (Begins g.id (start_at g.since g.has_begun n)) (eq-eqb g.id id t.same) tt idle;
+            (Begins g.id (start_at g n)) (eq-eqb g.id id t.same) tt idle;
       }
 
   passed_own : (g : Flow) (t : Option Tail) (xs : List ℕ) → HasOwnTail segments o t →
@@ -258,12 +288,24 @@ module _ (segments : List Segment) (owners : ℕ → Option Endpoints) (id : ℕ
   looks_own : (F : Reader) → Looks F (IsPartOf segments o) (IsOwn segments owners id o)
   looks_own F = record {
     delivers = λ g p t live due part. delivered_live F g p t live due part;
-    starts = λ g n small dead t. started_own g n small dead t;
+    starts = λ g n small dead t. started_own g n small
+        (and_left (is_some g.live) (not g.waits) dead) t;
     passes = λ g u xs tail t. passed_own g u xs tail t;
     tail = λ g u t e. t.tail u e;
     skips = λ n i xs h. part_more segments o n i xs h;
     small = λ n xs h. part_small segments o n xs h;
   }
+
+  resumed_own : (g : Flow) → IsOwn segments owners id o g → IsOwn segments owners id o (resumed g)
+  resumed_own g t =
+      elim (cases_Bool g.waits) [
+        | inl e ↦ subst (IsOwn segments owners id o)
+            (sym (cond-true g.waits (started g g.next) g e))
+            (started_own g g.next t.next
+            (and_right (is_some g.live) (not g.waits) (not_from_true g.waits e)) t)
+        | inr e ↦ subst (IsOwn segments owners id o)
+            (sym (cond-false g.waits (started g g.next) g e)) t
+      ]
 
   from_own : (g : Flow) (p : Payload) → IsOwn segments owners id o g →
       IsOwn segments owners id o (told_from g p)
@@ -281,15 +323,16 @@ module _ (segments : List Segment) (owners : ℕ → Option Endpoints) (id : ℕ
       part_left segments o f.next (is_some f.live) p part in
       let g : Flow = told_from f p in
       let u : IsOwn segments owners id o g = from_own f p t in
-      let d : Flow = delivered F g q in
+      let r : Flow = resumed g in
+      let d : Flow = delivered F r q in
       let b : Flow = looked_through F g q (tail_before f.tail q.number q.octets) in
       let all : IsOwn segments owners id o (cond (is_some f.live) d b) =
       elim (cases_Bool (is_some f.live)) [
         | inl e ↦
             (let due : q.number ≡ f.next = due_left f.next (is_some f.live) p t.next e (reach e) in
             subst (IsOwn segments owners id o) (sym (cond-true (is_some f.live) d b e))
-            (delivered_own F g q f.next t.same t.held t.tail (live_stands g e u)
-            (subst (λ (n : ℕ). IsPartOf segments o n q.octets) due has) due e))
+            (delivered_live F r q (resumed_own g u) (resumed_lives g e) (due ∙ sym (resumed_next g))
+            has))
         | inr e ↦ subst (IsOwn segments owners id o) (sym (cond-false (is_some f.live) d b e))
             (looked_keeps F (IsPartOf segments o) (IsOwn segments owners id o) (looks_own F) g q e
             has u)
@@ -324,6 +367,7 @@ module _ (segments : List Segment) (owners : ℕ → Option Endpoints) (id : ℕ
               | inr x ↦ x
             ]);
         closes = λ f cause t. closed_own f cause t;
+        waits = λ f count live t. awaiting_own f count t;
         fins = λ f n t. record {
           same = t.same;
           next = t.next;
@@ -339,7 +383,7 @@ module _ (segments : List Segment) (owners : ℕ → Option Endpoints) (id : ℕ
   unfolding payload_came holding
   came_own A f p mine part t =
       let q : Payload = left f.next (is_some f.live) p in
-      let k : Keeps A.faulted (IsOwn segments owners id o) = own_keeps A.faulted in
+      let k : Keeps A.reader (IsOwn segments owners id o) = own_keeps A.reader in
       let h : Flow = record f { held = put q f.held } in
       let of : owners q.flow ≡ Some o =
       ap owners (flow_left f.next (is_some f.live) p ∙ mine) ∙ own in
@@ -356,9 +400,9 @@ module _ (segments : List Segment) (owners : ℕ → Option Endpoints) (id : ℕ
       } in
       either (IsOwn segments owners id o) (nat_eq (length q.octets) 0
       || has_as_much f.id q.number (length q.octets) f.held) f
-      (within_bounds A (length f.held + 1) (gone_on A.faulted h)) t
-      (relieved_keeps A (IsOwn segments owners id o) k (length f.held + 1) (gone_on A.faulted h)
-      (gone_on_keeps A.faulted (IsOwn segments owners id o) k h v))
+      (within_bounds A (length f.held + 1) (gone_on A.reader h)) t
+      (relieved_keeps A (IsOwn segments owners id o) k (length f.held + 1) (gone_on A.reader h)
+      (gone_on_keeps A.reader (IsOwn segments owners id o) k h v))
 
   fin_own : (F : Reader) (f : Flow) (n : ℕ) → IsOwn segments owners id o f →
       IsOwn segments owners id o (fin_came F f n)
@@ -378,9 +422,9 @@ module _ (segments : List Segment) (owners : ℕ → Option Endpoints) (id : ℕ
   unfolding step
   step_own A f (Octets n octets arrival) part t =
       came_own A f (payload f.id n octets arrival) t.same (part n octets arrival refl) t
-  step_own A f (End n) part t = fin_own A.faulted f n t
-  step_own A f (Hears h) part t = heard_keeps A.faulted (IsOwn segments owners id o)
-      (own_keeps A.faulted) (length f.held) h f t
+  step_own A f (End n) part t = fin_own A.reader f n t
+  step_own A f (Hears h) part t = heard_keeps A.reader (IsOwn segments owners id o)
+      (own_keeps A.reader) (length f.held) h f t
 
   pub gap_own : (F : Reader) (f : Flow) → IsOwn segments owners id o f →
       IsOwn segments owners id o (gap F f)

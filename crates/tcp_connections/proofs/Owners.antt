@@ -8,7 +8,7 @@ use Rattle.tcp_flow.specs.declared.flow.CloseCause.{CloseCause}
 use Rattle.tcp_flow.specs.declared.flow.FlowState.{FlowState}
 use Rattle.tcp_waiting.specs.declared.arrival.Arrival as origin
 use Rattle.tcp_waiting.specs.Payload.{Payload, payload}
-use Rattle.tcp_flow.specs.Flow.{Flow, Event, Opens, Begins, Delivers, Closes, OfCapture, flow_of, Reader, Setting, Arrival, Octets, setting, fresh, payload_came, closed, gap, step as flow_step, first_payload}
+use Rattle.tcp_flow.specs.Flow.{Flow, Event, Opens, Begins, Delivers, Closes, OfCapture, flow_of, lives as has_stream, Reader, Setting, Arrival, Octets, setting, fresh, payload_came, closed, gap, step as flow_step, first_payload}
 use Rattle.tcp_flow.specs.State.{state}
 use Rattle.tcp_flow.proofs.Told.{IsKept, closed_told, came_told, step_told, gap_told}
 use Rattle.tcp_streams.specs.declared.pair.EndpointPair.{EndpointPair}
@@ -52,7 +52,7 @@ abbrev pub StandsAs : List Segment → Standing → Option FlowState → Type 0
 StandsAs segments s None = IsQuiet s
 StandsAs segments s (Some f) =
     (o : Endpoints)
-    × ((s ≡ stand_of o (is_some f.live) f.next) × HasOwnTail segments o f.tail)
+    × ((s ≡ stand_of o (has_stream f.live f.waits) f.next) × HasOwnTail segments o f.tail)
 
 -- the flows of the connections that are known are theirs
 abbrev pub AreTheirs : (ℕ → Option Endpoints) → List EndpointPair → List ℕ → Type 0
@@ -115,7 +115,7 @@ owned_flow segments w id o f h l own t others =
     λ j.
     elim (cases_eq j id) [
       | inl y ↦ ap (owner_of f.events) y
-          ∙ ap owner t.stands.is ∙ owner_stand o (is_some f.live) f.next ∙ sym own
+          ∙ ap owner t.stands.is ∙ owner_stand o (has_stream f.live f.waits) f.next ∙ sym own
           ∙ ap (owner_of w.events) (sym y)
       | inr n ↦ ap owner (others j n).is
     ] in
@@ -144,7 +144,8 @@ owned_flow segments w id o f h l own t others =
 -- a flow that there is, before it does anything
 pub own_before : (segments : List Segment) (w : State) (id : ℕ) (s : FlowState) (o : Endpoints) →
     Owns segments w → s.id ≡ id → s.next < 2 ^ 32 →
-    stands_for w.events id ≡ stand_of o (is_some s.live) s.next → HasOwnTail segments o s.tail →
+    stands_for w.events id ≡ stand_of o (has_stream s.live s.waits) s.next →
+    HasOwnTail segments o s.tail →
     IsOwn segments (owner_of w.events) id o (state s w.held w.events)
 own_before segments w id s o h same small is tail = record {
   same = same;
@@ -177,7 +178,7 @@ arrived_owns segments F w id a numbers part h = by (flow_at w id) refl
         let st = subst (StandsAs segments (stands_for w.events id)) e (h.flows id) in
         let o : Endpoints = st.0 in
         let own : owner_of w.events id ≡ Some o =
-        ap owner st.1.0 ∙ owner_stand o (is_some s.live) s.next in
+        ap owner st.1.0 ∙ owner_stand o (has_stream s.live s.waits) s.next in
         let same : s.id ≡ id = (numbers id s e).0 in
         let t : IsOwn segments (owner_of w.events) id o f =
         own_before segments w id s o h same (numbers id s e).1 st.1.0 st.1.1 in
@@ -231,7 +232,7 @@ gapped_owns segments F w id numbers h = by (flow_at w id) refl
         let st = subst (StandsAs segments (stands_for w.events id)) e (h.flows id) in
         let o : Endpoints = st.0 in
         let own : owner_of w.events id ≡ Some o =
-        ap owner st.1.0 ∙ owner_stand o (is_some s.live) s.next in
+        ap owner st.1.0 ∙ owner_stand o (has_stream s.live s.waits) s.next in
         let same : s.id ≡ id = (numbers id s e).0 in
         let t : IsOwn segments (owner_of w.events) id o f =
         own_before segments w id s o h same (numbers id s e).1 st.1.0 st.1.1 in
@@ -253,7 +254,7 @@ closed_owns segments w id cause numbers h = by (flow_at w id) refl
         let st = subst (StandsAs segments (stands_for w.events id)) e (h.flows id) in
         let o : Endpoints = st.0 in
         let own : owner_of w.events id ≡ Some o =
-        ap owner st.1.0 ∙ owner_stand o (is_some s.live) s.next in
+        ap owner st.1.0 ∙ owner_stand o (has_stream s.live s.waits) s.next in
         let same : s.id ≡ id = (numbers id s e).0 in
         let t : IsOwn segments (owner_of w.events) id o f =
         own_before segments w id s o h same (numbers id s e).1 st.1.0 st.1.1 in

@@ -18,7 +18,7 @@ end_owns segments payloads F w t h =
     let v : State = gaps_from F many 0 w in
     (closes_keep P (λ u id cause o.
     (closed_follow payloads u id cause o.0, closed_owns segments u id cause o.0.own o.1))
-    (length (lives v.events)) v
+    (lives v.events) v
     (gaps_keep F P (λ u id o.
     (gapped_follow payloads F u id o.0, gapped_owns segments F u id o.0.own o.1)) many 0 w
     (t, h))).1

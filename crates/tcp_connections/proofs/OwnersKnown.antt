@@ -8,9 +8,9 @@ use Rattle.tcp_segment.specs.Segments.{Segment}
 use Rattle.tcp_flow.specs.declared.flow.CloseCause.{CloseCause}
 use Rattle.tcp_flow.specs.declared.flow.FlowState.{FlowState}
 use Rattle.tcp_waiting.specs.Payload.{Payload, count_of}
-use Rattle.tcp_flow.specs.Flow.{Flow, Event, Opens, OfCapture, CaptureEvent, closed, held_by_others}
+use Rattle.tcp_flow.specs.Flow.{Flow, Event, Opens, OfCapture, CaptureEvent, lives as has_stream, closed, held_by_others}
 use Rattle.tcp_flow.specs.State.{state}
-use Rattle.tcp_flow.proofs.Room.{closed_dead}
+use Rattle.tcp_flow.proofs.Truth.{closed_idle}
 use Rattle.tcp_flow.proofs.Told.{closed_told}
 use Rattle.tcp_streams.specs.declared.pair.EndpointPair.{EndpointPair}
 use Rattle.tcp_streams.specs.declared.pair.Side.{Side}
@@ -51,14 +51,14 @@ forgot_owns segments w id cause numbers h =
     let st = subst (StandsAs segments (stands_for w.events id)) e (h.flows id) in
     let o : Endpoints = st.0 in
     let own : owner_of w.events id ≡ Some o =
-    ap owner st.1.0 ∙ owner_stand o (is_some s.live) s.next in
+    ap owner st.1.0 ∙ owner_stand o (has_stream s.live s.waits) s.next in
     let same : s.id ≡ id = (numbers id s e).0 in
     let t : IsOwn segments (owner_of w.events) id o c =
     closed_own segments (owner_of w.events) id o own f cause
     (own_before segments w id s o h same (numbers id s e).1 st.1.0 st.1.1) in
     let idle : stands_for c.events id ≡ Idle o =
     t.stands.is
-    ∙ cond-false (is_some c.live) (Live o c.next) (Idle o) (closed_dead f cause) in
+    ∙ cond-false (has_stream c.live c.waits) (Live o c.next) (Idle o) (closed_idle f cause) in
     let others : (j : ℕ) → (j ≡ id → ⊥) → Stands segments j c.events (stands_for w.events j) =
     λ j n. (closed_told (λ es. Stands segments j es (stands_for w.events j)) id
     (others_stand segments j id (stands_for w.events j) n) f cause

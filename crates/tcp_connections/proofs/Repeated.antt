@@ -1,5 +1,5 @@
 -- What each gap keeps, and each close, all of them keep.
-use Rattle.std.proofs.Common.{ℕ, zero, suc, Bool, true, false, nat_lt, length, get_or}
+use Rattle.std.proofs.Common.{ℕ, zero, suc, Bool, true, false, nat_lt, List, [], ◌∷◌, length, get_or}
 use Rattle.tcp_flow.specs.declared.flow.CloseCause.{CloseCause}
 use Rattle.tcp_flow.specs.Flow.{Reader}
 use Rattle.tcp_streams.specs.Lives.{lives}
@@ -43,17 +43,10 @@ gaps_keep F P k (suc count) rank w h =
     ]
 
 pub closes_keep : (P : State → Type 0) →
-    ((w : State) (id : ℕ) (cause : CloseCause) → P w → P (closed_at w id cause)) → (count : ℕ)
-    (w : State) → P w → P (all_closed count w)
+    ((w : State) (id : ℕ) (cause : CloseCause) → P w → P (closed_at w id cause)) → (ids : List ℕ)
+    (w : State) → P w → P (all_closed ids w)
 unfolding all_closed
-closes_keep P k zero w h = h
-closes_keep P k (suc count) w h =
-    let id : ℕ = get_or (lives w.events) 0 0 in
-    let v : State = closed_at w id (end_cause (flow_at w id)) in
-    elim (nat_lt 0 (length (lives w.events))) as (λ (b : Bool). P (elim b [
-      | false ↦ w
-      | true ↦ all_closed count v
-    ])) [
-      | false ↦ h
-      | true ↦ closes_keep P k count v (k w id (end_cause (flow_at w id)) h)
-    ]
+closes_keep P k [] w h = h
+closes_keep P k (id ∷ ids) w h =
+    let cause : CloseCause = end_cause (flow_at w id) in
+    closes_keep P k ids (closed_at w id cause) (k w id cause h)

@@ -141,7 +141,7 @@ ended_rooms F w =
     let many : ℕ = length w.held + length (lives w.events) in
     let v : State = gaps_from F many 0 w in
     let P : State → Type 0 = λ u. rooms_in u ≡ rooms_in w in
-    closes_keep P (λ u id cause o. closed_rooms u id cause ∙ o) (length (lives v.events)) v
+    closes_keep P (λ u id cause o. closed_rooms u id cause ∙ o) (lives v.events) v
     (gaps_keep F P (λ u id o. gapped_rooms F u id ∙ o) many 0 w refl)
 
 -- ---- No event is in a flow beyond them.

@@ -12,11 +12,10 @@ use Rattle.tcp_flow.specs.declared.hearing.Heard.{Heard}
 use Rattle.tcp_flow.specs.declared.flow.CloseCause.{CloseCause}
 use Rattle.tcp_flow.specs.declared.flow.CloseCause.TheVariants.{Reset, Room}
 use Rattle.tcp_flow.specs.declared.flow.FlowState.{FlowState}
-use Rattle.tcp_flow.specs.Flow.{Flow, Event, CaptureEvent, Opens, OfCapture, Passes, Reader, Setting, Arrival, Octets, End, Hears, setting, payload_came, closed, step as flow_step, held_by_others}
+use Rattle.tcp_flow.specs.Flow.{Flow, Event, CaptureEvent, Opens, OfCapture, Passes, lives as has_stream, Reader, Setting, Arrival, Octets, End, Hears, setting, payload_came, closed, step as flow_step, held_by_others}
 use Rattle.tcp_flow.specs.Laws.{AllFollow, OwnMayFollow, AllArePartsOf, IsGapless, due_of}
 use Rattle.tcp_flow.specs.State.{state}
-use Rattle.tcp_flow.proofs.Room.{closed_dead}
-use Rattle.tcp_flow.proofs.Truth.{runs_more, came_true, fin_true, heard_true, true_keeps}
+use Rattle.tcp_flow.proofs.Truth.{runs_more, closed_idle, came_true, fin_true, heard_true, true_keeps}
 use Rattle.tcp_flow.proofs.Told.{same_flow, closed_told}
 use Rattle.tcp_streams.specs.declared.pair.EndpointPair.{EndpointPair}
 use Rattle.tcp_streams.specs.declared.pair.Side.{Side}
@@ -248,13 +247,14 @@ flow_forgotten_at segments w id cause h =
     let c : Flow = closed f cause in
     let own : s.id ≡ id = (h.follow.own id s e).0 in
     let within : id < length w.flows = some_within w.flows id s e in
-    let g : IsGapless h.payloads c = (true_keeps (λ events. None) h.payloads).closes f cause
+    let g : IsGapless h.payloads c = (true_keeps
+    (record { faulted = λ es. None; lacking = λ es id. None }) h.payloads).closes f cause
     (flow_before h.payloads w id s h.follow e) in
     let same : c.id ≡ id = (closed_told (λ es. Unit {0}) id (λ es event of x. tt) f cause
     (record { same = own; told = tt })).same in
     let over : AllFollow h.payloads id None c.events None =
     subst (AllFollow h.payloads id None c.events)
-    (cond-false (is_some c.live) (Some c.next) None (closed_dead f cause))
+    (cond-false (has_stream c.live c.waits) (Some c.next) None (closed_idle f cause))
     (subst (λ (n : ℕ). AllFollow h.payloads n None c.events (due_of c)) same g.events) in
     record {
       sound = forgot_sound w id c.events h.sound within;

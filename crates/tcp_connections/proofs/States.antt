@@ -98,35 +98,35 @@ beside_own id own held held' e h = subst (λ (n : ℕ). held_by_others n held' �
     e h
 
 -- the streams that live are told, where a flow is another, and so is what has happened
-pub told_flow : (exact : Bool) (w : State) (id : ℕ) (o : Option FlowState) (events : List Event) →
-    ((j : ℕ) → IsTold exact (is_some (live_at w j)) (times j (lives w.events)))
-    → id < length w.flows → IsTold exact (is_some (live_of o)) (times id (lives events)) →
+pub told_flow : (w : State) (id : ℕ) (o : Option FlowState) (events : List Event) →
+    ((j : ℕ) → IsTold (is_some (live_at w j)) (times j (lives w.events)))
+    → id < length w.flows → IsTold (is_some (live_of o)) (times id (lives events)) →
     ((j : ℕ) → (j ≡ id → ⊥) → times j (lives events) ≡ times j (lives w.events))
-    → (j : ℕ) → IsTold exact (is_some (live_of (get_or (set w.flows id o) j None)))
+    → (j : ℕ) → IsTold (is_some (live_of (get_or (set w.flows id o) j None)))
     (times j (lives events))
-told_flow exact w id o events told l own beside j =
+told_flow w id o events told l own beside j =
     elim (cases_eq j id) [
       | inl y ↦
           (let at : get_or (set w.flows id o) j None ≡ o =
           ap (λ (k : ℕ). get_or (set w.flows id o) k None) y
           ∙ get_or-set_same w.flows id o None l in
-          subst (λ (p : Option FlowState). IsTold exact (is_some (live_of p))
+          subst (λ (p : Option FlowState). IsTold (is_some (live_of p))
           (times j (lives events))) (sym at)
-          (subst (λ (k : ℕ). IsTold exact (is_some (live_of o)) (times k (lives events))) (sym y)
+          (subst (λ (k : ℕ). IsTold (is_some (live_of o)) (times k (lives events))) (sym y)
           own))
       | inr n ↦
           (let at : get_or (set w.flows id o) j None ≡ flow_at w j =
           get_or-set_other w.flows id j o None n in
-          subst (λ (p : Option FlowState). IsTold exact (is_some (live_of p))
+          subst (λ (p : Option FlowState). IsTold (is_some (live_of p))
           (times j (lives events))) (sym at)
-          (subst (λ (n : ℕ). IsTold exact (is_some (live_at w j)) n) (sym (beside j n)) (told j)))
+          (subst (λ (n : ℕ). IsTold (is_some (live_at w j)) n) (sym (beside j n)) (told j)))
     ]
 
 -- a flow that the code has, before it does anything
 pub turn_start : (O : List Event → Type 0) (live : List ℕ) (c : Connections) (es : List Event)
     (id : ℕ) (s : FlowState) → IsState O live c (state_of c es) →
     flow_at (state_of c es) id ≡ Some s
-    → IsTurn false id es (state s c.pool.held es)
+    → IsTurn id es (state s c.pool.held es)
 unfolding live_of
 turn_start O live c es id s h e = no_turn id (state s c.pool.held es) (h.sound.ids id s e)
     (λ l. h.told id (ap (λ (o : Option FlowState). is_some (live_of o)) e ∙ l))
@@ -141,7 +141,7 @@ pub flow_done : (O O' : List Event → Type 0) (live live' : List ℕ) (c c' : C
     → IsFlow (λ e. O' e × (live' ≡ lives e)) s' c'.pool.held f
     → s'.id ≡ id → held_by_others id c'.pool.held ≡ held_by_others id c.pool.held →
     blocks_of c'.pool.held ≤ c.pool.blocks → IsSettled (state s' c'.pool.held []) →
-    IsApart (state_of c es) id → IsTurn false id es f
+    IsApart (state_of c es) id → IsTurn id es f
     → ((e : List Event) → rest_of c' e ≡ rest_of c e) →
     c'.flows.items ≡ set c.flows.items id (Some s') → c'.pool.blocks ≡ c.pool.blocks
     → c'.free.most ≡ c.free.most → c'.table.most ≡ c.table.most
@@ -155,7 +155,7 @@ flow_done O O' live live' c c' es id s' f h l n own beside blocks settled apart 
       live = n.observed.1;
       same = changed c c' f.events rest (set c.flows.items id (Some s')) c'.pool.held flows pool
           refl;
-      told = told_flow false (state_of c es) id (Some s') f.events h.told l
+      told = told_flow (state_of c es) id (Some s') f.events h.told l
           (λ e. turn.own (sym (ap (λ (g : Flow). is_some g.live) n.same) ∙ e)) turn.beside;
       sound = with_flow_sound (state_of c es) id (state s' c'.pool.held f.events) h.sound l own
           beside blocks settled apart;
@@ -175,7 +175,7 @@ pub flow_turned : (O O' : List Event → Type 0) (live live' : List ℕ) (c c' :
     flow_at (state_of c es) id ≡ Some s → IsFlow (λ e. O' e × (live' ≡ lives e)) s' c'.pool.held f
     → s'.id ≡ s.id → held_by_others s.id c'.pool.held ≡ held_by_others s.id c.pool.held →
     blocks_of c'.pool.held ≤ c.pool.blocks → IsSettled (state s' c'.pool.held [])
-    → (id < most_ids → IsTurn false id es (state s c.pool.held es) → IsTurn false id es f)
+    → (id < most_ids → IsTurn id es (state s c.pool.held es) → IsTurn id es f)
     → ((e : List Event) → rest_of c' e ≡ rest_of c e) →
     c'.flows.items ≡ set c.flows.items id (Some s') → c'.pool.blocks ≡ c.pool.blocks
     → c'.free.most ≡ c.free.most → c'.table.most ≡ c.table.most
@@ -193,7 +193,7 @@ pub forgot_done : (O O' : List Event → Type 0) (live live' : List ℕ) (c c' :
     (es : List Event) (id : ℕ) (s' : FlowState) (f : Flow)
     → IsState O live c (state_of c es) → id < length c.flows.items
     → IsFlow (λ e. O' e × (live' ≡ lives e)) s' c.pool.held f
-    → IsTurn false id es f
+    → IsTurn id es f
     → ((e : List Event) → rest_of c' e ≡ rest_of c e) → c'.flows.items ≡ set c.flows.items id None →
     c'.pool.blocks ≡ c.pool.blocks → c'.pool.held ≡ held_by_others id c.pool.held
     → c'.free.most ≡ c.free.most → c'.table.most ≡ c.table.most
@@ -210,7 +210,7 @@ forgot_done O O' live live' c c' es id s' f h l n turn rest flows pool held free
       live = n.observed.1;
       same = changed c c' f.events rest (set c.flows.items id None) (held_by_others id c.pool.held)
           flows pool held;
-      told = told_flow false (state_of c es) id None f.events h.told l (λ e. absurd (true≢false
+      told = told_flow (state_of c es) id None f.events h.told l (λ e. absurd (true≢false
           (sym e)))
           turn.beside;
       sound = forgot_sound (state_of c es) id f.events h.sound l;

@@ -12,7 +12,7 @@ use Rattle.tcp_waiting.specs.Payload.{Payload, first}
 use Rattle.tcp_flow.specs.declared.flow.CloseCause.{CloseCause}
 use Rattle.tcp_flow.specs.declared.flow.CloseCause.TheVariants.{Reset, Syn, Room, Gap, End as CaptureEnd}
 use Rattle.tcp_flow.specs.declared.flow.FlowState.{FlowState}
-use Rattle.tcp_flow.specs.Flow.{Flow, Event, CaptureEvent, Opens, OfCapture, Passes, Reader, Arrival, Octets, End, Hears, setting, is_near, stream_at, is_beginning, closed, gap, step as flow_step, first_payload, held_by_others}
+use Rattle.tcp_flow.specs.Flow.{Flow, Event, CaptureEvent, Opens, OfCapture, Passes, Reader, Arrival, Octets, End, Hears, setting, is_near, stream_at, is_beginning, lives as has_stream, closed, gap, step as flow_step, first_payload, held_by_others}
 use Rattle.tcp_flow.specs.State.{state}
 use Rattle.tcp_connections.specs.declared.syns.KeptSyn.{KeptSyn}
 use Rattle.tcp_rooms.specs.Rooms.{rooms_below}
@@ -73,9 +73,11 @@ flow_state f = record {
   id = f.id;
   next = f.next;
   live = f.live;
+  waits = f.waits;
   fin = f.fin;
   since = f.since;
   has_begun = f.has_begun;
+  is_found = f.is_found;
   tail = f.tail;
 }
 
@@ -143,7 +145,7 @@ flow_forgotten w id cause =
       })
     ]
 
--- the number that the live stream of a flow began with
+-- the number that the stream of a flow in step begins with, one that is live or waited for
 unfoldable pub live_of : Option FlowState → Option ℕ
 live_of None = None
 live_of (Some s) = s.live
@@ -186,10 +188,16 @@ forgotten w place side cause =
 unfoldable pub shown : Reader → State → ℕ → Side → State
 shown F w room side = emptied F (emptied F w (flow_id room side)) (flow_id room (opposite side))
 
+-- whether a stream of a flow is live
+unfoldable pub has_live : Option FlowState → Bool
+has_live None = false
+has_live (Some s) = has_stream s.live s.waits
+
 -- whether a room's connection has a live stream
 abbrev pub is_live : State → ℕ → Bool
 is_live w room =
-    is_some (live_at w (flow_id room FromLesser)) || is_some (live_at w (flow_id room FromGreater))
+    has_live (flow_at w (flow_id room FromLesser))
+    || has_live (flow_at w (flow_id room FromGreater))
 
 -- whether the connection at one place was last seen before that at another
 abbrev pub is_older : State → ℕ → ℕ → Bool
@@ -427,7 +435,7 @@ with_packet w time = record w {
 
 -- ---- The end of the capture.
 
--- while flows hold something, a gap of the one whose live stream has the least number: those before
+-- while flows hold something, a gap of the one whose last stream has the least number: those before
 -- a rank hold nothing
 unfoldable pub gaps_from : Reader → ℕ → ℕ → State → State
 gaps_from F zero rank w = w
@@ -447,19 +455,13 @@ unfoldable pub end_cause : Option FlowState → CloseCause
 end_cause None = CaptureEnd
 end_cause (Some s) = cond (is_some s.fin) Gap CaptureEnd
 
--- the live streams close by their order, at most so many
-unfoldable pub all_closed : ℕ → State → State
-all_closed zero w = w
-all_closed (suc count) w =
-    elim (nat_lt 0 (length (lives w.events))) [
-      | false ↦ w
-      | true ↦
-          (let id : ℕ = get_or (lives w.events) 0 0 in
-          all_closed count (closed_at w id (end_cause (flow_at w id))))
-    ]
+-- the live streams of these flows close, one after the other
+unfoldable pub all_closed : List ℕ → State → State
+all_closed [] w = w
+all_closed (id ∷ ids) w = all_closed ids (closed_at w id (end_cause (flow_at w id)))
 
 -- the capture ends
 unfoldable pub ended : Reader → State → State
 ended F w =
     let v : State = gaps_from F (length w.held + length (lives w.events)) 0 w in
-    all_closed (length (lives v.events)) v
+    all_closed (lives v.events) v

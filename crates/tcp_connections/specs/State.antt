@@ -54,12 +54,8 @@ state_of c events = record {
   arrival = c.arrival;
 }
 
--- a flow's stream lives where it is one of those that live, and only there
-abbrev pub AreTold : State → Type 0
-AreTold w = (id : ℕ) → is_some (live_at w id) ≡ nat_lt 0 (times id (lives w.events))
-
--- the code has a state: the listener has observed all that has happened, and the streams that live
--- are those; each live stream of a flow is one of them
+-- the code has a state: the listener has observed all that has happened, and the streams that live or
+-- were closed by a gap are those; the last stream of each flow in step is one of them
 pub record IsState (O : List Event → Type 0) (streams : List ℕ) (c : Connections) (w : State)
     : Type 0 where
   pub observed : O w.events

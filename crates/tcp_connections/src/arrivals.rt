@@ -29,7 +29,7 @@ impl Connections {
     ) -> Result<(), ListenerFault>
         requires state { HasState (L.observed to.old.listener) to.old.live.items self.old }
         ensures does { Makes result
-            (λ w. acknowledgement_heard L.faulted w id (segment_view segment.entry))
+            (λ w. acknowledgement_heard L.reader w id (segment_view segment.entry))
             (L.observed to.old.listener) to.old.live.items self.old
             (L.observed to.new.listener) to.new.live.items self.new }
         ensures cause { OnErr result (L.failed to.new.listener) }
@@ -48,7 +48,7 @@ impl Connections {
         to: &mut Streams<L>,
     ) -> Result<(), ListenerFault>
         requires state { HasState (L.observed to.old.listener) to.old.live.items self.old }
-        ensures does { Makes result (λ w. heard L.faulted w id acknowledged answers)
+        ensures does { Makes result (λ w. heard L.reader w id acknowledged answers)
             (L.observed to.old.listener) to.old.live.items self.old
             (L.observed to.new.listener) to.new.live.items self.new }
         ensures cause { OnErr result (L.failed to.new.listener) }
@@ -81,7 +81,7 @@ impl Connections {
         requires within { id < vec_len self.old.flows }
         requires whole { length segment.payload.now ≤ 262_144 }
         requires taken { 0 < times (id / 2) self.old.table.rooms.items }
-        ensures does { Makes result (λ w. payload_taken L.faulted w id (segment_view segment.entry))
+        ensures does { Makes result (λ w. payload_taken L.reader w id (segment_view segment.entry))
             (L.observed to.old.listener) to.old.live.items self.old
             (L.observed to.new.listener) to.new.live.items self.new }
         ensures cause { OnErr result (L.failed to.new.listener) }
@@ -115,7 +115,7 @@ impl Connections {
         requires whole { length segment.payload.now ≤ 262_144 }
         requires taken { 0 < times (id / 2) self.old.table.rooms.items }
         requires vacant { get_or self.old.flows.items id None ≡ None }
-        ensures does { Makes result (λ w. payload_taken L.faulted w id (segment_view segment.entry))
+        ensures does { Makes result (λ w. payload_taken L.reader w id (segment_view segment.entry))
             (L.observed to.old.listener) to.old.live.items self.old
             (L.observed to.new.listener) to.new.live.items self.new }
         ensures cause { OnErr result (L.failed to.new.listener) }
@@ -158,7 +158,7 @@ impl Connections {
         requires whole { length segment.payload.now ≤ 262_144 }
         requires taken { 0 < times (id / 2) self.old.table.rooms.items }
         requires vacant { get_or self.old.flows.items id None ≡ None }
-        ensures does { Makes result (λ w. began L.faulted w id
+        ensures does { Makes result (λ w. began L.reader w id
             (spec_first_number (segment_view segment.entry)) (segment_view segment.entry).payload)
             (L.observed to.old.listener) to.old.live.items self.old
             (L.observed to.new.listener) to.new.live.items self.new }
@@ -205,7 +205,7 @@ impl Connections {
         to: &mut Streams<L>,
     ) -> Result<(), ListenerFault>
         requires state { HasState (L.observed to.old.listener) to.old.live.items self.old }
-        ensures does { Makes result (λ w. fin_taken L.faulted w id (segment_view segment.entry))
+        ensures does { Makes result (λ w. fin_taken L.reader w id (segment_view segment.entry))
             (L.observed to.old.listener) to.old.live.items self.old
             (L.observed to.new.listener) to.new.live.items self.new }
         ensures cause { OnErr result (L.failed to.new.listener) }
@@ -226,7 +226,7 @@ impl Connections {
         to: &mut Streams<L>,
     ) -> Result<(), ListenerFault>
         requires state { HasState (L.observed to.old.listener) to.old.live.items self.old }
-        ensures does { Makes result (λ w. arrived L.faulted w id (End number))
+        ensures does { Makes result (λ w. arrived L.reader w id (End number))
             (L.observed to.old.listener) to.old.live.items self.old
             (L.observed to.new.listener) to.new.live.items self.new }
         ensures cause { OnErr result (L.failed to.new.listener) }

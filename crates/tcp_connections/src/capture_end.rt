@@ -1,6 +1,6 @@
 //! The end of a capture: gaps while flows hold something, and then their live streams close.
 
-ghost use Rattle.std.specs.Prelude.{◌≡◌, ◌+◌, [], length, get_or, OnOk, OnErr, None};
+ghost use Rattle.std.specs.Prelude.{◌≡◌, ◌+◌, ℕ, [], length, get_or, OnOk, OnErr, None};
 
 use crate::connections::Connections;
 use tcp_flow::{CloseCause, Listener, ListenerFault};
@@ -9,33 +9,32 @@ use tcp_streams::Streams;
 impl Connections {
     ghost use Rattle.tcp_streams.specs.Lives.{lives};
     ghost use Rattle.tcp_connections.specs.Connections.{State, is_holding, end_cause, gapped};
-    ghost use Rattle.tcp_connections.specs.Connections.{closed_at, gaps_from, all_closed, ended};
-    ghost use Rattle.tcp_connections.specs.State.{AreTold, IsState, IsAt, HasState, Makes, Ends};
+    ghost use Rattle.tcp_connections.specs.Connections.{closed_at, gaps_from, all_closed, ended, live_of};
+    ghost use Rattle.tcp_connections.specs.State.{IsState, IsAt, HasState, Makes, Ends};
 
-    /// The capture ends: while flows hold something, a gap of the one whose live stream has the
-    /// least number, until nothing is held; then the live streams close by their order. None lives
-    /// then, where those that lived before were streams of flows.
+    /// The capture ends: while flows hold something, a gap of the one whose last stream has the
+    /// least number, until nothing is held; then the live streams close by their order. No flow has one
+    /// then, or waits for one.
     pub fn end<L: Listener + Drop>(&mut self, to: &mut Streams<L>) -> Result<(), ListenerFault>
         requires state { HasState (L.observed to.old.listener) to.old.live.items self.old }
         ensures does { (w : State)
             → IsState (L.observed to.old.listener) to.old.live.items self.old w
             → OnOk result (IsAt (L.observed to.new.listener) to.new.live.items self.new
-            (ended L.faulted w)) }
+            (ended L.reader w)) }
         ensures held { OnOk result (self.new.pool.held ≡ []) }
-        ensures none { (w : State)
-            → IsState (L.observed to.old.listener) to.old.live.items self.old w
-            → AreTold w → OnOk result (to.new.live.items ≡ []) }
+        ensures none { OnOk result ((id : ℕ) →
+            live_of (get_or self.new.flows.items id None) ≡ None) }
         ensures cause { OnErr result (L.failed to.new.listener) }
     {
         self.end_gaps(to)?;
         self.close_all(to)
     }
 
-    /// While flows hold something, a gap of the one whose live stream has the least number.
+    /// While flows hold something, a gap of the one whose last stream has the least number.
     fn end_gaps<L: Listener + Drop>(&mut self, to: &mut Streams<L>) -> Result<(), ListenerFault>
         requires state { HasState (L.observed to.old.listener) to.old.live.items self.old }
         ensures does { Makes result
-            (λ w. gaps_from L.faulted (length w.held + length (lives w.events)) 0 w)
+            (λ w. gaps_from L.reader (length w.held + length (lives w.events)) 0 w)
             (L.observed to.old.listener) to.old.live.items self.old
             (L.observed to.new.listener) to.new.live.items self.new }
         ensures held { OnOk result (self.new.pool.held ≡ []) }
@@ -74,7 +73,7 @@ impl Connections {
         to: &mut Streams<L>,
     ) -> Result<(), ListenerFault>
         requires state { HasState (L.observed to.old.listener) to.old.live.items self.old }
-        ensures does { Makes result (λ w. gapped L.faulted w id)
+        ensures does { Makes result (λ w. gapped L.reader w id)
             (L.observed to.old.listener) to.old.live.items self.old
             (L.observed to.new.listener) to.new.live.items self.new }
         ensures cause { OnErr result (L.failed to.new.listener) }
@@ -89,19 +88,20 @@ impl Connections {
 
     /// The live streams close by their order.
     fn close_all<L: Listener + Drop>(&mut self, to: &mut Streams<L>) -> Result<(), ListenerFault>
-        ensures does { Ends result (λ w. all_closed (length (lives w.events)) w)
+        ensures does { Ends result (λ w. all_closed (lives w.events) w)
             (L.observed to.old.listener) to.old.live.items self.old
             (L.observed to.new.listener) to.new.live.items self.new }
         ensures held { self.new.pool.held ≡ self.old.pool.held }
         ensures cause { OnErr result (L.failed to.new.listener) }
     {
-        let mut left = to.len();
-        while left > 0 {
-            let Some(id) = to.live(0) else {
+        let count = to.len();
+        let mut rank = 0;
+        while rank < count {
+            let Some(id) = to.live(rank) else {
                 return Ok(());
             };
             self.close(id, self.end_cause(id), to)?;
-            left -= 1;
+            rank += 1;
         }
         Ok(())
     }

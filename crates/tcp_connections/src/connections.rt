@@ -40,7 +40,7 @@ pub struct Connections {
 
 impl Connections {
     ghost use Rattle.tcp_flow.specs.Flow.{Event};
-    ghost use Rattle.tcp_connections.specs.Connections.{none_known, live_of, made_known, place_of};
+    ghost use Rattle.tcp_connections.specs.Connections.{none_known, has_live, live_of, made_known, place_of};
     ghost use Rattle.tcp_connections.specs.Connections.{place_among, next_room, unknown_taken};
     ghost use Rattle.tcp_connections.specs.Connections.{known_taken, step, syn_kept, with_packet};
     ghost use Rattle.tcp_connections.specs.State.{IsSound, HasState, Makes, state_of};
@@ -108,7 +108,7 @@ impl Connections {
         requires state { HasState (L.observed to.old.listener) to.old.live.items self.old }
         requires whole { length segment.payload.now ≤ 262_144 }
         requires count { self.old.segments < 2 ^ 63 }
-        ensures does { Makes result (λ w. step L.faulted w (segment_view segment.entry))
+        ensures does { Makes result (λ w. step L.reader w (segment_view segment.entry))
             (L.observed to.old.listener) to.old.live.items self.old
             (L.observed to.new.listener) to.new.live.items self.new }
         ensures count { OnOk result (self.new.segments ≡ self.old.segments + 1) }
@@ -145,7 +145,7 @@ impl Connections {
         requires flow { (spec_pair_of segment.flow).1 ≡ side }
         requires place { place < vec_len self.old.table.keys }
         ensures does { Makes result
-            (λ w. known_taken L.faulted w place (segment_view segment.entry))
+            (λ w. known_taken L.reader w place (segment_view segment.entry))
             (L.observed to.old.listener) to.old.live.items self.old
             (L.observed to.new.listener) to.new.live.items self.new }
         ensures cause { OnErr result (L.failed to.new.listener) }
@@ -173,7 +173,7 @@ impl Connections {
         requires whole { length segment.payload.now ≤ 262_144 }
         requires flow { spec_pair_of segment.flow ≡ (pair, side) }
         requires new { place_of pair self.old.table.keys.items ≡ None }
-        ensures does { Makes result (λ w. unknown_taken L.faulted w (segment_view segment.entry))
+        ensures does { Makes result (λ w. unknown_taken L.reader w (segment_view segment.entry))
             (L.observed to.old.listener) to.old.live.items self.old
             (L.observed to.new.listener) to.new.live.items self.new }
         ensures cause { OnErr result (L.failed to.new.listener) }
@@ -271,7 +271,17 @@ impl Connections {
         self.syns.set(room, Some(KeptSyn { flow, number }));
     }
 
-    /// The number that the live stream of a flow began with.
+    /// Whether a stream of a flow is live.
+    pub(crate) fn has_live(&self, id: u32) -> bool
+        ensures { result ≡ has_live (get_or self.now.flows.items id None) }
+    {
+        match self.flow(id) {
+            Some(flow) => flow.is_live(),
+            None => false,
+        }
+    }
+
+    /// The number that the stream of a flow in step begins with, one that is live or waited for.
     pub(crate) fn live_at(&self, id: u32) -> Option<u32>
         ensures { result ≡ live_of (get_or self.now.flows.items id None) }
     {

@@ -28,7 +28,7 @@ impl Connections {
         requires state { HasState (L.observed to.old.listener) to.old.live.items self.old }
         requires place { place < vec_len self.old.table.keys }
         ensures does { Makes result
-            (λ w. reset_taken L.faulted w place side (segment_view segment.entry))
+            (λ w. reset_taken L.reader w place side (segment_view segment.entry))
             (L.observed to.old.listener) to.old.live.items self.old
             (L.observed to.new.listener) to.new.live.items self.new }
         ensures cause { OnErr result (L.failed to.new.listener) }
@@ -53,7 +53,7 @@ impl Connections {
     ) -> Result<(), ListenerFault>
         requires state { HasState (L.observed to.old.listener) to.old.live.items self.old }
         requires place { place < vec_len self.old.table.keys }
-        ensures does { Makes result (λ w. ended_by L.faulted w place side cause)
+        ensures does { Makes result (λ w. ended_by L.reader w place side cause)
             (L.observed to.old.listener) to.old.live.items self.old
             (L.observed to.new.listener) to.new.live.items self.new }
         ensures cause { OnErr result (L.failed to.new.listener) }
@@ -73,7 +73,7 @@ impl Connections {
     ) -> Result<(), ListenerFault>
         requires state { HasState (L.observed to.old.listener) to.old.live.items self.old }
         requires room { room < 2 ^ 31 }
-        ensures does { Makes result (λ w. shown L.faulted w room side)
+        ensures does { Makes result (λ w. shown L.reader w room side)
             (L.observed to.old.listener) to.old.live.items self.old
             (L.observed to.new.listener) to.new.live.items self.new }
         ensures cause { OnErr result (L.failed to.new.listener) }
@@ -89,7 +89,7 @@ impl Connections {
         to: &mut Streams<L>,
     ) -> Result<(), ListenerFault>
         requires state { HasState (L.observed to.old.listener) to.old.live.items self.old }
-        ensures does { Makes result (λ w. emptied L.faulted w id)
+        ensures does { Makes result (λ w. emptied L.reader w id)
             (L.observed to.old.listener) to.old.live.items self.old
             (L.observed to.new.listener) to.new.live.items self.new }
         ensures none { OnOk result (count_of id self.new.pool.held ≡ 0) }
@@ -157,7 +157,7 @@ impl Connections {
         to: &mut Streams<L>,
     ) -> Result<(), ListenerFault>
         requires state { HasState (L.observed to.old.listener) to.old.live.items self.old }
-        ensures does { Makes result (λ w. with_room L.faulted w)
+        ensures does { Makes result (λ w. with_room L.reader w)
             (L.observed to.old.listener) to.old.live.items self.old
             (L.observed to.new.listener) to.new.live.items self.new }
         ensures cause { OnErr result (L.failed to.new.listener) }
@@ -177,7 +177,7 @@ impl Connections {
     ) -> Result<(), ListenerFault>
         requires state { HasState (L.observed to.old.listener) to.old.live.items self.old }
         requires place { place < vec_len self.old.table.keys }
-        ensures does { Makes result (λ w. cleared L.faulted w place)
+        ensures does { Makes result (λ w. cleared L.reader w place)
             (L.observed to.old.listener) to.old.live.items self.old
             (L.observed to.new.listener) to.new.live.items self.new }
         ensures cause { OnErr result (L.failed to.new.listener) }
@@ -241,7 +241,7 @@ impl Connections {
         requires { room < 2 ^ 31 }
         ensures { result ≡ is_live (state_of self.now []) room }
     {
-        self.live_at(flow_id(room, Side::FromLesser)).is_some()
-            || self.live_at(flow_id(room, Side::FromGreater)).is_some()
+        self.has_live(flow_id(room, Side::FromLesser))
+            || self.has_live(flow_id(room, Side::FromGreater))
     }
 }

@@ -32,44 +32,44 @@ pub fn capture_event_is_told<L: Listener + Drop>()
 /// 1,048,576 from the number that is due there, or of the connection's own and answers or follows a SYN that was kept, or the
 /// first payload of another, where as many are known as may be and this is the one that makes room.
 pub fn nothing_else_forgets()
-    ensures { (faulted : Reader) (ports : List ℕ) (blocks most : ℕ) (segments : List Segment)
+    ensures { (reader : Reader) (ports : List ℕ) (blocks most : ℕ) (segments : List Segment)
         (s : Segment) (p : EndpointPair) → 1 ≤ most → most ≤ 65536
-        → is_some (place_of p (after faulted (none_known ports blocks most []) segments).known)
+        → is_some (place_of p (after reader (none_known ports blocks most []) segments).known)
         ≡ true
-        → place_of p (after faulted (none_known ports blocks most []) (segments ++ s ∷ [])).known
+        → place_of p (after reader (none_known ports blocks most []) (segments ++ s ∷ [])).known
         ≡ None
-        → IsForgottenBy faulted (after faulted (none_known ports blocks most []) segments) s p }
+        → IsForgottenBy reader (after reader (none_known ports blocks most []) segments) s p }
 {}
 
 /// Where as many connections are known as may be, the one that makes room for another has no live stream, if there is one
 /// without, and of those alike it is the one whose last segment came first; what it holds is shown before it is forgotten. It
 /// has no body, and is called for its contract.
 pub fn the_eldest_makes_room()
-    ensures { (faulted : Reader) (w : State) → 0 < length w.known
-        → length w.lasts ≤ length w.known → MakesRoom faulted w }
+    ensures { (reader : Reader) (w : State) → 0 < length w.known
+        → length w.lasts ≤ length w.known → MakesRoom reader w }
 {}
 
 /// Streams are without a gap, whatever segments come: octets come and a stream closes only while it lives, and they stand one
 /// after another, by the numbers of segments that came, each of the stream's own flow. Where the capture ends after these,
 /// each stream has closed too.
 pub fn no_stream_has_a_gap()
-    ensures gapless { (faulted : Reader) (ports : List ℕ) (blocks most : ℕ)
+    ensures gapless { (reader : Reader) (ports : List ℕ) (blocks most : ℕ)
         (segments : List Segment) → 1 ≤ most → most ≤ 65536
-        → AreGapless segments (after faulted (none_known ports blocks most []) segments).events }
-    ensures ended { (faulted : Reader) (ports : List ℕ) (blocks most : ℕ) (segments : List Segment)
+        → AreGapless segments (after reader (none_known ports blocks most []) segments).events }
+    ensures ended { (reader : Reader) (ports : List ℕ) (blocks most : ℕ) (segments : List Segment)
         → 1 ≤ most → most ≤ 65536
         → AreWhole segments
-        (ended faulted (after faulted (none_known ports blocks most []) segments)).events }
-    ensures own { (faulted : Reader) (ports : List ℕ) (blocks most : ℕ) (segments : List Segment)
+        (ended reader (after reader (none_known ports blocks most []) segments)).events }
+    ensures own { (reader : Reader) (ports : List ℕ) (blocks most : ℕ) (segments : List Segment)
         → 1 ≤ most → most ≤ 65536
-        → AreOwned segments (after faulted (none_known ports blocks most []) segments).events }
-    ensures own_to_the_end { (faulted : Reader) (ports : List ℕ) (blocks most : ℕ)
+        → AreOwned segments (after reader (none_known ports blocks most []) segments).events }
+    ensures own_to_the_end { (reader : Reader) (ports : List ℕ) (blocks most : ℕ)
         (segments : List Segment) → 1 ≤ most → most ≤ 65536
         → AreOwned segments
-        (ended faulted (after faulted (none_known ports blocks most []) segments)).events }
+        (ended reader (after reader (none_known ports blocks most []) segments)).events }
     // Each event in a flow is in one of a connection that has a room.
-    ensures rooms { (faulted : Reader) (ports : List ℕ) (blocks most : ℕ) (segments : List Segment)
+    ensures rooms { (reader : Reader) (ports : List ℕ) (blocks most : ℕ) (segments : List Segment)
         → 1 ≤ most → most ≤ 65536
         → HaveRooms most
-        (ended faulted (after faulted (none_known ports blocks most []) segments)).events }
+        (ended reader (after reader (none_known ports blocks most []) segments)).events }
 {}

@@ -16,7 +16,11 @@ fault_of (Closes id cause) = None
 fault_of (OfCapture event) = None
 
 -- by the last event of all
-unfoldable pub last_fault : Reader
+unfoldable pub last_fault : List Event → Option ℕ
 last_fault [] = None
 last_fault (e ∷ []) = fault_of e
 last_fault (e ∷ d ∷ es) = last_fault (d ∷ es)
+
+-- such readers, of which none knows where a message ends
+abbrev pub plain_reader : Reader
+plain_reader = record { faulted = last_fault; lacking = λ events id. None }

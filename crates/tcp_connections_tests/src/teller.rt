@@ -1,7 +1,7 @@
 //! A listener that writes what it is told, a line each.
 
 ghost use Rattle.std.specs.Prelude.{◌≡◌, OnErr, true};
-ghost use Rattle.tcp_connections_tests.specs.Readers.{fault_in, last_fault};
+ghost use Rattle.tcp_connections_tests.specs.Readers.{fault_in, plain_reader};
 
 use crate::endpoint::shown;
 use std::fmt;
@@ -110,7 +110,7 @@ impl Listener for Teller {
 
     ghost failed = { λ s. s.has_failed ≡ true };
 
-    ghost faulted = { last_fault };
+    ghost reader = { plain_reader };
 
     fn opens(&mut self, flow: u32, endpoints: Flow) -> Result<(), ListenerFault> {
         self.tell(Told::Opens(flow, endpoints))
@@ -130,6 +130,10 @@ impl Listener for Teller {
     fn delivers(&mut self, flow: u32, octets: &[u8]) -> Result<Option<u64>, ListenerFault> {
         self.tell(Told::Delivers(flow, octets))?;
         Ok(fault_at(octets))
+    }
+
+    fn lacks(&mut self, _flow: u32) -> Result<Option<u32>, ListenerFault> {
+        Ok(None)
     }
 
     fn closes(&mut self, flow: u32, cause: CloseCause) -> Result<(), ListenerFault> {

@@ -3,10 +3,10 @@ use Rattle.std.proofs.Common.{◌≡◌, ℕ, ◌+◌, ◌<◌, Bool, true, fals
 use Rattle.std.specs.List.{remove}
 use Rattle.std.proofs.lemmas.List.{append_assoc}
 use Rattle.tcp_flow.specs.declared.flow.CloseCause.{CloseCause}
-use Rattle.tcp_flow.specs.declared.flow.CloseCause.TheVariants.{Fault}
+use Rattle.tcp_flow.specs.declared.flow.CloseCause.TheVariants.{Fault, Gap}
 use Rattle.tcp_flow.specs.declared.tail.Tail.{Tail}
 use Rattle.tcp_waiting.specs.Payload.{Payload, has_as_much, put}
-use Rattle.tcp_flow.specs.Flow.{Flow, Event, Begins, Delivers, Closes, OfCapture, ComesFrom, Passes, Reader, Setting, left, with_event, stopped, checked, handed, delivered, start_at, looked_through, tail_before, told_from, taken, at as held_at, closed, holding, gone_on, within_bounds, payload_came}
+use Rattle.tcp_flow.specs.Flow.{Flow, Event, Begins, Delivers, Closes, OfCapture, ComesFrom, Passes, Reader, Setting, left, with_event, stopped, checked, handed, delivered, start_at, started, resumed, lives, out_of_step, looked_through, tail_before, told_from, taken, at as held_at, closed, holding, gone_on, within_bounds, payload_came}
 use Rattle.tcp_flow.specs.Order.{octets_in, octets_of, closes_in, closes_of}
 use Rattle.tcp_flow.proofs.Tails.{looked_by}
 use Rattle.tcp_flow.proofs.Preserving.{Keeps, gone_on_keeps, relieved_keeps}
@@ -47,7 +47,17 @@ delivered_more : (F : Reader) (n id : ℕ) (g : Flow) (p : Payload) → n < clos
 unfolding delivered with_event
 delivered_more F n id g p l =
     let d : Flow = handed g p in
-    checked_more n id d (F d.events) (more_event n id g.events (Delivers g.id p.octets) l)
+    checked_more n id d (F.faulted d.events) (more_event n id g.events (Delivers g.id p.octets) l)
+
+started_more : (n id : ℕ) (g : Flow) (k : ℕ) → n < closes_of id g.events →
+    n < closes_of id (started g k).events
+unfolding with_event
+started_more n id g k l = more_event n id g.events (Begins g.id (start_at g k)) l
+
+resumed_more : (n id : ℕ) (g : Flow) → n < closes_of id g.events →
+    n < closes_of id (resumed g).events
+resumed_more n id g l = either (λ (h : Flow). n < closes_of id h.events) g.waits
+    (started g g.next) g (started_more n id g g.next l) l
 
 looked_more : (F : Reader) (n id : ℕ) (g : Flow) (p : Payload) (o : Option Tail) →
     n < closes_of id g.events → n < closes_of id (looked_through F g p o).events
@@ -55,7 +65,7 @@ unfolding with_event
 looked_more F n id g p o l =
     looked_by F (λ (g : Flow). n < closes_of id g.events)
     (λ g p l. delivered_more F n id g p l)
-    (λ g k l. more_event n id g.events (Begins g.id (start_at g.since g.has_begun k)) l)
+    (λ g k l. started_more n id g k l)
     (λ g t xs l. more_event n id g.events (OfCapture (Passes xs)) l) g p o l
 
 pub taken_more : (F : Reader) (n id : ℕ) (g : Flow) (p : Payload) → n < closes_of id g.events →
@@ -66,19 +76,20 @@ taken_more F n id g p l =
     let h : Flow = told_from g p in
     let m : n < closes_of id h.events =
     more_event n id g.events (OfCapture (ComesFrom p.arrival)) l in
-    let d : Flow = delivered F h q in
+    let d : Flow = delivered F (resumed h) q in
     let o : Option Tail = tail_before g.tail q.number q.octets in
     let b : Flow = looked_through F h q o in
     either (λ (h : Flow). n < closes_of id h.events) (nat_eq (length q.octets) 0) g
     (cond (is_some g.live) d b) l
     (either (λ (h : Flow). n < closes_of id h.events) (is_some g.live) d b
-    (delivered_more F n id h q m) (looked_more F n id h q o m))
+    (delivered_more F n id (resumed h) q (resumed_more n id h m)) (looked_more F n id h q o m))
 
 pub closed_more : (n id : ℕ) (g : Flow) (cause : CloseCause) → n < closes_of id g.events →
     n < closes_of id (closed g cause).events
 unfolding closed with_event
 closed_more n id g cause l =
-    either (λ (h : Flow). n < closes_of id h.events) (is_some g.live) (stopped g g.next cause) g
+    either (λ (h : Flow). n < closes_of id h.events) (lives g.live g.waits)
+    (stopped g g.next cause) (out_of_step g)
     (more_event n id g.events (Closes g.id cause) l) l
 
 more_keeps : (F : Reader) (n id : ℕ) → Keeps F (λ (g : Flow). n < closes_of id g.events)
@@ -86,6 +97,7 @@ more_keeps F n id =
     record {
       takes = λ f i e d t. taken_more F n id (record f { held = remove f.held i }) (held_at f i) t;
       closes = λ f cause t. closed_more n id f cause t;
+      waits = λ f count live t. closed_more n id f Gap t;
       fins = λ f k t. t;
     }
 
@@ -97,6 +109,6 @@ came_more A n id f p l =
     let q : Payload = left f.next (is_some f.live) p in
     let h : Flow = record f { held = put q f.held } in
     either P (nat_eq (length q.octets) 0 || has_as_much f.id q.number (length q.octets) f.held) f
-    (within_bounds A (length f.held + 1) (gone_on A.faulted h)) l
-    (relieved_keeps A P (more_keeps A.faulted n id) (length f.held + 1) (gone_on A.faulted h)
-    (gone_on_keeps A.faulted P (more_keeps A.faulted n id) h l))
+    (within_bounds A (length f.held + 1) (gone_on A.reader h)) l
+    (relieved_keeps A P (more_keeps A.reader n id) (length f.held + 1) (gone_on A.reader h)
+    (gone_on_keeps A.reader P (more_keeps A.reader n id) h l))

@@ -2,13 +2,13 @@
 -- place that no payload spans.
 use Rattle.std.proofs.Common.{◌≡◌, ◌⊎◌, ℕ, zero, suc, ◌+◌, ◌-◌, ◌^◌, ◌<◌, ◌≤◌, Bool, true, false, cond, not, nat_eq, nat_lt, ◌&&◌, List, [], ◌∷◌, ◌++◌, length, take, drop, get_or, Option, Some, None, is_some, refl, sym, ◌∙◌, ap, subst, arith, inl, inr, true≢false, append-nil}
 use Rattle.std.specs.List.{AllByRecursion, insert, remove}
-use Rattle.std.proofs.lemmas.Bool.{cases_Bool, cond-true, cond-false, and_cases, and_right, not-true, not_from_true, both_ways, eqb-true, eq-eqb}
+use Rattle.std.proofs.lemmas.Bool.{cases_Bool, cond-true, cond-false, and_cases, and_parts, and_right, not-true, not_from_true, both_ways, eqb-true, eq-eqb}
 use Rattle.std.proofs.lemmas.List.{append_assoc, length-drop}
 use Rattle.tcp_flow.specs.declared.flow.CloseCause.{CloseCause}
-use Rattle.tcp_flow.specs.declared.flow.CloseCause.TheVariants.{Fault}
+use Rattle.tcp_flow.specs.declared.flow.CloseCause.TheVariants.{Fault, Gap}
 use Rattle.tcp_waiting.specs.Numbers.{onward, age, is_to_come}
 use Rattle.tcp_waiting.specs.Payload.{without_first, Payload, no_payload, window}
-use Rattle.tcp_flow.specs.Flow.{Flow, Delivers, Closes, OfCapture, ComesFrom, Reader, left, with_event, stopped, checked, number_after, handed, delivered, told_from, taken, first_of, is_due, at as held_at, closed}
+use Rattle.tcp_flow.specs.Flow.{Flow, Delivers, Closes, OfCapture, ComesFrom, Reader, left, with_event, stopped, checked, number_after, handed, delivered, lives, out_of_step, started, resumed, told_from, taken, first_of, is_due, at as held_at, closed}
 use Rattle.tcp_flow.specs.Order.{octets_of, closes_of, Agrees}
 use Rattle.tcp_waiting.proofs.Held.{all_at, all_remove}
 use Rattle.tcp_waiting.proofs.Order.{first_within, first_own}
@@ -99,7 +99,7 @@ Covered x r ps = (x.end ≤ x.place) ⊎ ((x.end ≤ r) ⊎ SomeOf (Reaches x r)
 -- it is delivered or waits
 pub record So (x : Case) (U : ℕ → Type 0) (K : Type 0) (g : Flow) : Type 0 where
   pub same : g.id ≡ x.id
-  pub live : is_some g.live ≡ true
+  pub live : lives g.live g.waits ≡ true
   pub r : ℕ
   pub next : g.next ≡ onward x.start r
   pub from : x.at ≤ r
@@ -171,7 +171,7 @@ checked_so x U K f (Some at) so = inl (stopped_so x U K f (number_after f at) Fa
 
 -- the octets from a place on are delivered
 deliver_so : (F : Reader) (x : Case) (U : ℕ → Type 0) (K : Type 0) (g : Flow) (p : Payload)
-    (r place k : ℕ) → is_some g.live ≡ true → g.id ≡ x.id
+    (r place k : ℕ) → lives g.live g.waits ≡ true → g.id ≡ x.id
     → Agrees x.start x.content place p.number p.octets → k ≡ r - place → place ≤ r →
     r < place + length p.octets → x.at ≤ r
     → octets_of x.id g.events ≡ x.front ++ take (r - x.at) (drop x.at x.content) →
@@ -197,7 +197,7 @@ deliver_so F x U K g p r place k live same agrees kis l m from said count least 
     (ap (λ (n : ℕ). take (r - x.at) (drop x.at x.content) ++ drop n p.octets) kis
     ∙ goes_on x.at r place p.octets x.content from l (omega (arith, m)) agrees.octets_are)
     in
-    checked_so x U K d (F d.events) (record {
+    checked_so x U K d (F.faulted d.events) (record {
       same = same;
       live = live;
       r = place + length p.octets;
@@ -224,10 +224,11 @@ take_so F x U K f i small e d so =
     let piece : Piece x U p = all_at (λ q. q.flow ≡ x.id → Piece x U q) f.held i none so.held within
     (own ∙ so.same) in
     let s : ℕ = piece.place in
+    let live = and_parts (is_some f.live) (not f.waits) so.live in
     let due : is_to_come f.next p.number ≡ false =
     elim (and_cases (is_some f.live) (is_to_come f.next p.number)
     (not-true ((is_some f.live) && is_to_come f.next p.number) d)) [
-      | inl y ↦ absurd (both_ways (is_some f.live) y so.live)
+      | inl y ↦ absurd (both_ways (is_some f.live) y live.0)
       | inr y ↦ y
     ] in
     let there : is_to_come (onward x.start so.r) (onward x.start s) ≡ false =
@@ -242,9 +243,11 @@ take_so F x U K f i small e d so =
     let g : Flow = record f { held = remove f.held i } in
     let q : Payload = without_first k p in
     let is_left : q ≡ left g.next (is_some g.live) p =
-    left_live f.next k (is_some f.live) p so.live aged in
+    left_live f.next k (is_some f.live) p live.0 aged in
     let long : length (drop k p.octets) ≡ length p.octets - k = length-drop k p.octets in
     let rest = all_remove (λ q. q.flow ≡ x.id → Piece x U q) f.held i so.held in
+    let h : Flow = told_from g p in
+    let same : resumed h ≡ h = cond-false f.waits (started h h.next) h (not-true f.waits live.1) in
     elim (cases_Bool (nat_eq (length q.octets) 0)) [
       | inl z ↦
           (let short : length p.octets ≤ k = omega (arith, long, eqb-true (length q.octets) 0 z) in
@@ -268,7 +271,7 @@ take_so F x U K f i small e d so =
           (let some : so.r < s + length p.octets =
           omega (arith, long, some_octets (length q.octets) z, before) in
           subst (λ (h : Flow). (x.closings < closes_of x.id h.events) ⊎ So x U K h)
-          (sym (taken_live F g p q is_left z so.live))
+          (sym (taken_live F g p q is_left z live.0 ∙ ap (λ (h : Flow). delivered F h q) same))
           (deliver_so F x U K (told_from g p) p so.r s k so.live so.same piece.agrees refl before
           some so.from
           (octets_more x.id g.events (OfCapture (ComesFrom p.arrival))
@@ -284,7 +287,7 @@ close_so : (x : Case) (U : ℕ → Type 0) (K : Type 0) (f : Flow) (cause : Clos
 unfolding closed
 close_so x U K f cause so =
     subst (λ (h : Flow). x.closings < closes_of x.id h.events)
-    (sym (cond-true (is_some f.live) (stopped f f.next cause) f so.live))
+    (sym (cond-true (lives f.live f.waits) (stopped f f.next cause) (out_of_step f) so.live))
     (stopped_so x U K f f.next cause so)
 
 pub so_keeps : (F : Reader) (x : Case) (U : ℕ → Type 0) (K : Type 0) → length x.content < 2 ^ 31 →
@@ -303,6 +306,10 @@ so_keeps F x U K small =
         | inl m ↦ inl (closed_more x.closings x.id f cause m)
         | inr so ↦
             inl (close_so x U K f cause so)
+      ];
+      waits = λ f count live t. elim t [
+        | inl m ↦ inl (closed_more x.closings x.id f Gap m)
+        | inr so ↦ inl (close_so x U K f Gap so)
       ];
       fins =
           λ f n t.

@@ -1,6 +1,6 @@
 -- Payloads of a content come, one and then all that do: their octets are delivered or wait, while
 -- the stream lives.
-use Rattle.std.proofs.Common.{◌≡◌, ◌⊎◌, ℕ, ◌+◌, ◌-◌, ◌^◌, ◌<◌, ◌≤◌, true, nat_eq, nat_le, ◌&&◌, ◌||◌, List, [], ◌∷◌, length, take, drop, is_some, refl, sym, ◌∙◌, ap, subst, arith, inl, inr, true≢false}
+use Rattle.std.proofs.Common.{◌≡◌, ◌⊎◌, ℕ, ◌+◌, ◌-◌, ◌^◌, ◌<◌, ◌≤◌, true, not, nat_eq, nat_le, ◌&&◌, ◌||◌, List, [], ◌∷◌, length, take, drop, is_some, refl, sym, ◌∙◌, ap, subst, arith, inl, inr, true≢false}
 use Rattle.std.specs.List.{AllByRecursion}
 use Rattle.std.proofs.lemmas.Bool.{cases_Bool, cases_lt, and_parts, or_cases, or_parts, eqb-true, leb-true}
 use Rattle.std.proofs.lemmas.List.{length-drop}
@@ -140,7 +140,8 @@ came_so A x U K L f n place octets arrival small agrees spans new so =
     ap (λ (m : ℕ). onward m k) agrees.number_is ∙ place_further x.start place k in
     let q : Payload = without_first k p in
     let is_left : q ≡ left f.next (is_some f.live) p =
-    left_live f.next k (is_some f.live) p so.live refl in
+    left_live f.next k (is_some f.live) p (and_parts (is_some f.live) (not f.waits) so.live).0
+    refl in
     let long : length (drop k octets) ≡ length octets - k = length-drop k octets in
     elim (cases_Bool (nat_eq (length q.octets) 0
     || has_as_much f.id q.number (length q.octets) f.held)) [
@@ -213,9 +214,9 @@ came_so A x U K L f n place octets arrival small agrees spans new so =
           } in
           subst (λ (h : Flow). (x.closings < closes_of x.id h.events) ⊎ So x U L h)
           (sym (came_held A f p q is_left e))
-          (relieved_keeps A (HasGone x U L) (so_keeps A.faulted x U L small) (length f.held + 1)
-          (gone_on A.faulted h) (gone_on_keeps A.faulted (HasGone x U L)
-          (so_keeps A.faulted x U L small) h (inr held))))
+          (relieved_keeps A (HasGone x U L) (so_keeps A.reader x U L small) (length f.held + 1)
+          (gone_on A.reader h) (gone_on_keeps A.reader (HasGone x U L)
+          (so_keeps A.reader x U L small) h (inr held))))
     ]
 
 -- ---- All that comes.

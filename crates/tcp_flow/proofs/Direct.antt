@@ -10,12 +10,13 @@ use Rattle.tcp_flow.specs.declared.hearing.Heard.{Heard}
 use Rattle.tcp_flow.specs.declared.flow.CloseCause.TheVariants.{Fin, Gap}
 use Rattle.tcp_waiting.specs.Numbers.{ahead, age, onward, is_to_come, rank}
 use Rattle.tcp_waiting.specs.Payload.{without_first, Payload, no_payload, earlier, first, has_as_much, window, put, place_of, key_of}
-use Rattle.tcp_flow.specs.Flow.{Flow, Reader, Setting, first_of, is_due, at, taken, drained_at_most, drained, fin_is_reached, closed, without_stale_fin, ended, gone_on, gap, is_too_much, within_bounds, is_lost, heard, holding, payload_came, left, fin_came}
+use Rattle.tcp_flow.specs.Flow.{Flow, Reader, Setting, first_of, is_due, at, taken, drained_at_most, drained, fin_is_reached, closed, without_stale_fin, ended, gone_on, parted, passed_over, gap, is_too_much, within_bounds, is_lost, heard, holding, payload_came, left, fin_came}
 use Rattle.tcp_flow.specs.Laws.{AreLater, IsSettled}
 use Rattle.tcp_waiting.proofs.Order.{both, first_here, first_within, place_within}
 use Rattle.tcp_flow.proofs.Steps.{length_remove, flowing_none, flowing_stays, flowing_takes, due_not, relieved_stops, came_held}
 use Rattle.tcp_flow.proofs.Truth.{reached}
-use Rattle.tcp_flow.proofs.Room.{Stays, taken_stays, first_some, none_some, left_flow, much_some}
+use Rattle.tcp_flow.proofs.Room.{Stays, taken_stays, none_some, left_flow, much_some}
+use Rattle.tcp_flow.proofs.Firsts.{first_some, later_least, come_by_rank}
 
 put_gone : (ps : List Payload) (i : ℕ) (q : Payload) → i ≤ length ps →
     remove (insert ps i q) i ≡ ps
@@ -118,50 +119,6 @@ later_none id next n (p ∷ ps) h =
     or_parts (nat_eq p.flow id) (is_some (first id next ps)) (sym (first_some id next p ps) ∙ h)
     in
     ((λ x. absurd (eqb-false p.flow id e.0 x)), later_none id next n ps e.1)
-
--- a number below the first's is below all
-later_by : (id next n : ℕ) (p : Payload) (ps : List Payload) (c : Bool) (r : Option ℕ) →
-    nat_eq p.flow id ≡ c → first id next ps ≡ r
-    → (IfSome (first id next ps) (λ i. n < rank next (get_or ps i no_payload).number) →
-    AreLater id next n ps)
-    → IfSome (cond c (earlier next p ps r) (option_map suc r))
-    (λ i. n < rank next (get_or (p ∷ ps) i no_payload).number)
-    → AreLater id next n (p ∷ ps)
-unfolding AreLater earlier
-later_by id next n p ps true None e f rest h = ((λ x. h), rest (rw f tt))
-later_by id next n p ps true (Some k) e f rest h =
-    let within : k < length ps = rw f at (first_within id next ps) in
-    let same : get_or ps k p ≡ get_or ps k no_payload =
-    get_or_default ps k p no_payload within in
-    elim (cases_lt (rank next (get_or ps k p).number) (rank next p.number)) [
-      | inl l ↦
-          (let t : nat_lt (rank next (get_or ps k p).number) (rank next p.number) ≡ true =
-          lt-ltb (rank next (get_or ps k p).number) (rank next p.number) l in
-          let m : n < rank next (get_or ps k no_payload).number = rw t at h in
-          let o : rank next (get_or ps k no_payload).number < rank next p.number =
-          rw same at l in
-          ((λ x. omega arith), rest (rw f m)))
-      | inr g ↦
-          (let t : nat_lt (rank next (get_or ps k p).number) (rank next p.number) ≡ false =
-          le-ltb (rank next (get_or ps k p).number) (rank next p.number) g in
-          let m : n < rank next p.number = rw t at h in
-          let o : rank next p.number ≤ rank next (get_or ps k no_payload).number =
-          rw same at g in
-          let u : n < rank next (get_or ps k no_payload).number = omega arith in
-          ((λ x. m), rest (rw f u)))
-    ]
-later_by id next n p ps false None e f rest h =
-    ((λ x. absurd (eqb-false p.flow id e x)), rest (rw f tt))
-later_by id next n p ps false (Some k) e f rest h =
-    ((λ x. absurd (eqb-false p.flow id e x)), rest (rw f h))
-
-later_least : (id next n : ℕ) (ps : List Payload) →
-    IfSome (first id next ps) (λ i. n < rank next (get_or ps i no_payload).number) →
-    AreLater id next n ps
-unfolding AreLater first
-later_least id next n [] h = tt
-later_least id next n (p ∷ ps) h = later_by id next n p ps (nat_eq p.flow id) (first id next ps)
-    refl refl (later_least id next n ps) h
 
 IsEnded : Flow → Type 0
 IsEnded f = IfSome (first_of f) (λ i. is_due f i ≡ false)
@@ -275,8 +232,9 @@ unfolding within_bounds gap
 relieved_ends A zero f h = h
 relieved_ends A (suc count) f h =
     elim (is_too_much A f) as (λ (b : Bool).
-    IsEnded (elim b [ true ↦ within_bounds A count (gap A.faulted f) | false ↦ f ])) [
-      | true ↦ relieved_ends A count (gap A.faulted f) (gone_on_ends A.faulted (closed f Gap))
+    IsEnded (elim b [ true ↦ within_bounds A count (gap A.reader f) | false ↦ f ])) [
+      | true ↦ relieved_ends A count (gap A.reader f)
+          (gone_on_ends A.reader (parted f (passed_over A.reader f)))
       | false ↦ h
     ]
 
@@ -285,12 +243,12 @@ pub came_settled : (A : Setting) (f : Flow) (p : Payload) → IsSettled f →
 unfolding payload_came
 came_settled A f p t =
     let q : Payload = left f.next (is_some f.live) p in
-    let r : Flow = within_bounds A (length f.held + 1) (gone_on A.faulted (holding f q)) in
+    let r : Flow = within_bounds A (length f.held + 1) (gone_on A.reader (holding f q)) in
     either (λ (g : Flow). g.next < 2 ^ 32 → IsSettled g)
     (nat_eq (length q.octets) 0 || has_as_much f.id q.number (length q.octets) f.held) f r
     (λ s. t)
-    (λ s. ended_settled r s (relieved_ends A (length f.held + 1) (gone_on A.faulted (holding f q))
-    (gone_on_ends A.faulted (holding f q))))
+    (λ s. ended_settled r s (relieved_ends A (length f.held + 1) (gone_on A.reader (holding f q))
+    (gone_on_ends A.reader (holding f q))))
 
 pub fin_settled : (F : Reader) (f : Flow) (n : ℕ) → IsSettled f → (fin_came F f n).next < 2 ^ 32 →
     IsSettled (fin_came F f n)
@@ -303,8 +261,8 @@ fin_settled F f n t =
 
 pub gap_settled : (F : Reader) (f : Flow) → (gap F f).next < 2 ^ 32 → IsSettled (gap F f)
 unfolding gap
-gap_settled F f small = ended_settled (gone_on F (closed f Gap)) small
-    (gone_on_ends F (closed f Gap))
+gap_settled F f small = ended_settled (gone_on F (parted f (passed_over F f))) small
+    (gone_on_ends F (parted f (passed_over F f)))
 
 abbrev IfSmall : Flow → Type 0
 IfSmall g = g.next < 2 ^ 32 → IsSettled g
@@ -317,7 +275,7 @@ heard_by F (suc count) h f t =
     elim (is_lost h f) as
     (λ (b : Bool). IfSmall (elim b [ true ↦ heard F count h (gap F f) | false ↦ f ])) [
       | true ↦ heard_by F count h (gap F f)
-          (λ s. ended_settled (gap F f) s (gone_on_ends F (closed f Gap)))
+          (λ s. ended_settled (gap F f) s (gone_on_ends F (parted f (passed_over F f))))
       | false ↦ t
     ]
 
@@ -372,7 +330,7 @@ pub came_direct : (A : Setting) (f : Flow) (p q : Payload) → q ≡ left f.next
     → ((is_some f.live) ≡ true → q.number ≡ f.next) →
     ((is_some f.live) && is_to_come f.next q.number) ≡ false
     → payload_came A f p ≡ within_bounds A (length f.held + 1)
-    (gone_on A.faulted (taken A.faulted f q))
+    (gone_on A.reader (taken A.reader f q))
 came_direct A f p q e own small t some due now =
     let later : AreLater f.id f.next (rank f.next q.number) f.held = due_later f q small t due in
     let mine : q.flow ≡ f.id = ap (λ (r : Payload). r.flow) e ∙ left_flow f.next (is_some f.live) p
@@ -380,7 +338,7 @@ came_direct A f p q e own small t some due now =
     came_held A f p q e (or_from (nat_eq (length q.octets) 0)
     (has_as_much f.id q.number (length q.octets) f.held) some
     (later_has f.id f.next q.number (length q.octets) f.held later))
-    ∙ ap (within_bounds A (length f.held + 1)) (gone_on_direct A.faulted f q mine later now)
+    ∙ ap (within_bounds A (length f.held + 1)) (gone_on_direct A.reader f q mine later now)
 
 -- what is left of a payload and is not to come is due
 pub due_number : (next : ℕ) (live : Bool) (p q : Payload) → next < 2 ^ 32 → p.number < 2 ^ 32 →
@@ -416,12 +374,6 @@ later_put id next n [] (suc i) q h l = ((λ o. l), tt)
 later_put id next n (p ∷ ps) zero q h l = ((λ o. l), h)
 later_put id next n (p ∷ ps) (suc i) q h l = (h.0, later_put id next n ps i q h.1 l)
 
-come_by_place : (next n : ℕ) → 2 ^ 31 < rank next n → is_to_come next n ≡ true
-come_by_place next n h =
-    let a : 0 < ahead next n = omega arith in
-    let b : ahead next n < 2 ^ 31 = omega arith in
-    rw (lt-ltb 0 (ahead next n) a, lt-ltb (ahead next n) (2 ^ 31) b) refl
-
 -- a payload to come is held, and going on takes nothing
 pub gone_on_held : (F : Reader) (f : Flow) (q : Payload) → IsSettled f → is_some f.live ≡ true →
     is_to_come f.next q.number ≡ true
@@ -439,7 +391,7 @@ gone_on_held F f q t live come =
     drained_at_most F (length g.held) g ≡ g) [
       | None ↦ (λ e h. flowing_none F (length g.held) g e)
       | Some i ↦ (λ e h. flowing_stays F (length g.held) g i e
-          (due_not g i live (come_by_place f.next (get_or g.held i no_payload).number h)))
+          (due_not g i live (come_by_rank f.next (get_or g.held i no_payload).number h)))
     ] refl least in
     ap (λ (d : Flow). without_stale_fin (ended F d)) (sym stays)
 
@@ -480,7 +432,7 @@ none_of (Some i) h = cc
 
 pub nothing_kept : (A : Setting) (count : ℕ) (f : Flow) →
     (not (is_some (first_of f)) && not (is_some f.fin)) ≡ true →
-    within_bounds A count (gone_on A.faulted f) ≡ f
+    within_bounds A count (gone_on A.reader f) ≡ f
 nothing_kept A count f h =
     let both = and_parts (not (is_some (first_of f))) (not (is_some f.fin)) h in
     let none : is_some (first_of f) ≡ false = not-true (is_some (first_of f)) both.0 in
@@ -489,5 +441,5 @@ nothing_kept A count f h =
       | inl much ↦ absurd (both_ways (is_some (first_of f)) none (much_some A f much))
       | inr few ↦ few
     ] in
-    ap (within_bounds A count) (none_gone_on A.faulted f (none_of (first_of f) none)
+    ap (within_bounds A count) (none_gone_on A.reader f (none_of (first_of f) none)
     (none_of f.fin (not-true (is_some f.fin) both.1))) ∙ relieved_stops A count f few

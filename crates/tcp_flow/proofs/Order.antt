@@ -1,7 +1,7 @@
 -- The order in which payloads come makes no difference.
-use Rattle.std.proofs.Common.{◌≡◌, ℕ, ◌+◌, ◌-◌, ◌^◌, ◌<◌, ◌≤◌, false, nat_eq, List, [], ◌∷◌, ◌++◌, length, take, drop, is_some, refl, sym, ◌∙◌, ap, subst, arith, inl, inr, true≢false, append-nil}
+use Rattle.std.proofs.Common.{◌≡◌, ℕ, ◌+◌, ◌-◌, ◌^◌, ◌<◌, ◌≤◌, false, not, nat_eq, List, [], ◌∷◌, ◌++◌, length, take, drop, is_some, refl, sym, ◌∙◌, ap, subst, arith, inl, inr, true≢false, append-nil}
 use Rattle.std.specs.List.{AllByRecursion}
-use Rattle.std.proofs.lemmas.Bool.{or_parts, eq-eqb}
+use Rattle.std.proofs.lemmas.Bool.{and_parts, or_parts, eq-eqb}
 use Rattle.tcp_waiting.specs.Numbers.{onward, rank}
 use Rattle.tcp_waiting.specs.declared.arrival.Arrival as packet
 use Rattle.tcp_waiting.specs.Payload.{Payload, first}
@@ -11,7 +11,7 @@ use Rattle.tcp_flow.specs.Order.{octets_of, closes_of, Agrees, IsOfContent, Stan
 use Rattle.tcp_flow.proofs.Content.{Case, Piece, Reaches, Covered, So, SomeOf}
 use Rattle.tcp_flow.proofs.ContentRuns.{IsSo, Comes, run, run_has}
 use Rattle.tcp_flow.proofs.Places.{same_place, place_later}
-use Rattle.tcp_flow.proofs.Room.{first_some}
+use Rattle.tcp_flow.proofs.Firsts.{first_some}
 
 -- ---- Nothing waits at the start.
 
@@ -95,7 +95,8 @@ start_so f start at content U place end h =
       },
       record {
         live = λ l. none_later f.id f.next (2 ^ 31) f.held h.waits;
-        dead = λ d. absurd (true≢false (sym h.live ∙ d));
+        dead = λ d. absurd (true≢false
+            (sym (and_parts (is_some f.live) (not f.waits) h.live).0 ∙ d));
       },
     )
 
@@ -136,7 +137,8 @@ unfolding Covered
 not_beyond x U L g so t small l (inl a) = omega (arith, a, l)
 not_beyond x U L g so t small l (inr (inl a)) = a
 not_beyond x U L g so t small l (inr (inr a)) =
-    let w = later_some g.id g.next (2 ^ 31) (Reaches x so.r) g.held (t.live so.live) a in
+    let w = later_some g.id g.next (2 ^ 31) (Reaches x so.r) g.held
+    (t.live (and_parts (is_some g.live) (not g.waits) so.live).0) a in
     let p : Payload = w.0 in
     let h : Reaches x so.r p = w.1.1 in
     let far : 2 ^ 31 < rank g.next p.number = w.1.0 (h.own ∙ sym so.same) in

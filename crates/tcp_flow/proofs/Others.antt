@@ -8,7 +8,8 @@ use Rattle.tcp_waiting.specs.Numbers.{age, rank}
 use Rattle.tcp_flow.specs.Flow.{Flow, Reader, Setting, Arrival, Octets, End, Hears, held_by_others, first_of, left, gone_on, gap, within_bounds, holding, payload_came, fin_came, step}
 use Rattle.tcp_flow.specs.Laws.{AreLater, IsSettled}
 use Rattle.tcp_flow.proofs.Preserving.{Keeps, gone_on_keeps, gap_keeps, relieved_keeps, heard_keeps}
-use Rattle.tcp_flow.proofs.Room.{Holds, held_keeps, left_flow, first_some}
+use Rattle.tcp_flow.proofs.Room.{Holds, held_keeps, left_flow}
+use Rattle.tcp_flow.proofs.Firsts.{first_some}
 
 -- a payload of the flow falls away
 pub others_keep : (id : ℕ) (ps : List Payload) (i : ℕ) → i < length ps →
@@ -75,7 +76,7 @@ came_others : (A : Setting) (f : Flow) (p : Payload) → p.flow ≡ f.id →
 unfolding payload_came holding OthersHold
 came_others A f p own =
     let P = Holds (OthersHold (held_by_others f.id f.held)) f.id in
-    let k = others_keeps A.faulted (held_by_others f.id f.held) f.id in
+    let k = others_keeps A.reader (held_by_others f.id f.held) f.id in
     let q : Payload = left f.next (is_some f.live) p in
     let h : Flow = record f { held = put q f.held } in
     let start : P h = record {
@@ -85,9 +86,9 @@ came_others A f p own =
           (left_flow f.next (is_some f.live) p ∙ own);
     } in
     either P (nat_eq (length q.octets) 0 || has_as_much f.id q.number (length q.octets) f.held) f
-    (within_bounds A (length f.held + 1) (gone_on A.faulted h)) (same_others f)
-    (relieved_keeps A P k (length f.held + 1) (gone_on A.faulted h)
-    (gone_on_keeps A.faulted P k h start))
+    (within_bounds A (length f.held + 1) (gone_on A.reader h)) (same_others f)
+    (relieved_keeps A P k (length f.held + 1) (gone_on A.reader h)
+    (gone_on_keeps A.reader P k h start))
 
 step_holds : (A : Setting) (f : Flow) (a : Arrival) →
     Holds (OthersHold (held_by_others f.id f.held)) f.id (step A f a)
@@ -96,12 +97,12 @@ step_holds A f (Octets n octets arrival) = came_others A f (payload f.id n octet
 step_holds A f (End n) =
     let P = Holds (OthersHold (held_by_others f.id f.held)) f.id in
     either P (is_some f.live && nat_eq (age f.next n) 0)
-    (gone_on A.faulted (record f { fin = Some n })) f
-    (gone_on_keeps A.faulted P (others_keeps A.faulted (held_by_others f.id f.held) f.id)
+    (gone_on A.reader (record f { fin = Some n })) f
+    (gone_on_keeps A.reader P (others_keeps A.reader (held_by_others f.id f.held) f.id)
     (record f { fin = Some n }) (record { own = refl; held = refl })) (same_others f)
 step_holds A f (Hears h) =
-    heard_keeps A.faulted (Holds (OthersHold (held_by_others f.id f.held)) f.id)
-    (others_keeps A.faulted (held_by_others f.id f.held) f.id) (length f.held) h f
+    heard_keeps A.reader (Holds (OthersHold (held_by_others f.id f.held)) f.id)
+    (others_keeps A.reader (held_by_others f.id f.held) f.id) (length f.held) h f
     (same_others f)
 
 -- a step leaves what others hold

@@ -1,15 +1,17 @@
 -- What taking, closing and a FIN keep, a flow keeps whatever comes.
-use Rattle.std.proofs.Common.{◌≡◌, ℕ, zero, suc, Bool, true, false, cond, length, Option, Some, None, is_some, refl}
+use Rattle.std.proofs.Common.{◌≡◌, ℕ, zero, suc, Bool, true, false, cond, length, Option, Some, None, is_some, refl, sym, ap, inl, inr, true≢false}
+use Rattle.std.proofs.lemmas.Bool.{cases_Bool}
 use Rattle.std.specs.List.{remove}
 use Rattle.tcp_flow.specs.declared.hearing.Heard.{Heard}
 use Rattle.tcp_flow.specs.declared.flow.CloseCause.{CloseCause}
 use Rattle.tcp_flow.specs.declared.flow.CloseCause.TheVariants.{Fin, Gap}
-use Rattle.tcp_flow.specs.Flow.{Flow, Reader, Setting, taken, first_of, is_due, at, drained_at_most, drained, fin_is_reached, closed, without_stale_fin, ended, gone_on, gap, is_too_much, within_bounds, is_lost, heard}
+use Rattle.tcp_flow.specs.Flow.{Flow, Reader, Setting, taken, first_of, is_due, at, drained_at_most, drained, fin_is_reached, closed, without_stale_fin, ended, gone_on, lives, awaiting, parted, passed_over, gap, is_too_much, within_bounds, is_lost, heard}
 
 pub record Keeps (F : Reader) (P : Flow → Type 0) : Type 0 where
   pub takes : (f : Flow) (i : ℕ) → first_of f ≡ Some i → is_due f i ≡ true → P f →
       P (taken F (record f { held = remove f.held i }) (at f i))
   pub closes : (f : Flow) (cause : CloseCause) → P f → P (closed f cause)
+  pub waits : (f : Flow) (count : ℕ) → lives f.live f.waits ≡ true → P f → P (awaiting f count)
   pub fins : (f : Flow) (n : Option ℕ) → P f → P (record f { fin = n })
 
 pub flowing_by : (F : Reader) (P : Flow → Type 0) → Keeps F P → (count : ℕ) (f : Flow) → P f →
@@ -64,18 +66,35 @@ pub gone_on_keeps : (F : Reader) (P : Flow → Type 0) → Keeps F P → (f : Fl
 unfolding gone_on
 gone_on_keeps F P k f p = rest_keeps F P k (drained F f) (drained_keeps F P k f p)
 
+-- octets are passed over only where a stream is live
+pub passing_lives : (F : Reader) (f : Flow) (count : ℕ) → passed_over F f ≡ Some count →
+    lives f.live f.waits ≡ true
+unfolding passed_over
+passing_lives F f count e =
+    elim (cases_Bool (lives f.live f.waits)) [
+      | inl y ↦ y
+      | inr z ↦ absurd (true≢false (sym (ap is_some (rw z at e))))
+    ]
+
+parted_keeps : (F : Reader) (P : Flow → Type 0) → Keeps F P → (f : Flow) (o : Option ℕ) →
+    passed_over F f ≡ o → P f → P (parted f o)
+unfolding parted
+parted_keeps F P k f None e p = k.closes f Gap p
+parted_keeps F P k f (Some count) e p = k.waits f count (passing_lives F f count e) p
+
 pub gap_keeps : (F : Reader) (P : Flow → Type 0) → Keeps F P → (f : Flow) → P f → P (gap F f)
 unfolding gap
-gap_keeps F P k f p = gone_on_keeps F P k (closed f Gap) (k.closes f Gap p)
+gap_keeps F P k f p = gone_on_keeps F P k (parted f (passed_over F f))
+    (parted_keeps F P k f (passed_over F f) refl p)
 
-pub relieved_keeps : (A : Setting) (P : Flow → Type 0) → Keeps A.faulted P →
+pub relieved_keeps : (A : Setting) (P : Flow → Type 0) → Keeps A.reader P →
     (count : ℕ) (f : Flow) → P f → P (within_bounds A count f)
 unfolding within_bounds
 relieved_keeps A P k zero f p = p
 relieved_keeps A P k (suc count) f p =
     elim (is_too_much A f) as (λ (b : Bool).
-    P (elim b [ true ↦ within_bounds A count (gap A.faulted f) | false ↦ f ])) [
-      | true ↦ relieved_keeps A P k count (gap A.faulted f) (gap_keeps A.faulted P k f p)
+    P (elim b [ true ↦ within_bounds A count (gap A.reader f) | false ↦ f ])) [
+      | true ↦ relieved_keeps A P k count (gap A.reader f) (gap_keeps A.reader P k f p)
       | false ↦ p
     ]
 

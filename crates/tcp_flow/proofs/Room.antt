@@ -1,8 +1,8 @@
 -- The pool's blocks suffice after each payload: the gaps end, and what other flows hold is left
 -- alone.
-use Rattle.std.proofs.Common.{◌≡◌, ℕ, zero, suc, ◌+◌, ◌-◌, ◌/◌, ◌<◌, ◌≤◌, Bool, true, false, cond, nat_eq, nat_lt, ◌&&◌, ◌||◌, not, List, [], ◌∷◌, length, get_or, Option, Some, None, is_some, refl, sym, ◌∙◌, ap, subst, arith, inl, inr}
+use Rattle.std.proofs.Common.{◌≡◌, ℕ, zero, suc, ◌+◌, ◌-◌, ◌/◌, ◌<◌, ◌≤◌, Bool, true, false, cond, nat_eq, nat_lt, ◌&&◌, ◌||◌, not, List, [], ◌∷◌, length, get_or, Option, Some, None, is_some, refl, sym, ◌∙◌, ap, subst, arith, inl, inr, unwrap_or, ◌^◌}
 use Rattle.std.specs.List.{insert, remove}
-use Rattle.std.proofs.lemmas.Bool.{cases_Bool, and_cases, or_cases, or_parts, and_parts, ltb-false, true≢false, eq-eqb, or_left, or_right, cond-true, cond-false}
+use Rattle.std.proofs.lemmas.Bool.{cases_Bool, and_cases, or_cases, or_parts, and_parts, ltb-false, not-true, true≢false, eq-eqb, or_left, or_right, cond-true, cond-false}
 use Rattle.std.proofs.lemmas.List.{nil_from_length}
 use Rattle.std.proofs.lemmas.List.Edits.{length-insert}
 use Rattle.tcp_flow.specs.declared.flow.CloseCause.{CloseCause}
@@ -10,12 +10,13 @@ use Rattle.tcp_flow.specs.declared.flow.CloseCause.TheVariants.{Gap}
 use Rattle.tcp_flow.specs.declared.hearing.Heard.{Heard}
 use Rattle.tcp_flow.specs.declared.tail.Tail.{Tail}
 use Rattle.std.specs.Option.{option_map}
-use Rattle.tcp_waiting.specs.Numbers.{ahead, age, rank}
+use Rattle.tcp_waiting.specs.Numbers.{ahead, onward, age, is_to_come, rank}
 use Rattle.tcp_waiting.specs.Payload.{without_first, Payload, no_payload, window, earlier, first, blocks_of, is_far, has_as_much, put, place_of, key_of}
-use Rattle.tcp_flow.specs.Flow.{Flow, Reader, Setting, left, with_event, stopped, checked, handed, delivered, looked_through, tail_before, told_from, taken, first_of, at, drained_at_most, drained, closed, gone_on, gap, is_too_much, within_bounds, is_lost, heard, holding, payload_came, fin_came}
+use Rattle.tcp_flow.specs.Flow.{Flow, Reader, Setting, left, with_event, stopped, checked, handed, delivered, looked_through, tail_before, told_from, lives, out_of_step, started, resumed, taken, first_of, is_due, at, drained_at_most, drained, closed, gone_on, awaiting, parted, passing, passed_over, gap, is_too_much, within_bounds, is_lost, heard, holding, payload_came, fin_came}
 use Rattle.tcp_waiting.proofs.Order.{first_within, first_own, place_within}
 use Rattle.tcp_flow.proofs.Tails.{looked_by}
-use Rattle.tcp_flow.proofs.Steps.{length_remove, flowing_takes, due_now}
+use Rattle.tcp_flow.proofs.Firsts.{first_some, first_anywhere, first_reached}
+use Rattle.tcp_flow.proofs.Steps.{length_remove, flowing_takes, due_now, due_reached}
 use Rattle.tcp_flow.proofs.Preserving.{gap_keeps, Keeps, flowing_by, rest_keeps, gone_on_keeps, relieved_keeps, heard_keeps}
 
 same : {X : Type 0} (get : Flow → X) (b : Bool) (f g : Flow) (x : X) → get f ≡ x → get g ≡ x →
@@ -40,7 +41,7 @@ stays_checked f g (Some at) s = record { held = s.held; id = s.id }
 delivered_stays : (F : Reader) (f : Flow) (p : Payload) → Stays f (delivered F f p)
 unfolding delivered with_event
 delivered_stays F f p =
-    stays_checked f (handed f p) (F (handed f p).events) (record { held = refl; id = refl })
+    stays_checked f (handed f p) (F.faulted (handed f p).events) (record { held = refl; id = refl })
 
 -- a step after others
 stays_on : (f g h : Flow) → Stays f g → Stays g h → Stays f h
@@ -54,6 +55,11 @@ looked_stays F f p o =
     (λ g n s. record { held = s.held; id = s.id }) (λ g t xs s. record { held = s.held; id = s.id })
     f p o (record { held = refl; id = refl })
 
+resumed_stays : (f : Flow) → Stays f (resumed f)
+unfolding with_event
+resumed_stays f = stays_either f f.waits (started f f.next) f (record { held = refl; id = refl })
+    (record { held = refl; id = refl })
+
 stays_from : (f : Flow) (p : Payload) (g : Flow) → Stays (told_from f p) g → Stays f g
 unfolding told_from with_event
 stays_from f p g s = record { held = s.held; id = s.id }
@@ -63,18 +69,23 @@ unfolding taken told_from with_event
 taken_stays F f p =
     let q : Payload = left f.next (is_some f.live) p in
     let g : Flow = told_from f p in
-    let d : Flow = delivered F g q in
+    let d : Flow = delivered F (resumed g) q in
     let b : Flow = looked_through F g q (tail_before f.tail q.number q.octets) in
     stays_either f (nat_eq (length q.octets) 0) f (cond (is_some f.live) d b)
     (record { held = refl; id = refl })
-    (stays_either f (is_some f.live) d b (stays_from f p d (delivered_stays F g q))
+    (stays_either f (is_some f.live) d b (stays_from f p d
+    (stays_on g (resumed g) d (resumed_stays g) (delivered_stays F (resumed g) q)))
     (stays_from f p b (looked_stays F g q (tail_before f.tail q.number q.octets))))
 
 closed_stays : (f : Flow) (cause : CloseCause) → Stays f (closed f cause)
 unfolding closed with_event
 closed_stays f cause =
-    stays_either f (is_some f.live) (stopped f f.next cause) f
+    stays_either f (lives f.live f.waits) (stopped f f.next cause) (out_of_step f)
     (record { held = refl; id = refl }) (record { held = refl; id = refl })
+
+awaiting_stays : (f : Flow) (count : ℕ) → Stays f (awaiting f count)
+awaiting_stays f count = let s : Stays f (closed f Gap) = closed_stays f Gap in
+    record { held = s.held; id = s.id }
 
 -- what removing own payloads keeps, a flow keeps
 pub record Holds (P : ℕ → List Payload → Type 0) (id : ℕ) (f : Flow) : Type 0 where
@@ -102,6 +113,7 @@ held_keeps F P id keeps =
           (taken_stays F g (get_or f.held i no_payload))
           (record { own = h.own; held = keeps f.held i within (own ∙ h.own) h.held });
       closes = λ f cause h. holds_on P id f (closed f cause) (closed_stays f cause) h;
+      waits = λ f count live h. holds_on P id f (awaiting f count) (awaiting_stays f count) h;
       fins = λ f n h. record { own = h.own; held = h.held };
     }
 
@@ -140,28 +152,6 @@ others_most id (p ∷ ps) = omega (
   others_most id ps,
   least (nat_eq p.flow id) ((length p.octets + 1023) / 1024),
 )
-
-earlier_some : (next : ℕ) (p : Payload) (ps : List Payload) (r : Option ℕ) →
-    is_some (earlier next p ps r) ≡ true
-unfolding earlier
-earlier_some next p ps None = refl
-earlier_some next p ps (Some k) =
-    elim (nat_lt (rank next (get_or ps k p).number) (rank next p.number)) as
-    (λ b. is_some (cond b (Some (suc k)) (Some 0)) ≡ true) [ true ↦ refl | false ↦ refl ]
-
-map_some : (r : Option ℕ) → is_some (option_map suc r) ≡ is_some r
-map_some None = refl
-map_some (Some k) = refl
-
-some_by : (c : Bool) (next : ℕ) (p : Payload) (ps : List Payload) (r : Option ℕ) →
-    is_some (cond c (earlier next p ps r) (option_map suc r)) ≡ (c || is_some r)
-some_by true next p ps r = earlier_some next p ps r
-some_by false next p ps r = map_some r
-
-pub first_some : (id next : ℕ) (p : Payload) (ps : List Payload) →
-    is_some (first id next (p ∷ ps)) ≡ (nat_eq p.flow id || is_some (first id next ps))
-unfolding first
-first_some id next p ps = some_by (nat_eq p.flow id) next p ps (first id next ps)
 
 -- nothing of its own: the blocks are others'
 none_blocks : (id next : ℕ) (ps : List Payload) → is_some (first id next ps) ≡ false →
@@ -212,24 +202,20 @@ most_keeps F most id = held_keeps F (AtMost most) id
 
 pub closed_dead : (f : Flow) (cause : CloseCause) → is_some (closed f cause).live ≡ false
 unfolding closed with_event
-closed_dead f cause =
-    elim (cases_Bool (is_some f.live)) [
-      | inl e ↦ ap (λ (g : Flow). (is_some g.live))
-          (cond-true (is_some f.live) (stopped f f.next cause) f e)
-      | inr e ↦ ap (λ (g : Flow). (is_some g.live))
-          (cond-false (is_some f.live) (stopped f f.next cause) f e) ∙ e
-    ]
+closed_dead f cause = same (λ (g : Flow). is_some g.live) (lives f.live f.waits)
+    (stopped f f.next cause) (out_of_step f) false refl refl
 
-closed_next : (f : Flow) (cause : CloseCause) → (closed f cause).next ≡ f.next
+pub closed_next : (f : Flow) (cause : CloseCause) → (closed f cause).next ≡ f.next
 unfolding closed with_event
 closed_next f cause =
-    same (λ (g : Flow). g.next) (is_some f.live) (stopped f f.next cause) f f.next refl refl
+    same (λ (g : Flow). g.next) (lives f.live f.waits) (stopped f f.next cause) (out_of_step f)
+    f.next refl refl
 
--- a flow without a live stream takes one at least
-dead_shrinks : (F : Reader) (c : Flow) (i m : ℕ) → (is_some c.live) ≡ false → first_of c ≡ Some i →
+-- a flow takes one at least, if the first is due
+due_shrinks : (F : Reader) (c : Flow) (i m : ℕ) → is_due c i ≡ true → first_of c ≡ Some i →
     length c.held ≤ suc m → Holds (AtMost m) c.id (drained F c)
 unfolding drained AtMost first_of
-dead_shrinks F c i m dead e l =
+due_shrinks F c i m due e l =
     let within : i < length c.held = rw e at (first_within c.id c.next c.held) in
     let k : ℕ = length (remove c.held i) in
     let n : length c.held ≡ suc k = length_remove c.held i within in
@@ -240,23 +226,92 @@ dead_shrinks F c i m dead e l =
     let on : Holds (AtMost m) c.id (drained_at_most F k (taken F g (at c i))) =
     flowing_by F (Holds (AtMost m) c.id) (most_keeps F m c.id) k (taken F g (at c i)) h in
     let goes : drained_at_most F (suc k) c ≡ drained_at_most F k (taken F g (at c i)) =
-    flowing_takes F k c i e (due_now c i dead) in
+    flowing_takes F k c i e due in
     subst (λ (x : ℕ). Holds (AtMost m) c.id (drained_at_most F x c)) (sym n)
     (subst (Holds (AtMost m) c.id) (sym goes) on)
 
--- so does a gap
-gap_shrinks : (F : Reader) (f : Flow) (m : ℕ) → is_some (first_of f) ≡ true →
-    length f.held ≤ suc m → length (gap F f).held ≤ m
-unfolding gap gone_on AtMost first_of
-gap_shrinks F f m some l =
+-- a flow that isn't in step takes one at least
+dead_shrinks : (F : Reader) (f : Flow) (m : ℕ) → is_some (first_of f) ≡ true →
+    length f.held ≤ suc m → Holds (AtMost m) f.id (drained F (closed f Gap))
+unfolding first_of
+dead_shrinks F f m some l =
     let c : Flow = closed f Gap in
     let s : Stays f c = closed_stays f Gap in
     let i : (i : ℕ) × (first f.id f.next f.held ≡ Some i) =
     some_is (first f.id f.next f.held) some in
     let e : first c.id c.next c.held ≡ Some i.0 = rw (s.id, s.held, closed_next f Gap) i.1 in
-    let h : Holds (AtMost m) c.id (drained F c) =
-    dead_shrinks F c i.0 m (closed_dead f Gap) e (omega (arith, l, ap length s.held)) in
-    (rest_keeps F (Holds (AtMost m) c.id) (most_keeps F m c.id) (drained F c) h).held
+    subst (λ (n : ℕ). Holds (AtMost m) n (drained F c)) s.id
+    (due_shrinks F c i.0 m (due_now c i.0 (closed_dead f Gap)) e
+    (omega (arith, l, ap length s.held)))
+
+-- what a gap passes over reaches the first that is held
+reaches : (next number : ℕ) (o : Option ℕ) (count : ℕ) → passing next number o ≡ Some count →
+    is_to_come (onward next count) number ≡ false
+unfolding passing
+reaches next number None count e = absurd (true≢false (sym (ap is_some e)))
+reaches next number (Some n) count e =
+    let past : Bool = nat_lt n (2 ^ 31) && not (is_to_come (onward next n) number) in
+    elim (cases_Bool past) [
+      | inl y ↦
+          (let same : n ≡ count = ap (λ (o : Option ℕ). unwrap_or o 0)
+          (sym (cond-true past (Some n) None y) ∙ e) in
+          subst (λ (m : ℕ). is_to_come (onward next m) number ≡ false) same
+          (not-true (is_to_come (onward next n) number)
+          (and_parts (nat_lt n (2 ^ 31)) (not (is_to_come (onward next n) number)) y).1))
+      | inr z ↦ absurd (true≢false (sym (ap is_some (sym (cond-false past (Some n) None z) ∙ e))))
+    ]
+
+-- what is passed over is by the first that is held
+over_by : (F : Reader) (f : Flow) (i count : ℕ) → first f.id f.next f.held ≡ Some i →
+    passed_over F f ≡ Some count →
+    passing f.next (get_or f.held i no_payload).number (F.lacking f.events f.id) ≡ Some count
+unfolding passed_over first_of at
+over_by F f i count e over =
+    elim (cases_Bool (lives f.live f.waits)) [
+      | inl y ↦ rw (y, e) at over
+      | inr z ↦ absurd (true≢false (sym (ap is_some (rw z at over))))
+    ]
+
+-- a flow that waits takes one at least, since the first that it holds is no more to come
+waiting_shrinks : (F : Reader) (f : Flow) (count m : ℕ) → passed_over F f ≡ Some count →
+    is_some (first_of f) ≡ true → length f.held ≤ suc m →
+    Holds (AtMost m) f.id (drained F (awaiting f count))
+unfolding first_of at passed_over
+waiting_shrinks F f count m over some l =
+    let c : Flow = awaiting f count in
+    let s : Stays f c = awaiting_stays f count in
+    let due : ℕ = onward f.next count in
+    let i : (i : ℕ) × (first f.id f.next f.held ≡ Some i) =
+    some_is (first f.id f.next f.held) some in
+    let within : i.0 < length f.held = rw i.1 at (first_within f.id f.next f.held) in
+    let own : (get_or f.held i.0 no_payload).flow ≡ f.id =
+    rw i.1 at (first_own f.id f.next no_payload f.held) in
+    let number : ℕ = (get_or f.held i.0 no_payload).number in
+    let lack : Option ℕ = F.lacking f.events f.id in
+    let reach = reaches f.next number lack count (over_by F f i.0 count i.1 over) in
+    let j : (j : ℕ) × (first f.id due f.held ≡ Some j) =
+    some_is (first f.id due f.held) (first_anywhere f.id due f.next f.held ∙ some) in
+    let e : first c.id c.next c.held ≡ Some j.0 = rw (s.id, s.held) j.1 in
+    let past : is_to_come due (get_or f.held j.0 no_payload).number ≡ false =
+    first_reached f.id due f.held i.0 j.0 reach within own j.1 in
+    let now : is_due c j.0 ≡ true = due_reached c j.0
+    (subst (λ (ps : List Payload). is_to_come due (get_or ps j.0 no_payload).number ≡ false)
+    (sym s.held) past) in
+    subst (λ (n : ℕ). Holds (AtMost m) n (drained F c)) s.id
+    (due_shrinks F c j.0 m now e (omega (arith, l, ap length s.held)))
+
+-- so a gap does
+gap_shrinks : (F : Reader) (f : Flow) (m : ℕ) → is_some (first_of f) ≡ true →
+    length f.held ≤ suc m → length (gap F f).held ≤ m
+unfolding gap gone_on parted AtMost
+gap_shrinks F f m some l = by (passed_over F f) refl
+  where
+    rest : (c : Flow) → Holds (AtMost m) f.id (drained F c) → length (gone_on F c).held ≤ m
+    rest c h = (rest_keeps F (Holds (AtMost m) f.id) (most_keeps F m f.id) (drained F c) h).held
+
+    by : (o : Option ℕ) → passed_over F f ≡ o → length (gone_on F (parted f o)).held ≤ m
+    by None e = rest (closed f Gap) (dead_shrinks F f m some l)
+    by (Some count) e = rest (awaiting f count) (waiting_shrinks F f count m e some l)
 
 pub gap_fewer : (F : Reader) (f : Flow) → is_some (first_of f) ≡ true →
     length (gap F f).held < length f.held
@@ -283,10 +338,10 @@ settles A zero f l =
     ]
 settles A (suc count) f l =
     elim (is_too_much A f) as (λ (b : Bool). is_too_much A f ≡ b →
-    is_too_much A (elim b [ true ↦ within_bounds A count (gap A.faulted f) | false ↦ f ])
+    is_too_much A (elim b [ true ↦ within_bounds A count (gap A.reader f) | false ↦ f ])
     ≡ false) [
-      | true ↦ (λ e. settles A count (gap A.faulted f)
-          (gap_shrinks A.faulted f count (much_some A f e) l))
+      | true ↦ (λ e. settles A count (gap A.reader f)
+          (gap_shrinks A.reader f count (much_some A f e) l))
       | false ↦ (λ e. e)
     ] refl
 
@@ -346,11 +401,11 @@ unfolding payload_came holding IsOthers AtMost
 room_after A f p own room =
     let q : Payload = left f.next (is_some f.live) p in
     let h : Flow = record f { held = put q f.held } in
-    let g : Flow = gone_on A.faulted h in
+    let g : Flow = gone_on A.reader h in
     let r : Flow = within_bounds A (length f.held + 1) g in
     let few : length g.held ≤ length f.held + 1 =
-    (gone_on_keeps A.faulted (Holds (AtMost (length f.held + 1)) f.id)
-    (most_keeps A.faulted (length f.held + 1) f.id) h
+    (gone_on_keeps A.reader (Holds (AtMost (length f.held + 1)) f.id)
+    (most_keeps A.reader (length f.held + 1) f.id) h
     (record { own = refl; held = most_put f.held q })).held in
     let start : Holds (IsOthers (others f.id f.held)) f.id h =
     record {
@@ -358,11 +413,11 @@ room_after A f p own room =
       held = others_put f.id f.held (place_of (key_of q) f.held) q
           (left_flow f.next (is_some f.live) p ∙ own);
     } in
-    let k : Keeps A.faulted (Holds (IsOthers (others f.id f.held)) f.id) =
-    others_keeps A.faulted (others f.id f.held) f.id in
+    let k : Keeps A.reader (Holds (IsOthers (others f.id f.held)) f.id) =
+    others_keeps A.reader (others f.id f.held) f.id in
     let kept : Holds (IsOthers (others f.id f.held)) f.id r =
     relieved_keeps A (Holds (IsOthers (others f.id f.held)) f.id) k (length f.held + 1) g
-    (gone_on_keeps A.faulted (Holds (IsOthers (others f.id f.held)) f.id) k h start) in
+    (gone_on_keeps A.reader (Holds (IsOthers (others f.id f.held)) f.id) k h start) in
     let enough : blocks_of r.held ≤ A.blocks =
     enough_by A r (settles A (length f.held + 1) g few)
     (omega (arith, room, others_most f.id f.held, others_own f r kept)) in

@@ -3,7 +3,7 @@ use Rattle.std.proofs.Common.{◌≡◌, ℕ, Bool, false, cond, nat_eq, List, [
 use Rattle.tcp_flow.specs.declared.flow.CloseCause.TheVariants.{Fin, Gap, Fault}
 use Rattle.tcp_waiting.specs.declared.arrival.Arrival as origin
 use Rattle.tcp_waiting.specs.Payload.{earlier, first, blocks_of, is_far, has_as_much, place_of}
-use Rattle.tcp_flow.specs.Flow.{Event, Begins, Delivers, Closes, OfCapture, ComesFrom, Passes, Setting, Arrival, Octets, End, Hears, header_at, chain_from, stream_at, left, with_event, checked, delivered, cut_up, tail_before, begun, all_delivered, rejoined, looked_through, told_from, taken, first_of, at, is_due, drained_at_most, drained, fin_is_reached, closed, without_stale_fin, ended, gone_on, gap, is_too_much, within_bounds, holding, payload_came, fin_came, is_lost, heard, step, after, first_payload}
+use Rattle.tcp_flow.specs.Flow.{Event, Begins, Delivers, Closes, OfCapture, ComesFrom, Passes, Setting, Arrival, Octets, End, Hears, header_at, chain_from, stream_at, left, with_event, checked, delivered, cut_up, tail_before, begun, all_delivered, rejoined, looked_through, told_from, taken, first_of, at, is_due, drained_at_most, drained, fin_is_reached, closed, without_stale_fin, ended, gone_on, passing, passed_over, parted, gap, is_too_much, within_bounds, holding, payload_came, fin_came, is_lost, heard, step, after, first_payload}
 
 -- the reader is at a fault at its 7th octet where what it was handed last begins with an octet 255
 unfoldable is_bad : Event → Option ℕ
@@ -16,7 +16,7 @@ any_bad (h ∷ []) = is_bad h
 any_bad (h ∷ k ∷ hs) = any_bad (k ∷ hs)
 
 unfoldable setting : Setting
-setting = record { faulted = any_bad; blocks = 3 }
+setting = record { reader = record { faulted = any_bad; lacking = λ hs id. None }; blocks = 3 }
 
 unfoldable header : List ℕ
 header = 71 ∷ 73 ∷ 79 ∷ 80 ∷ 1 ∷ 0 ∷ []
@@ -50,6 +50,16 @@ heard_at number answers time = Hears (record {
 
 unfoldable events : List Arrival → ℕ → List Event
 events cs n = (after setting (first_payload setting 7 n header (packet n) [] []) cs).events
+
+-- where the message that a stream is in lacks four octets
+unfoldable knowing : Setting
+knowing = record {
+  reader = record { faulted = any_bad; lacking = λ hs id. Some 4 };
+  blocks = 3;
+}
+
+unfoldable events_known : List Arrival → List Event
+events_known cs = (after knowing (first_payload knowing 7 1000 header (packet 1) [] []) cs).events
 
 -- what happens by a first payload of these octets, at 1000, and what comes after it
 unfoldable events_from : List ℕ → List Arrival → List Event
@@ -105,6 +115,22 @@ record Rows : Type 0 where
       ∷ []
   behind-the-front-an-octet-too-many : in_flows (events (octets 1010 ((5 ∷ message) ++ 5 ∷ [])
       ∷ acknowledged 1030 ∷ []) 1000) ≡ first_begins ∷ Delivers 7 header ∷ Closes 7 Gap ∷ []
+  the-next-begins-where-the-message-ends : in_flows (events_known (octets 1010 (1 ∷ 2 ∷ [])
+      ∷ acknowledged 1020 ∷ [])) ≡ first_begins ∷ Delivers 7 header ∷ Closes 7 Gap
+      ∷ begins_at 1010 4 false ∷ Delivers 7 (1 ∷ 2 ∷ []) ∷ []
+  what-the-message-lacks-falls-away : in_flows (events_known (octets 1008 (8 ∷ 9 ∷ [])
+      ∷ acknowledged 1020 ∷ octets 1010 (1 ∷ []) ∷ [])) ≡ first_begins ∷ Delivers 7 header
+      ∷ Closes 7 Gap ∷ begins_at 1010 4 false ∷ Delivers 7 (1 ∷ []) ∷ []
+  a-gap-beyond-the-message : in_flows (events_known (octets 1011 header ∷ acknowledged 1020 ∷ []))
+      ≡ first_begins ∷ Delivers 7 header ∷ Closes 7 Gap ∷ begins_at 1011 5 true
+      ∷ Delivers 7 header ∷ []
+  the-fin-while-the-flow-waits : in_flows (events_known (octets 1008 (8 ∷ 9 ∷ [])
+      ∷ acknowledged 1020 ∷ End 1010 ∷ octets 1010 header ∷ [])) ≡ first_begins
+      ∷ Delivers 7 header ∷ Closes 7 Gap ∷ begins_at 1010 4 true ∷ Delivers 7 header ∷ []
+  found-stays : in_flows (events_known (octets 1011 header ∷ octets 1021 (1 ∷ [])
+      ∷ acknowledged 1030 ∷ acknowledged 1030 ∷ []))
+      ≡ first_begins ∷ Delivers 7 header ∷ Closes 7 Gap ∷ begins_at 1011 5 true
+      ∷ Delivers 7 header ∷ Closes 7 Gap ∷ begins_at 1021 4 true ∷ Delivers 7 (1 ∷ []) ∷ []
   acknowledgement-of-next : in_flows (events (octets 1010 (5 ∷ []) ∷ acknowledged 1006 ∷ []) 1000)
       ≡ first_begins ∷ Delivers 7 header ∷ []
   half-a-second-is-too-soon : in_flows (events (held_at 70 ∷ heard_at (Some 1020) false 500000070
@@ -165,11 +191,12 @@ record Rows : Type 0 where
 
 rows : Rows
 unfolding header_at chain_from stream_at left with_event checked delivered begun cut_up
-    tail_before all_delivered rejoined looked_through told_from taken earlier first first_of
-    at is_due drained_at_most drained fin_is_reached closed without_stale_fin ended gone_on
-    gap blocks_of is_far is_too_much within_bounds has_as_much holding place_of payload_came
-    fin_came is_lost heard step after first_payload events events_from in_flows setting packet
-    octets acknowledged held_at heard_at header message begins_at first_begins any_bad is_bad
+    tail_before all_delivered rejoined looked_through told_from taken earlier first first_of at
+    is_due drained_at_most drained fin_is_reached closed without_stale_fin ended gone_on passing
+    passed_over parted gap blocks_of is_far is_too_much within_bounds has_as_much holding
+    place_of payload_came fin_came is_lost heard step after first_payload events events_from
+    in_flows setting packet knowing events_known octets acknowledged held_at heard_at header
+    message begins_at first_begins any_bad is_bad
 rows = record {
   begins = refl;
   retransmission-falls-away = refl;
@@ -184,6 +211,11 @@ rows = record {
   behind-the-front-no-message-is-whole = refl;
   behind-the-front-a-message-is-whole = refl;
   behind-the-front-an-octet-too-many = refl;
+  the-next-begins-where-the-message-ends = refl;
+  what-the-message-lacks-falls-away = refl;
+  a-gap-beyond-the-message = refl;
+  the-fin-while-the-flow-waits = refl;
+  found-stays = refl;
   acknowledgement-of-next = refl;
   half-a-second-is-too-soon = refl;
   a-second-after-it = refl;

@@ -5,7 +5,7 @@ use Rattle.std.proofs.lemmas.Result.{on_ok_weaker}
 use Rattle.tcp_waiting.specs.Payload.{Payload}
 use Rattle.tcp_flow.specs.declared.flow.CloseCause.TheVariants.{Fault}
 use Rattle.tcp_flow.specs.declared.flow.FlowState.{FlowState}
-use Rattle.tcp_flow.specs.Flow.{Flow, Event, Reader, stopped, checked, number_after, handed, delivered, without_stale_fin, first_of, held_by_others}
+use Rattle.tcp_flow.specs.Flow.{Flow, Event, Reader, stopped, checked, number_after, handed, delivered, without_stale_fin, parted, first_of, held_by_others}
 use Rattle.tcp_flow.specs.Laws.{IsSettled}
 use Rattle.tcp_flow.specs.State.{state, IsState}
 
@@ -21,13 +21,13 @@ pub on_ok_equal : {T E : Type 0} (r : Result T E) (O : List Event → Type 0) (s
     OnOk r (IsState O s held g)
 on_ok_equal r O s held f g e t = on_ok_weaker r (subst (IsState O s held) e) t
 
-pub delivered_on : (F : Reader) (f : Flow) (p : Payload) → F (handed f p).events ≡ None →
+pub delivered_on : (F : Reader) (f : Flow) (p : Payload) → F.faulted (handed f p).events ≡ None →
     delivered F f p ≡ handed f p
 unfolding delivered checked
 delivered_on F f p e = rw e refl
 
 pub delivered_fault : (F : Reader) (f : Flow) (p : Payload) (at : ℕ) →
-    F (handed f p).events ≡ Some at
+    F.faulted (handed f p).events ≡ Some at
     → delivered F f p ≡ stopped (handed f p) (number_after (handed f p) at) Fault
 unfolding delivered checked
 delivered_fault F f p at e = rw e refl
@@ -99,3 +99,9 @@ others_of O O' s s' held held' f g h n e =
     ∙ ap (λ (id : ℕ). held_by_others id g.held) own ∙ e
     ∙ sym (ap (λ (id : ℕ). held_by_others id f.held) own)
     ∙ sym (ap (held_by_others s.id) (held_of O s held f h))
+
+-- a flow parts by what it passes over
+pub parted_on : (O : List Event → Type 0) (s : FlowState) (held : List Payload) (f : Flow)
+    (passed over : Option ℕ) → passed ≡ over → IsState O s held (parted f passed) →
+    IsState O s held (parted f over)
+parted_on O s held f passed over e h = subst (λ (o : Option ℕ). IsState O s held (parted f o)) e h

@@ -6,7 +6,7 @@ use Rattle.tcp_waiting.specs.Numbers.{is_to_come}
 use Rattle.tcp_waiting.proofs.Order.{first_within, first_own}
 use Rattle.tcp_waiting.specs.Payload.{Payload, payload, no_payload, first, has_as_much}
 use Rattle.tcp_flow.specs.declared.hearing.Heard.{Heard}
-use Rattle.tcp_flow.specs.Flow.{Flow, Reader, left, delivered, looked_through, tail_before, told_from, taken, first_of, is_due, at, drained_at_most, Setting, is_too_much, within_bounds, gap, is_lost, heard, payload_came, gone_on, holding}
+use Rattle.tcp_flow.specs.Flow.{Flow, Reader, left, delivered, looked_through, tail_before, told_from, resumed, taken, first_of, is_due, at, drained_at_most, Setting, is_too_much, within_bounds, gap, is_lost, heard, payload_came, gone_on, holding}
 
 pub taken_none : (F : Reader) (f : Flow) (p q : Payload) → q ≡ left f.next (is_some f.live) p →
     nat_eq (length q.octets) 0 ≡ true → taken F f p ≡ f
@@ -15,16 +15,18 @@ taken_none F f p q e z = rw (← e, z) refl
 
 pub taken_live : (F : Reader) (f : Flow) (p q : Payload) → q ≡ left f.next (is_some f.live) p →
     nat_eq (length q.octets) 0 ≡ false → (is_some f.live) ≡ true →
-    taken F f p ≡ delivered F (told_from f p) q
+    taken F f p ≡ delivered F (resumed (told_from f p)) q
 unfolding taken
-taken_live F f p q e z l = rw (← e, z) (cond-true (is_some f.live) (delivered F (told_from f p) q)
+taken_live F f p q e z l =
+    rw (← e, z) (cond-true (is_some f.live) (delivered F (resumed (told_from f p)) q)
     (looked_through F (told_from f p) q (tail_before f.tail q.number q.octets)) l)
 
 pub taken_dead : (F : Reader) (f : Flow) (p q : Payload) → q ≡ left f.next (is_some f.live) p →
     nat_eq (length q.octets) 0 ≡ false → (is_some f.live) ≡ false →
     taken F f p ≡ looked_through F (told_from f p) q (tail_before f.tail q.number q.octets)
 unfolding taken
-taken_dead F f p q e z l = rw (← e, z) (cond-false (is_some f.live) (delivered F (told_from f p) q)
+taken_dead F f p q e z l =
+    rw (← e, z) (cond-false (is_some f.live) (delivered F (resumed (told_from f p)) q)
     (looked_through F (told_from f p) q (tail_before f.tail q.number q.octets)) l)
 
 -- a payload is taken while it is due
@@ -90,7 +92,7 @@ relieved_stops A zero f e = refl
 relieved_stops A (suc count) f e = rw (e, within_bounds) refl
 
 pub relieved_goes : (A : Setting) (count : ℕ) (f : Flow) → 0 < count → is_too_much A f ≡ true →
-    within_bounds A count f ≡ within_bounds A (count - 1) (gap A.faulted f)
+    within_bounds A count f ≡ within_bounds A (count - 1) (gap A.reader f)
 unfolding within_bounds
 relieved_goes A zero f h e = absurd (omega (arith, h))
 relieved_goes A (suc count) f h e = let k : suc count - 1 ≡ count = omega arith in
@@ -135,11 +137,11 @@ came_nothing A f p q e t =
     || has_as_much f.id (left f.next (is_some f.live) p).number
     (length (left f.next (is_some f.live) p).octets) f.held) f
     (within_bounds A (length f.held + 1)
-    (gone_on A.faulted (holding f (left f.next (is_some f.live) p)))) u
+    (gone_on A.reader (holding f (left f.next (is_some f.live) p)))) u
 
 pub came_held : (A : Setting) (f : Flow) (p q : Payload) → q ≡ left f.next (is_some f.live) p →
     (nat_eq (length q.octets) 0 || has_as_much f.id q.number (length q.octets) f.held) ≡ false
-    → payload_came A f p ≡ within_bounds A (length f.held + 1) (gone_on A.faulted (holding f q))
+    → payload_came A f p ≡ within_bounds A (length f.held + 1) (gone_on A.reader (holding f q))
 unfolding payload_came
 came_held A f p q e t =
     let u : (nat_eq (length (left f.next (is_some f.live) p).octets) 0
@@ -151,6 +153,6 @@ came_held A f p q e t =
     || has_as_much f.id (left f.next (is_some f.live) p).number
     (length (left f.next (is_some f.live) p).octets) f.held) f
     (within_bounds A (length f.held + 1)
-    (gone_on A.faulted (holding f (left f.next (is_some f.live) p)))) u
-    ∙ ap (λ (r : Payload). within_bounds A (length f.held + 1) (gone_on A.faulted (holding f r)))
+    (gone_on A.reader (holding f (left f.next (is_some f.live) p)))) u
+    ∙ ap (λ (r : Payload). within_bounds A (length f.held + 1) (gone_on A.reader (holding f r)))
     (sym e)

@@ -7,7 +7,7 @@ use Rattle.tcp_waiting.specs.declared.arrival.Arrival as origin
 use Rattle.tcp_waiting.specs.Numbers.{onward}
 use Rattle.tcp_waiting.specs.Payload.{Payload, payload, without_first}
 use Rattle.tcp_flow.specs.declared.tail.Tail.{Tail}
-use Rattle.tcp_flow.specs.Flow.{Flow, Reader, Passes, OfCapture, with_event, checked, handed, delivered, started, begun, all_delivered, rejoined, looked_through, stream_at, is_front, is_beginning, first_five, cut_up, octets_of, parts_of, tail_of, lengthened, goes_on, tail_before}
+use Rattle.tcp_flow.specs.Flow.{Flow, Reader, Passes, OfCapture, lives, with_event, checked, handed, delivered, started, begun, all_delivered, rejoined, looked_through, stream_at, is_front, is_beginning, first_five, cut_up, octets_of, parts_of, tail_of, lengthened, goes_on, tail_before}
 use Rattle.tcp_flow.specs.Laws.{StandFrom, total, IsTailOf}
 
 -- ---- What the single steps keep.
@@ -19,7 +19,7 @@ unfolding all_delivered
 all_delivered_by F I k f a [] i = i
 all_delivered_by F I k f a (xs ∷ xss) i =
     let d : Flow = delivered F f (payload f.id f.next xs a) in
-    elim (is_some f.live) as (λ (b : Bool). I (cond b (all_delivered F d a xss) f)) [
+    elim (lives f.live f.waits) as (λ (b : Bool). I (cond b (all_delivered F d a xss) f)) [
       | true ↦ all_delivered_by F I k d a xss (k f (payload f.id f.next xs a) i)
       | false ↦ i
     ]
@@ -124,19 +124,19 @@ all_none F f a xs [] e = refl
 all_none F f a xs (k ∷ ks) e = absurd (omega (arith, eqb-true (length (k ∷ ks)) 0 e))
 
 pub all_dead : (F : Reader) (f : Flow) (a : origin.Arrival) (xss : List (List ℕ)) →
-    is_some f.live ≡ false → all_delivered F f a xss ≡ f
+    lives f.live f.waits ≡ false → all_delivered F f a xss ≡ f
 unfolding all_delivered
 all_dead F f a [] e = refl
 all_dead F f a (xs ∷ xss) e =
-    cond-false (is_some f.live)
+    cond-false (lives f.live f.waits)
     (all_delivered F (delivered F f (payload f.id f.next xs a)) a xss) f e
 
 pub all_live : (F : Reader) (f : Flow) (a : origin.Arrival) (xs : List ℕ) (xss : List (List ℕ)) →
-    is_some f.live ≡ true → all_delivered F f a (xs ∷ xss)
+    lives f.live f.waits ≡ true → all_delivered F f a (xs ∷ xss)
     ≡ all_delivered F (delivered F f (payload f.id f.next xs a)) a xss
 unfolding all_delivered
 all_live F f a xs xss e =
-    cond-true (is_some f.live)
+    cond-true (lives f.live f.waits)
     (all_delivered F (delivered F f (payload f.id f.next xs a)) a xss) f e
 
 -- parts of these lengths, of which the first is so long
@@ -151,7 +151,7 @@ pub all_more : (F : Reader) (f : Flow) (a : origin.Arrival) (xss yss : List (Lis
 unfolding all_delivered
 all_more F f a [] yss = refl
 all_more F f a (xs ∷ xss) yss =
-    elim (cases_Bool (is_some f.live)) [
+    elim (cases_Bool (lives f.live f.waits)) [
       | inl e ↦ (let d : Flow = delivered F f (payload f.id f.next xs a) in
           all_live F f a xs (xss ++ yss) e ∙ all_more F d a xss yss
           ∙ sym (ap (λ (g : Flow). all_delivered F g a yss) (all_live F f a xs xss e)))
@@ -255,7 +255,7 @@ rejoined_vain F f p t e =
     (all_delivered F (started f t.number) p.arrival (parts_of t ++ p.octets ∷ [])) e
 
 pub last_live : (F : Reader) (f : Flow) (a : origin.Arrival) (xs : List ℕ) →
-    is_some f.live ≡ true → all_delivered F f a (xs ∷ [])
+    lives f.live f.waits ≡ true → all_delivered F f a (xs ∷ [])
     ≡ delivered F f (payload f.id f.next xs a)
 unfolding all_delivered
 last_live F f a xs e = all_live F f a xs [] e
@@ -369,7 +369,7 @@ checked_next f (Some at) = refl
 delivered_next : (F : Reader) (f : Flow) (p : Payload) →
     (delivered F f p).next ≡ onward p.number (length p.octets)
 unfolding delivered with_event
-delivered_next F f p = checked_next (handed f p) (F (handed f p).events)
+delivered_next F f p = checked_next (handed f p) (F.faulted (handed f p).events)
 
 checked_id : (f : Flow) (r : Option ℕ) → (checked f r).id ≡ f.id
 unfolding checked with_event
@@ -378,11 +378,11 @@ checked_id f (Some at) = refl
 
 pub delivered_id : (F : Reader) (f : Flow) (p : Payload) → (delivered F f p).id ≡ f.id
 unfolding delivered with_event
-delivered_id F f p = checked_id (handed f p) (F (handed f p).events)
+delivered_id F f p = checked_id (handed f p) (F.faulted (handed f p).events)
 
 -- what a flow keeps whose tail is so of each payload, where it is so of those that it takes
 pub record Looks (F : Reader) (P : ℕ → List ℕ → Type 0) (I : Flow → Type 0) : Type 0 where
-  pub delivers : (g : Flow) (p : Payload) → I g → is_some g.live ≡ true → p.number ≡ g.next →
+  pub delivers : (g : Flow) (p : Payload) → I g → lives g.live g.waits ≡ true → p.number ≡ g.next →
       P p.number p.octets → I (delivered F g p)
   pub starts : (g : Flow) (n : ℕ) → n < 2 ^ 32 → is_some g.live ≡ false → I g → I (started g n)
   pub passes : (g : Flow) (t : Option Tail) (xs : List ℕ) →
@@ -399,7 +399,7 @@ module _ (F : Reader) (P : ℕ → List ℕ → Type 0) (I : Flow → Type 0) (k
   all_delivered_looks f a (xs ∷ xss) h i =
       let p : Payload = payload f.id f.next xs a in
       let d : Flow = delivered F f p in
-      elim (cases_Bool (is_some f.live)) [
+      elim (cases_Bool (lives f.live f.waits)) [
         | inl e ↦ subst I (sym (all_live F f a xs xss e))
             (all_delivered_looks d a xss
             (subst (λ (n : ℕ). StandFrom P n xss) (sym (delivered_next F f p)) h.1)

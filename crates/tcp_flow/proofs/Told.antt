@@ -2,11 +2,11 @@
 use Rattle.std.proofs.Common.{◌≡◌, ℕ, cond, nat_eq, ◌&&◌, ◌||◌, ◌+◌, List, [], ◌∷◌, ◌++◌, length, Option, Some, None, is_some, unwrap_or, sym, ◌∙◌, ap, true≢false}
 use Rattle.std.specs.List.{remove}
 use Rattle.tcp_flow.specs.declared.flow.CloseCause.{CloseCause}
-use Rattle.tcp_flow.specs.declared.flow.CloseCause.TheVariants.{Fault}
+use Rattle.tcp_flow.specs.declared.flow.CloseCause.TheVariants.{Fault, Gap}
 use Rattle.tcp_flow.specs.declared.tail.Tail.{Tail}
 use Rattle.tcp_waiting.specs.Numbers.{age}
 use Rattle.tcp_waiting.specs.Payload.{Payload, payload, has_as_much, put}
-use Rattle.tcp_flow.specs.Flow.{Flow, Event, Begins, Delivers, Closes, flow_of, OfCapture, ComesFrom, Passes, CaptureEvent, Reader, Setting, Arrival, Octets, End, Hears, left, with_event, stopped, checked, number_after, handed, delivered, start_at, looked_through, tail_before, told_from, taken, at, closed, holding, gone_on, within_bounds, payload_came, fin_came, gap, step}
+use Rattle.tcp_flow.specs.Flow.{Flow, Event, Begins, Delivers, Closes, flow_of, OfCapture, ComesFrom, Passes, CaptureEvent, Reader, Setting, Arrival, Octets, End, Hears, left, with_event, stopped, checked, number_after, handed, delivered, start_at, started, resumed, lives, out_of_step, looked_through, tail_before, told_from, taken, at, closed, holding, gone_on, within_bounds, payload_came, fin_came, gap, step}
 use Rattle.tcp_flow.proofs.Tails.{looked_by}
 use Rattle.tcp_flow.proofs.Preserving.{Keeps, cond_keeps, gone_on_keeps, relieved_keeps, heard_keeps, gap_keeps}
 
@@ -50,28 +50,34 @@ module _ (Q : List Event → Type 0) (id : ℕ) (more : IsKept Q id) where
 
   pub closed_told : (f : Flow) (cause : CloseCause) → Told Q id f → Told Q id (closed f cause)
   unfolding closed
-  closed_told f cause t = cond_keeps (Told Q id) (is_some f.live) (stopped f f.next cause) f
-      (stopped_told f f.next cause t) t
+  closed_told f cause t = cond_keeps (Told Q id) (lives f.live f.waits) (stopped f f.next cause)
+      (out_of_step f) (stopped_told f f.next cause t) (record { same = t.same; told = t.told })
 
   delivered_told : (F : Reader) (f : Flow) (p : Payload) → Told Q id f → Told Q id (delivered F f p)
   unfolding delivered with_event
   delivered_told F f p t =
       let d : Flow = handed f p in
-      checked_told d (F d.events) (record {
+      checked_told d (F.faulted d.events) (record {
         same = t.same;
         told = more f.events (Delivers f.id p.octets) (same_flow f.id id t.same) t.told;
       })
+
+  started_told : (f : Flow) (n : ℕ) → Told Q id f → Told Q id (started f n)
+  unfolding with_event
+  started_told f n t = record {
+    same = t.same;
+    told = more f.events (Begins f.id (start_at f n)) (same_flow f.id id t.same) t.told;
+  }
+
+  resumed_told : (f : Flow) → Told Q id f → Told Q id (resumed f)
+  resumed_told f t = cond_keeps (Told Q id) f.waits (started f f.next) f (started_told f f.next t) t
 
   looked_told : (F : Reader) (f : Flow) (q : Payload) (o : Option Tail) → Told Q id f →
       Told Q id (looked_through F f q o)
   unfolding with_event
   looked_told F f q o t =
       looked_by F (Told Q id) (delivered_told F)
-      (λ g n t. record {
-        same = t.same;
-        told = more g.events (Begins g.id (start_at g.since g.has_begun n))
-            (same_flow g.id id t.same) t.told;
-      })
+      started_told
       (λ g u xs t. capture_told (record g { tail = u }) (Passes xs)
       (record { same = t.same; told = t.told })) f q o t
 
@@ -85,11 +91,12 @@ module _ (Q : List Event → Type 0) (id : ℕ) (more : IsKept Q id) where
       let q : Payload = left f.next (is_some f.live) p in
       let g : Flow = told_from f p in
       let u : Told Q id g = from_told f p t in
-      let d : Flow = delivered F g q in
+      let d : Flow = delivered F (resumed g) q in
       let o : Option Tail = tail_before f.tail q.number q.octets in
       let b : Flow = looked_through F g q o in
       cond_keeps (Told Q id) (nat_eq (length q.octets) 0) f (cond (is_some f.live) d b) t
-      (cond_keeps (Told Q id) (is_some f.live) d b (delivered_told F g q u)
+      (cond_keeps (Told Q id) (is_some f.live) d b
+      (delivered_told F (resumed g) q (resumed_told g u))
       (looked_told F g q o u))
 
   told_keeps : (F : Reader) → Keeps F (Told Q id)
@@ -98,6 +105,8 @@ module _ (Q : List Event → Type 0) (id : ℕ) (more : IsKept Q id) where
         takes = λ f i e d t. taken_told F (record f { held = remove f.held i }) (at f i)
             (record { same = t.same; told = t.told });
         closes = λ f cause t. closed_told f cause t;
+        waits = λ f count live t. (let c : Told Q id (closed f Gap) = closed_told f Gap t in
+            record { same = c.same; told = c.told });
         fins = λ f n t. record { same = t.same; told = t.told };
       }
 
@@ -107,12 +116,12 @@ module _ (Q : List Event → Type 0) (id : ℕ) (more : IsKept Q id) where
   came_told A f p t =
       let q : Payload = left f.next (is_some f.live) p in
       let h : Flow = record f { held = put q f.held } in
-      let k : Keeps A.faulted (Told Q id) = told_keeps A.faulted in
+      let k : Keeps A.reader (Told Q id) = told_keeps A.reader in
       cond_keeps (Told Q id) (nat_eq (length q.octets) 0
       || has_as_much f.id q.number (length q.octets) f.held) f
-      (within_bounds A (length f.held + 1) (gone_on A.faulted h)) t
-      (relieved_keeps A (Told Q id) k (length f.held + 1) (gone_on A.faulted h)
-      (gone_on_keeps A.faulted (Told Q id) k h (record { same = t.same; told = t.told })))
+      (within_bounds A (length f.held + 1) (gone_on A.reader h)) t
+      (relieved_keeps A (Told Q id) k (length f.held + 1) (gone_on A.reader h)
+      (gone_on_keeps A.reader (Told Q id) k h (record { same = t.same; told = t.told })))
 
   fin_told : (F : Reader) (f : Flow) (n : ℕ) → Told Q id f → Told Q id (fin_came F f n)
   unfolding fin_came
@@ -124,8 +133,8 @@ module _ (Q : List Event → Type 0) (id : ℕ) (more : IsKept Q id) where
   pub step_told : (A : Setting) (f : Flow) (a : Arrival) → Told Q id f → Told Q id (step A f a)
   unfolding step
   step_told A f (Octets n octets arrival) t = came_told A f (payload f.id n octets arrival) t
-  step_told A f (End n) t = fin_told A.faulted f n t
-  step_told A f (Hears h) t = heard_keeps A.faulted (Told Q id) (told_keeps A.faulted)
+  step_told A f (End n) t = fin_told A.reader f n t
+  step_told A f (Hears h) t = heard_keeps A.reader (Told Q id) (told_keeps A.reader)
       (length f.held) h f t
 
   pub gap_told : (F : Reader) (f : Flow) → Told Q id f → Told Q id (gap F f)

@@ -1,15 +1,15 @@
 -- Streams are gapless, whatever comes.
 use Rattle.std.proofs.Common.{◌≡◌, ℕ, zero, suc, ◌+◌, ◌-◌, ◌^◌, ◌<◌, ◌≤◌, Bool, true, false, cond, nat_eq, nat_lt, ◌&&◌, ◌||◌, not, List, [], ◌∷◌, ◌++◌, length, drop, get_or, Option, Some, None, refl, sym, ◌∙◌, ap, subst, arith, inl, inr, is_some, true≢false}
 use Rattle.std.specs.List.{insert, remove}
-use Rattle.std.proofs.lemmas.Bool.{cases_lt, cases_Bool, lt-ltb, le-ltb, ltb-false, and_cases, cond-true, cond-false, not-true, and_right, not_from_true, both_ways}
+use Rattle.std.proofs.lemmas.Bool.{cases_lt, cases_Bool, lt-ltb, le-ltb, ltb-false, and_cases, cond-true, cond-false, not-true, and_left, and_right, not_from_true, both_ways}
 use Rattle.std.proofs.lemmas.List.{drop-drop, get_or-append_right, get_or_append_left, length-append}
 use Rattle.tcp_flow.specs.declared.hearing.Heard.{Heard}
 use Rattle.tcp_flow.specs.declared.tail.Tail.{Tail}
 use Rattle.tcp_flow.specs.declared.flow.CloseCause.{CloseCause}
-use Rattle.tcp_flow.specs.declared.flow.CloseCause.TheVariants.{Fault}
+use Rattle.tcp_flow.specs.declared.flow.CloseCause.TheVariants.{Fault, Gap}
 use Rattle.tcp_waiting.specs.Numbers.{ahead, onward, age, is_to_come}
 use Rattle.tcp_waiting.specs.Payload.{without_first, Payload, no_payload, window, has_as_much, put, place_of, key_of}
-use Rattle.tcp_flow.specs.Flow.{gap, Flow, Event, CaptureEvent, Begins, Delivers, Closes, Reader, Setting, left, with_event, stopped, checked, number_after, handed, delivered, start_at, started, looked_through, tail_before, told_from, OfCapture, ComesFrom, Passes, taken, first_of, is_due, at, closed, payload_came, holding, within_bounds, gone_on, fin_came, heard}
+use Rattle.tcp_flow.specs.Flow.{gap, Flow, Event, CaptureEvent, Begins, Delivers, Closes, Reader, Setting, left, with_event, stopped, checked, number_after, handed, delivered, start_at, started, lives, out_of_step, resumed, awaiting, looked_through, tail_before, told_from, OfCapture, ComesFrom, Passes, taken, first_of, is_due, at, closed, payload_came, holding, within_bounds, gone_on, fin_came, heard}
 use Rattle.tcp_flow.specs.Laws.{IsPartOf, OwnMayFollow, MayFollow, AllFollow, AllArePartsOf, due_of, IsTailOf, IsGapless}
 use Rattle.tcp_waiting.proofs.Order.{first_within, first_own}
 use Rattle.tcp_flow.proofs.Tails.{Looks, looked_keeps, tail_map, delivered_id, in_vain}
@@ -114,12 +114,12 @@ left_due next live p small l h =
     (reached next p.number small h)
 
 stopped_true : (payloads : List Payload) (f : Flow) (n : ℕ) (cause : CloseCause) →
-    IsGapless payloads f → (is_some f.live) ≡ true → IsGapless payloads (stopped f n cause)
+    IsGapless payloads f → lives f.live f.waits ≡ true → IsGapless payloads (stopped f n cause)
 unfolding with_event OwnMayFollow
 stopped_true payloads f n cause t live =
     let runs : AllFollow payloads f.id None f.events (Some f.next) =
     subst (AllFollow payloads f.id None f.events)
-    (cond-true (is_some f.live) (Some f.next) None live) t.events in
+    (cond-true (lives f.live f.waits) (Some f.next) None live) t.events in
     record {
       next = t.next;
       held = t.held;
@@ -129,7 +129,7 @@ stopped_true payloads f n cause t live =
     }
 
 checked_true : (payloads : List Payload) (f : Flow) (r : Option ℕ) → IsGapless payloads f →
-    (is_some f.live) ≡ true → IsGapless payloads (checked f r)
+    lives f.live f.waits ≡ true → IsGapless payloads (checked f r)
 unfolding checked
 checked_true payloads f None t live = t
 checked_true payloads f (Some at) t live =
@@ -150,7 +150,7 @@ delivered_true : (F : Reader) (payloads : List Payload) (g : Flow) (p : Payload)
     AllArePartsOf payloads g.held
     → ((t : Tail) → g.tail ≡ Some t → IsTailOf (IsPartOf payloads g.id) t)
     → AllFollow payloads g.id None g.events (Some n) →
-    IsPartOf payloads g.id n p.octets → p.number ≡ n → (is_some g.live) ≡ true
+    IsPartOf payloads g.id n p.octets → p.number ≡ n → lives g.live g.waits ≡ true
     → IsGapless payloads (delivered F g p)
 unfolding delivered with_event OwnMayFollow
 delivered_true F payloads g p n held tail runs has e live =
@@ -158,37 +158,37 @@ delivered_true F payloads g p n held tail runs has e live =
     let more : AllFollow payloads g.id None d.events (Some d.next) =
     runs_more payloads g.id None (Some n) (Some d.next) g.events (Delivers g.id p.octets) runs
     (inl (refl, (has, ap (λ (k : ℕ). onward k (length p.octets)) e))) in
-    checked_true payloads d (F d.events)
+    checked_true payloads d (F.faulted d.events)
     (record {
       next = onward_small p.number (length p.octets);
       held = held;
       tail = tail;
       events =
-          when_true (AllFollow payloads g.id None d.events) (is_some g.live) (Some d.next) None
-          live more;
+          when_true (AllFollow payloads g.id None d.events) (lives g.live g.waits)
+          (Some d.next) None live more;
     }) live
 
 delivered_live : (F : Reader) (payloads : List Payload) (g : Flow) (p : Payload) →
-    IsGapless payloads g → (is_some g.live) ≡ true → p.number ≡ g.next →
+    IsGapless payloads g → lives g.live g.waits ≡ true → p.number ≡ g.next →
     IsPartOf payloads g.id p.number p.octets → IsGapless payloads (delivered F g p)
 delivered_live F payloads g p t live due has =
     let runs : AllFollow payloads g.id None g.events (Some g.next) =
     subst (AllFollow payloads g.id None g.events)
-    (cond-true (is_some g.live) (Some g.next) None live) t.events in
+    (cond-true (lives g.live g.waits) (Some g.next) None live) t.events in
     delivered_true F payloads g p g.next t.held t.tail runs
     (subst (λ (n : ℕ). IsPartOf payloads g.id n p.octets) due has) due live
 
 started_true : (payloads : List Payload) (g : Flow) (n : ℕ) → n < 2 ^ 32 →
-    (is_some g.live) ≡ false → IsGapless payloads g → IsGapless payloads (started g n)
+    lives g.live g.waits ≡ false → IsGapless payloads g → IsGapless payloads (started g n)
 unfolding with_event OwnMayFollow
 started_true payloads g n small dead t =
-    let none : due_of g ≡ None = cond-false (is_some g.live) (Some g.next) None dead in
+    let none : due_of g ≡ None = cond-false (lives g.live g.waits) (Some g.next) None dead in
     record {
       next = small;
       held = t.held;
       tail = λ u e. absurd (true≢false (sym (ap is_some e)));
       events = runs_more payloads g.id None None (Some n) g.events
-          (Begins g.id (start_at g.since g.has_begun n))
+          (Begins g.id (start_at g n))
           (subst (AllFollow payloads g.id None g.events) none t.events) (inl (refl, refl));
     }
 
@@ -196,6 +196,80 @@ part_small : (payloads : List Payload) (id n : ℕ) (xs : List ℕ) → IsPartOf
     n < 2 ^ 32
 part_small payloads id n xs h = subst (λ (m : ℕ). m < 2 ^ 32) (sym h.number_is)
     (onward_small (get_or payloads h.index no_payload).number h.skipped)
+
+-- a flow that isn't live is as well out of step
+idle_true : (payloads : List Payload) (f : Flow) → lives f.live f.waits ≡ false →
+    IsGapless payloads f → IsGapless payloads (out_of_step f)
+idle_true payloads f dead t = record {
+  next = t.next;
+  held = t.held;
+  tail = t.tail;
+  events = subst (AllFollow payloads f.id None f.events)
+      (cond-false (lives f.live f.waits) (Some f.next) None dead) t.events;
+}
+
+closed_true : (payloads : List Payload) (f : Flow) (cause : CloseCause) → IsGapless payloads f →
+    IsGapless payloads (closed f cause)
+unfolding closed
+closed_true payloads f cause t =
+    let c : Flow = stopped f f.next cause in
+    elim (cases_Bool (lives f.live f.waits)) [
+      | inl e ↦ when_true (IsGapless payloads) (lives f.live f.waits) c (out_of_step f) e
+          (stopped_true payloads f f.next cause t e)
+      | inr e ↦ when_false (IsGapless payloads) (lives f.live f.waits) c (out_of_step f) e
+          (idle_true payloads f e t)
+    ]
+
+pub closed_idle : (f : Flow) (cause : CloseCause) →
+    lives (closed f cause).live (closed f cause).waits ≡ false
+unfolding closed with_event
+closed_idle f cause = either (λ (g : Flow). lives g.live g.waits ≡ false) (lives f.live f.waits)
+    (stopped f f.next cause) (out_of_step f) refl refl
+
+awaiting_true : (payloads : List Payload) (f : Flow) (count : ℕ) → IsGapless payloads f →
+    IsGapless payloads (awaiting f count)
+awaiting_true payloads f count t =
+    let c : IsGapless payloads (closed f Gap) = closed_true payloads f Gap t in
+    record {
+      next = onward_small f.next count;
+      held = c.held;
+      tail = c.tail;
+      events = subst (AllFollow payloads (closed f Gap).id None (closed f Gap).events)
+          (cond-false (lives (closed f Gap).live (closed f Gap).waits) (Some (closed f Gap).next)
+          None (closed_idle f Gap)) c.events;
+    }
+
+-- the stream that a flow waits for begins at the number that is due
+resumed_true : (payloads : List Payload) (f : Flow) → IsGapless payloads f →
+    IsGapless payloads (resumed f)
+resumed_true payloads f t =
+    elim (cases_Bool f.waits) [
+      | inl e ↦ when_true (IsGapless payloads) f.waits (started f f.next) f e
+          (started_true payloads f f.next t.next
+          (and_right (is_some f.live) (not f.waits) (not_from_true f.waits e)) t)
+      | inr e ↦ when_false (IsGapless payloads) f.waits (started f f.next) f e t
+    ]
+
+-- a flow in step has a live stream then, and the same number is due
+pub resumed_lives : (f : Flow) → is_some f.live ≡ true →
+    lives (resumed f).live (resumed f).waits ≡ true
+unfolding with_event
+resumed_lives f e =
+    elim (cases_Bool f.waits) [
+      | inl y ↦ when_true (λ (g : Flow). lives g.live g.waits ≡ true) f.waits (started f f.next) f y
+          refl
+      | inr z ↦ when_false (λ (g : Flow). lives g.live g.waits ≡ true) f.waits
+          (started f f.next) f z
+          (rw (e, z) refl)
+    ]
+
+pub resumed_next : (f : Flow) → (resumed f).next ≡ f.next
+unfolding with_event
+resumed_next f = either (λ (g : Flow). g.next ≡ f.next) f.waits (started f f.next) f refl refl
+
+resumed_id : (f : Flow) → (resumed f).id ≡ f.id
+unfolding with_event
+resumed_id f = either (λ (g : Flow). g.id ≡ f.id) f.waits (started f f.next) f refl refl
 
 -- what is so of a flow of an id
 record IsTrueOf (payloads : List Payload) (id : ℕ) (f : Flow) : Type 0 where
@@ -220,7 +294,8 @@ looks_true F payloads id =
       };
       starts = λ g n small dead i. record {
         same = i.same;
-        gapless = started_true payloads g n small dead i.gapless;
+        gapless = started_true payloads g n small (and_left (is_some g.live) (not g.waits) dead)
+            i.gapless;
       };
       passes = λ g t xs tail i. record {
         same = i.same;
@@ -249,18 +324,17 @@ taken_true F payloads f p t has reach =
     left_has payloads f.id f.next (is_some f.live) p has in
     let g : Flow = told_from f p in
     let u : IsGapless payloads g = from_true payloads f p t in
-    let d : Flow = delivered F g q in
+    let r : Flow = resumed g in
+    let d : Flow = delivered F r q in
     let b : Flow = looked_through F g q (tail_before f.tail q.number q.octets) in
     let live : IsGapless payloads (cond (is_some f.live) d b) =
     elim (cases_Bool (is_some f.live)) [
       | inl e ↦
           (let due : q.number ≡ f.next = left_due f.next (is_some f.live) p t.next e (reach e) in
-          let runs : AllFollow payloads f.id None g.events (Some f.next) =
-          subst (AllFollow payloads f.id None g.events)
-          (cond-true (is_some f.live) (Some f.next) None e) u.events in
           when_true (IsGapless payloads) (is_some f.live) d b e
-          (delivered_true F payloads g q f.next t.held t.tail runs
-          (subst (λ (n : ℕ). IsPartOf payloads f.id n q.octets) due left) due e))
+          (delivered_live F payloads r q (resumed_true payloads g u) (resumed_lives g e)
+          (due ∙ sym (resumed_next g))
+          (subst (λ (n : ℕ). IsPartOf payloads n q.number q.octets) (sym (resumed_id g)) left)))
       | inr e ↦ when_false (IsGapless payloads) (is_some f.live) d b e
           (looked_keeps F (IsPartOf payloads f.id) (IsTrueOf payloads f.id)
           (looks_true F payloads f.id) g q e left
@@ -297,13 +371,8 @@ true_keeps F payloads =
             | inr x ↦ x
           ]);
       closes =
-          λ f cause t.
-          let c : Flow = stopped f f.next cause in
-          elim (cases_Bool (is_some f.live)) [
-            | inl e ↦ when_true (IsGapless payloads) (is_some f.live) c f e
-                (stopped_true payloads f f.next cause t e)
-            | inr e ↦ when_false (IsGapless payloads) (is_some f.live) c f e t
-          ];
+          λ f cause t. closed_true payloads f cause t;
+      waits = λ f count live t. awaiting_true payloads f count t;
       fins = λ f n t. record {
         next = t.next;
         held = t.held;
@@ -413,7 +482,7 @@ came_true A payloads' f p small t =
     let all : List Payload = payloads' ++ p ∷ [] in
     let q : Payload = left f.next (is_some f.live) p in
     let u : IsGapless all f = true_grows payloads' p f t in
-    let k : Keeps A.faulted (IsGapless all) = true_keeps A.faulted all in
+    let k : Keeps A.reader (IsGapless all) = true_keeps A.reader all in
     let h : Flow = record f { held = put q f.held } in
     let v : IsGapless all h = record {
       next = u.next;
@@ -425,9 +494,9 @@ came_true A payloads' f p small t =
     } in
     either (IsGapless all) (nat_eq (length q.octets) 0
     || has_as_much f.id q.number (length q.octets) f.held) f
-    (within_bounds A (length f.held + 1) (gone_on A.faulted h)) u
-    (relieved_keeps A (IsGapless all) k (length f.held + 1) (gone_on A.faulted h)
-    (gone_on_keeps A.faulted (IsGapless all) k h v))
+    (within_bounds A (length f.held + 1) (gone_on A.reader h)) u
+    (relieved_keeps A (IsGapless all) k (length f.held + 1) (gone_on A.reader h)
+    (gone_on_keeps A.reader (IsGapless all) k h v))
 
 pub fin_true : (F : Reader) (payloads' : List Payload) (f : Flow) (n : ℕ) → IsGapless payloads' f →
     IsGapless payloads' (fin_came F f n)
@@ -457,5 +526,6 @@ fresh_true f small dead lone none quiet =
       held = subst (λ (ps : List Payload). AllArePartsOf [] ps) (sym none) tt;
       tail = λ u e. absurd (true≢false (sym (ap is_some (sym lone ∙ e))));
       events = subst (λ (hs : List Event). AllFollow [] f.id None hs (due_of f)) (sym quiet)
-          (sym (cond-false (is_some f.live) (Some f.next) None dead));
+          (sym (cond-false (lives f.live f.waits) (Some f.next) None
+          (and_left (is_some f.live) (not f.waits) dead)));
     }

@@ -1,5 +1,5 @@
 -- One flow of a TCP connection, from its first stream on: what it holds, and what happens.
-use Rattle.std.specs.Prelude.{ℕ, zero, suc, ◌+◌, ◌-◌, ◌*◌, ◌%◌, Bool, true, false, cond, nat_lt, nat_le, nat_eq, ◌&&◌, ◌||◌, not, List, [], ◌∷◌, ◌++◌, length, take, drop, set, Option, Some, None, get_or, is_some, unwrap_or}
+use Rattle.std.specs.Prelude.{ℕ, zero, suc, ◌+◌, ◌-◌, ◌*◌, ◌%◌, ◌^◌, Bool, true, false, cond, nat_lt, nat_le, nat_eq, ◌&&◌, ◌||◌, not, List, [], ◌∷◌, ◌++◌, length, take, drop, set, Option, Some, None, get_or, is_some, unwrap_or}
 use Rattle.std.specs.Option.{option_map}
 use Rattle.std.specs.List.{remove}
 use Rattle.tcp_flow.specs.declared.flow.CloseCause.{CloseCause}
@@ -37,30 +37,36 @@ flow_of (Delivers id octets) = Some id
 flow_of (Closes id cause) = Some id
 flow_of (OfCapture event) = None
 
--- the octet at which the reader of the stream that octets were delivered to last is at a fault,
--- counted from 1 in the stream, if it is at one: by all that has happened
-abbrev pub Reader : Type 0
-Reader = List Event → Option ℕ
+-- what reads the streams, by all that has happened: the octet at which the reader of the stream that
+-- octets were delivered to last is at a fault, counted from 1 in the stream, if it is at one; and how
+-- many octets the message that the last stream of a flow is in lacks until its end, if its header is
+-- complete, or 0 if the stream is in none
+pub record Reader : Type 0 where
+  pub faulted : List Event → Option ℕ
+  pub lacking : List Event → ℕ → Option ℕ
 
 -- what a flow stands among: the readers, and the blocks of the pool
 pub record Setting : Type 0 where
-  pub faulted : Reader
+  pub reader : Reader
   pub blocks : ℕ
 
 abbrev pub setting : Reader → ℕ → Setting
-setting faulted blocks = record { faulted = faulted; blocks = blocks }
+setting reader blocks = record { reader = reader; blocks = blocks }
 
--- a flow: its id, the number that is due, the number that its live stream began with, a FIN to
--- come; from which number on octets are in no stream, while none lives, and whether one has begun;
--- its tail: what was looked through last and may begin a header, none while a stream lives; what
--- this and other flows hold, in its order; and what has happened in all of them
+-- a flow: its id, the number that is due; while it is in step the number that its stream begins with,
+-- and whether it waits for that stream; a FIN to come; from which number on octets are in no stream,
+-- while none lives, whether one has begun, and whether one was found; its tail: what was looked
+-- through last and may begin a header, none while a stream lives; what this and other flows hold, in
+-- its order; and what has happened in all of them
 pub record Flow : Type 0 where
   pub id : ℕ
   pub next : ℕ
   pub live : Option ℕ
+  pub waits : Bool
   pub fin : Option ℕ
   pub since : ℕ
   pub has_begun : Bool
+  pub is_found : Bool
   pub tail : Option Tail
   pub held : List Payload
   pub events : List Event
@@ -178,8 +184,12 @@ unfoldable pub tail_before : Option Tail → ℕ → List ℕ → Option Tail
 tail_before None n xs = None
 tail_before (Some t) n xs = cond (goes_on t n xs) (Some t) None
 
--- what is left of a payload: what is before `next` falls away, but it is whole where no stream is
--- live and it begins more than W before
+-- whether a stream lives in a flow that is in step or not, and waits or doesn't
+abbrev pub lives : Option ℕ → Bool → Bool
+lives live waits = is_some live && not waits
+
+-- what is left of a payload: what is before `next` falls away, but it is whole where the flow isn't in
+-- step and it begins more than W before
 unfoldable pub left : ℕ → Bool → Payload → Payload
 left next live p = cond (nat_lt window (age next p.number) && not live) p
     (without_first (age next p.number) p)
@@ -187,9 +197,13 @@ left next live p = cond (nat_lt window (age next p.number) && not live) p
 unfoldable pub with_event : Flow → Event → Flow
 with_event f h = record f { events = f.events ++ h ∷ [] }
 
+-- a flow is no more in step
+abbrev pub out_of_step : Flow → Flow
+out_of_step f = record f { live = None; waits = false }
+
 -- the live stream closes, and octets are in no stream from a number on
 abbrev pub stopped : Flow → ℕ → CloseCause → Flow
-stopped f since cause = with_event (record f { live = None; since = since }) (Closes f.id cause)
+stopped f since cause = with_event (record (out_of_step f) { since = since }) (Closes f.id cause)
 
 -- the number after an octet of the live stream, which is counted from 1
 abbrev pub number_after : Flow → ℕ → ℕ
@@ -207,22 +221,32 @@ handed f p =
 
 -- its reader may come to a fault
 unfoldable pub delivered : Reader → Flow → Payload → Flow
-delivered F f p = checked (handed f p) (F (handed f p).events)
+delivered F f p = checked (handed f p) (F.faulted (handed f p).events)
 
--- the beginning of a stream at a number: it is found where octets are in no stream before it, or a
--- stream of the flow came before it
-abbrev pub start_at : ℕ → Bool → ℕ → Start
-start_at since has_begun n = record {
+-- the beginning of a stream at a number: it is found where it was looked for, as one is that the flow
+-- doesn't wait for, and octets are in no stream before it, or a stream of the flow came before it; and
+-- if one before it was found
+abbrev pub start_at : Flow → ℕ → Start
+start_at f n = record {
   number = n;
-  passed = ahead since n;
-  is_found = has_begun || nat_lt 0 (ahead since n);
+  passed = ahead f.since n;
+  is_found = f.is_found || (not f.waits && (f.has_begun || nat_lt 0 (ahead f.since n)));
 }
 
 -- a stream begins at a number, which is due
 abbrev pub started : Flow → ℕ → Flow
-started f n =
-    with_event (record f { next = n; live = Some n; has_begun = true; tail = None })
-    (Begins f.id (start_at f.since f.has_begun n))
+started f n = with_event (record f {
+  next = n;
+  live = Some n;
+  waits = false;
+  has_begun = true;
+  is_found = (start_at f n).is_found;
+  tail = None;
+}) (Begins f.id (start_at f n))
+
+-- the stream that a flow waits for, if it waits, begins with the octet that is due
+abbrev pub resumed : Flow → Flow
+resumed f = cond f.waits (started f f.next) f
 
 -- the octets from a header on are delivered to a new stream, if they have one; else they were
 -- looked through in vain, and are the flow's tail from now on if they are a beginning of the six
@@ -238,7 +262,7 @@ begun F f p (Some i) = delivered F (started f (onward p.number i)) (without_firs
 unfoldable pub all_delivered : Reader → Flow → origin.Arrival → List (List ℕ) → Flow
 all_delivered F f arrival [] = f
 all_delivered F f arrival (xs ∷ xss) =
-    cond (is_some f.live)
+    cond (lives f.live f.waits)
     (all_delivered F (delivered F f (payload f.id f.next xs arrival)) arrival xss) f
 
 -- a payload goes on a tail: both together are the tail from now on, while they are fewer than six
@@ -259,12 +283,13 @@ looked_through F f p (Some t) = rejoined F f p t
 unfoldable pub told_from : Flow → Payload → Flow
 told_from f p = with_event f (OfCapture (ComesFrom p.arrival))
 
--- a payload is taken: delivered, or looked through for the beginning of a stream
+-- a payload is taken: delivered to the live stream or the one that is waited for, or looked through
+-- for the beginning of one
 unfoldable pub taken : Reader → Flow → Payload → Flow
 taken F f p =
     let q : Payload = left f.next (is_some f.live) p in
     cond (nat_eq (length q.octets) 0) f
-    (cond (is_some f.live) (delivered F (told_from f p) q)
+    (cond (is_some f.live) (delivered F (resumed (told_from f p)) q)
     (looked_through F (told_from f p) q (tail_before f.tail q.number q.octets)))
 
 unfoldable pub first_of : Flow → Option ℕ
@@ -299,14 +324,15 @@ unfoldable pub fin_is_reached : ℕ → Bool → Option ℕ → Bool
 fin_is_reached next live None = false
 fin_is_reached next live (Some n) = live && not (is_to_come next n)
 
+-- the live stream closes, if there is one, and the flow is no more in step
 unfoldable pub closed : Flow → CloseCause → Flow
-closed f cause = cond (is_some f.live) (stopped f f.next cause) f
+closed f cause = cond (lives f.live f.waits) (stopped f f.next cause) (out_of_step f)
 
--- a FIN is kept only while a stream is live
+-- a FIN is kept only while the flow is in step
 unfoldable pub without_stale_fin : Flow → Flow
 without_stale_fin f = cond (is_some f.live) f (record f { fin = None })
 
--- the stream closes where the FIN is reached, and the flow goes on
+-- the stream closes where the FIN is reached, or is no more waited for, and the flow goes on
 unfoldable pub ended : Reader → Flow → Flow
 ended F f =
     cond (fin_is_reached f.next (is_some f.live) f.fin)
@@ -316,8 +342,38 @@ ended F f =
 unfoldable pub gone_on : Reader → Flow → Flow
 gone_on F f = without_stale_fin (ended F (drained F f))
 
+-- how many octets a gap passes over: all that a message lacks, if they are fewer than half of all
+-- numbers, and a payload begins no further on than they end
+unfoldable pub passing : ℕ → ℕ → Option ℕ → Option ℕ
+passing next number None = None
+passing next number (Some count) =
+    cond (nat_lt count (2 ^ 31) && not (is_to_come (onward next count) number)) (Some count) None
+
+-- how many a gap of a flow passes over, by the first payload that it holds: the rest of the message
+-- that its live stream is in
+unfoldable pub passed_over : Reader → Flow → Option ℕ
+passed_over F f =
+    cond (lives f.live f.waits) (elim (first_of f) [
+      | None ↦ None
+      | Some i ↦ passing f.next (at f i).number (F.lacking f.events f.id)
+    ]) None
+
+-- the live stream closes, and the flow waits for the next one so many octets after the number that is
+-- due
+abbrev pub awaiting : Flow → ℕ → Flow
+awaiting f count = record (closed f Gap) {
+  next = onward f.next count;
+  live = Some (onward f.next count);
+  waits = true;
+}
+
+-- the live stream closes: the flow waits where the message ends that it is in, or is no more in step
+unfoldable pub parted : Flow → Option ℕ → Flow
+parted f None = closed f Gap
+parted f (Some count) = awaiting f count
+
 unfoldable pub gap : Reader → Flow → Flow
-gap F f = gone_on F (closed f Gap)
+gap F f = gone_on F (parted f (passed_over F f))
 
 unfoldable pub is_too_much : Setting → Flow → Bool
 is_too_much A f =
@@ -327,7 +383,7 @@ is_too_much A f =
 unfoldable pub within_bounds : Setting → ℕ → Flow → Flow
 within_bounds A zero f = f
 within_bounds A (suc count) f =
-    elim (is_too_much A f) [ true ↦ within_bounds A count (gap A.faulted f) | false ↦ f ]
+    elim (is_too_much A f) [ true ↦ within_bounds A count (gap A.reader f) | false ↦ f ]
 
 unfoldable pub holding : Flow → Payload → Flow
 holding f p = record f { held = put p f.held }
@@ -337,7 +393,7 @@ unfoldable pub payload_came : Setting → Flow → Payload → Flow
 payload_came A f p =
     let q : Payload = left f.next (is_some f.live) p in
     cond (nat_eq (length q.octets) 0 || has_as_much f.id q.number (length q.octets) f.held) f
-    (within_bounds A (length f.held + 1) (gone_on A.faulted (holding f q)))
+    (within_bounds A (length f.held + 1) (gone_on A.reader (holding f q)))
 
 -- a FIN comes, with the number after the payload
 unfoldable pub fin_came : Reader → Flow → ℕ → Flow
@@ -387,8 +443,8 @@ pub data Arrival : Type 0 where
 
 unfoldable pub step : Setting → Flow → Arrival → Flow
 step A f (Octets n octets arrival) = payload_came A f (payload f.id n octets arrival)
-step A f (End n) = fin_came A.faulted f n
-step A f (Hears h) = heard A.faulted (length f.held) h f
+step A f (End n) = fin_came A.reader f n
+step A f (Hears h) = heard A.reader (length f.held) h f
 
 -- the flow after all that comes, the first first
 unfoldable pub after : Setting → Flow → List Arrival → Flow
@@ -401,9 +457,11 @@ fresh id n held events = record {
   id = id;
   next = n;
   live = None;
+  waits = false;
   fin = None;
   since = n;
   has_begun = false;
+  is_found = false;
   tail = None;
   held = held;
   events = events;

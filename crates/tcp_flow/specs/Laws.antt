@@ -3,7 +3,7 @@ use Rattle.std.specs.Prelude.{◌≡◌, ◌⊎◌, ℕ, ◌+◌, ◌<◌, ◌�
 use Rattle.tcp_waiting.specs.Numbers.{onward, rank}
 use Rattle.tcp_waiting.specs.Payload.{Payload, no_payload}
 use Rattle.tcp_flow.specs.declared.tail.Tail.{Tail}
-use Rattle.tcp_flow.specs.Flow.{Flow, Event, Opens, Begins, Delivers, Closes, flow_of, first_of, parts_of}
+use Rattle.tcp_flow.specs.Flow.{Flow, Event, Opens, Begins, Delivers, Closes, flow_of, first_of, lives, parts_of}
 
 -- octets are at a number what a payload of the flow has from there on
 pub record IsPartOf (payloads : List Payload) (id number : ℕ) (octets : List ℕ) : Type 0 where
@@ -43,7 +43,7 @@ AllArePartsOf payloads (p ∷ ps) =
 
 -- the number that is due where a stream is live
 abbrev pub due_of : Flow → Option ℕ
-due_of f = cond (is_some f.live) (Some f.next) None
+due_of f = cond (lives f.live f.waits) (Some f.next) None
 
 -- octets that stand one after another from a number on, each so at its own
 unfoldable pub StandFrom : (ℕ → List ℕ → Type 0) → ℕ → List (List ℕ) → Type 0
@@ -75,7 +75,7 @@ AreLater id next least [] = Unit {0}
 AreLater id next least (p ∷ ps) =
     (p.flow ≡ id → least < rank next p.number) × AreLater id next least ps
 
--- all that a flow holds is to come, and it holds nothing without a live stream
+-- all that a flow holds is to come, and it holds nothing where it isn't in step
 pub record IsSettled (f : Flow) : Type 0 where
   pub live : (is_some f.live) ≡ true → AreLater f.id f.next (2 ^ 31) f.held
   pub dead : (is_some f.live) ≡ false → is_some (first_of f) ≡ false

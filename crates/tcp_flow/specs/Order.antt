@@ -3,7 +3,7 @@
 use Rattle.std.specs.Prelude.{◌≡◌, ◌⊎◌, ℕ, ◌+◌, ◌<◌, ◌≤◌, ◌^◌, cond, nat_eq, List, [], ◌∷◌, ◌++◌, length, take, drop, is_some, true, false}
 use Rattle.std.specs.List.{AllByRecursion}
 use Rattle.tcp_waiting.specs.Numbers.{onward}
-use Rattle.tcp_flow.specs.Flow.{Flow, Event, Opens, Begins, Delivers, Closes, OfCapture, Arrival, Octets, End, Hears, Setting, first_of, after}
+use Rattle.tcp_flow.specs.Flow.{Flow, Event, Opens, Begins, Delivers, Closes, OfCapture, Arrival, Octets, End, Hears, Setting, first_of, lives, after}
 
 -- the octets that an event delivers to a flow
 abbrev pub octets_in : ℕ → Event → List ℕ
@@ -51,7 +51,7 @@ StandsIn (d ∷ ds) c = (c ≡ d) ⊎ StandsIn ds c
 
 -- a live stream of which `at` octets of a content have come, and nothing waits
 pub record IsAt (start at : ℕ) (content : List ℕ) (f : Flow) : Type 0 where
-  pub live : is_some f.live ≡ true
+  pub live : lives f.live f.waits ≡ true
   pub next : f.next ≡ onward start at
   pub within : at ≤ length content
   pub waits : is_some (first_of f) ≡ false

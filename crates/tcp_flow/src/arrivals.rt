@@ -29,12 +29,12 @@ impl FlowState {
         requires none { is_some (first id number pool.old.held) ≡ false }
         ensures does { (events : List Event) → T.observed to.old events → IfOk result (λ flow.
             IsState (T.observed to.new) flow pool.new.held
-            (first_payload (setting T.faulted pool.old.blocks) id number octets.now
+            (first_payload (setting T.reader pool.old.blocks) id number octets.now
             arrival pool.old.held events)) }
         ensures gapless { (payloads : List Payload) (events : List Event)
             → T.observed to.old events → IsGapless payloads (fresh id number pool.old.held events)
             → OnOk result (IsGapless (payloads ++ payload id number octets.now arrival ∷ [])
-            (first_payload (setting T.faulted pool.old.blocks) id number octets.now
+            (first_payload (setting T.reader pool.old.blocks) id number octets.now
             arrival pool.old.held events)) }
         ensures beside { (events : List Event) → T.observed to.old events
             → OnOk result (held_by_others id pool.new.held ≡ held_by_others id pool.old.held) }
@@ -65,12 +65,12 @@ impl FlowState {
         requires settled { IsSettled (state self.old pool.old.held []) }
         ensures does { (f : Flow) → IsState (T.observed to.old) self.old pool.old.held f
             → OnOk result (IsState (T.observed to.new) self.new pool.new.held
-            (step (setting T.faulted pool.old.blocks) f (Octets number octets.now arrival))) }
+            (step (setting T.reader pool.old.blocks) f (Octets number octets.now arrival))) }
         ensures gapless { (payloads : List Payload) (f : Flow)
             → IsState (T.observed to.old) self.old pool.old.held f → IsGapless payloads f
             → OnOk result (IsGapless
             (payloads ++ payload self.old.id number octets.now arrival ∷ [])
-            (step (setting T.faulted pool.old.blocks) f (Octets number octets.now arrival))) }
+            (step (setting T.reader pool.old.blocks) f (Octets number octets.now arrival))) }
         ensures beside { (f : Flow) → IsState (T.observed to.old) self.old pool.old.held f
             → OnOk result (held_by_others self.old.id pool.new.held
             ≡ held_by_others self.old.id pool.old.held) }
@@ -97,11 +97,11 @@ impl FlowState {
     ) -> Result<(), ListenerFault>
         ensures does { (f : Flow) → IsState (T.observed to.old) self.old pool.old.held f
             → OnOk result (IsState (T.observed to.new) self.new pool.new.held
-            (step (setting T.faulted pool.old.blocks) f (End number))) }
+            (step (setting T.reader pool.old.blocks) f (End number))) }
         ensures gapless { (payloads : List Payload) (f : Flow)
             → IsState (T.observed to.old) self.old pool.old.held f → IsGapless payloads f
             → OnOk result (IsGapless payloads
-            (step (setting T.faulted pool.old.blocks) f (End number))) }
+            (step (setting T.reader pool.old.blocks) f (End number))) }
         ensures beside { (f : Flow) → IsState (T.observed to.old) self.old pool.old.held f
             → OnOk result (held_by_others self.old.id pool.new.held
             ≡ held_by_others self.old.id pool.old.held) }
@@ -134,7 +134,7 @@ impl FlowState {
         requires settled { IsSettled (state self.old pool.old.held []) }
         ensures does { (f : Flow) → IsState (T.observed to.old) self.old pool.old.held f
             → OnOk result (IsState (T.observed to.new) self.new pool.new.held
-            (payload_came (setting T.faulted pool.old.blocks) f
+            (payload_came (setting T.reader pool.old.blocks) f
             (payload self.old.id number octets.now arrival))) }
         ensures id { self.new.id ≡ self.old.id }
         ensures blocks { pool.new.blocks ≡ pool.old.blocks }
@@ -167,7 +167,7 @@ impl FlowState {
     fn is_due(&self, number: u32) -> bool
         ensures { result ≡ not (is_some self.now.live && spec_is_to_come self.now.next number) }
     {
-        !(self.is_live() && is_to_come(self.next, number))
+        !(self.is_in_step() && is_to_come(self.next, number))
     }
 
     /// Whether neither a payload nor a FIN is kept for later: there is nothing to go on with.
@@ -188,12 +188,12 @@ impl FlowState {
     ) -> Result<(), ListenerFault>
         ensures does { (f : Flow) → IsState (T.observed to.old) self.old pool.old.held f
             → OnOk result (IsState (T.observed to.new) self.new pool.new.held
-            (fin_came T.faulted f number)) }
+            (fin_came T.reader f number)) }
         ensures id { self.new.id ≡ self.old.id }
         ensures blocks { pool.new.blocks ≡ pool.old.blocks }
         ensures cause { OnErr result (T.failed to.new) }
     {
-        if self.is_live() && age(self.next, number) == 0 {
+        if self.is_in_step() && age(self.next, number) == 0 {
             self.fin = Some(number);
             return self.go_on(pool, to);
         }

@@ -13,7 +13,7 @@ impl FlowState {
     ghost use Rattle.tcp_flow.specs.Laws.{IsGapless};
     ghost use Rattle.tcp_flow.specs.State.{state, IsState};
 
-    /// The live stream closes, where there is one. Nothing else changes.
+    /// The live stream closes, where there is one, and the flow is no more in step.
     pub fn close<T: Listener>(&mut self, cause: CloseCause, to: &mut T) -> Result<(), ListenerFault>
         ensures does { (held : List Payload) (f : Flow)
             → IsState (T.observed to.old) self.old held f → OnOk result
@@ -24,8 +24,10 @@ impl FlowState {
         ensures id { self.new.id ≡ self.old.id }
         ensures cause { OnErr result (T.failed to.new) }
     {
-        if self.is_live() {
-            self.live = None;
+        let is_live = self.is_live();
+        self.live = None;
+        self.waits = false;
+        if is_live {
             self.since = self.next;
             to.closes(self.id, cause)?;
         }
@@ -40,7 +42,7 @@ impl FlowState {
     ) -> Result<(), ListenerFault>
         ensures does { (f : Flow) → IsState (T.observed to.old) self.old pool.old.held f
             → OnOk result (IsState (T.observed to.new) self.new pool.new.held
-            (gone_on T.faulted f)) }
+            (gone_on T.reader f)) }
         ensures id { self.new.id ≡ self.old.id }
         ensures blocks { pool.new.blocks ≡ pool.old.blocks }
         ensures cause { OnErr result (T.failed to.new) }
@@ -57,7 +59,7 @@ impl FlowState {
     ) -> Result<(), ListenerFault>
         ensures does { (f : Flow) → IsState (T.observed to.old) self.old pool.old.held f
             → OnOk result (IsState (T.observed to.new) self.new pool.new.held
-            (spec_without_stale_fin (ended T.faulted f))) }
+            (spec_without_stale_fin (ended T.reader f))) }
         ensures id { self.new.id ≡ self.old.id }
         ensures blocks { pool.new.blocks ≡ pool.old.blocks }
         ensures cause { OnErr result (T.failed to.new) }
@@ -67,10 +69,10 @@ impl FlowState {
         Ok(())
     }
 
-    /// The stream closes where the FIN is reached, and the flow goes on.
+    /// The stream closes where the FIN is reached, or is no more waited for, and the flow goes on.
     fn end<T: Listener>(&mut self, pool: &mut Pool, to: &mut T) -> Result<(), ListenerFault>
         ensures does { (f : Flow) → IsState (T.observed to.old) self.old pool.old.held f
-            → OnOk result (IsState (T.observed to.new) self.new pool.new.held (ended T.faulted f)) }
+            → OnOk result (IsState (T.observed to.new) self.new pool.new.held (ended T.reader f)) }
         ensures id { self.new.id ≡ self.old.id }
         ensures blocks { pool.new.blocks ≡ pool.old.blocks }
         ensures cause { OnErr result (T.failed to.new) }
@@ -88,18 +90,18 @@ impl FlowState {
         ensures { result ≡ spec_fin_is_reached self.now.next (is_some self.now.live) self.now.fin }
     {
         match self.fin {
-            Some(fin) => self.is_live() && !is_to_come(self.next, fin),
+            Some(fin) => self.is_in_step() && !is_to_come(self.next, fin),
             None => false,
         }
     }
 
-    /// A FIN is kept only while a stream is live.
+    /// A FIN is kept only while the flow is in step.
     fn without_stale_fin(&mut self)
         ensures does { (held : List Payload) (events : List Event) → state self.new held events
             ≡ spec_without_stale_fin (state self.old held events) }
         ensures id { self.new.id ≡ self.old.id }
     {
-        if !self.is_live() {
+        if !self.is_in_step() {
             self.fin = None;
         }
     }

@@ -11,7 +11,7 @@ use tcp_waiting::{Arrival, Pool, WINDOW, age, ahead, is_to_come, onward};
 impl FlowState {
     ghost use Rattle.tcp_waiting.specs.Payload.{Payload, payload};
     ghost use Rattle.tcp_flow.specs.Flow.{Flow, left, delivered, taken, drained};
-    ghost use Rattle.tcp_flow.specs.Flow.{all_delivered, cut_up, goes_on, looked_through, rejoined, started};
+    ghost use Rattle.tcp_flow.specs.Flow.{all_delivered, cut_up, goes_on, looked_through, rejoined, resumed, started};
     ghost use Rattle.tcp_flow.specs.Flow.{start_at as spec_start_at, tail_before};
     ghost use Rattle.tcp_flow.specs.Flow.{Event, number_after as spec_number_after};
     ghost use Rattle.tcp_flow.specs.State.{state, IsState};
@@ -24,7 +24,7 @@ impl FlowState {
             (payload self.now.id number octets.now arrival) }
     {
         let age = age(self.next, number);
-        if age as usize > WINDOW && !self.is_live() {
+        if age as usize > WINDOW && !self.is_in_step() {
             return (number, octets);
         }
         let old = (age as usize).min(octets.len());
@@ -42,13 +42,14 @@ impl FlowState {
         ensures does { (held : List Payload) (f : Flow) (arrival : Arrival)
             → IsState (T.observed to.old) self.old held f → OnOk result
             (IsState (T.observed to.new) self.new held
-            (delivered T.faulted f (payload self.old.id number octets.now arrival))) }
+            (delivered T.reader f (payload self.old.id number octets.now arrival))) }
         ensures cause { OnErr result (T.failed to.new) }
     {
         self.next = onward(number, octets.len());
         if let Some(at) = to.delivers(self.id, octets)? {
             self.since = self.number_after(at);
             self.live = None;
+            self.waits = false;
             to.closes(self.id, CloseCause::Fault)?;
         }
         Ok(())
@@ -63,13 +64,13 @@ impl FlowState {
 
     /// The beginning of a stream at a number.
     fn start_at(&self, number: u32) -> Start
-        ensures { result ≡ spec_start_at self.now.since self.now.has_begun number }
+        ensures { result ≡ spec_start_at (state self.now [] []) number }
     {
         let passed = ahead(self.since, number);
         Start {
             number,
             passed,
-            is_found: self.has_begun || 0 < passed,
+            is_found: self.is_found || (!self.waits && (self.has_begun || 0 < passed)),
         }
     }
 
@@ -81,11 +82,28 @@ impl FlowState {
             (IsState (T.observed to.new) self.new held (started f number)) }
         ensures cause { OnErr result (T.failed to.new) }
     {
-        to.begins(self.id, self.start_at(number))?;
+        let start = self.start_at(number);
+        to.begins(self.id, start)?;
         self.next = number;
         self.live = Some(number);
+        self.waits = false;
         self.has_begun = true;
+        self.is_found = start.is_found;
         self.tail = None;
+        Ok(())
+    }
+
+    /// The stream that the flow waits for, if it waits, begins with the octet that is due.
+    fn resume<T: Listener>(&mut self, to: &mut T) -> Result<(), ListenerFault>
+        ensures id { self.new.id ≡ self.old.id }
+        ensures does { (held : List Payload) (f : Flow)
+            → IsState (T.observed to.old) self.old held f → OnOk result
+            (IsState (T.observed to.new) self.new held (resumed f)) }
+        ensures cause { OnErr result (T.failed to.new) }
+    {
+        if self.waits {
+            return self.start(self.next, to);
+        }
         Ok(())
     }
 
@@ -100,7 +118,7 @@ impl FlowState {
         ensures does { (held : List Payload) (f : Flow) (arrival : Arrival)
             → IsState (T.observed to.old) self.old held f → OnOk result
             (IsState (T.observed to.new) self.new held
-            (all_delivered T.faulted f arrival (cut_up octets.now parts.now))) }
+            (all_delivered T.reader f arrival (cut_up octets.now parts.now))) }
         ensures cause { OnErr result (T.failed to.new) }
     {
         if parts.is_empty() || !self.is_live() {
@@ -136,7 +154,7 @@ impl FlowState {
         ensures does { (held : List Payload) (f : Flow) (arrival : Arrival)
             → IsState (T.observed to.old) self.old held f → OnOk result
             (IsState (T.observed to.new) self.new held
-            (rejoined T.faulted f (payload self.old.id number octets.now arrival) tail)) }
+            (rejoined T.reader f (payload self.old.id number octets.now arrival) tail)) }
         ensures cause { OnErr result (T.failed to.new) }
     {
         let count = tail.octets as usize + octets.len();
@@ -165,7 +183,7 @@ impl FlowState {
         ensures does { (held : List Payload) (f : Flow) (arrival : Arrival)
             → IsState (T.observed to.old) self.old held f → OnOk result
             (IsState (T.observed to.new) self.new held
-            (looked_through T.faulted f (payload self.old.id number octets.now arrival)
+            (looked_through T.reader f (payload self.old.id number octets.now arrival)
             (tail_before f.tail number octets.now))) }
         ensures cause { OnErr result (T.failed to.new) }
     {
@@ -184,7 +202,8 @@ impl FlowState {
         Ok(())
     }
 
-    /// A payload is taken: delivered, or looked through for the beginning of a stream.
+    /// A payload is taken: delivered to the live stream or the one that is waited for, or looked through for
+    /// the beginning of one.
     #[inline(always)]
     pub(crate) fn take<T: Listener>(
         &mut self,
@@ -197,7 +216,7 @@ impl FlowState {
         ensures does { (held : List Payload) (f : Flow)
             → IsState (T.observed to.old) self.old held f → OnOk result
             (IsState (T.observed to.new) self.new held
-            (taken T.faulted f (payload self.old.id number octets.now arrival))) }
+            (taken T.reader f (payload self.old.id number octets.now arrival))) }
         ensures cause { OnErr result (T.failed to.new) }
     {
         let (number, octets) = self.left(number, octets);
@@ -205,7 +224,8 @@ impl FlowState {
             return Ok(());
         }
         to.comes_from(arrival);
-        if self.is_live() {
+        if self.is_in_step() {
+            self.resume(to)?;
             return self.deliver(number, octets, to);
         }
         self.look_through(number, octets, to)
@@ -219,7 +239,7 @@ impl FlowState {
     ) -> Result<(), ListenerFault>
         ensures does { (f : Flow) → IsState (T.observed to.old) self.old pool.old.held f
             → OnOk result (IsState (T.observed to.new) self.new pool.new.held
-            (drained T.faulted f)) }
+            (drained T.reader f)) }
         ensures id { self.new.id ≡ self.old.id }
         ensures blocks { pool.new.blocks ≡ pool.old.blocks }
         ensures cause { OnErr result (T.failed to.new) }
@@ -227,7 +247,7 @@ impl FlowState {
         let mut first = pool.first(self.id, self.next);
         while let Some(index) = first {
             let number = pool.number(index);
-            if self.is_live() && is_to_come(self.next, number) {
+            if self.is_in_step() && is_to_come(self.next, number) {
                 return Ok(());
             }
             self.take(number, pool.octets(index), pool.arrival(index), to)?;

@@ -56,9 +56,9 @@ pub trait Listener {
     /// It has failed: what it writes to failed a put, or the like. From then on nothing is promised.
     ghost failed: { Self → Type 0 };
 
-    /// The octet at which the reader of the stream that was delivered to last is at a fault after these events, counted from 1
-    /// in the stream, if it is at one.
-    ghost faulted: { Reader };
+    /// What reads the streams, after these events: the octet at which the reader of the stream that was delivered to last is at
+    /// a fault, and how many octets a message lacks that a stream is in.
+    ghost reader: { Reader };
 
     /// The id stands for a flow from now on, of which nothing came.
     fn opens(&mut self, flow: u32, endpoints: Endpoints) -> Result<(), ListenerFault>
@@ -87,7 +87,14 @@ pub trait Listener {
     fn delivers(&mut self, flow: u32, octets: &[u8]) -> Result<Option<u64>, ListenerFault>
         ensures does { (events : List Event) → observed self.old events → IfOk result (λ fault.
             observed self.new (events ++ Delivers flow octets.now ∷ [])
-            × (fault ≡ faulted (events ++ Delivers flow octets.now ∷ []))) }
+            × (fault ≡ reader.faulted (events ++ Delivers flow octets.now ∷ []))) }
+        ensures cause { OnErr result (failed self.new) };
+
+    /// How many octets the message that a flow's last stream is in lacks until its end, if its header is complete, or 0 if
+    /// the stream is in none.
+    fn lacks(&mut self, flow: u32) -> Result<Option<u32>, ListenerFault>
+        ensures does { (events : List Event) → observed self.old events → IfOk result (λ count.
+            observed self.new events × (count ≡ reader.lacking events flow)) }
         ensures cause { OnErr result (failed self.new) };
 
     /// A flow's live stream closes.
@@ -102,12 +109,17 @@ pub trait Listener {
 pub struct FlowState {
     pub(crate) id: u32,
     pub(crate) next: u32,
+    /// The number that its stream begins with: one that is live, or that the flow waits for. None while the flow isn't in step.
     pub(crate) live: Option<u32>,
+    /// Whether it waits for that stream.
+    pub(crate) waits: bool,
     pub(crate) fin: Option<u32>,
     /// From where on octets are in no stream, while none is live.
     pub(crate) since: u32,
     /// Whether a stream of the flow has begun.
     pub(crate) has_begun: bool,
+    /// Whether one was found: the place of one was looked for.
+    pub(crate) is_found: bool,
     /// What was looked through last and may begin a header, while no stream is live.
     pub(crate) tail: Option<Tail>,
 }
@@ -115,7 +127,7 @@ pub struct FlowState {
 impl FlowState {
     ghost use Rattle.std.specs.Prelude.{is_some};
     ghost use Rattle.tcp_waiting.specs.Payload.{Payload, first};
-    ghost use Rattle.tcp_flow.specs.Flow.{Event, fresh, is_near};
+    ghost use Rattle.tcp_flow.specs.Flow.{Event, fresh, is_near, lives};
     ghost use Rattle.tcp_flow.specs.State.{state};
 
     /// A flow of which nothing came: a number is due.
@@ -127,21 +139,30 @@ impl FlowState {
             id,
             next: number,
             live: None,
+            waits: false,
             fin: None,
             since: number,
             has_begun: false,
+            is_found: false,
             tail: None,
         }
     }
 
     /// Whether a stream is live.
-    pub(crate) fn is_live(&self) -> bool
+    pub fn is_live(&self) -> bool
+        ensures { result ≡ lives self.now.live self.now.waits }
+    {
+        self.live.is_some() && !self.waits
+    }
+
+    /// Whether a stream is live or waited for, so that what is due is known.
+    pub(crate) fn is_in_step(&self) -> bool
         ensures { result ≡ is_some self.now.live }
     {
         self.live.is_some()
     }
 
-    /// The sequence number that the live stream began with, where there is one.
+    /// The sequence number that its stream begins with, where one is live or waited for.
     pub fn live(&self) -> Option<u32>
         ensures { result ≡ self.now.live }
     {

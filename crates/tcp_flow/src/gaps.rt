@@ -1,28 +1,44 @@
 //! What a flow gives up: octets that are missing, which is a gap, again where too much is held, and
 //! all that it holds once it is forgotten.
 
-ghost use Rattle.std.specs.Prelude.{◌≡◌, ◌<◌, ◌≤◌, [], List, OnOk, OnErr, is_some, length, true};
+ghost use Rattle.std.specs.Prelude.{◌≡◌, ◌<◌, ◌≤◌, [], List, IfOk, OnOk, OnErr, is_some, length, true};
+ghost use Rattle.tcp_flow.specs.Flow.{passing as spec_passing};
 
 use crate::flow::{CloseCause, FlowState, Listener, ListenerFault};
-use tcp_waiting::Pool;
+use tcp_waiting::{Pool, is_to_come, onward};
+
+/// How many octets a gap passes over: all that a message lacks, if they are fewer than half of all
+/// numbers, and a payload begins no further on than they end.
+#[tactic(auto, unfolding(crate::specs::Flow::passing))]
+fn passing(next: u32, number: u32, lacking: Option<u32>) -> Option<u32>
+    ensures { result ≡ spec_passing next number lacking }
+{
+    match lacking {
+        Some(count) if count < 0x8000_0000 && !is_to_come(onward(next, count as usize), number) => {
+            Some(count)
+        }
+        _ => None,
+    }
+}
 
 impl FlowState {
     ghost use Rattle.tcp_waiting.specs.Payload.{Payload, blocks_of, first};
     ghost use Rattle.tcp_flow.specs.Flow.{Flow, Event, Reader, forgotten};
     ghost use Rattle.tcp_flow.specs.Flow.{held_by_others, setting, within_bounds};
     ghost use Rattle.tcp_flow.specs.Flow.{gap as spec_gap, is_too_much as spec_is_too_much};
+    ghost use Rattle.tcp_flow.specs.Flow.{parted, passed_over as spec_passed_over};
     ghost use Rattle.tcp_flow.specs.Laws.{IsGapless, IsSettled};
     ghost use Rattle.tcp_flow.specs.State.{state, IsState};
 
-    /// A gap: the live stream closes, and the flow goes on. It holds fewer payloads after it,
-    /// where it held some.
+    /// A gap: the live stream closes, and the flow goes on, after the message that the stream is in if
+    /// it is known where that ends. It holds fewer payloads after it, where it held some.
     pub fn gap<T: Listener>(&mut self, pool: &mut Pool, to: &mut T) -> Result<(), ListenerFault>
         ensures does { (f : Flow) → IsState (T.observed to.old) self.old pool.old.held f
             → OnOk result (IsState (T.observed to.new) self.new pool.new.held
-            (spec_gap T.faulted f)) }
+            (spec_gap T.reader f)) }
         ensures gapless { (payloads : List Payload) (f : Flow)
             → IsState (T.observed to.old) self.old pool.old.held f → IsGapless payloads f
-            → OnOk result (IsGapless payloads (spec_gap T.faulted f)) }
+            → OnOk result (IsGapless payloads (spec_gap T.reader f)) }
         ensures beside { (f : Flow) → IsState (T.observed to.old) self.old pool.old.held f
             → OnOk result (held_by_others self.old.id pool.new.held
             ≡ held_by_others self.old.id pool.old.held) }
@@ -37,17 +53,56 @@ impl FlowState {
         ensures blocks { pool.new.blocks ≡ pool.old.blocks }
         ensures cause { OnErr result (T.failed to.new) }
     {
-        self.close(CloseCause::Gap, to)?;
+        let passed = self.passed_over(pool, to)?;
+        self.part(passed, to)?;
         self.go_on(pool, to)?;
         // Its range is known once it is read.
         let _next = self.next;
         Ok(())
     }
 
+    /// How many octets a gap passes over, if the flow then waits for its next stream.
+    fn passed_over<T: Listener>(
+        &self,
+        pool: &Pool,
+        to: &mut T,
+    ) -> Result<Option<u32>, ListenerFault>
+        ensures does { (f : Flow) → IsState (T.observed to.old) self.now pool.now.held f
+            → IfOk result (λ passed. IsState (T.observed to.new) self.now pool.now.held f
+            × (passed ≡ spec_passed_over T.reader f)) }
+        ensures cause { OnErr result (T.failed to.new) }
+    {
+        if !self.is_live() {
+            return Ok(None);
+        }
+        let Some(first) = pool.first(self.id, self.next) else {
+            return Ok(None);
+        };
+        let lacking = to.lacks(self.id)?;
+        Ok(passing(self.next, pool.number(first), lacking))
+    }
+
+    /// The live stream closes: the flow waits so many octets on, or is no more in step.
+    fn part<T: Listener>(&mut self, passed: Option<u32>, to: &mut T) -> Result<(), ListenerFault>
+        ensures does { (held : List Payload) (f : Flow)
+            → IsState (T.observed to.old) self.old held f → OnOk result
+            (IsState (T.observed to.new) self.new held (parted f passed)) }
+        ensures id { self.new.id ≡ self.old.id }
+        ensures cause { OnErr result (T.failed to.new) }
+    {
+        self.close(CloseCause::Gap, to)?;
+        if let Some(count) = passed {
+            self.next = onward(self.next, count as usize);
+            self.live = Some(self.next);
+            self.waits = true;
+        }
+        Ok(())
+    }
+
     /// Whether what is held is too much: an end too far on, or more blocks than there are.
     fn is_too_much(&self, pool: &Pool) -> bool
-        ensures { (events : List Event) (faulted : Reader) → result
-            ≡ spec_is_too_much (record { faulted = faulted; blocks = pool.now.blocks })
+        ensures { (events : List Event) (reader : Reader) → result
+            ≡ spec_is_too_much (record { reader = reader; blocks = pool.now.blocks })
             (state self.now pool.now.held events) }
     {
         pool.is_far(self.id, self.next)
@@ -63,7 +118,7 @@ impl FlowState {
     ) -> Result<(), ListenerFault>
         ensures does { (f : Flow) → IsState (T.observed to.old) self.old pool.old.held f
             → OnOk result (IsState (T.observed to.new) self.new pool.new.held
-            (within_bounds (setting T.faulted pool.old.blocks) count f)) }
+            (within_bounds (setting T.reader pool.old.blocks) count f)) }
         ensures id { self.new.id ≡ self.old.id }
         ensures blocks { pool.new.blocks ≡ pool.old.blocks }
         ensures cause { OnErr result (T.failed to.new) }

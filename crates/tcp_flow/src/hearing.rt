@@ -73,11 +73,11 @@ impl FlowState {
     ) -> Result<(), ListenerFault>
         ensures does { (f : Flow) → IsState (T.observed to.old) self.old pool.old.held f
             → OnOk result (IsState (T.observed to.new) self.new pool.new.held
-            (step (setting T.faulted pool.old.blocks) f (Hears packet))) }
+            (step (setting T.reader pool.old.blocks) f (Hears packet))) }
         ensures gapless { (payloads : List Payload) (f : Flow)
             → IsState (T.observed to.old) self.old pool.old.held f → IsGapless payloads f
             → OnOk result (IsGapless payloads
-            (step (setting T.faulted pool.old.blocks) f (Hears packet))) }
+            (step (setting T.reader pool.old.blocks) f (Hears packet))) }
         ensures beside { (f : Flow) → IsState (T.observed to.old) self.old pool.old.held f
             → OnOk result (held_by_others self.old.id pool.new.held
             ≡ held_by_others self.old.id pool.old.held) }
@@ -107,7 +107,7 @@ impl FlowState {
     ) -> Result<(), ListenerFault>
         ensures does { (f : Flow) → IsState (T.observed to.old) self.old pool.old.held f
             → OnOk result (IsState (T.observed to.new) self.new pool.new.held
-            (heard T.faulted (length pool.old.held) packet f)) }
+            (heard T.reader (length pool.old.held) packet f)) }
         ensures id { self.new.id ≡ self.old.id }
         ensures blocks { pool.new.blocks ≡ pool.old.blocks }
         ensures cause { OnErr result (T.failed to.new) }

@@ -3,7 +3,9 @@ use Rattle.std.proofs.Common.{◌≡◌, ℕ, ◌<◌, ◌≤◌, Bool, true, fa
 use Rattle.std.specs.List.{AllByRecursion, IsDistinct, list_any}
 use Rattle.std.proofs.lemmas.Bool.{cases_Bool, cond-true, cond-false, eqb-true, eq-eqb, ne_eqb, or_cases, ltb-true}
 use Rattle.std.proofs.lemmas.Map.Steps.{length-le_from_distinct_below}
-use Rattle.tcp_streams.specs.Lives.{without, begun, most_ids, AreIds}
+use Rattle.tcp_flow.specs.declared.flow.CloseCause.{CloseCause}
+use Rattle.tcp_flow.specs.declared.flow.CloseCause.TheVariants.{Fin, Reset, Syn, Fault, Gap, Room, End}
+use Rattle.tcp_streams.specs.Lives.{without, begun, ended, most_ids, AreIds}
 
 eqb_comm_false : (m n : ℕ) → eqb m n ≡ false → eqb n m ≡ false
 eqb_comm_false m n h = ne_eqb n m (λ e. absurd
@@ -113,3 +115,14 @@ fewer_ids id xs l h =
 pub none_ids : AreIds []
 unfolding IsDistinct
 none_ids = (tt, tt)
+
+-- so they do after a close
+pub ended_ids : (id : ℕ) (cause : CloseCause) (live : List ℕ) → AreIds live →
+    AreIds (ended id cause live)
+ended_ids id Gap live h = h
+ended_ids id End live h = h
+ended_ids id Fin live h = without_ids id live h
+ended_ids id Reset live h = without_ids id live h
+ended_ids id Syn live h = without_ids id live h
+ended_ids id Fault live h = without_ids id live h
+ended_ids id Room live h = without_ids id live h

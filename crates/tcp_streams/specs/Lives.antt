@@ -1,10 +1,12 @@
--- Which streams live, by the order of their beginnings (meaning).
+-- Which streams live, or were closed by a gap, by the order of their beginnings (meaning).
 use Rattle.std.specs.Prelude.{ℕ, suc, ◌<◌, cond, eqb, nat_eq, nat_lt, List, [], ◌∷◌, ◌++◌, Option, Some, None}
 use Rattle.std.specs.Option.{option_map}
 use Rattle.std.specs.List.{AllByRecursion, IsDistinct}
 use Rattle.tcp_streams.specs.declared.pair.Side.{Side}
 use Rattle.tcp_streams.specs.declared.pair.Side.TheVariants.{FromLesser, FromGreater}
 use Rattle.tcp_streams.specs.Pairs.{flow_id}
+use Rattle.tcp_flow.specs.declared.flow.CloseCause.{CloseCause}
+use Rattle.tcp_flow.specs.declared.flow.CloseCause.TheVariants.{Fin, Reset, Syn, Fault, Gap, Room, End}
 use Rattle.tcp_flow.specs.Flow.{Event, Opens, Begins, Delivers, Closes, OfCapture}
 
 -- where a number stands first
@@ -25,17 +27,28 @@ most_ids = 131072
 abbrev pub AreIds : List ℕ → Type 0
 AreIds ids = AllByRecursion (λ id. id < most_ids) ids × IsDistinct eqb ids
 
--- the flows whose streams live, after the beginning of one: it is the last, and the only one of
--- its flow
+-- the flows of streams, after the beginning of one: it is the last, and the only one of its flow
 unfoldable pub begun : ℕ → List ℕ → List ℕ
 begun id live = cond (nat_lt id most_ids) (without id live ++ id ∷ []) live
+
+-- the same after the close of one. What a gap closed keeps its place, since its flow may wait for the
+-- next stream and hold what is of it; so does what the end of the capture closes, so that the order
+-- stands while all close
+abbrev pub ended : ℕ → CloseCause → List ℕ → List ℕ
+ended id Gap live = live
+ended id Fin live = without id live
+ended id Reset live = without id live
+ended id Syn live = without id live
+ended id Fault live = without id live
+ended id Room live = without id live
+ended id End live = live
 
 -- the same after one more event
 unfoldable pub behind : List ℕ → Event → List ℕ
 behind live (Opens id endpoints) = live
 behind live (Begins id start) = begun id live
 behind live (Delivers id octets) = live
-behind live (Closes id cause) = without id live
+behind live (Closes id cause) = ended id cause live
 behind live (OfCapture event) = live
 
 -- those after all events, from these on
@@ -43,12 +56,12 @@ unfoldable pub lives_from : List ℕ → List Event → List ℕ
 lives_from live [] = live
 lives_from live (e ∷ es) = lives_from (behind live e) es
 
--- the flows whose streams live after all events, by the order in which these streams began: that
--- of their numbers
+-- the flows whose last streams live after all events, or were closed by a gap, by the order in which
+-- these streams began: that of their numbers
 abbrev pub lives : List Event → List ℕ
 lives events = lives_from [] events
 
--- of a room's streams that live, the side of the first
+-- of a room's streams among these, the side of the first
 unfoldable pub elder_side : ℕ → List ℕ → Side
 elder_side room [] = FromLesser
 elder_side room (id ∷ ids) =

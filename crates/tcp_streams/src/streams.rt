@@ -1,9 +1,9 @@
-//! The streams that live, in the order of their beginnings, beside the listener to which they are told.
+//! The streams that live or were closed by a gap, in the order of their beginnings, beside the listener to which they are told.
 
 ghost use Rattle.std.specs.Prelude.{◌≡◌, ◌≤◌, ◌<◌, ◌*◌, ◌^◌, [], List, ℕ, length, get_or, IfOk, IfSome, None};
 ghost use Rattle.std.specs.VecDeque.{deque_capacity};
 ghost use Rattle.std.proofs.Props.{props};
-ghost use Rattle.tcp_streams.specs.Lives.{lives, without, begun, most_ids, AreIds, index_of as spec_index_of, elder_side};
+ghost use Rattle.tcp_streams.specs.Lives.{lives, without, begun, ended, most_ids, AreIds, index_of as spec_index_of, elder_side};
 
 use crate::pair::Side;
 use crate::sides::flow_id;
@@ -16,8 +16,8 @@ use tcp_waiting::Arrival;
 /// Flows have ids below this: two for each of 65,536 connections.
 const MOST_IDS: u32 = 131_072;
 
-/// A listener, and the flows of the streams that live, by the order in which these began. There is room for one stream of
-/// each flow.
+/// A listener, and the flows whose last streams live, or were closed by a gap, by the order in which these began. There is room
+/// for one stream of each flow.
 #[derive(Drop)]
 pub struct Streams<L: Listener + Drop> {
     /// What happens is told to it.
@@ -37,7 +37,7 @@ impl<L: Listener + Drop> Streams<L> {
         Ok(Streams { listener, live })
     }
 
-    /// The flow whose live stream has the number of this rank among those that live.
+    /// The flow whose last stream has the number of this rank among those that live or were closed by a gap.
     pub fn live(&self, rank: usize) -> Option<u32>
         ensures none { (result ≡ None) → length self.now.live.items ≤ rank }
         ensures some { IfSome result (λ id. (rank < length self.now.live.items)
@@ -65,7 +65,7 @@ impl<L: Listener + Drop> Streams<L> {
         Side::FromLesser
     }
 
-    /// How many streams live.
+    /// How many streams live or were closed by a gap.
     pub fn len(&self) -> usize
         ensures { result ≡ length self.now.live.items }
     {
@@ -111,12 +111,28 @@ fn begin(live: &mut VecDeque<u32>, flow: u32)
     }
 }
 
+/// A stream of a flow closes: it goes, but for one that a gap closes, whose flow may wait for the next, and for those that the
+/// end of the capture closes, which may be gone through in their order.
+fn end(live: &mut VecDeque<u32>, flow: u32, cause: CloseCause)
+    ensures items { live.new.items ≡ ended flow cause live.old.items }
+    ensures capacity { deque_capacity live.new ≡ deque_capacity live.old }
+{
+    match cause {
+        CloseCause::Gap | CloseCause::End => {}
+        CloseCause::Fin
+        | CloseCause::Reset
+        | CloseCause::Syn
+        | CloseCause::Fault
+        | CloseCause::Room => take_away(live, flow),
+    }
+}
+
 impl<L: Listener + Drop> Listener for Streams<L> {
     ghost observed = { λ s events. L.observed s.listener events × (s.live.items ≡ lives events) };
 
     ghost failed = { λ s. L.failed s.listener };
 
-    ghost faulted = { L.faulted };
+    ghost reader = { L.reader };
 
     fn opens(&mut self, flow: u32, endpoints: Flow) -> Result<(), ListenerFault> {
         self.listener.opens(flow, endpoints)
@@ -139,8 +155,12 @@ impl<L: Listener + Drop> Listener for Streams<L> {
         self.listener.delivers(flow, octets)
     }
 
+    fn lacks(&mut self, flow: u32) -> Result<Option<u32>, ListenerFault> {
+        self.listener.lacks(flow)
+    }
+
     fn closes(&mut self, flow: u32, cause: CloseCause) -> Result<(), ListenerFault> {
-        take_away(&mut self.live, flow);
+        end(&mut self.live, flow, cause);
         self.listener.closes(flow, cause)
     }
 }

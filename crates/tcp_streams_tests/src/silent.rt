@@ -6,7 +6,7 @@ use tcp_flow::{CloseCause, Listener, ListenerFault, Start};
 use tcp_segment::Flow;
 use tcp_waiting::Arrival;
 
-/// Keeps nothing. Its readers are never at a fault.
+/// Keeps nothing. Its readers are never at a fault, and don't know where a message ends.
 #[derive(Drop)]
 pub struct Silent;
 
@@ -15,7 +15,7 @@ impl Listener for Silent {
 
     ghost failed = { λ s. ⊥ };
 
-    ghost faulted = { λ events. None };
+    ghost reader = { record { faulted = λ events. None; lacking = λ events id. None } };
 
     fn opens(&mut self, _flow: u32, _endpoints: Flow) -> Result<(), ListenerFault> {
         Ok(())
@@ -30,6 +30,10 @@ impl Listener for Silent {
     }
 
     fn delivers(&mut self, _flow: u32, _octets: &[u8]) -> Result<Option<u64>, ListenerFault> {
+        Ok(None)
+    }
+
+    fn lacks(&mut self, _flow: u32) -> Result<Option<u32>, ListenerFault> {
         Ok(None)
     }
 

@@ -52,7 +52,7 @@ fn the_flows_of_a_room_have_ids_side_by_side(rt: HostRuntime) {
 }
 
 #[test]
-fn streams_that_live_stand_in_the_order_of_their_beginnings(rt: HostRuntime) {
+fn streams_stand_in_the_order_of_their_beginnings(rt: HostRuntime) {
     let Ok(mut streams) = Streams::new(rt.alloc(), Silent) else {
         return;
     };
@@ -67,6 +67,9 @@ fn streams_that_live_stand_in_the_order_of_their_beginnings(rt: HostRuntime) {
     assert!(rt; streams.closes(0, CloseCause::Fin).is_ok());
     assert!(rt; streams.begins(0, start).is_ok());
     assert!(rt; streams.delivers(0, b"GIOP").is_ok());
+    // What a gap closes keeps its place.
+    assert!(rt; streams.closes(5, CloseCause::Gap).is_ok());
+    assert_eq!(rt; streams.lacks(5), Ok(None));
     streams.passes(b"MUCH");
     assert_eq!(rt; streams.len(), 3);
     for (rank, flow) in [(0, Some(5)), (1, Some(2)), (2, Some(0)), (3, None)] {

@@ -6,31 +6,34 @@ use Rattle.std.specs.List.{list_any, AllByRecursion as Each}
 use Rattle.std.proofs.lemmas.Bool.{eqb-true, ltb-false}
 use Rattle.giop_checkpoint.specs.declared.fault.StreamFault.{StreamFault}
 use Rattle.giop_checkpoint.specs.declared.fault.StreamFault.TheVariants.{StreamLimit}
+use Rattle.giop_sig.specs.Types.{Ty}
 use Rattle.giop_sig.specs.Table.{Table}
 use Rattle.giop_sig.specs.Trees.{tree_at}
-use Rattle.giop_sig.specs.Builtin.{builtin_types}
+use Rattle.giop_sig.specs.Builtin.{builtin_types, builtin_table}
 use Rattle.giop_sig.specs.HeaderTypes.{header_type}
-use Rattle.giop_decode.specs.Noted.{Noted}
 use Rattle.giop_decode.specs.Pieces.{number, block}
 use Rattle.giop_cdr.specs.Alignment.{padding}
 use Rattle.giop_message.specs.Headers.{minor, kind}
 use Rattle.giop_message.specs.Signatures.{Answer, Answers, signatures_of}
+use Rattle.giop_message.specs.Messages.{section_then, rest_in, rest, of_header, message, message_marks}
 use Rattle.giop_message.specs.MessageReader.{MessageReader}
 use Rattle.giop_message.specs.ReaderOfTable.{message_reader}
-use Rattle.giop_message.specs.HeaderEnds.{HeaderEnd, CallEvent, Header_end, Exception_end, noted_by_type, header_noted, ends_between, raised, raises_between, header_ends, call_event, after_event, after_ends, AgreesAtEnds}
-use Rattle.giop_message.proofs.MessageLaws.{is_causal, is_ending, header_noted_before, answers_first, answers_then}
+use Rattle.giop_message.specs.HeaderEnds.{HeaderEnd, CallEvent, Header_end, Exception_end, noted_in, marks, header_noted, header_ends, call_event, after_event, after_ends, AgreesAtEnds}
+use Rattle.giop_message.proofs.MessageLaws.{is_causal, is_ending, header_noted_before, header_ended, answers_first, answers_then}
 use Rattle.giop_stream.specs.Rules.{Rules, rules_by}
 use Rattle.giop_stream.specs.Framing.{Message, Cut, limit, cut, messages, fault_of}
 use Rattle.giop_stream.specs.Events.{EventKind, MessageKey, Event, Open, message_key, place, opener_of, goes_past, events_of_octet, events_from, events, open_after, joined, Now}
 use Rattle.giop_stream.specs.Lines.{Line, is_last_of, stop_line, lines}
 use Rattle.giop_stream.specs.Stream.{text, tally, final, closing}
-use Rattle.giop_stream.specs.OpenSlots.{OctetsByNumber, octets_of, Tracked, tracked_after}
+use Rattle.giop_stream.specs.OpenSlots.{OctetsByNumber, slots_of, octets_of, Tracked, tracked_after}
 use Rattle.giop_stream.specs.Effects.{Effect, lines_for, kept_with, kept_after, lines_at, tracked_at, effects, with_octet}
 use Rattle.giop_stream.specs.Octet.{Octet, AfterStop, Ends, Held, Of, octet_in, octet_of, header_of, payload_count_of}
 use Rattle.giop_stream.specs.PayloadOwner.{owner_of_octet}
 use Rattle.giop_stream.specs.EngineState.{opener_key, owner_of_next, state_of}
 use Rattle.giop_stream.specs.EngineStep.{finish, final_totals}
-use Rattle.giop_stream.specs.EngineHolds.{added}
+use Rattle.giop_stream.specs.EngineHolds.{HoldsBy, added}
+use Rattle.giop_stream.specs.EngineView.{EngineView, FramingView}
+use Rattle.giop_stream.specs.ViewOfState.{Shows}
 use Rattle.giop_stream.specs.Shares.{continued}
 use Rattle.giop_stream.specs.HeaderEndsOfStream.{owner_header_ends, current_header_ends, header_ends_at, header_ends_from}
 use Rattle.giop_stream.specs.AnswersAgree.{AnswersAlike, AgreeAtHeaders}
@@ -46,41 +49,46 @@ use Rattle.giop_stream.proofs.SlotSteps.Parts.{in_turn, owner_next}
 use Rattle.giop_stream.proofs.CodeSteps.OneOctet.{Adds, IsOf, Then, octet_limit, then_is}
 use Rattle.giop_stream.proofs.CodeSteps.EngineAlive.{sound}
 use Rattle.giop_stream.proofs.CodeSteps.EngineLaws.{finish_is, final_is}
-use Rattle.giop_stream.proofs.CodeSteps.StreamAgreement.{tells_agree, each_parts, each_own, of_owner}
-use Rattle.giop_stream.proofs.CodeSteps.AnswersGoOn.{one_header}
+use Rattle.giop_stream.proofs.CodeSteps.StreamAgreement.{tells_agree, IsSame, shows_agree, each_parts, each_own, of_owner, one_header}
 use Rattle.giop_stream.proofs.CodeSteps.HeaderEndSteps.{at_free, from_append}
 
 -- ---- no header has ended before an octet has come
 
-in_1_0 : (k : ℕ) (header : List ℕ) → noted_by_type header (header_type 0 k) [] ≡ None
-unfolding tree_at builtin_types number padding block
+abbrev Unended : List ℕ → Option Ty → Type 0
+Unended header found = noted_in (message_marks (of_header
+    (signatures_of builtin_table (λ id. None)) header found 12 [])) ≡ None
+
+in_1_0 : (k : ℕ) (header : List ℕ) → Unended header (header_type 0 k)
+unfolding tree_at builtin_types number padding block of_header section_then rest rest_in
+    message_marks
 in_1_0 (suc (suc (suc (suc (suc (suc (suc (suc k)))))))) header = refl
 in_1_0 _ header = refl
 
-in_1_1 : (k : ℕ) (header : List ℕ) → noted_by_type header (header_type 1 k) [] ≡ None
-unfolding tree_at builtin_types number padding block
+in_1_1 : (k : ℕ) (header : List ℕ) → Unended header (header_type 1 k)
+unfolding tree_at builtin_types number padding block of_header section_then rest rest_in
+    message_marks
 in_1_1 (suc (suc (suc (suc (suc (suc (suc (suc k)))))))) header = refl
 in_1_1 _ header = refl
 
-in_1_2 : (k : ℕ) (header : List ℕ) → noted_by_type header (header_type 2 k) [] ≡ None
-unfolding tree_at builtin_types number padding block
+in_1_2 : (k : ℕ) (header : List ℕ) → Unended header (header_type 2 k)
+unfolding tree_at builtin_types number padding block of_header section_then rest rest_in
+    message_marks
 in_1_2 (suc (suc (suc (suc (suc (suc (suc (suc k)))))))) header = refl
 in_1_2 _ header = refl
 
-in_others : (m k : ℕ) (header : List ℕ) →
-    noted_by_type header (header_type (suc (suc (suc m))) k) [] ≡ None
+in_others : (m k : ℕ) (header : List ℕ) → Unended header (header_type (suc (suc (suc m))) k)
+unfolding of_header rest rest_in message_marks
 in_others m (suc (suc (suc (suc (suc (suc (suc (suc k)))))))) header = refl
 in_others m _ header = refl
 
-none_at_first : (m k : ℕ) (header : List ℕ) →
-    noted_by_type header (header_type m k) [] ≡ None
+none_at_first : (m k : ℕ) (header : List ℕ) → Unended header (header_type m k)
 none_at_first zero k header = in_1_0 k header
 none_at_first (suc zero) k header = in_1_1 k header
 none_at_first (suc (suc zero)) k header = in_1_2 k header
 none_at_first (suc (suc (suc m))) k header = in_others m k header
 
 not_noted : (header : List ℕ) → header_noted header [] ≡ None
-unfolding header_noted
+unfolding header_noted marks message signatures_of
 not_noted header = none_at_first (minor header) (kind header) header
 
 -- ---- what is kept of a message before events, by what is kept of it after them
@@ -372,26 +380,15 @@ module _ (C : Table) (a b : Answers) (most : ℕ) where
     unfolding tracked_after
     here w xs owner known = at_free A p x free room ∙ rw (current, owner, known) refl
 
-    noted_alike : (w : MessageKey) (now : Option Noted) (xs : List ℕ) →
-        header_noted w.header xs ≡ now →
-        Each (AnswersAlike a b) (ends_between w.number w.header None now) → Agree w xs
-    noted_alike w None xs e h = inr e
-    noted_alike w (Some n) xs e h = inl h.0
-
     own_alike : (w : MessageKey) (xs : List ℕ) → Owner ≡ Some w →
         octets_of A p w.number ≡ Some xs → Agree w xs → Agree w (xs ++ x ∷ [])
-    unfolding header_ends
     own_alike w xs owner known (inl k) = inl k
     own_alike w xs owner known (inr k) =
-        let all : Each (AnswersAlike a b) (header_ends w.number w.header xs (x ∷ [])) =
-        subst (Each (AnswersAlike a b)) (here w xs owner known) ends in
-        let parts = each_parts (AnswersAlike a b)
-        (ends_between w.number w.header (header_noted w.header xs)
-        (header_noted w.header (xs ++ x ∷ [])))
-        (raises_between w.number (raised w.header xs) (raised w.header (xs ++ x ∷ []))) all in
-        noted_alike w (header_noted w.header (xs ++ x ∷ [])) (xs ++ x ∷ []) refl
-        (subst (λ (o : Option Noted). Each (AnswersAlike a b) (ends_between w.number w.header o
-        (header_noted w.header (xs ++ x ∷ [])))) k parts.0)
+        elim (header_ended (AnswersAlike a b) w.number w.header xs (x ∷ []) k
+        (subst (Each (AnswersAlike a b)) (here w xs owner known) ends)) [
+          | inl none ↦ inr none
+          | inr same ↦ inl same.1
+        ]
 
     paid_alike : (v : MessageKey) → header_of_number (messages (cut p)) v.number ≡ Some v.header →
         KeptAlike p v → NowAlike p Es v
@@ -580,6 +577,31 @@ module _ (C : Table) (a b : Answers) (most : ℕ) where
       let all = alike p h in
       rw (all.lines_same, all.tracked_same) refl
 
+  -- the same engines,
+  same_for : (p : List ℕ) (w : MessageKey) → KeptAlike p w →
+      IsSame C a b w (octets_of A p w.number)
+  same_for p w h = go (octets_of A p w.number) refl
+    where
+      go : (o : Option (List ℕ)) → octets_of A p w.number ≡ o → IsSame C a b w o
+      go None e = tt
+      go (Some xs) e = h xs e
+
+  slots_same : (p : List ℕ) (os : List Open) → Each (λ o. KeptAlike p o.opener) os
+      → Each (λ slot. IsSame C a b slot.open_as.opener slot.octets) (slots_of (octets_of A p) os)
+  unfolding slots_of
+  slots_same p [] k = tt
+  slots_same p (o ∷ os) k = (same_for p o.opener k.0, slots_same p os k.1)
+
+  pub fields_alike : (p : List ℕ) (f : FramingView) → AgreeAtHeaders C most p a b →
+      Shows C a f (state_of A p) → Shows C b f (state_of B p)
+  unfolding state_of open_after events tracked_after
+  fields_alike p f h shows =
+      let kept = (alike p h).kept_alike in
+      subst (Shows C b f) (state_alike p h)
+      (shows_agree C a b f (state_of A p) (slots_same p (open_after most p)
+      (opened_each (KeptAlike p) [] (events most p) tt kept))
+      (λ w owner. same_for p w (of_owner (KeptAlike p) most p w owner kept)) shows)
+
   -- the same closing and totals,
   pub closing_alike : (p : List ℕ) → AgreeAtHeaders C most p a b → closing A p ≡ closing B p
   closing_alike p h =
@@ -603,7 +625,7 @@ module _ (C : Table) (a b : Answers) (most : ℕ) where
       ap (λ (c : Tracked). owner_header_ends c (owner_of_next (open_after most p) m) octets)
       h.tracked_same
 
-  ends_at_alike : (p : List ℕ) (x : ℕ) → Alike p → header_ends_at A p x ≡ header_ends_at B p x
+  pub ends_at_alike : (p : List ℕ) (x : ℕ) → Alike p → header_ends_at A p x ≡ header_ends_at B p x
   unfolding header_ends_at
   ends_at_alike p x h =
       ap (λ (es : List HeaderEnd). if is_none (cut p).stop && nat_lt (length p) limit then es
@@ -685,6 +707,14 @@ module _ (C : Table) (a b : Answers) (most : ℕ) where
         subst (Each (AnswersAlike a b)) (sym (from_append A p [] q))
         (each_append (AnswersAlike a b) (header_ends_from A [] p) (header_ends_from A p q) h
         (leads q p st (alike p h) f g))
+
+pub held_alike : (e : EngineView) (a b : Answers) (p : List ℕ) →
+    AgreeAtHeaders e.table e.most p a b → HoldsBy e a p → HoldsBy e b p
+held_alike e a b p h k = record {
+  sound = k.sound;
+  octets = k.octets;
+  shows = fields_alike e.table a b e.most p e.stream h k.shows;
+}
 
 -- ---- answers that agree so, the other way round and one after the other
 

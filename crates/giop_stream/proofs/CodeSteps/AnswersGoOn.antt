@@ -1,5 +1,5 @@
 -- Answers that agree with a correspondent at each header that ends in octets after a stream.
-use Rattle.std.proofs.Common.{inl, inr, ◌⊎◌, ◌≡◌, ℕ, ◌<◌, Bool, true, false, List, [], ◌∷◌, ◌++◌, length, flat_map, refl, sym, ap, subst, ◌∙◌, append-nil, Some, None, arith}
+use Rattle.std.proofs.Common.{inl, inr, ◌⊎◌, ◌≡◌, ℕ, ◌<◌, Bool, true, false, List, [], ◌∷◌, ◌++◌, length, refl, sym, ap, subst, ◌∙◌, append-nil, Some, None, arith}
 use Rattle.std.specs.Prelude.{◌==◌, if◌then◌else◌}
 use Rattle.std.specs.List.{AllByRecursion as Each}
 use Rattle.std.proofs.lemmas.Bool.{cases_lt, eq-eqb, eqb-true}
@@ -9,9 +9,10 @@ use Rattle.giop_message.specs.Signatures.{Answer, Answers, signatures_of}
 use Rattle.giop_message.specs.HeaderEnds.{HeaderEnd, CallEvent, Header_end, Exception_end, header_noted, call_event, after_event, AgreesAtEnds}
 use Rattle.giop_message.proofs.MessageLaws.{header_noted_before, one_octet, is_causal}
 use Rattle.giop_stream.specs.Rules.{Rules, rules_by}
-use Rattle.giop_stream.specs.HeaderOctets.{fronts}
-use Rattle.giop_stream.specs.Framing.{Message, with_payload, limit, cut, messages}
-use Rattle.giop_stream.specs.Events.{MessageKey, Event, Open, message_key, events_of_octet, events_of, opened, events_from, events, open_after, joined}
+use Rattle.giop_stream.specs.EngineView.{EngineView}
+use Rattle.giop_stream.specs.EngineHolds.{HoldsBy}
+use Rattle.giop_stream.specs.Framing.{Message, limit, cut, messages}
+use Rattle.giop_stream.specs.Events.{MessageKey, Event, Open, events_of_octet, events, open_after, joined}
 use Rattle.giop_stream.specs.OpenSlots.{octets_of, tracked_after}
 use Rattle.giop_stream.specs.Effects.{with_octet}
 use Rattle.giop_stream.specs.Octet.{Octet, AfterStop, Ends, Held, Of, octet_of}
@@ -22,8 +23,7 @@ use Rattle.giop_stream.specs.HeaderEndsOfStream.{header_ends_at, header_ends_fro
 use Rattle.giop_stream.specs.AnswersAgree.{AnswersAgree, AnswersAlike, AgreeAtHeaders}
 use Rattle.giop_stream.proofs.Lists.{by_growth, each_append, each_weaker, all_by}
 use Rattle.giop_stream.proofs.Cuts.Cutting.{of_parts, parts_by, stopped_at}
-use Rattle.giop_stream.proofs.Cuts.Numbers.{header_of_number, own_header}
-use Rattle.giop_stream.proofs.Events.EventsOfOctet.{events_of_octet_each, opened_each}
+use Rattle.giop_stream.proofs.Cuts.Numbers.{header_of_number}
 use Rattle.giop_stream.proofs.Events.Sharing.{more_of, octet_joined}
 use Rattle.giop_stream.proofs.Events.StepCases.{octets_are}
 use Rattle.giop_stream.proofs.StreamLines.LinesOfOctet.{joined_append}
@@ -31,42 +31,9 @@ use Rattle.giop_stream.proofs.SlotSteps.Parts.{in_turn, owner_next}
 use Rattle.giop_stream.proofs.CodeSteps.OneOctet.{Then, then_is, paid_events}
 use Rattle.giop_stream.proofs.CodeSteps.EngineAlive.{sound}
 use Rattle.giop_stream.proofs.CodeSteps.OutsideMessages.{within_limit}
-use Rattle.giop_stream.proofs.CodeSteps.StreamAgreement.{known_agree, each_parts, of_owner}
+use Rattle.giop_stream.proofs.CodeSteps.StreamAgreement.{each_parts, of_owner, one_header}
+use Rattle.giop_stream.proofs.CodeSteps.AgreementAtHeaders.{alike, ends_at_alike, held_alike}
 use Rattle.giop_stream.proofs.CodeSteps.HeaderEndSteps.{at_free, at_none, at_stop, at_limit, from_append, from_one}
-
--- ---- What holds of each message holds of each event's.
-
-module _ (P : MessageKey → Type 0) (most : ℕ) where
-  of_message : (still_open : List Open) (m : Message) → Each (λ o. P o.opener) still_open →
-      P (message_key m)
-      → Each (λ e. P e.subject) (events_of most still_open m)
-  unfolding events_of
-  of_message still_open m openers own = go (fronts m.payload)
-    where
-      go : (fs : List (List ℕ)) → Each (λ e. P e.subject)
-          (flat_map (λ front. events_of_octet most still_open (with_payload m front)) fs)
-      go [] = tt
-      go (f ∷ fs) = search (arith, each_append, events_of_octet_each, each_weaker, go fs)
-
-  of_messages : (still_open : List Open) (ms : List Message) → Each (λ o. P o.opener) still_open →
-      Each (λ m. P (message_key m)) ms
-      → Each (λ e. P e.subject) (events_from most still_open ms)
-  unfolding events_from
-  of_messages still_open [] openers own = tt
-  of_messages still_open (m ∷ ms) openers own =
-      let es = events_of most still_open m in
-      let first = of_message still_open m openers own.0 in
-      each_append (λ e. P e.subject) es _ first
-      (of_messages (opened still_open es) ms (opened_each P still_open es openers first) own.1)
-
--- the events of a number have one header
-pub one_header : (most : ℕ) (p : List ℕ) → Each
-    (λ e. header_of_number (messages (cut p)) e.subject.number ≡ Some e.subject.header)
-    (events most p)
-unfolding events
-one_header most p =
-    of_messages (λ w. header_of_number (messages (cut p)) w.number ≡ Some w.header) most []
-    (messages (cut p)) tt (own_header p)
 
 -- the owner of an octet takes it
 pub owner_takes : (most : ℕ) (still_open : List Open) (m : Message) (x : ℕ) (w : MessageKey) →
@@ -139,12 +106,6 @@ module _ (C : Table) (most : ℕ) where
 
   agree_self : (p : List ℕ) (a : Answers) → AnswersAgree most p a a
   agree_self p a = search (arith, all_by)
-
-  -- the same headers end in the next octet
-  ends_agree : (p : List ℕ) (x : ℕ) (a b : Answers) → AnswersAgree most p a b →
-      header_ends_at (R a) p x ≡ header_ends_at (R b) p x
-  unfolding header_ends_at tracked_after
-  ends_agree p x a b h = search (arith, known_agree)
 
   -- ---- the header that ends in the next octet
 
@@ -252,6 +213,11 @@ module _ (C : Table) (most : ℕ) where
       here p x h (inr (inl k)) = rw k.ends (agree_for a p x k a b h, tt)
       here p x h (inr (inr k)) = rw k.ends (tt, tt)
 
+  -- the same headers end in the next octet
+  ends_agree : (p : List ℕ) (x : ℕ) (a b : Answers) → AnswersAgree most p a b →
+      header_ends_at (R a) p x ≡ header_ends_at (R b) p x
+  ends_agree p x a b h = ends_at_alike C a b most p x (alike C a b most p (at_headers a b p h))
+
   -- ---- the answers
 
   module _ {St : Type 0} (answer : St → Answer) (notified : St → CallEvent → St) where
@@ -310,3 +276,8 @@ module _ (C : Table) (most : ℕ) where
             )
       ]
     ]
+
+-- an engine holds a stream by each of them
+pub held_agree : (e : EngineView) (a b : Answers) (p : List ℕ) → AnswersAgree e.most p a b →
+    HoldsBy e a p → HoldsBy e b p
+held_agree e a b p h = held_alike e a b p (at_headers e.table e.most a b p h)

@@ -10,11 +10,12 @@ use Rattle.giop_print.specs.Output.{OutLog, Writes}
 use Rattle.giop_sig.specs.Table.{Table}
 use Rattle.giop_decode.specs.Noted.{Noted}
 use Rattle.giop_message.specs.Headers.{minor, kind, order, size, is_fragment}
+use Rattle.giop_message.specs.Messages.{has_body}
 use Rattle.giop_message.specs.MessageReader.{IsCausal}
 use Rattle.giop_message.specs.Signatures.{Answers}
 use Rattle.giop_message.specs.ReaderOfTable.{message_reader}
-use Rattle.giop_message.specs.HeaderEnds.{HeaderEnd, Header_end, ends_between, header_noted, raised, header_ends, header_event, call_event}
-use Rattle.giop_message.proofs.MessageLaws.{is_causal}
+use Rattle.giop_message.specs.HeaderEnds.{HeaderEnd, Header_end, header_event, call_event}
+use Rattle.giop_message.proofs.MessageLaws.{is_causal, bodiless_ends}
 use Rattle.giop_stream.specs.declared.current.Current.{Current}
 use Rattle.giop_stream.specs.declared.fragment.Continuation.{Continuation}
 use Rattle.giop_stream.specs.HeaderOctets.{wrong}
@@ -83,19 +84,13 @@ fragment_tells : (C : Table) (number : ℕ) (header : List ℕ) (n : Noted) → 
 unfolding header_event
 fragment_tells C number header n seven = rw seven refl
 
-ends_untold : (C : Table) (number : ℕ) (header : List ℕ) (before now : Option Noted) →
-    kind header ≡ 7 → AreUntold C (ends_between number header before now ++ [])
-ends_untold C number header (Some before) now seven = tt
-ends_untold C number header None None seven = tt
-ends_untold C number header None (Some n) seven = (fragment_tells C number header n seven, tt)
-
 fragment_untold : (C : Table) (w : MessageKey) (o : Option (List ℕ)) (octets : List ℕ) →
     kind w.header ≡ 7 → AreUntold C (run_header_ends w o octets)
-unfolding header_ends raised
+unfolding has_body
 fragment_untold C w None octets seven = tt
 fragment_untold C w (Some xs) octets seven =
-    rw seven (ends_untold C w.number w.header (header_noted w.header xs)
-    (header_noted w.header (xs ++ octets)) seven)
+    bodiless_ends (λ e. call_event C e ≡ None) w.number w.header (rw seven refl)
+    (λ n. fragment_tells C w.number w.header n seven) xs octets
 
 -- ---- The octets of a request id before the last one.
 

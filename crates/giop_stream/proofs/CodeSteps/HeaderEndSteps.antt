@@ -1,6 +1,7 @@
 -- The headers that end in octets of a stream, and the state of a correspondent after them.
 use Rattle.std.proofs.Common.{◌≡◌, ℕ, zero, suc, ◌+◌, ◌^◌, ◌<◌, ◌≤◌, Bool, true, false, List, [], ◌∷◌, ◌++◌, length, Option, Some, None, Result, Ok, Err, refl, sym, ap, subst, ◌∙◌, append_assoc, append-nil, arith}
 use Rattle.std.specs.Prelude.{is_some, ◌==◌, nat_lt, slice_get, option_map, IfOk, if◌then◌else◌}
+use Rattle.std.specs.List.{AllByRecursion as Each}
 use Rattle.std.proofs.lemmas.Bool.{lt-ltb, ne_eqb, false≢true}
 use Rattle.std.proofs.lemmas.List.{length_push}
 use Rattle.giop_checkpoint.specs.declared.fault.StreamFault.{StreamFault}
@@ -56,8 +57,7 @@ positive (suc n) f = omega arith
 -- ---- ends of which the correspondent is told nothing
 
 abbrev pub AreUntold : Table → List HeaderEnd → Type 0
-AreUntold C [] = Unit {0}
-AreUntold C (e ∷ es) = (call_event C e ≡ None) × AreUntold C es
+AreUntold C = Each (λ e. call_event C e ≡ None)
 
 pub untold_front : (C : Table) (es fs : List HeaderEnd) → AreUntold C (es ++ fs) → AreUntold C es
 untold_front C [] fs h = tt

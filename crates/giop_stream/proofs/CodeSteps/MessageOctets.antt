@@ -157,7 +157,7 @@ module _ (C : Table) (l : Answers) (most : ℕ) (s : State) (reached : IsReached
   so : IsSound R p
   so = sound R causal (in_turn C l) p
 
-  at_p : Shows C l m (state_of R p)
+  pub at_p : Shows C l m (state_of R p)
   at_p = search (arith)
 
   -- a call that writes the lines of the octet and leaves its state does the step,
@@ -198,10 +198,10 @@ module _ (C : Table) (l : Answers) (most : ℕ) (s : State) (reached : IsReached
     unfolding state_of
     header_at = at_p.header ∙ rw runs_on refl
 
-    fits_at : Fits (length p) (cut p)
+    pub fits_at : Fits (length p) (cut p)
     fits_at = so.fits runs_on
 
-    come_at : m.payload_count ≡ payload_count_of (cut p).current
+    pub come_at : m.payload_count ≡ payload_count_of (cut p).current
     unfolding payload_count_in state_of
     come_at = search (arith, at_p, runs_on, come_by, fits_at)
 

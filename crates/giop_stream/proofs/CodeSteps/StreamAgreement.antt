@@ -1,5 +1,6 @@
--- A stream has the same lines by answers that agree for each message whose header has ended.
-use Rattle.std.proofs.Common.{arith, ◌≡◌, ℕ, Bool, true, false, List, [], ◌∷◌, ◌++◌, map, flat_map, ◌⊎◌, Option, Some, None, refl, subst, ◌∙◌, append_assoc}
+-- An event has the same lines, and a message that is kept is the same, by answers that agree for a
+-- message or whose header has not ended; and what holds of each message.
+use Rattle.std.proofs.Common.{arith, ◌≡◌, ℕ, Bool, true, false, List, [], ◌∷◌, ◌++◌, map, flat_map, ◌⊎◌, Option, Some, None, refl, subst}
 use Rattle.std.specs.Prelude.{◌==◌, if◌then◌else◌, option_to_list}
 use Rattle.std.specs.List.{AllByRecursion as Each}
 use Rattle.giop_sig.specs.Table.{Table}
@@ -7,22 +8,19 @@ use Rattle.giop_message.specs.Signatures.{Answers}
 use Rattle.giop_message.specs.ReaderOfTable.{message_reader}
 use Rattle.giop_message.specs.HeaderEnds.{header_noted}
 use Rattle.giop_message.proofs.MessageLaws.{header_noted_before, alike_remarks, alike_closes, follows_agree}
-use Rattle.giop_stream.specs.Rules.{Rules, rules_by}
 use Rattle.giop_message.specs.declared.message.Message.{Message as CodeMessage}
-use Rattle.giop_stream.specs.EngineView.{EngineView, FramingView}
-use Rattle.giop_stream.specs.EngineHolds.{HoldsBy}
+use Rattle.giop_stream.specs.EngineView.{FramingView}
 use Rattle.giop_stream.specs.SlotsRepresent.{OpenEntry, RepresentsMessage, AreSlots}
 use Rattle.giop_stream.specs.ViewOfState.{Shows}
-use Rattle.giop_stream.specs.Events.{Event, MessageKey, Open, EventKind, Begins, Takes, Opens, Continues, Cancelled, Faults, Closes, message_key, id, opener_of, has_named, own, header_events, events_of_octet, events_of, events_from, events, opened, open_after, joined}
+use Rattle.giop_stream.specs.Events.{Event, MessageKey, Open, EventKind, Begins, Takes, Opens, Continues, Cancelled, Faults, Closes, message_key, id, opener_of, has_named, own, header_events, events_of_octet, events_of, events_from, events, opened, open_after}
 use Rattle.giop_stream.specs.HeaderOctets.{fronts}
 use Rattle.giop_stream.specs.Framing.{Message, with_payload, cut, messages}
-use Rattle.giop_stream.specs.Lines.{lines_of_event, lines_of_events, lines_of_messages, lines}
-use Rattle.giop_stream.specs.Stream.{text, tally, is_over}
-use Rattle.giop_stream.specs.OpenSlots.{Slot, octets_of, slots_of, slots_at, tracked_after}
-use Rattle.giop_stream.specs.EngineState.{State, opener_key, owner_of_next, owner_of_next_in, state_of}
-use Rattle.giop_stream.specs.AnswersAgree.{AnswersAgree}
-use Rattle.giop_stream.proofs.StreamLines.LinesOfOctet.{joined_append}
-use Rattle.giop_stream.proofs.Events.EventsOfOctet.{opened_each}
+use Rattle.giop_stream.specs.Lines.{lines_of_event}
+use Rattle.giop_stream.specs.OpenSlots.{Slot, slots_at}
+use Rattle.giop_stream.specs.EngineState.{State, opener_key, owner_of_next, owner_of_next_in}
+use Rattle.giop_stream.proofs.Lists.{each_append, each_weaker}
+use Rattle.giop_stream.proofs.Cuts.Numbers.{header_of_number, own_header}
+use Rattle.giop_stream.proofs.Events.EventsOfOctet.{events_of_octet_each, opened_each}
 use Rattle.giop_stream.proofs.Events.EventsByEngine.{found_in}
 
 -- one event, whose message has these octets in all
@@ -45,55 +43,11 @@ tells_agree C a b e so_far later all Closes split same = search (
   header_noted_before,
 )
 
-module _ (C : Table) (a b : Answers) (all : List Event) where
-  abbrev Same : Event → Type 0
-  Same e = (a e.subject.number ≡ b e.subject.number)
-      ⊎ (header_noted e.subject.header (joined e.subject.number all) ≡ None)
-
-  told_agree : (past es : List Event) → past ++ es ≡ all → Each Same es
-      → lines_of_events (message_reader C a) all past es
-      ≡ lines_of_events (message_reader C b) all past es
-  unfolding lines_of_events
-  told_agree past [] is h = refl
-  told_agree past (e ∷ es) is h = search (
-    arith,
-    joined_append,
-    tells_agree,
-    append_assoc,
-    told_agree (past ++ e ∷ []) es (append_assoc past (e ∷ []) es ∙ is) h.1,
-  )
-
-module _ (C : Table) (a b : Answers) (most : ℕ) (p : List ℕ) (h : AnswersAgree most p a b) where
-  pub said_agree : lines_of_messages (rules_by C a most) p ≡ lines_of_messages (rules_by C b most) p
-  unfolding lines_of_messages
-  said_agree = search (arith, told_agree)
-
-  pub lines_agree : lines (rules_by C a most) p ≡ lines (rules_by C b most) p
-  unfolding lines
-  lines_agree = rw said_agree refl
-
-  -- the same text,
-  pub text_agree : text (rules_by C a most) p ≡ text (rules_by C b most) p
-  unfolding text
-  text_agree = rw lines_agree refl
-
-  octets_agree : (i : ℕ) → octets_of (rules_by C a most) p i ≡ octets_of (rules_by C b most) p i
-  unfolding octets_of is_over
-  octets_agree i = rw said_agree refl
-
-  pub known_agree : octets_of (rules_by C a most) p ≡ octets_of (rules_by C b most) p
-  known_agree = λ j i. octets_agree i j
-
-  -- and the same state
-  pub state_agree : state_of (rules_by C a most) p ≡ state_of (rules_by C b most) p
-  unfolding state_of tally tracked_after
-  state_agree = rw (lines_agree, known_agree) refl
-
 -- ---- the fields of an engine
 
 module _ (C : Table) (a b : Answers) where
   -- for a message that is kept they agree, or its header has not ended
-  abbrev IsSame : MessageKey → Option (List ℕ) → Type 0
+  abbrev pub IsSame : MessageKey → Option (List ℕ) → Type 0
   IsSame w None = Unit {0}
   IsSame w (Some xs) = (a w.number ≡ b w.number) ⊎ (header_noted w.header xs ≡ None)
 
@@ -183,37 +137,36 @@ of_owner P most p w owner h =
     go None own k = absurd cc
     go (Some m) own k = by m own.0 (has_named m) k
 
-module _ (C : Table) (a b : Answers) (most : ℕ) (p : List ℕ) (h : AnswersAgree most p a b) where
-  abbrev R : Rules
-  R = rules_by C a most
+-- ---- What holds of each message holds of each event's.
 
-  abbrev AgreeFor : MessageKey → Type 0
-  AgreeFor w = (a w.number ≡ b w.number) ⊎
-      (header_noted w.header (joined w.number (events most p)) ≡ None)
+module _ (P : MessageKey → Type 0) (most : ℕ) where
+  of_message : (still_open : List Open) (m : Message) → Each (λ o. P o.opener) still_open →
+      P (message_key m)
+      → Each (λ e. P e.subject) (events_of most still_open m)
+  unfolding events_of
+  of_message still_open m openers own = go (fronts m.payload)
+    where
+      go : (fs : List (List ℕ)) → Each (λ e. P e.subject)
+          (flat_map (λ front. events_of_octet most still_open (with_payload m front)) fs)
+      go [] = tt
+      go (f ∷ fs) = search (arith, each_append, events_of_octet_each, each_weaker, go fs)
 
-  same_for : (w : MessageKey) → AgreeFor w → IsSame C a b w (octets_of R p w.number)
-  unfolding octets_of
-  same_for w agree = search (arith)
+  of_messages : (still_open : List Open) (ms : List Message) → Each (λ o. P o.opener) still_open →
+      Each (λ m. P (message_key m)) ms
+      → Each (λ e. P e.subject) (events_from most still_open ms)
+  unfolding events_from
+  of_messages still_open [] openers own = tt
+  of_messages still_open (m ∷ ms) openers own =
+      let es = events_of most still_open m in
+      let first = of_message still_open m openers own.0 in
+      each_append (λ e. P e.subject) es _ first
+      (of_messages (opened still_open es) ms (opened_each P still_open es openers first) own.1)
 
-  slots_same : (os : List Open) → Each (λ o. AgreeFor o.opener) os
-      → Each (λ slot. IsSame C a b slot.open_as.opener slot.octets) (slots_of (octets_of R p) os)
-  unfolding slots_of
-  slots_same [] k = tt
-  slots_same (o ∷ os) k = (same_for o.opener k.0, slots_same os k.1)
-
-  fields_agree : (f : FramingView) → Shows C a f (state_of R p) →
-      Shows C b f (state_of (rules_by C b most) p)
-  unfolding state_of open_after events tracked_after
-  fields_agree f shows =
-      subst (Shows C b f) (state_agree C a b most p h)
-      (shows_agree C a b f (state_of R p) (slots_same (open_after most p)
-      (opened_each AgreeFor [] (events most p) tt h))
-      (λ w owner. same_for w (of_owner AgreeFor most p w owner h)) shows)
-
-pub held_agree : (e : EngineView) (a b : Answers) (p : List ℕ) → AnswersAgree e.most p a b →
-    HoldsBy e a p → HoldsBy e b p
-held_agree e a b p h k = record {
-  sound = k.sound;
-  octets = k.octets;
-  shows = fields_agree e.table a b e.most p h e.stream k.shows;
-}
+-- the events of a number have one header
+pub one_header : (most : ℕ) (p : List ℕ) → Each
+    (λ e. header_of_number (messages (cut p)) e.subject.number ≡ Some e.subject.header)
+    (events most p)
+unfolding events
+one_header most p =
+    of_messages (λ w. header_of_number (messages (cut p)) w.number ≡ Some w.header) most []
+    (messages (cut p)) tt (own_header p)

@@ -6,20 +6,20 @@ use Rattle.tcp_flow.specs.Flow.{flow_of}
 use Rattle.tcp_connections.specs.Connections.{none_known}
 use Rattle.giop_stream.specs.Stream.{text, closing}
 use Rattle.giop_conversation.specs.Captured.{start, rules_in, number_in}
-use Rattle.giop_conversation.specs.Followed.{reader_faulted}
+use Rattle.giop_conversation.specs.Followed.{stream_reader}
 use Rattle.giop_conversation.specs.StreamTexts.{no_history, history}
 use Rattle.giop_capture_run.specs.Arrivals.{capture_ended}
 use Rattle.giop_capture_program.proofs.laws.each_stream_of_a_capture_is_dumped.Goals as goal
 
 pub returns-clause-shows : goal.returns-clause-shows
 returns-clause-shows c = λ S written ports blocks most octets d some few leads.
-    let events = (capture_ended reader_faulted (none_known ports blocks most []) octets).events in
+    let events = (capture_ended stream_reader (none_known ports blocks most []) octets).events in
     let shown = c.each_stream_is_dumped.ensures.shows S written events d leads in
-    let gapless = c.no_stream_of_a_capture_has_a_gap.ensures.ended reader_faulted ports blocks most
+    let gapless = c.no_stream_of_a_capture_has_a_gap.ensures.ended stream_reader ports blocks most
     octets some few in
     let ends = c.each_stream_is_dumped.ensures.ends S written events d leads
     (λ flow. (gapless.payloads, (gapless.follow flow).0, (gapless.follow flow).1)) in
-    let every = c.no_stream_of_a_capture_has_a_gap.ensures.closed reader_faulted ports blocks most
+    let every = c.no_stream_of_a_capture_has_a_gap.ensures.closed stream_reader ports blocks most
     octets some few in
     let closes = c.each_stream_is_dumped.ensures.closes S written events d leads
     (λ flow. (every.payloads, every.follow flow)) in
@@ -42,11 +42,11 @@ returns-clause-shows c = λ S written ports blocks most octets d some few leads.
 pub returns-clause-rooms : goal.returns-clause-rooms
 returns-clause-rooms c = λ S written ports blocks most octets d some few same leads number is first
     begun.
-    let events = (capture_ended reader_faulted (none_known ports blocks most []) octets).events in
+    let events = (capture_ended stream_reader (none_known ports blocks most []) octets).events in
     let k : ℕ = number - S.first in
     let rooms =
     subst (λ (n : ℕ). Each (λ e. (id : ℕ) → flow_of e ≡ Some id → id / 2 < n) events)
-    (sym same) (c.no_stream_of_a_capture_has_a_gap.ensures.rooms reader_faulted ports blocks
+    (sym same) (c.no_stream_of_a_capture_has_a_gap.ensures.rooms stream_reader ports blocks
     most octets some few) in
     let room = c.each_stream_is_dumped.ensures.rooms S written events d leads rooms k
     (omega (arith, first, begun)) in

@@ -18,7 +18,7 @@ returns-in-Ok-clause-ran g c =
     let ran = c.in_ok-read_packets.ensures.ran w h in
     let handed = ran.1.handed in
     let e = c.in-Ok.ensures.ended ran.1.read
-    (after_packets g.L.Listener.faulted w (taken_of ran.1.read)) handed.reads
+    (after_packets g.L.Listener.reader w (taken_of ran.1.read)) handed.reads
     handed.taken.state in (
       ran.0,
       record {

@@ -13,6 +13,6 @@ pub loop-frame-preserved : goal.loop-frame-preserved
 loop-frame-preserved c = record {
   text = λ here. path_step c.args.catalogue.now here c.args.root c.args.outer.now
       c.loop-frame.frame-index _ _ _ _ c.loop-frame-test.true refl
-      (c.loop-frame.invariant.text here) (c.push_segment.ensures.text here);
+      (c.loop-frame.invariant.text here) (λ room. c.push_segment.ensures.text room here);
   segments = omega (arith, c.push_segment.ensures.segments, c.loop-frame.invariant.segments);
 }

@@ -1,7 +1,7 @@
 use Rattle.std.proofs.Common.{◌≡◌, ◌-◌, length, pred, refl, sym, ◌∙◌, arith}
-use Rattle.giop_sig.specs.Trees.{tree}
-use Rattle.giop_decode.specs.Transitions.{open_parts, is_inside, IsKnown}
-use Rattle.giop_decode.proofs.Beginning.{begins, begins_places, all_push, map_push}
+use Rattle.giop_sig.specs.Trees.{tree_at}
+use Rattle.giop_decode.specs.Transitions.{open_parts, is_inside, tree_in, IsKnown}
+use Rattle.giop_decode.proofs.Beginning.{begins, begins_places, all_push, part_in_frames, places_push, whole_within}
 use Rattle.giop_decode.proofs.Surrounding.{ended_push, inside_push, or_false, stand_push}
 use Rattle.giop_decode.proofs.Linking.{link_push}
 use Rattle.giop_decode.proofs.frame.begin.Goals as goal
@@ -10,21 +10,24 @@ pub loop-count-preserved : goal.loop-count-preserved
 loop-count-preserved c =
     let t = c.args.catalogue.now in
     let old = c.loop-count.outer.items in
-    let T = tree t c.loop-count.inner.0 in
+    let T = tree_in t old c.loop-count.inner.0 in
     let d = 24 - length old in
-    let b = begins d T c.in-Some.count c.loop-count.invariant.fit (c.in-Some.ensures.whole 24) in
+    let b = begins d T c.in-Some.count c.loop-count.invariant.fit (c.in-Some.ensures.whole d) in
     let e : pred d ≡ 24 - length c.push.new.self.items = omega (arith, c.push.ensures.len) in
+    let part = part_in_frames t old c.push.new.self.items c.loop-count.inner.0
+    c.part-inner.result.0 0 (omega (arith, c.push.ensures.len)) (omega (arith, b.room))
+    c.part-inner.ensures.rooms in
     record {
       known = omega (arith, c.part-inner.ensures.below, c.loop-count.invariant.known);
       known_outer = rw c.push.ensures.items
           (all_push (IsKnown t) old _ c.loop-count.invariant.known_outer
           (record {
             known = c.loop-count.invariant.known;
-            within =
-                (b.placed, b.bare, b.uncounted);
+            within = λ room. whole_within (tree_at t room c.loop-count.inner.0) c.in-Some.count
+                b.some (c.in-Some.ensures.whole room);
           }));
-      fit = rw (← e, c.part-inner.ensures.tree) b.fit;
-      placed = λ at. rw (c.push.ensures.items, map_push, c.part-inner.ensures.tree)
+      fit = rw (part, ← e) b.fit;
+      placed = λ at. rw (part, c.push.ensures.items, places_push)
           (begins_places d (open_parts t at old) T c.in-Some.count b
           ∙ c.loop-count.invariant.placed at);
       ended = rw c.push.ensures.items (ended_push old _ refl ∙ c.loop-count.invariant.ended);
@@ -32,7 +35,7 @@ loop-count-preserved c =
           (or_false (is_inside old) ∙ c.loop-count.invariant.inside);
       stand = λ at h. rw c.push.ensures.items
           (stand_push at old _ (c.loop-count.invariant.stand at h) tt);
-      leaf = rw c.part-inner.ensures.tree (sym b.leaf ∙ c.loop-count.invariant.leaf);
+      leaf = rw part (sym b.leaf ∙ c.loop-count.invariant.leaf);
       linked = λ root h. link_push t root old c.push.new.self.items c.loop-count.inner.0
           c.part-inner.result.0 _ refl c.push.ensures.items
           c.part-inner.ensures.number (c.loop-count.invariant.linked root h);
@@ -40,14 +43,16 @@ loop-count-preserved c =
 
 pub push-requires : goal.push-requires
 push-requires c =
-    let b = begins _ _ c.in-Some.count c.loop-count.invariant.fit (c.in-Some.ensures.whole 24) in
+    let b = begins _ _ c.in-Some.count c.loop-count.invariant.fit (c.in-Some.ensures.whole _) in
     (omega arith, omega (arith, b.room))
 
 pub part-inner-requires-clause-place : goal.part-inner-requires-clause-place
 part-inner-requires-clause-place c =
-    (begins _ _ c.in-Some.count c.loop-count.invariant.fit (c.in-Some.ensures.whole 24)).placed
+    (whole_within (tree_at c.args.catalogue.now 24 c.loop-count.inner.0) c.in-Some.count
+    (begins _ _ c.in-Some.count c.loop-count.invariant.fit (c.in-Some.ensures.whole _)).some
+    (c.in-Some.ensures.whole 24)).0
 
 pub loop-count-smaller : goal.loop-count-smaller
 loop-count-smaller c =
-    let b = begins _ _ c.in-Some.count c.loop-count.invariant.fit (c.in-Some.ensures.whole 24) in
+    let b = begins _ _ c.in-Some.count c.loop-count.invariant.fit (c.in-Some.ensures.whole _) in
     omega (arith, b.room, c.push.ensures.len)

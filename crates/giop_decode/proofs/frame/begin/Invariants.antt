@@ -1,23 +1,25 @@
 use Rattle.std.proofs.Common.{◌≡◌, ℕ, ◌-◌, ◌<◌, ◌++◌, length}
 use Rattle.arrayvec.specs.ArrayVec.{array_vec_len}
 use Rattle.giop_decode.specs.Begins.{start_outer, start_leaf}
-use Rattle.giop_decode.specs.Transitions.{open_parts, has_ended, is_inside, AreKnown, Link, StandAt}
+use Rattle.giop_decode.specs.Transitions.{open_parts, has_ended, is_inside, AreKnown, Link, StandAt, tree_in}
 use Rattle.giop_sig.specs.Fits.{IsFit}
-use Rattle.giop_sig.specs.Trees.{tree}
 use Rattle.giop_decode.proofs.frame.begin.Given as goal
 
 abbrev pub invariant-loop-count : goal.invariant-loop-count
 invariant-loop-count l = record {
   known : l.inner.0 < length l.catalogue.types;
   known_outer : AreKnown l.catalogue l.outer.items;
-  fit : IsFit (24 - array_vec_len l.outer) (tree l.catalogue l.inner.0);
+  fit : IsFit (24 - array_vec_len l.outer) (tree_in l.catalogue l.outer.items l.inner.0);
   placed : (at : ℕ) →
-      open_parts l.catalogue at l.outer.items ++ start_outer (tree l.catalogue l.inner.0)
-      ≡ open_parts l.catalogue at l.fn.outer.items ++ start_outer (tree l.catalogue l.fn.t.0);
+      open_parts l.catalogue at l.outer.items
+      ++ start_outer (tree_in l.catalogue l.outer.items l.inner.0)
+      ≡ open_parts l.catalogue at l.fn.outer.items
+      ++ start_outer (tree_in l.catalogue l.fn.outer.items l.fn.t.0);
   ended : has_ended l.outer.items ≡ has_ended l.fn.outer.items;
   inside : is_inside l.outer.items ≡ is_inside l.fn.outer.items;
   stand : (at : ℕ) → StandAt at l.fn.outer.items → StandAt at l.outer.items;
-  leaf : start_leaf (tree l.catalogue l.inner.0) ≡ start_leaf (tree l.catalogue l.fn.t.0);
+  leaf : start_leaf (tree_in l.catalogue l.outer.items l.inner.0)
+      ≡ start_leaf (tree_in l.catalogue l.fn.outer.items l.fn.t.0);
   linked : (root : ℕ) → Link l.catalogue root l.fn.outer.items l.fn.t.0 →
       Link l.catalogue root l.outer.items l.inner.0;
 }

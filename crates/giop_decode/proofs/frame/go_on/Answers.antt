@@ -3,12 +3,12 @@ use Rattle.giop_decode.specs.Begins.{start_leaf, start_outer}
 use Rattle.giop_decode.specs.ReadResult.{Content, Done, coded}
 use Rattle.giop_decode.specs.NextParts.{frames_above, next_of}
 use Rattle.giop_decode.specs.ReadingSteps.{around}
-use Rattle.giop_decode.specs.Transitions.{has_ended, is_inside, part_in, open_part, open_parts, IsKnown, StandAt}
+use Rattle.giop_decode.specs.Transitions.{has_ended, is_inside, part_in, open_parts, tree_in, IsKnown, StandAt}
 use Rattle.giop_sig.specs.Types.{part_of}
-use Rattle.giop_sig.specs.Trees.{tree}
+use Rattle.giop_decode.proofs.Rooms.{place_in_room}
 use Rattle.giop_decode.proofs.Around.{fit_part}
-use Rattle.giop_decode.proofs.Beginning.{all_push, map_push}
-use Rattle.giop_decode.proofs.Going.{part_popped, popped_is, held_popped, next_in, length_places, goes_next, goes_out, goes_rest, goes_past, part_is, held_is}
+use Rattle.giop_decode.proofs.Beginning.{all_push, part_in_frames, places_push}
+use Rattle.giop_decode.proofs.Going.{part_popped, popped_is, held_popped, next_in, goes_next, goes_out, goes_rest, goes_past, part_is, held_is}
 use Rattle.giop_decode.proofs.Surrounding.{around_gone, around_unless_ended, ended_push, inside_push, outside_pop, unless_ended, stand_pop, stand_push}
 use Rattle.giop_decode.proofs.Noting.{rest_silent}
 use Rattle.giop_decode.proofs.Linking.{link_push, link_pop}
@@ -28,7 +28,7 @@ returns-then-left-gt0-clause-next c coding path at =
     let t = c.args.catalogue.now in
     let f = c.in-Some.frame in
     let rest = c.pop.new.self.items in
-    let T = tree t f.of.0 in
+    let T = tree_in t rest f.of.0 in
     let v = c.loop-frame.invariant in
     let p = held_popped c.args.catalogue.now _ _ _ _ _ v.known v.are_open.1 is c.in-Some-inside.is
     in
@@ -37,9 +37,9 @@ returns-then-left-gt0-clause-next c coding path at =
     let left : end - at ≡ f.count - f.index = omega arith in
     v.same coding path at
     ∙ (ap (λ ps. around coding path ps (Done [] at []))
-    (ap (open_parts t at) is ∙ map_push (open_part t at) rest f)
+    (ap (open_parts t at) is ∙ places_push t 24 at rest f)
     ∙ (ap (λ q. around coding path (open_parts t at rest ++ q ∷ []) (Done [] at []))
-    (held_is t at f order c.in-Some-inside.is)
+    (held_is t (24 - length rest) at f order c.in-Some-inside.is)
     ∙ (goes_rest coding path (open_parts t at rest) T (coded order (at - f.index)) end at
     (f.count - f.index) (omega arith) left
     ∙ around_gone t coding path at rest [] (Content T (f.count - f.index) 0 []) p.known_rest)))
@@ -62,7 +62,7 @@ loop-frame-preserved-else-left-gt0 c =
     let t = c.args.catalogue.now in
     let f = c.in-Some.frame in
     let rest = c.pop.new.self.items in
-    let T = tree t f.of.0 in
+    let T = tree_in t rest f.of.0 in
     let v = c.loop-frame.invariant in
     let p = held_popped c.args.catalogue.now _ _ _ _ _ v.known v.are_open.1 is c.in-Some-inside.is
     in
@@ -75,9 +75,9 @@ loop-frame-preserved-else-left-gt0 c =
       same = λ coding path at. (let none : (at + (f.count - f.index)) - at ≡ 0 =
           omega (arith, p.within) in v.same coding path at
           ∙ (ap (λ ps. around coding path ps (Done [] at []))
-          (ap (open_parts t at) is ∙ map_push (open_part t at) rest f)
+          (ap (open_parts t at) is ∙ places_push t 24 at rest f)
           ∙ (ap (λ q. around coding path (open_parts t at rest ++ q ∷ []) (Done [] at []))
-          (held_is t at f order c.in-Some-inside.is)
+          (held_is t (24 - length rest) at f order c.in-Some-inside.is)
           ∙ goes_past coding path (open_parts t at rest) T (coded order (at - f.index))
           (at + (f.count - f.index)) at none)));
       linked = λ root inner h. (let l = v.linked root inner h in
@@ -95,13 +95,14 @@ pub part-part-requires-clause-place : goal.part-part-requires-clause-place
 part-part-requires-clause-place c =
     let t = c.args.catalogue.now in
     let f = c.in-Some.frame in
-    let T = tree t f.of.0 in
+    let rest = frames_above c.loop-frame.outer.items in
+    let T = tree_in t rest f.of.0 in
     let v = c.loop-frame.invariant in
     let p = part_popped c.args.catalogue.now _ _ _ _ v.known v.are_open.1 c.in-Some.ensures.some
     c.in-None.is in
     let below : suc f.index < f.count = omega arith in
-    let n = next_in (suc p.left) T f.index f.count p.«open» p.uncounted below in
-    rw add-one n.placed
+    let n = next_in (suc p.left) T f.index f.count p.«open» (p.within (24 - length rest)).2 below in
+    rw add-one (place_in_room t (24 - length rest) 24 f.of.0 (suc f.index) n.placed)
 
 pub begin-requires-clause-known_outer : goal.begin-requires-clause-known_outer
 begin-requires-clause-known_outer c =
@@ -110,17 +111,20 @@ begin-requires-clause-known_outer c =
     let t = c.args.catalogue.now in
     let f = c.in-Some.frame in
     let rest = frames_above c.loop-frame.outer.items in
-    let T = tree t f.of.0 in
+    let T = tree_in t rest f.of.0 in
     let v = c.loop-frame.invariant in
     let p = part_popped c.args.catalogue.now _ _ _ _ v.known v.are_open.1 c.in-Some.ensures.some
     c.in-None.is in
     let below : suc f.index < f.count = omega arith in
-    let n = next_in (suc p.left) T f.index f.count p.«open» p.uncounted below in
+    let n = next_in (suc p.left) T f.index f.count p.«open» (p.within (24 - length rest)).2 below in
     rw gone (all_push (IsKnown t) rest _ p.known_rest
     (record {
       known = p.known;
-      within = rw c.in-None.is
-          (rw add-one n.placed, p.bare, p.uncounted);
+      within = λ room. rw c.in-None.is (
+        rw add-one (place_in_room t (24 - length rest) room f.of.0 (suc f.index) n.placed),
+        (p.within room).1,
+        (p.within room).2,
+      );
     }))
 
 pub begin-requires-clause-fit : goal.begin-requires-clause-fit
@@ -130,22 +134,18 @@ begin-requires-clause-fit c =
     let t = c.args.catalogue.now in
     let f = c.in-Some.frame in
     let rest = frames_above c.loop-frame.outer.items in
-    let T = tree t f.of.0 in
+    let T = tree_in t rest f.of.0 in
     let v = c.loop-frame.invariant in
     let p = part_popped c.args.catalogue.now _ _ _ _ v.known v.are_open.1 c.in-Some.ensures.some
     c.in-None.is in
     let below : suc f.index < f.count = omega arith in
-    let n = next_in (suc p.left) T f.index f.count p.«open» p.uncounted below in
-    let e : p.left ≡ 24 - length c.go_to_next.new.outer.items =
-    omega (
-      arith,
-      p.depth,
-      length_places t v.are_open.0 rest,
-      ap length gone,
-      length-append rest (next_of f ∷ []),
-    ) in
-    rw (← e, c.part-part.ensures.tree) (fit_part p.left T (f.index + 1) f.count n.fit n.parts
-    (rw add-one below))
+    let n = next_in (suc p.left) T f.index f.count p.«open» (p.within (24 - length rest)).2 below in
+    let size : length c.go_to_next.new.outer.items ≡ suc (length rest) =
+    omega (arith, ap length gone, length-append rest (next_of f ∷ [])) in
+    let e : p.left ≡ 24 - length c.go_to_next.new.outer.items = omega (arith, p.depth, size) in
+    let part = part_in_frames t rest c.go_to_next.new.outer.items f.of.0 c.part-part.result.0
+    (f.index + 1) size p.few c.part-part.ensures.rooms in
+    rw (part, ← e) (fit_part p.left T (f.index + 1) f.count n.fit n.parts (rw add-one below))
 
 pub returns-then-left-gt0-clause-outside : goal.returns-then-left-gt0-clause-outside
 returns-then-left-gt0-clause-outside c h =
@@ -182,32 +182,37 @@ returns-then-frame-last-clause-next c coding path at =
     let t = c.args.catalogue.now in
     let f = c.in-Some.frame in
     let rest = frames_above c.loop-frame.outer.items in
-    let T = tree t f.of.0 in
+    let T = tree_in t rest f.of.0 in
     let v = c.loop-frame.invariant in
     let p = part_popped c.args.catalogue.now _ _ _ _ v.known v.are_open.1 c.in-Some.ensures.some
     c.in-None.is in
     let below : suc f.index < f.count = omega arith in
-    let n = next_in (suc p.left) T f.index f.count p.«open» p.uncounted below in
+    let n = next_in (suc p.left) T f.index f.count p.«open» (p.within (24 - length rest)).2 below in
     let next = part_in T (suc f.index) f.count in
     let part = part_of T (suc f.index) in
+    let size : length c.go_to_next.new.outer.items ≡ suc (length rest) =
+    omega (arith, ap length gone, length-append rest (next_of f ∷ [])) in
+    let parted : tree_in t c.go_to_next.new.outer.items c.part-part.result.0 ≡ part =
+    rw add-one at (part_in_frames t rest c.go_to_next.new.outer.items f.of.0 c.part-part.result.0
+    (f.index + 1) size p.few c.part-part.ensures.rooms) in
     let ended : has_ended c.go_to_next.new.outer.items ≡ has_ended rest =
     rw gone (ended_push rest _ (rw c.in-None.is refl)) in
     let new = c.begin.new.outer.items in
     let same : unless_ended (has_ended rest) [] at
     (open_parts t at rest ++ (next ∷ start_outer part)) (start_leaf part)
     ≡ unless_ended (has_ended new) [] at (open_parts t at new) (start_leaf part) =
-    rw (c.begin.ensures.ended, c.begin.ensures.begun at, ended, gone, map_push)
-    (rw (c.part-part.ensures.tree, add-one f.index, c.in-None.is, append_assoc) refl) in
+    rw (c.begin.ensures.ended, c.begin.ensures.begun at, parted, ended, gone, places_push)
+    (rw (add-one f.index, c.in-None.is, append_assoc) refl) in
     v.same coding path at
     ∙ (ap (λ ps. around coding path ps (Done [] at []))
-    (ap (open_parts t at) c.in-Some.ensures.some ∙ map_push (open_part t at) rest f)
+    (ap (open_parts t at) c.in-Some.ensures.some ∙ places_push t 24 at rest f)
     ∙ (ap (λ q. around coding path (open_parts t at rest ++ q ∷ []) (Done [] at []))
-    (part_is t at f c.in-None.is)
+    (part_is t (24 - length rest) at f c.in-None.is)
     ∙ (goes_next coding path (open_parts t at rest) T f.index f.count at p.left n below
-    ∙ (around_unless_ended t coding path at rest [] (next ∷ start_outer part) (start_leaf part)
+    ∙ (around_unless_ended t 24 coding path at rest [] (next ∷ start_outer part) (start_leaf part)
     p.known_rest
     ∙ (same ∙ ap (λ l. unless_ended (has_ended new) [] at (open_parts t at new) l)
-    (rw (c.part-part.ensures.tree, add-one) at c.begin.ensures.leaf))))))
+    (rw parted at c.begin.ensures.leaf))))))
 
 pub returns-then-frame-last-clause-linked : goal.returns-then-frame-last-clause-linked
 returns-then-frame-last-clause-linked c root inner h =
@@ -230,7 +235,7 @@ loop-frame-preserved c =
     let t = c.args.catalogue.now in
     let f = c.in-Some.frame in
     let rest = c.pop-in-None.new.self.items in
-    let T = tree t f.of.0 in
+    let T = tree_in t rest f.of.0 in
     let v = c.loop-frame.invariant in
     let p = part_popped c.args.catalogue.now _ _ _ _ v.known v.are_open.1 is c.in-None.is in
     record {
@@ -240,9 +245,9 @@ loop-frame-preserved c =
       stand = λ at h. stand_pop at rest f (subst (StandAt at) is (v.stand at h));
       same = λ coding path at. v.same coding path at
           ∙ (ap (λ ps. around coding path ps (Done [] at []))
-          (ap (open_parts t at) is ∙ map_push (open_part t at) rest f)
+          (ap (open_parts t at) is ∙ places_push t 24 at rest f)
           ∙ (ap (λ q. around coding path (open_parts t at rest ++ q ∷ []) (Done [] at []))
-          (part_is t at f c.in-None.is)
+          (part_is t (24 - length rest) at f c.in-None.is)
           ∙ goes_out coding path (open_parts t at rest) T f.index f.count at (omega arith)));
       linked = λ root inner h. (let l = v.linked root inner h in
           (f.of.0, link_pop t root c.loop-frame.outer.items rest f l.0 is l.1));
@@ -257,4 +262,4 @@ returns-then-left-gt0-clause-plain c =
     let v = c.loop-frame.invariant in
     let p = held_popped c.args.catalogue.now _ _ _ _ _ v.known v.are_open.1 is c.in-Some-inside.is
     in
-    rest_silent (tree t f.of.0) p.kind
+    rest_silent (tree_in t c.pop.new.self.items f.of.0) p.kind

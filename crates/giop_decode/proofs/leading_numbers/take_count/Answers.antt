@@ -26,7 +26,8 @@ returns-clause-transitions c room coding path at =
       lines = _;
       comes = sequence_open coding path (tree_at C (suc room) c.args.of.0) at
           (suc (suc (suc room))) c.args.bound is.0 c.args.n
-          (fit_of_room C c.args.of.0 room c.requires.fit.0 c.laws.ensures c.requires.fit.1)
+          (fit_of_room C c.args.of.0 room c.requires.fit.0 c.requires.fit.1
+          c.laws.ensures c.requires.fit.2)
           is.1 c.if-exceeds.ensures (omega arith);
       says = refl;
     }

@@ -31,7 +31,8 @@ returns-in-Case-clause-transitions c was room coding path at =
     let is = number_of_room C c.args.of.0 room c.args.number c.laws.ensures c.requires.known
     c.requires.union was in
     case_transition coding path at c.args.number (suc (suc (suc room))) T c.in-Case.i is
-    (fit_of_room C c.args.of.0 room c.requires.fit.0 c.laws.ensures c.requires.fit.1)
+    (fit_of_room C c.args.of.0 room c.requires.fit.0 c.requires.fit.1
+    c.laws.ensures c.requires.fit.2)
     (union_of_room C c.args.of.0 room c.requires.union)
     (sym (c.in-Case.ensures.rooms (suc room) is.n
     (taken_number (switch_of T) (switch_of T) c.args.number is refl)))

@@ -5,6 +5,7 @@ use Rattle.giop_message.proofs.Causal.{is_causal, is_ordered}
 use Rattle.giop_message.proofs.Closes.{is_closing}
 use Rattle.giop_message.proofs.Named.{is_ending, is_named, id_is_said, has_ids}
 use Rattle.giop_message.proofs.AtOctet.{text_is, close_is}
+use Rattle.giop_message.proofs.Marks.{ends_alike}
 use Rattle.giop_message.proofs.laws.message_laws.Goals as goal
 
 pub returns : goal.returns
@@ -22,4 +23,5 @@ returns c = record {
   id = λ C answer. id_is_said (signatures_of C answer);
   writes = λ C answers number. text_is (signatures_of C (answers number)) number;
   closes = λ C answers number. close_is (signatures_of C (answers number)) number;
+  told = λ C answer. ends_alike C answer;
 }

@@ -12,7 +12,7 @@ use Rattle.giop_capture_run.proofs.packets.PacketReaderPacketListener.packet.Goa
 pub take-requires-clause-state : goal.take-requires-clause-state
 take-requires-clause-state g c =
     let (start, packets, h, few) = c.requires.taken in
-    let w = after_packets g.L.Listener.faulted start packets in (
+    let w = after_packets g.L.Listener.reader start packets in (
       with_packet w c.args.packet.time,
       packet_read _ _ _ _ w c.args.packet.time c.read.ensures.does c.read.ensures.free
           c.read.ensures.room h.state,
@@ -34,7 +34,7 @@ pub returns-in_default-clause-does : goal.returns-in_default-clause-does
 returns-in_default-clause-does g c =
     λ start packets h.
     let p = packet_view c.args.packet in
-    let w = after_packets g.L.Listener.faulted start packets in
+    let w = after_packets g.L.Listener.reader start packets in
     let few = ap (λ (u : State). u.segments) (c.read.ensures.does []) in
     let none : segment c.args.packet.link c.args.packet.octets.now ≡ None =
     sym c.segment.ensures ∙ ap (option_map segment_view) c.in_default.is in
@@ -43,14 +43,14 @@ returns-in_default-clause-does g c =
     (packet_read _ _ _ _ w c.args.packet.time c.read.ensures.does c.read.ensures.free
     c.read.ensures.room h.state)) (omega (arith, few))
     c.note_link.ensures.items
-    (λ told before. told_link (g.N.Notices.told c.note_link.new.notices) g.L.Listener.faulted start
+    (λ told before. told_link (g.N.Notices.told c.note_link.new.notices) g.L.Listener.reader start
     packets p told _ none (c.note_link.ensures.told told before))
 
 pub returns-clause-does : goal.returns-clause-does
 returns-clause-does g c =
     λ start packets h.
     let p = packet_view c.args.packet in
-    let w = after_packets g.L.Listener.faulted start packets in
+    let w = after_packets g.L.Listener.reader start packets in
     let v = with_packet w c.args.packet.time in
     let few = ap (λ (u : State). u.segments) (c.read.ensures.does []) in
     let some = segment_of _ _ _ c.in-Some.segment c.segment.ensures c.in-Some.is in
@@ -60,8 +60,8 @@ returns-clause-does g c =
     (both _ _ c.take.result came c.take.ensures.count) in
     let state = segment_came _ _ _ _ start packets p (Some (segment_view c.in-Some.segment)) some
     k.0 in
-    let next = packet_arrived g.L.Listener.faulted w p in
-    let observed = rw (after_more g.L.Listener.faulted start packets p) at state.observed in
+    let next = packet_arrived g.L.Listener.reader w p in
+    let observed = rw (after_more g.L.Listener.reader start packets p) at state.observed in
     read_more _ _ _ _ _ _ _ _ _ _ _ start packets p h state
     (let n = k.1 in omega (arith, few)) c.note_link.ensures.items
     (λ told before. told_seen (g.N.Notices.told c.tell_new.new.notices) told _ _ _

@@ -1,14 +1,13 @@
 use Rattle.std.proofs.Common.{[]}
 use Rattle.giop_decode.specs.ReadingSteps.{path_in}
-use Rattle.giop_decode.specs.Transitions.{open_parts, switch_segment}
+use Rattle.giop_decode.specs.Transitions.{open_parts, switch_segment, tree_in}
 use Rattle.giop_decode.proofs.Segments.{path_switch}
-use Rattle.giop_sig.specs.Trees.{tree}
 use Rattle.giop_decode.proofs.current_path.CurrentPathPosition.path.Goals as goal
 
 pub returns : goal.returns
 returns c =
     let here = c.self.inside in
     let path = path_in [] (open_parts here.catalogue.now 0 here.outer.now) in
-    let seg = switch_segment (tree here.catalogue.now c.in-Some.of.0) in
+    let seg = switch_segment (tree_in here.catalogue.now here.outer.now c.in-Some.of.0) in
     rw (← c.self.view_is, c.in-Some.is) (path_switch here.head.now.root path seg _ _
-    (rw c.root.ensures at (c.go_to-path.ensures.text 0)) (c.push_switch.ensures.text 24))
+    (rw c.root.ensures at (c.go_to-path.ensures.text 0)) (c.push_switch.ensures.text _))

@@ -1,26 +1,40 @@
-use Rattle.std.proofs.Common.{[], ◌≡◌, pred, ◌-◌, length, refl, sym, ap, ◌∙◌, arith, append_assoc, ◌∷◌, ◌++◌}
+use Rattle.std.proofs.Common.{[], List, None, ℕ, suc, ◌≡◌, pred, ◌-◌, length, refl, sym, ap, ◌∙◌, arith, append_assoc, ◌∷◌, ◌++◌}
 use Rattle.giop_decode.specs.ReadResult.{Part, Member, Short, Done, with_front}
 use Rattle.giop_decode.specs.Begins.{start_outer, start_leaf}
-use Rattle.giop_decode.specs.Transitions.{AreKnown, IsKnown, has_ended, is_inside, open_part, open_parts, leaf_by, leaf_of}
+use Rattle.giop_decode.specs.Transitions.{AreKnown, IsKnown, has_ended, is_inside, open_part, open_parts, leaf_by, leaf_of, tree_in}
 use Rattle.giop_decode.specs.ReadingSteps.{around}
-use Rattle.giop_decode.proofs.Beginning.{all_push, map_push}
+use Rattle.giop_decode.proofs.Beginning.{all_push, part_in_frames, places_push}
 use Rattle.giop_decode.proofs.Around.{around-append, around-fault, fit_room}
-use Rattle.giop_decode.proofs.Going.{place_part, place_case}
+use Rattle.giop_decode.proofs.Going.{case_within, parts_within, place_part, place_case}
 use Rattle.giop_decode.proofs.TransitionsInFrames.{fit_first, fit_selected, fit_inside, around_done}
 use Rattle.giop_decode.proofs.Surrounding.{heard_open, front_gone, behind_stopped, around_gone, around_unless_ended, ended_push, inside_frame, inside_push, or_false, or_true, unless_ended, stand_push}
 use Rattle.giop_decode.proofs.Noting.{leaf_inside, unless_ended_inside, stopped_silent}
 use Rattle.giop_decode.proofs.Linking.{link_number, link_push}
+use Rattle.giop_decode.proofs.Rooms.{held_in_room, within_in_room}
+use Rattle.giop_decode.proofs.StoredChain.{inside_place}
+use Rattle.giop_decode.specs.declared.frame.Frame.{Frame}
 use Rattle.giop_decode.proofs.decoder.Decoder.advance_frames.Goals as goal
 use Rattle.giop_sig.specs.Types.{part_of}
-use Rattle.giop_sig.specs.Trees.{tree}
+use Rattle.giop_sig.specs.Fits.{IsFit}
+use Rattle.giop_sig.specs.Table.{Table}
+use Rattle.giop_sig.specs.Trees.{tree_at}
+
+-- a part of a type that fits, in one frame more
+parted : (C : Table) (old new : List Frame) (of part i : ℕ) →
+    IsFit (24 - length old) (tree_in C old of) → length new ≡ suc (length old) →
+    ((room : ℕ) → tree_at C room part ≡ part_of (tree_at C (suc room) of) i) →
+    tree_in C new part ≡ part_of (tree_in C old of) i
+parted C old new of part i fit more parts =
+    part_in_frames C old new of part i more
+    (omega (arith, fit_room (24 - length old) (tree_in C old of) fit)) parts
 
 pub push-requires : goal.push-requires
 push-requires c = (
   omega arith,
   omega (
     arith,
-    fit_room (24 - length c.args.self.now.outer.items) (tree c.args.catalogue.now c.args.of.0)
-        c.requires.fit,
+    fit_room (24 - length c.args.self.now.outer.items)
+        (tree_in c.args.catalogue.now c.args.self.now.outer.items c.args.of.0) c.requires.fit,
   ),
 )
 
@@ -30,27 +44,100 @@ push-requires-in-Selected c = (
   omega (
     arith,
     fit_room (24 - length c.args.self.now.outer.items)
-        (tree c.args.catalogue.now c.args.of.0) c.requires.fit,
+        (tree_in c.args.catalogue.now c.args.self.now.outer.items c.args.of.0) c.requires.fit,
   ),
 )
 
+pub part-part-requires-clause-place : goal.part-part-requires-clause-place
+part-part-requires-clause-place c =
+    let C = c.args.catalogue.now in
+    let old = c.args.self.now.outer.items in
+    let opens = rw c.in-Opened.is at c.requires.transition_fits in
+    (within_in_room C (24 - length old) 24 c.args.of.0 None 0 c.in-Opened.count
+    (parts_within (tree_in C old c.args.of.0) c.in-Opened.count opens.0 opens.1)).0
+
+pub part-part-requires-in-Selected-clause-place : goal.part-part-requires-in-Selected-clause-place
+part-part-requires-in-Selected-clause-place c =
+    let C = c.args.catalogue.now in
+    let old = c.args.self.now.outer.items in
+    let case = rw c.in-Selected.is at c.requires.transition_fits in
+    (within_in_room C (24 - length old) 24 c.args.of.0 None c.in-Selected.index 0
+    (case_within (tree_in C old c.args.of.0) c.in-Selected.index case)).0
+
+pub part-part-requires-in-Entered-clause-place : goal.part-part-requires-in-Entered-clause-place
+part-part-requires-in-Entered-clause-place c =
+    let C = c.args.catalogue.now in
+    let old = c.args.self.now.outer.items in
+    let opens = rw c.in-Entered.is at c.requires.transition_fits in
+    inside_place (tree_at C 24 c.args.of.0) 0
+    (held_in_room C (24 - length old) 24 c.args.of.0 opens.0)
+
+pub begin-requires-clause-known_outer : goal.begin-requires-clause-known_outer
+begin-requires-clause-known_outer c =
+    let C = c.args.catalogue.now in
+    let old = c.args.self.now.outer.items in
+    let opens = rw c.in-Opened.is at c.requires.transition_fits in
+    rw c.push.ensures.items (all_push (IsKnown C) old _ c.requires.known_outer (record {
+      known = c.requires.known;
+      within = λ room. within_in_room C (24 - length old) room c.args.of.0 None 0
+          c.in-Opened.count
+          (parts_within (tree_in C old c.args.of.0) c.in-Opened.count opens.0 opens.1);
+    }))
+
+pub begin-requires-in-Selected-clause-known_outer :
+    goal.begin-requires-in-Selected-clause-known_outer
+begin-requires-in-Selected-clause-known_outer c =
+    let C = c.args.catalogue.now in
+    let old = c.args.self.now.outer.items in
+    let case = rw c.in-Selected.is at c.requires.transition_fits in
+    rw c.push-in-Selected.ensures.items (all_push (IsKnown C) old _ c.requires.known_outer
+    (record {
+      known = c.requires.known;
+      within = λ room. within_in_room C (24 - length old) room c.args.of.0 None
+          c.in-Selected.index 0
+          (case_within (tree_in C old c.args.of.0) c.in-Selected.index case);
+    }))
+
+pub begin-requires-in-Entered-clause-known_outer :
+    goal.begin-requires-in-Entered-clause-known_outer
+begin-requires-in-Entered-clause-known_outer c =
+    let C = c.args.catalogue.now in
+    let old = c.args.self.now.outer.items in
+    let opens = rw c.in-Entered.is at c.requires.transition_fits in
+    rw c.push-in-Entered.ensures.items (all_push (IsKnown C) old
+    (inside_frame c.args.of c.in-Entered.order c.in-Entered.count) c.requires.known_outer (record {
+      known = c.requires.known;
+      within = λ room. (
+        held_in_room C (24 - length old) room c.args.of.0 opens.0,
+        omega arith,
+        omega (arith, opens.1),
+      );
+    }))
+
 pub begin-requires-clause-fit : goal.begin-requires-clause-fit
 begin-requires-clause-fit c =
-    let T = tree c.args.catalogue.now c.args.of.0 in
+    let T = tree_in c.args.catalogue.now c.args.self.now.outer.items c.args.of.0 in
+    let same_part = parted c.args.catalogue.now c.args.self.now.outer.items
+    c.push.new.self.items c.args.of.0 c.part-part.result.0 0 c.requires.fit
+    (omega (arith, c.push.ensures.len)) c.part-part.ensures.rooms in
     let opens = rw c.in-Opened.is at c.requires.transition_fits in
     let e : pred (24 - length c.args.self.now.outer.items) ≡ 24 - length c.push.new.self.items =
     omega (arith, c.push.ensures.len) in
-    rw (← e, c.part-part.ensures.tree) (fit_first (24 - length c.args.self.now.outer.items) T
+    rw (same_part, ← e) (fit_first (24 - length c.args.self.now.outer.items) T
     c.in-Opened.count c.requires.fit opens.0 opens.1)
 
 pub begin-requires-in-Selected-clause-fit : goal.begin-requires-in-Selected-clause-fit
 begin-requires-in-Selected-clause-fit c =
-    let T = tree c.args.catalogue.now c.args.of.0 in
+    let T = tree_in c.args.catalogue.now c.args.self.now.outer.items c.args.of.0 in
+    let same_part = parted c.args.catalogue.now c.args.self.now.outer.items
+    c.push-in-Selected.new.self.items c.args.of.0 c.part-part-in-Selected.result.0
+    c.in-Selected.index c.requires.fit
+    (omega (arith, c.push-in-Selected.ensures.len)) c.part-part-in-Selected.ensures.rooms in
     let case = rw c.in-Selected.is at c.requires.transition_fits in
     let e : pred (24 - length c.args.self.now.outer.items)
     ≡ 24 - length c.push-in-Selected.new.self.items =
     omega (arith, c.push-in-Selected.ensures.len) in
-    rw (← e, c.part-part-in-Selected.ensures.tree)
+    rw (same_part, ← e)
     (fit_selected (24 - length c.args.self.now.outer.items) T c.in-Selected.index c.requires.fit
     case)
 
@@ -60,18 +147,21 @@ push-requires-in-Entered c = (
   omega (
     arith,
     fit_room (24 - length c.args.self.now.outer.items)
-        (tree c.args.catalogue.now c.args.of.0) c.requires.fit,
+        (tree_in c.args.catalogue.now c.args.self.now.outer.items c.args.of.0) c.requires.fit,
   ),
 )
 
 pub begin-requires-in-Entered-clause-fit : goal.begin-requires-in-Entered-clause-fit
 begin-requires-in-Entered-clause-fit c =
-    let T = tree c.args.catalogue.now c.args.of.0 in
+    let T = tree_in c.args.catalogue.now c.args.self.now.outer.items c.args.of.0 in
+    let same_part = parted c.args.catalogue.now c.args.self.now.outer.items
+    c.push-in-Entered.new.self.items c.args.of.0 c.part-part-in-Entered.result.0 0 c.requires.fit
+    (omega (arith, c.push-in-Entered.ensures.len)) c.part-part-in-Entered.ensures.rooms in
     let opens = rw c.in-Entered.is at c.requires.transition_fits in
     let e : pred (24 - length c.args.self.now.outer.items)
     ≡ 24 - length c.push-in-Entered.new.self.items =
     omega (arith, c.push-in-Entered.ensures.len) in
-    rw (← e, c.part-part-in-Entered.ensures.tree)
+    rw (same_part, ← e)
     (fit_inside (24 - length c.args.self.now.outer.items) T c.requires.fit opens.0)
 
 pub returns-in-More-clause-advances : goal.returns-in-More-clause-advances
@@ -82,20 +172,25 @@ returns-in-More-clause-advances c coding path at lines =
     let fits = rw c.in-More.is at c.requires.transition_fits in
     rw c.in-More.is
     (ap (λ i. around coding path (open_parts C at d.outer.items)
-    (Short lines at [] (leaf_by (tree C i) leaf d.carry d.piece.items))) (sym fits.0)
+    (Short lines at [] (leaf_by (tree_in C d.outer.items i) leaf d.carry d.piece.items)))
+    (sym fits.0)
     ∙ around_gone C coding path at d.outer.items lines
-    (leaf_of C leaf d.carry d.piece.items) c.requires.known_outer)
+    (leaf_of C d.outer.items leaf d.carry d.piece.items) c.requires.known_outer)
 
 pub returns-in-Refused-clause-advances : goal.returns-in-Refused-clause-advances
 returns-in-Refused-clause-advances c coding path at lines =
     let C = c.args.catalogue.now in
     rw c.in-Refused.is (around-fault coding path (open_parts C at c.args.self.now.outer.items) lines
-    at _ (tree C c.args.of.0) (rw c.in-Refused.is at c.requires.transition_fits))
+    at _ (tree_in C c.args.self.now.outer.items c.args.of.0) (rw c.in-Refused.is at
+    c.requires.transition_fits))
 
 pub returns-in-Opened-clause-advances : goal.returns-in-Opened-clause-advances
 returns-in-Opened-clause-advances c coding path at lines =
     let C = c.args.catalogue.now in
-    let T = tree C c.args.of.0 in
+    let T = tree_in C c.args.self.now.outer.items c.args.of.0 in
+    let same_part = parted c.args.catalogue.now c.args.self.now.outer.items
+    c.push.new.self.items c.args.of.0 c.part-part.result.0 0 c.requires.fit
+    (omega (arith, c.push.ensures.len)) c.part-part.ensures.rooms in
     let old = c.args.self.now.outer.items in
     let new = c.begin.new.outer.items in
     let transitions = rw c.in-Opened.is at c.requires.transition_fits in
@@ -108,24 +203,28 @@ returns-in-Opened-clause-advances c coding path at lines =
     rw (
       c.begin.ensures.ended,
       c.begin.ensures.begun at,
+      same_part,
       ended,
       c.push.ensures.items,
-      map_push,
-      c.part-part.ensures.tree,
+      places_push,
       place_part T 0 c.in-Opened.count transitions.0,
       append_assoc,
     ) refl
     in
     rw (c.in-Opened.is, c.clear.ensures)
-    (around_unless_ended C coding path at old lines inner (start_leaf (part_of T 0))
+    (around_unless_ended C 24 coding path at old lines inner (start_leaf (part_of T 0))
     c.requires.known_outer
     ∙ (same ∙ ap (λ l. unless_ended (has_ended new) lines at (open_parts C at new) l)
-    (rw c.part-part.ensures.tree at c.begin.ensures.leaf)))
+    (rw same_part at c.begin.ensures.leaf)))
 
 pub returns-in-Selected-clause-advances : goal.returns-in-Selected-clause-advances
 returns-in-Selected-clause-advances c coding path at lines =
     let C = c.args.catalogue.now in
-    let T = tree C c.args.of.0 in
+    let T = tree_in C c.args.self.now.outer.items c.args.of.0 in
+    let same_part = parted c.args.catalogue.now c.args.self.now.outer.items
+    c.push-in-Selected.new.self.items c.args.of.0 c.part-part-in-Selected.result.0
+    c.in-Selected.index c.requires.fit
+    (omega (arith, c.push-in-Selected.ensures.len)) c.part-part-in-Selected.ensures.rooms in
     let old = c.args.self.now.outer.items in
     let new = c.begin-in-Selected.new.outer.items in
     let transitions = rw c.in-Selected.is at c.requires.transition_fits in
@@ -139,23 +238,26 @@ returns-in-Selected-clause-advances c coding path at lines =
     rw (
       c.begin-in-Selected.ensures.ended,
       c.begin-in-Selected.ensures.begun at,
+      same_part,
       ended,
       c.push-in-Selected.ensures.items,
-      map_push,
-      c.part-part-in-Selected.ensures.tree,
+      places_push,
       place_case T c.in-Selected.index 0 transitions,
       append_assoc,
     ) refl in
     rw (c.in-Selected.is, c.clear-in-Selected.ensures)
-    (around_unless_ended C coding path at old lines inner
+    (around_unless_ended C 24 coding path at old lines inner
     (start_leaf (part_of T c.in-Selected.index)) c.requires.known_outer
     ∙ (same ∙ ap (λ l. unless_ended (has_ended new) lines at (open_parts C at new) l)
-    (rw c.part-part-in-Selected.ensures.tree at c.begin-in-Selected.ensures.leaf)))
+    (rw same_part at c.begin-in-Selected.ensures.leaf)))
 
 pub returns-in-Entered-clause-advances : goal.returns-in-Entered-clause-advances
 returns-in-Entered-clause-advances c coding path at lines =
     let C = c.args.catalogue.now in
-    let T = tree C c.args.of.0 in
+    let T = tree_in C c.args.self.now.outer.items c.args.of.0 in
+    let same_part = parted c.args.catalogue.now c.args.self.now.outer.items
+    c.push-in-Entered.new.self.items c.args.of.0 c.part-part-in-Entered.result.0 0 c.requires.fit
+    (omega (arith, c.push-in-Entered.ensures.len)) c.part-part-in-Entered.ensures.rooms in
     let old = c.args.self.now.outer.items in
     let pushed = c.push-in-Entered.new.self.items in
     let new = c.begin-in-Entered.new.outer.items in
@@ -166,8 +268,11 @@ returns-in-Entered-clause-advances c coding path at lines =
     (all_push (IsKnown C) old f c.requires.known_outer
     (record {
       known = c.requires.known;
-      within =
-          (transitions.0, omega arith, omega (arith, transitions.1));
+      within = λ room. (
+        held_in_room C (24 - length old) room c.args.of.0 transitions.0,
+        omega arith,
+        omega (arith, transitions.1),
+      );
     })) in
     let same : unless_ended (has_ended pushed) lines at (open_parts C at pushed ++ start_outer part)
     (start_leaf part) ≡ unless_ended (has_ended new) lines at (open_parts C at new)
@@ -175,16 +280,16 @@ returns-in-Entered-clause-advances c coding path at lines =
     rw (
       c.begin-in-Entered.ensures.ended,
       c.begin-in-Entered.ensures.begun at,
-      c.part-part-in-Entered.ensures.tree,
+      same_part,
     ) refl in
     rw (c.in-Entered.is, c.clear-in-Entered.ensures)
     (sym (ap (λ ps. around coding path ps (Short lines at (start_outer part) (start_leaf part)))
-    (ap (open_parts C at) c.push-in-Entered.ensures.items ∙ map_push (open_part C at) old f)
-    ∙ around-append coding path (open_parts C at old) (open_part C at f)
+    (ap (open_parts C at) c.push-in-Entered.ensures.items ∙ places_push C 24 at old f)
+    ∙ around-append coding path (open_parts C at old) (open_part C (24 - length old) at f)
     (Short lines at (start_outer part) (start_leaf part)))
-    ∙ (around_unless_ended C coding path at pushed lines (start_outer part) (start_leaf part) all
+    ∙ (around_unless_ended C 24 coding path at pushed lines (start_outer part) (start_leaf part) all
     ∙ (same ∙ ap (λ l. unless_ended (has_ended new) lines at (open_parts C at new) l)
-    (rw c.part-part-in-Entered.ensures.tree at c.begin-in-Entered.ensures.leaf))))
+    (rw same_part at c.begin-in-Entered.ensures.leaf))))
 
 pub returns-in-Opened-clause-stand : goal.returns-in-Opened-clause-stand
 returns-in-Opened-clause-stand c at pos h =
@@ -219,7 +324,7 @@ returns-in-Ended-clause-advances c coding path at lines =
     rw c.in-Ended.is
     ((around_done coding path (open_parts C at c.args.self.now.outer.items) lines at
     ∙ ap (λ qs. with_front lines (around coding path qs (Done [] at [])))
-    (heard_open C at lines c.args.self.now.outer.items))
+    (heard_open C 24 at lines c.args.self.now.outer.items))
     ∙ (ap (with_front lines) (c.go_on-self.ensures.next coding path at)
     ∙ (front_gone C lines at c.go_on-self.new.outer.items c.go_on-self.result
     ∙ behind_stopped C c.go_on-self.new.outer.items _ _ c.go_on-self.result lines at
@@ -250,7 +355,8 @@ returns-in-More-clause-inside c at lines =
     let transitions = rw c.in-More.is at c.requires.transition_fits in
     rw (c.in-More.is, ← transitions.0)
     (unless_ended_inside (has_ended d.outer.items) lines at (open_parts C at d.outer.items)
-    (leaf_of C leaf d.carry d.piece.items) ∙ leaf_inside C leaf d.carry d.piece.items)
+    (leaf_of C d.outer.items leaf d.carry d.piece.items)
+    ∙ leaf_inside C d.outer.items leaf d.carry d.piece.items)
 
 pub returns-in-Ended-clause-inside : goal.returns-in-Ended-clause-inside
 returns-in-Ended-clause-inside c at lines =

@@ -13,7 +13,8 @@ returns-clause-reads c =
     (fit_some T c.if-is_empty.ensures.root
     (λ empty. let t = (c.if-is_empty.ensures.value 24).1 empty in cc)) refl
     c.new-self.ensures (λ here. c.begin-first.ensures.begun here ∙ rw c.clear.ensures refl)
-    (c.begin-first.ensures.stand c.args.offset (rw c.clear.ensures tt)) c.begin-first.ensures.leaf
+    (c.begin-first.ensures.stand c.args.offset (rw c.clear.ensures tt))
+    (rw c.clear.ensures at c.begin-first.ensures.leaf)
     c.clear-3.ensures refl refl refl refl
 
 pub returns-clause-fits : goal.returns-clause-fits
@@ -26,6 +27,7 @@ returns-clause-fits c some =
     ∙ rw c.clear.ensures refl) (c.begin-first.ensures.stand _ (rw c.clear.ensures tt))
     (ahead_by C _ c.begin-first.ensures.known_outer
     (c.begin-first.ensures.ended ∙ rw c.clear.ensures refl))
-    (sym (c.begin-first.ensures.inside ∙ rw c.clear.ensures refl)) c.begin-first.ensures.leaf
+    (sym (c.begin-first.ensures.inside ∙ rw c.clear.ensures refl))
+    (rw c.clear.ensures at c.begin-first.ensures.leaf)
     (c.begin-first.ensures.linked c.args.of.0 (rw c.clear.ensures refl))
     c.begin-first.ensures.known_outer c.begin-first.ensures.known (omega arith) c.clear-3.ensures

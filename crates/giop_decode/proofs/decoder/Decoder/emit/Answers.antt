@@ -20,6 +20,9 @@ write_line-requires-clause-room g c =
     rw (c.as_slice.ensures.value, b.outer, length_ticked c.requires.counted.0.outer.items)
     b.around.room
 
+pub write_line-requires-clause-has_output : goal.write_line-requires-clause-has_output
+write_line-requires-clause-has_output g c = rw c.as_slice.ensures.value c.requires.has_output
+
 pub returns-in_err-write_line-clause-writes : goal.returns-in_err-write_line-clause-writes
 returns-in_err-write_line-clause-writes g c d b here at lines says =
     let a = c.args.ahead in

@@ -6,5 +6,5 @@ pub part-next-requires-clause-place : goal.part-next-requires-clause-place
 part-next-requires-clause-place c =
     let h = c.requires.ahead in
     place_next c.args.catalogue.now c.args.self.now c.args.part.of c.args.part.frame c.requires.fits
-    h.leaf h.outside h.outer
+    h.leaf h.outside h.outer 24
     (omega (arith, c.if-frame-saturating_sub.false, c.saturating_sub.ensures))

@@ -1,15 +1,15 @@
 use Rattle.std.proofs.Common.{ℕ, ◌+◌, List, [], ap, sym, ◌∙◌, arith, ◌≡◌}
 use Rattle.giop_decode.specs.Reading.{none_left, rooted}
 use Rattle.giop_decode.proofs.Advancing.{fits_allowed, rooted_result, comes_by, moved, unended}
-use Rattle.giop_decode.proofs.Surrounding.{ahead_by, inside_ticked, known_ticked, length_ticked, places_ticked, stand_ticked}
+use Rattle.giop_decode.proofs.Surrounding.{ahead_by, inside_ticked, known_ticked, length_ticked, places_ticked, stand_ticked, tree_ticked}
 use Rattle.giop_decode.proofs.Linking.{link_ticked}
 use Rattle.giop_decode.proofs.Whole.{behind_gives}
 use Rattle.giop_decode.specs.Noted.{ends_in_string}
 use Rattle.giop_decode.specs.DecoderSteps.{emitted, transition_result}
 use Rattle.giop_decode.specs.ReadResult.{plain, Line}
 use Rattle.giop_decode.specs.ReadingSteps.{around}
-use Rattle.giop_decode.specs.Transitions.{open_parts, Link, has_ended, still_held, after_transition}
-use Rattle.giop_sig.specs.Trees.{tree}
+use Rattle.giop_decode.specs.Transitions.{open_parts, tree_in, Link, has_ended, still_held, after_transition}
+use Rattle.giop_decode.specs.NotingSteps.{transition_in_string, transition_offset}
 use Rattle.giop_decode.proofs.decoder.Decoder.pass.Goals as goal
 
 pub note-named-requires-clause-known : goal.note-named-requires-clause-known
@@ -43,7 +43,7 @@ advance_frames-requires-clause-open c =
       s.0 + 1,
       rw (
         b.outer,
-        places_ticked C s.0 c.requires.counted.0.outer.items b.around.ahead,
+        places_ticked C 24 s.0 c.requires.counted.0.outer.items b.around.ahead,
       ) s.1,
     )
 
@@ -52,13 +52,24 @@ advance_frames-requires-clause-fit c =
     let b = c.requires.counted.1 in
     rw (b.outer, length_ticked c.requires.counted.0.outer.items) b.around.fit
 
+pub note-named-requires-clause-room : goal.note-named-requires-clause-room
+note-named-requires-clause-room c =
+    let b = c.requires.counted.1 in
+    rw (c.as_slice.ensures.value, b.outer, length_ticked c.requires.counted.0.outer.items)
+    b.around.room
+
+pub note-named-requires-clause-has_output : goal.note-named-requires-clause-has_output
+note-named-requires-clause-has_output c = rw c.as_slice.ensures.value c.requires.has_output
+
 pub returns : goal.returns
 returns c d b =
     let C = c.args.catalogue.now in
     let now = c.args.self.now in
     let new = c.advance_frames.new.self in
     let of = c.args.ahead.of.0 in
-    let T = tree C of in
+    let T = tree_in C now.outer.items of in
+    let same : tree_in C d.outer.items of ≡ T =
+    sym (ap (λ fs. tree_in C fs of) b.outer ∙ tree_ticked C d.outer.items of) in
     let step = c.args.ahead.step in
     let transition = step.transition in
     let rest = c.args.ahead.rest.now in
@@ -72,9 +83,11 @@ returns c d b =
     ≡ transition_result C T new transition lines (here + 1) =
     λ here lines.
     let pt : open_parts C here d.outer.items ≡ open_parts C (here + 1) now.outer.items =
-    sym (places_ticked C here d.outer.items b.around.ahead)
+    sym (places_ticked C 24 here d.outer.items b.around.ahead)
     ∙ ap (open_parts C (here + 1)) (sym b.outer) in
-    ap (rooted none_left) (ap (λ qs. around (plain d.order) [] qs (after_transition T transition
+    ap (rooted none_left) (ap (λ U. around (plain d.order) [] (open_parts C here d.outer.items)
+    (after_transition U transition d.carry held lines (here + 1))) same
+    ∙ ap (λ qs. around (plain d.order) [] qs (after_transition T transition
     d.carry held lines (here + 1))) pt
     ∙ rw (c.let_go.ensures, b.carry, b.piece) at
     (e.advances (plain d.order) [] (here + 1) lines))
@@ -103,7 +116,8 @@ returns c d b =
                 rw b.outer (link_ticked C root d.outer.items of before) in
                 e.link root leaf m old is;
             going = m;
-            offset = λ leaf is. e.offset leaf m is;
+            offset = λ leaf is. e.offset leaf m is
+                ∙ ap (λ U. transition_offset U transition) (sym same);
           };
       steps = λ here lines says.
           let n = rw (c.as_slice.ensures.value, c.deref.ensures.0, c.root.ensures) at
@@ -112,7 +126,8 @@ returns c d b =
           (here + 1) p _
           (rw e.head (n (behind_gives C d now of step rest here (here + 1) lines b says)))
           ended (come here lines) c.progress_of.ensures;
-      inside = λ here lines. ap ends_in_string (come here lines) ∙ e.inside (here + 1) lines;
+      inside = λ here lines. ap ends_in_string (come here lines) ∙ (e.inside (here + 1) lines
+          ∙ ap (λ U. transition_in_string U transition) (sym same));
       id = λ no. rw e.notes (c.note-named.ensures.id (rw (c.root.ensures, b.head) no))
           ∙ ap (λ n. n.request_id) b.notes;
       notes = λ h here at lines before says.

@@ -1,4 +1,4 @@
-use Rattle.std.proofs.Common.{◌≡◌, ◌+◌, Some, refl, ◌∙◌, ap, arith}
+use Rattle.std.proofs.Common.{◌≡◌, ◌+◌, ◌-◌, length, Some, refl, ◌∙◌, ap, arith}
 use Rattle.giop_decode.proofs.Whole.{comes_full, comes_last, comes_unended}
 use Rattle.giop_decode.proofs.decoder.Decoder.take_content.Goals.{else-behind-gt0-via-then-behind-gt0+else-octets-size-ne0, else-behind-gt0-via-else-behind-gt0}
 use Rattle.giop_decode.proofs.decoder.Decoder.take_content.Goals as goal
@@ -29,7 +29,10 @@ take_ahead-requires-then-octets-size-ne0-clause-ahead g c =
     c.in-Content.of c.in-Content.total c.in-Content.offset c.args.octets.now (size + behind)
     c.requires.fits (c.requires.leaf ∙ ap Some c.in-Content.is) c.requires.ahead size behind
     c.refused.result c.refused.ensures.transition c.refused.ensures.output
-    (c.octets_behind-behind.ensures.last 24 (omega (arith, small))) (omega (arith, left, small))
+    (c.octets_behind-behind.ensures.last (24 - length c.args.self.now.outer.items) (omega (
+      arith,
+      small,
+    ))) (omega (arith, left, small))
     (omega (arith, small, left, c.saturating_sub-size.ensures, c.min.ensures, c.len.ensures.value))
     refl (omega (arith, c.if-octets-size.false)) (omega (arith, c.if-behind-gt0.true))
     c.if-octets-size-ne0.true)
@@ -44,7 +47,8 @@ take_ahead-requires-2-clause-ahead g c =
     rw (a.of, a.count, a.step, c.ended-step.ensures, a.rest) (comes_last c.args.catalogue.now
     c.args.self.now c.in-Content.of c.in-Content.total c.in-Content.offset c.args.octets.now
     (size + behind) c.requires.fits (c.requires.leaf ∙ ap Some c.in-Content.is) c.requires.ahead
-    size behind (c.octets_behind-behind.ensures.last 24 (omega (arith, small)))
+    size behind (c.octets_behind-behind.ensures.last (24 - length c.args.self.now.outer.items)
+    (omega (arith, small)))
     (omega (arith, left, small))
     (omega (arith, small, left, c.saturating_sub-size.ensures, c.min.ensures, c.len.ensures.value))
     refl (omega (arith, c.if-octets-size.false))

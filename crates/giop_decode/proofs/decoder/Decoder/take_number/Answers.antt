@@ -1,7 +1,8 @@
-use Rattle.std.proofs.Common.{refl, ◌∙◌, rules}
+use Rattle.std.proofs.Common.{◌-◌, length, refl, ◌∙◌, rules}
 use Rattle.giop_decode.specs.declared.leaf.Leaf.TheVariants as innermost
 use Rattle.giop_decode.proofs.Advancing.{stands_at}
-use Rattle.giop_decode.proofs.Whole.{comes_head, comes_long, comes_number}
+use Rattle.giop_decode.proofs.Whole.{comes_head, comes_long, comes_number, width_in}
+use Rattle.giop_decode.proofs.Rooms.{head_in_room}
 use Rattle.giop_decode.proofs.decoder.Decoder.take_number.Goals as goal
 
 pub take_ahead-requires-clause-ahead : goal.take_ahead-requires-clause-ahead
@@ -10,7 +11,7 @@ take_ahead-requires-clause-ahead g c =
     rw (a.of, a.count, a.step, c.ended-step.ensures, a.rest) (comes_number c.args.catalogue.now
     c.args.self.now c.args.of c.args.octets.now c.in-Some.count c.requires.fits c.requires.leaf
     c.args.coded.0 c.args.coded.1 c.requires.coded c.in-Some.number (c.if-is_empty.ensures.0 refl)
-    (c.in-Some.ensures 24) c.requires.ahead)
+    (c.in-Some.ensures (24 - length c.args.self.now.outer.items)) c.requires.ahead)
 
 pub take_ahead-requires-in-Some-whole_long-clause-ahead :
     goal.take_ahead-requires-in-Some-whole_long-clause-ahead
@@ -20,7 +21,8 @@ take_ahead-requires-in-Some-whole_long-clause-ahead g c =
     rw (a.of, a.count, a.step, a.rest) (comes_long c.args.catalogue.now c.args.self.now c.args.of
     c.args.octets.now c.in-Some-whole_long.count c.requires.fits c.requires.leaf c.args.coded.0
     c.args.coded.1 c.requires.coded c.in-Some-whole_long.n c.take_length-step.result
-    (rw c.in-Text.ensures.shape refl) (c.if-is_empty.ensures.0 refl) c.in-Some-whole_long.ensures
+    (rw (c.in-Text.ensures.shapes (24 - length c.args.self.now.outer.items)) refl)
+    (c.if-is_empty.ensures.0 refl) c.in-Some-whole_long.ensures
     c.requires.ahead v.fits v.transitions)
 
 pub take_ahead-requires-in-Some-whole_long-2-clause-ahead :
@@ -31,7 +33,8 @@ take_ahead-requires-in-Some-whole_long-2-clause-ahead g c =
     rw (a.of, a.count, a.step, a.rest) (comes_long c.args.catalogue.now c.args.self.now c.args.of
     c.args.octets.now c.in-Some-whole_long-2.count c.requires.fits c.requires.leaf c.args.coded.0
     c.args.coded.1 c.requires.coded c.in-Some-whole_long-2.n c.take_size-step.result
-    (rw c.in-Octets.ensures.shape refl) (c.if-is_empty.ensures.0 refl)
+    (rw (c.in-Octets.ensures.shapes (24 - length c.args.self.now.outer.items)) refl)
+    (c.if-is_empty.ensures.0 refl)
     c.in-Some-whole_long-2.ensures c.requires.ahead v.fits v.transitions)
 
 pub take_ahead-requires-in-Some-whole_long-3-clause-ahead :
@@ -42,19 +45,21 @@ take_ahead-requires-in-Some-whole_long-3-clause-ahead g c =
     rw (a.of, a.count, a.step, a.rest) (comes_long c.args.catalogue.now c.args.self.now c.args.of
     c.args.octets.now c.in-Some-whole_long-3.count c.requires.fits c.requires.leaf c.args.coded.0
     c.args.coded.1 c.requires.coded c.in-Some-whole_long-3.n c.take_count-step.result
-    (rw c.in-Sequence.ensures.shape.1 refl) (c.if-is_empty.ensures.0 refl)
+    (rw ((c.in-Sequence.ensures.shapes (24 - length c.args.self.now.outer.items)).1) refl)
+    (c.if-is_empty.ensures.0 refl)
     c.in-Some-whole_long-3.ensures c.requires.ahead v.fits v.transitions)
 
 pub take_value-step-requires : goal.take_value-step-requires
 take_value-step-requires g c =
+    let C = c.args.catalogue.now in
     let d = c.args.self.now in
-    let s = stands_at c.args.catalogue.now d c.requires.fits (innermost.Number c.args.of)
-    c.requires.leaf in
+    let s = stands_at C d c.requires.fits (innermost.Number c.args.of) c.requires.leaf in
+    let head = head_in_room C (24 - length d.outer.items) 24 c.args.of.0 s.fits.kind in
     record {
       known = search rules;
-      head = s.fits.kind;
-      fit = (_, s.fit);
-      whole = c.in-Some-whole_octets.ensures.width ∙ c.width.ensures.width 23 s.fits.kind;
+      head = head;
+      fit = (_, _, s.fit);
+      whole = c.in-Some-whole_octets.ensures.width ∙ c.width.ensures.width 23 head;
     }
 
 pub take_ahead-requires-in-Some-whole_octets : goal.take_ahead-requires-in-Some-whole_octets
@@ -65,12 +70,13 @@ take_ahead-requires-in-Some-whole_octets g c =
     let v = c.take_value-step.ensures in
     let whole = c.in-Some-whole_octets in
     let empty = c.if-is_empty.ensures.0 refl in
-    let head = (stands_at C d c.requires.fits (innermost.Number c.args.of) c.requires.leaf).fits in
+    let wide = width_in C d c.requires.fits c.args.of c.requires.leaf c.width.result
+    c.width.ensures.width in
     record {
       fits = c.requires.fits;
       ahead = rw (a.of, a.count, a.step, a.rest) (comes_head C d c.args.of c.args.octets.now
           whole.count c.requires.fits c.requires.leaf c.args.coded.0 c.args.coded.1
           c.requires.coded d.carry whole.whole.now c.take_value-step.result empty
-          (rw empty (rw (c.width.ensures.width 23 head.kind) at whole.ensures.stands))
+          (rw empty (rw wide at whole.ensures.stands))
           c.requires.ahead v.fits v.transitions);
     }

@@ -11,21 +11,23 @@ use Rattle.giop_decode.specs.declared.leaf.Transition.TheVariants as transitions
 use Rattle.giop_decode.specs.DecoderState.{Fits}
 use Rattle.giop_decode.specs.ReadingSteps.{leading_width}
 use Rattle.giop_decode.specs.Runs.{IsHeldOf, IsStep, IsStepOf}
-use Rattle.giop_decode.specs.Transitions.{HaveOctetsLeft, NumberStands, coding_by, ticked_by}
+use Rattle.giop_decode.specs.Transitions.{HaveOctetsLeft, NumberStands, coding_by, ticked_by, tree_in}
 use Rattle.giop_decode.proofs.Advancing.{stands_at}
 use Rattle.giop_decode.proofs.Counting.{coding_small}
 use Rattle.giop_decode.proofs.PartialBlocks.{held_in}
-use Rattle.giop_decode.proofs.Whole.{comes_head, held_now, number_waits}
+use Rattle.giop_decode.proofs.Whole.{comes_head, held_now, number_waits, width_in}
 use Rattle.giop_sig.specs.Table.{Table}
-use Rattle.giop_sig.specs.Trees.{tree}
+use Rattle.giop_decode.proofs.Rooms.{head_in_room}
 use Rattle.giop_sig.specs.declared.types.TypeId.{TypeId}
 use Rattle.giop_decode.proofs.decoder.Decoder.take_parted_number.Goals as goal
 
 pub hold_number-count-requires-clause-room : goal.hold_number-count-requires-clause-room
 hold_number-count-requires-clause-room g c =
-    let head = (stands_at c.args.catalogue.now c.args.self.now c.requires.fits
-    (innermost.Number c.args.of) c.requires.leaf).fits in
-    rw (c.width-width.ensures.width 23 head.kind) head.room
+    let C = c.args.catalogue.now in
+    let d = c.args.self.now in
+    let head = (stands_at C d c.requires.fits (innermost.Number c.args.of) c.requires.leaf).fits in
+    rw (width_in C d c.requires.fits c.args.of c.requires.leaf c.width-width.result
+    c.width-width.ensures.width) head.room
 
 pub hold_number-count-requires-clause-small : goal.hold_number-count-requires-clause-small
 hold_number-count-requires-clause-small g c =
@@ -38,7 +40,7 @@ waits : (C : Table) (d : Decoder) (of : TypeId) (octets : List ℕ) (order : Ord
     (e : d.leaf ≡ Some (innermost.Number of)) →
     coding_by d.order d.at d.outer.items ≡ (order, at) →
     HaveOctetsLeft (ticked_by (length octets - 1) d.outer.items) →
-    width ≡ leading_width (tree C of.0) →
+    width ≡ leading_width (tree_in C d.outer.items of.0) →
     NumberStands width at d.carry octets count (eqb (length all) width) all →
     length all < width → IsHeldOf C d (held_in d all d.piece) octets of count (record {
       transition = transitions.More (innermost.Number of);
@@ -55,7 +57,7 @@ comes : (C : Table) (d : Decoder) (of : TypeId) (octets : List ℕ) (order : Ord
     (e : d.leaf ≡ Some (innermost.Number of)) →
     coding_by d.order d.at d.outer.items ≡ (order, at) →
     HaveOctetsLeft (ticked_by (length octets - 1) d.outer.items) →
-    width ≡ leading_width (tree C of.0) →
+    width ≡ leading_width (tree_in C d.outer.items of.0) →
     NumberStands width at d.carry octets count (eqb (length all) width) all →
     length all ≡ width → kept ≡ [] → IsStep C of.0 s → IsStepOf C of.0 (num order all) s →
     IsHeldOf C d (held_in d kept d.piece) octets of count s []
@@ -69,13 +71,13 @@ finish-requires g c =
     let C = c.args.catalogue.now in
     let d = c.args.self.now in
     let e = c.held.ensures in
-    let s = c.hold_number-count in
-    let number = innermost.Number c.args.of in
-    let head = (stands_at C d c.requires.fits number c.requires.leaf).fits in (
+    let s = c.hold_number-count in (
       d,
       rw (e.of, e.count, e.step, e.rest) (waits C d c.args.of c.args.octets.now c.args.coded.0
           c.width-width.result c.args.coded.1 s.result s.new.carry c.requires.fits c.requires.leaf
-          c.requires.coded c.requires.ahead (c.width-width.ensures.width 23 head.kind)
+          c.requires.coded c.requires.ahead (width_in C d c.requires.fits c.args.of c.requires.leaf
+          c.width-width.result
+          c.width-width.ensures.width)
           s.ensures.stands
           (omega (arith, c.if-len-from.true, c.len.ensures.value, c.from.ensures))),
     )
@@ -86,19 +88,23 @@ returns-then-len-from g c =
     let d = c.args.self.now in
     let e = c.held.ensures in
     let s = c.hold_number-count in
-    let head = (stands_at C d c.requires.fits (innermost.Number c.args.of) c.requires.leaf).fits in
     c.finish.ensures d (rw (e.of, e.count, e.step, e.rest) (waits C d c.args.of c.args.octets.now
     c.args.coded.0 c.width-width.result c.args.coded.1 s.result s.new.carry c.requires.fits
-    c.requires.leaf c.requires.coded c.requires.ahead (c.width-width.ensures.width 23 head.kind)
+    c.requires.leaf c.requires.coded c.requires.ahead (width_in C d c.requires.fits c.args.of
+    c.requires.leaf c.width-width.result
+    c.width-width.ensures.width)
     s.ensures.stands (omega (arith, c.if-len-from.true, c.len.ensures.value, c.from.ensures))))
 
 pub take_value-step-requires-clause-head : goal.take_value-step-requires-clause-head
 take_value-step-requires-clause-head g c =
-    (stands_at c.args.catalogue.now c.args.self.now c.requires.fits (innermost.Number c.args.of)
-    c.requires.leaf).fits.kind
+    let C = c.args.catalogue.now in
+    let d = c.args.self.now in
+    head_in_room C (24 - length d.outer.items) 24 c.args.of.0
+    (stands_at C d c.requires.fits (innermost.Number c.args.of) c.requires.leaf).fits.kind
 
 pub take_value-step-requires-clause-fit : goal.take_value-step-requires-clause-fit
 take_value-step-requires-clause-fit g c = (
+  _,
   _,
   (stands_at c.args.catalogue.now c.args.self.now c.requires.fits (innermost.Number c.args.of)
       c.requires.leaf).fit,
@@ -106,8 +112,10 @@ take_value-step-requires-clause-fit g c = (
 
 pub take_value-step-requires-clause-whole : goal.take_value-step-requires-clause-whole
 take_value-step-requires-clause-whole g c =
-    let head = (stands_at c.args.catalogue.now c.args.self.now c.requires.fits
-    (innermost.Number c.args.of) c.requires.leaf).fits in
+    let C = c.args.catalogue.now in
+    let d = c.args.self.now in
+    let head = head_in_room C (24 - length d.outer.items) 24 c.args.of.0
+    (stands_at C d c.requires.fits (innermost.Number c.args.of) c.requires.leaf).fits.kind in
     let all : length c.hold_number-count.new.carry ≡ c.width-width.result =
     omega (
       arith,
@@ -116,21 +124,20 @@ take_value-step-requires-clause-whole g c =
       c.from.ensures,
       c.hold_number-count.ensures.size,
     ) in
-    ap length c.as_slice.ensures.value ∙ (all ∙ c.width-width.ensures.width 23 head.kind)
+    ap length c.as_slice.ensures.value ∙ (all ∙ c.width-width.ensures.width 23 head)
 
 pub finish-requires-2 : goal.finish-requires-2
 finish-requires-2 g c =
     let C = c.args.catalogue.now in
     let d = c.args.self.now in
     let s = c.hold_number-count in
-    let v = c.take_value-step.ensures in
-    let number = innermost.Number c.args.of in
-    let head = (stands_at C d c.requires.fits number c.requires.leaf).fits in (
+    let v = c.take_value-step.ensures in (
       d,
       comes C d c.args.of c.args.octets.now c.args.coded.0 c.width-width.result c.args.coded.1
           s.result s.new.carry c.clear.new.self c.take_value-step.result c.requires.fits
           c.requires.leaf c.requires.coded c.requires.ahead
-          (c.width-width.ensures.width 23 head.kind) s.ensures.stands
+          (width_in C d c.requires.fits c.args.of c.requires.leaf c.width-width.result
+          c.width-width.ensures.width) s.ensures.stands
           (omega (arith, c.if-len-from.false, c.len.ensures.value, c.from.ensures, s.ensures.size))
           c.clear.ensures v.fits
           (rw c.as_slice.ensures.value at v.transitions),
@@ -142,11 +149,11 @@ returns g c =
     let d = c.args.self.now in
     let s = c.hold_number-count in
     let v = c.take_value-step.ensures in
-    let head = (stands_at C d c.requires.fits (innermost.Number c.args.of) c.requires.leaf).fits in
     c.finish-2.ensures d (comes C d c.args.of c.args.octets.now c.args.coded.0 c.width-width.result
     c.args.coded.1 s.result s.new.carry c.clear.new.self c.take_value-step.result c.requires.fits
     c.requires.leaf c.requires.coded c.requires.ahead
-    (c.width-width.ensures.width 23 head.kind) s.ensures.stands
+    (width_in C d c.requires.fits c.args.of c.requires.leaf c.width-width.result
+    c.width-width.ensures.width) s.ensures.stands
     (omega (arith, c.if-len-from.false, c.len.ensures.value, c.from.ensures, s.ensures.size))
     c.clear.ensures v.fits
     (rw c.as_slice.ensures.value at v.transitions))

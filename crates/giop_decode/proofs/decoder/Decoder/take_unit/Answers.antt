@@ -1,4 +1,5 @@
-use Rattle.std.proofs.Common.{Some, ◌∙◌, ap}
+use Rattle.std.proofs.Common.{◌-◌, length, Some, ◌∙◌, ap}
+use Rattle.giop_decode.proofs.Rooms.{held_in_room}
 use Rattle.giop_decode.specs.declared.leaf.Leaf.TheVariants as innermost
 use Rattle.giop_decode.proofs.Advancing.{stands_at}
 use Rattle.giop_decode.proofs.Counting.{coding_small}
@@ -12,12 +13,14 @@ take_number-requires-clause-small g c =
 
 pub take_order-step-requires-clause-kind : goal.take_order-step-requires-clause-kind
 take_order-step-requires-clause-kind g c =
+    held_in_room c.args.catalogue.now (24 - length c.args.self.now.outer.items) 24 c.in-Opening.of.0
     (stands_at c.args.catalogue.now c.args.self.now c.requires.fits
     (innermost.Opening c.in-Opening.of c.in-Opening.count)
     (c.in-Some.is ∙ ap Some c.in-Opening.is)).fits.kind
 
 pub take_order-step-requires-clause-fit : goal.take_order-step-requires-clause-fit
 take_order-step-requires-clause-fit g c = (
+  _,
   _,
   (stands_at c.args.catalogue.now c.args.self.now c.requires.fits
       (innermost.Opening c.in-Opening.of c.in-Opening.count)

@@ -4,7 +4,7 @@ use Rattle.giop_entry_table.proofs.ids.Ids.with_capacity.Goals as goal
 
 pub invariant_of-result : goal.invariant_of-result
 invariant_of-result c =
-    let d = c.saturating_add-divisor in
+    let d = c.divisor-divisor in
     let counts = c.in_ok-vec.ensures.items_if_clones_equal (λ y e. e) in
     let firsts = c.in_ok-vec-2.ensures.items_if_clones_equal (λ y e. e) in
     rw (c.in_ok-with_capacity.ensures.items, counts, firsts, length-replicate) (record {

@@ -4,7 +4,8 @@ use Rattle.giop_decode.specs.DecoderState.{KeepsNoted}
 use Rattle.giop_message.specs.Messages.{with_front, root_of, body}
 use Rattle.giop_message.specs.Signatures.{signatures_of}
 use Rattle.giop_message.specs.MessageSteps.{is_padded, Ended}
-use Rattle.giop_message.proofs.Starting.{left_padded, left_bare, front_pads, wanted_agree}
+use Rattle.giop_message.proofs.Going.{none_front}
+use Rattle.giop_message.proofs.Starting.{left_padded, left_bare, wanted_agree}
 use Rattle.giop_message.proofs.message.Message.leave.Goals as goal
 
 pub returns-then-is_padded-clause-arrives : goal.returns-then-is_padded-clause-arrives
@@ -27,7 +28,7 @@ returns-then-is_padded-clause-arrives g c answers number header s section r ende
     rw c.begin_padding.ensures (
       before,
       e ∙ (ap (with_front before) (left_padded S header section h (12 + length s) some)
-          ∙ (rw body_type_id (front_pads before (12 + length s) _))),
+          ∙ (rw body_type_id (none_front before (12 + length s) _))),
     )
 
 pub returns-else-is_padded-clause-arrives : goal.returns-else-is_padded-clause-arrives

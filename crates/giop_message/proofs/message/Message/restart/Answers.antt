@@ -3,6 +3,7 @@ use Rattle.giop_sig.specs.HeaderTypes.{header_type}
 use Rattle.giop_sig.specs.Trees.{tree}
 use Rattle.giop_message.specs.Headers.{minor, kind}
 use Rattle.giop_message.specs.Signatures.{signatures_of}
+use Rattle.giop_message.specs.Messages.{nothing_said}
 use Rattle.giop_message.specs.ReaderOfTable.{first_request_id}
 use Rattle.giop_message.proofs.Starting.{fit_some, none_told, none_rests, front_rests, header_first}
 use Rattle.giop_message.proofs.message.Message.restart.Goals as goal
@@ -24,7 +25,8 @@ returns-in-Some-clause-follows c answers =
       id = e.id ∙ rw e.within refl;
       at = e.at;
       stands = e.enters answers c.args.number c.args.header []
-          (record { same_number = refl; same_header = refl; at = refl }) [] (found, refl, refl)
+          (record { same_number = refl; same_header = refl; at = refl }) nothing_said
+          (found, refl, refl)
           (header_first (signatures_of c.args.catalogue.now (answers c.args.number)) c.args.header
           (tree c.args.catalogue.now c.in-Some.of.0) found);
     }
@@ -42,8 +44,8 @@ returns-in-None-clause-follows c answers =
       id = e.id ∙ rw (e.past, none_told S c.args.header) refl;
       at = e.at;
       stands = e.arrives c.args.catalogue.now answers c.args.number c.args.header []
-          (record { same_number = refl; same_header = refl; at = refl }) []
-          (none_rests S c.args.header none ∙ sym (front_rests [] 12));
+          (record { same_number = refl; same_header = refl; at = refl }) nothing_said
+          (none_rests S c.args.header none ∙ sym (front_rests nothing_said 12));
     }
 
 pub returns-in-None-clause-fits : goal.returns-in-None-clause-fits

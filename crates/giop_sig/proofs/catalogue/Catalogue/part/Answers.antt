@@ -1,5 +1,5 @@
 use Rattle.giop_sig.specs.Views.{node_view}
-use Rattle.giop_sig.proofs.Tables.{entered, place_entered, part_below, part_room, part_tree}
+use Rattle.giop_sig.proofs.Tables.{entered, place_entered, part_below, part_room}
 use Rattle.giop_sig.proofs.catalogue.Catalogue.part.Goals as goal
 
 pub part-requires : goal.part-requires
@@ -15,13 +15,6 @@ returns-clause-below c =
     c.self.view_is c.requires.known c.entry.ensures.node in
     part_below c.args.self.now c.args.t.0 c.args.place c.part.result.0
     (node_view c.entry.result.now) e c.requires.place c.part.ensures
-
-pub returns-clause-tree : goal.returns-clause-tree
-returns-clause-tree c =
-    let e = entered _ c.args.self.now c.args.t.0 (node_view c.entry.result.now) c.self.invariant
-    c.self.view_is c.requires.known c.entry.ensures.node in
-    part_tree c.args.self.now c.args.t.0 c.args.place c.part.result.0 (node_view c.entry.result.now)
-    e c.requires.place c.part.ensures
 
 pub returns-clause-rooms : goal.returns-clause-rooms
 returns-clause-rooms c = λ n.

@@ -11,7 +11,7 @@ use Rattle.giop_stream.proofs.SlotSteps.Parts.{in_turn}
 use Rattle.giop_stream.proofs.SlotSteps.Adding.{added_text}
 use Rattle.giop_stream.proofs.CodeSteps.EngineLaws.{run_holds, stop_is}
 use Rattle.giop_stream.proofs.CodeSteps.MessageOctets.{messages_at}
-use Rattle.giop_stream.proofs.CodeSteps.StreamAgreement.{held_agree}
+use Rattle.giop_stream.proofs.CodeSteps.AnswersGoOn.{held_agree}
 use Rattle.giop_stream.proofs.CodeSteps.AnswersGoOn.{goes_on}
 use Rattle.giop_stream.proofs.engine.Engine.feed_by.Goals as goal
 

@@ -20,7 +20,7 @@ returns-clause-does g c w h =
     makes_by (g.L.Listener.observed c.args.to.now.listener)
     (g.L.Listener.observed c.begin.new.to.listener) c.args.to.now.live.items
     c.begin.new.to.live.items c.args.self.now _
-    (λ w. began g.L.Listener.faulted w c.args.id (first_number (segment_view c.args.segment))
+    (λ w. began g.L.Listener.reader w c.args.id (first_number (segment_view c.args.segment))
     (segment_view c.args.segment).payload) (λ es h0.
     let S : State = state_of c.args.self.now es in
     let within : c.args.id < length S.flows =
@@ -29,7 +29,7 @@ returns-clause-does g c w h =
     omega (arith, c.begin.ensures.blocks, c.in_ok-flow.ensures.room es (h0.observed, h0.live))
     in
     moved (g.L.Listener.observed c.begin.new.to.listener) c.begin.new.to.live.items _ _ _
-    (ap (λ n. began g.L.Listener.faulted S c.args.id n (segment_view c.args.segment).payload)
+    (ap (λ n. began g.L.Listener.reader S c.args.id n (segment_view c.args.segment).payload)
     (sym c.first_number-number.ensures))
     (flow_done (g.L.Listener.observed c.args.to.now.listener)
     (g.L.Listener.observed c.begin.new.to.listener) c.args.to.now.live.items

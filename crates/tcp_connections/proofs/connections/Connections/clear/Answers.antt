@@ -41,13 +41,13 @@ forget-requires-clause-place g c =
       c.args.self.now.table.keys.ok.0,
       c.show.new.self.table.keys.ok.0,
       ap length (known_of _ _ _ _ n),
-      ap length (shown_kept g.L.Listener.faulted w c.room-room.result c.elder_side.result).known,
+      ap length (shown_kept g.L.Listener.reader w c.room-room.result c.elder_side.result).known,
       ap length (known_of _ _ _ _ c.requires.state.1),
     )
 
 pub returns-clause-does : goal.returns-clause-does
 returns-clause-does g c w h =
-    let F = g.L.Listener.faulted in
+    let F = g.L.Listener.reader in
     let place = c.args.place in
     let n = c.in_ok-show.ensures.does w h in
     let at : c.room-room.result ≡ room_at w place =

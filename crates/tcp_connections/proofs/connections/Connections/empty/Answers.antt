@@ -14,17 +14,17 @@ returns-then-not-is_holding-clause-does g c w h =
     sym (ap (λ (u : State). is_holding u.held (flow_at u c.args.id)) i.1.0.same)
     ∙ sym c.is_holding.ensures ∙ c.if-not-is_holding.true in
     moved _ _ _ _ _ (sym i.1.1.0
-    ∙ at_over g.L.Listener.faulted c.loop-left.left i.0 c.args.id over) i.1.0
+    ∙ at_over g.L.Listener.reader c.loop-left.left i.0 c.args.id over) i.1.0
 
 pub returns-clause-does : goal.returns-clause-does
 returns-clause-does g c w h =
     let i = c.loop-left.invariant w h in
     moved _ _ _ _ _ (sym i.1.1.0
-    ∙ at_none g.L.Listener.faulted c.loop-left.left i.0 c.args.id c.loop-left-test.false) i.1.0
+    ∙ at_none g.L.Listener.reader c.loop-left.left i.0 c.args.id c.loop-left-test.false) i.1.0
 
 pub loop-left-preserved : goal.loop-left-preserved
 loop-left-preserved g c w h =
-    let F = g.L.Listener.faulted in
+    let F = g.L.Listener.reader in
     let i = c.loop-left.invariant w h in
     let v = i.0 in
     let holds : is_holding v.held (flow_at v c.args.id) ≡ true =
@@ -46,7 +46,7 @@ loop-left-init g c w h = (
   (
     h,
     (
-      ap (λ (k : ℕ). gaps_at g.L.Listener.faulted k w c.args.id)
+      ap (λ (k : ℕ). gaps_at g.L.Listener.reader k w c.args.id)
           (c.len-left.ensures.held ∙ ap (λ (u : State). length u.held) h.same),
       omega (arith, c.len-left.ensures.held, ap (λ (u : State). length u.held) h.same),
     ),

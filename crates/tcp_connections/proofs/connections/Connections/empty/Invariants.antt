@@ -8,7 +8,7 @@ invariant-loop-left g l =
     (w : State) → IsState (g.L.Listener.observed l.initial.to.listener) l.initial.to.live.items
     l.initial.self w
     → (v : State) × (IsState (g.L.Listener.observed l.to.listener) l.to.live.items l.self v
-    × ((gaps_at g.L.Listener.faulted l.left v l.id ≡ emptied g.L.Listener.faulted w l.id)
+    × ((gaps_at g.L.Listener.reader l.left v l.id ≡ emptied g.L.Listener.reader w l.id)
     × (length v.held ≤ l.left)))
 
 abbrev pub decreases-loop-left : goal.decreases-loop-left

@@ -26,13 +26,13 @@ forget-requires-clause-place g c =
       c.args.self.now.table.keys.ok.0,
       c.show.new.self.table.keys.ok.0,
       ap length (known_of _ _ _ _ n),
-      ap length (shown_kept g.L.Listener.faulted w c.room-room.result c.args.side).known,
+      ap length (shown_kept g.L.Listener.reader w c.room-room.result c.args.side).known,
       ap length (known_of _ _ _ _ c.requires.state.1),
     )
 
 pub returns-clause-does : goal.returns-clause-does
 returns-clause-does g c w h =
-    let F = g.L.Listener.faulted in
+    let F = g.L.Listener.reader in
     let at : c.room-room.result ≡ room_at w c.args.place =
     c.room-room.ensures ∙ ap (λ (u : State). get_or u.rooms c.args.place 0) h.same in
     moved_ok c.forget.result _ _ _ _ _

@@ -9,19 +9,19 @@ use Rattle.tcp_connections.proofs.connections.Connections.end_gaps.Goals as goal
 pub returns-in_default-clause-does : goal.returns-in_default-clause-does
 returns-in_default-clause-does g c w h =
     let i = c.loop-left.invariant w h in
-    let over = gaps_over g.L.Listener.faulted c.loop-left.left c.loop-left.rank i.0
+    let over = gaps_over g.L.Listener.reader c.loop-left.left c.loop-left.rank i.0
     (omega (arith, c.live.ensures.none c.in_default.is, ap length i.1.0.live)) in
     moved _ _ _ _ _ (sym i.1.1.0 ∙ over) i.1.0
 
 pub returns-clause-does : goal.returns-clause-does
 returns-clause-does g c w h =
     let i = c.loop-left.invariant w h in
-    moved _ _ _ _ _ (sym i.1.1.0 ∙ gaps_none g.L.Listener.faulted c.loop-left.left c.loop-left.rank
+    moved _ _ _ _ _ (sym i.1.1.0 ∙ gaps_none g.L.Listener.reader c.loop-left.left c.loop-left.rank
     i.0 c.loop-left-test.false) i.1.0
 
 pub loop-left-preserved-then-not-is_holding : goal.loop-left-preserved-then-not-is_holding
 loop-left-preserved-then-not-is_holding g c w h =
-    let F = g.L.Listener.faulted in
+    let F = g.L.Listener.reader in
     let i = c.loop-left.invariant w h in
     let v = i.0 in
     let less : c.loop-left.rank < length (lives v.events) =
@@ -45,7 +45,7 @@ loop-left-preserved-then-not-is_holding g c w h =
 
 pub loop-left-preserved : goal.loop-left-preserved
 loop-left-preserved g c w h =
-    let F = g.L.Listener.faulted in
+    let F = g.L.Listener.reader in
     let i = c.loop-left.invariant w h in
     let v = i.0 in
     let less : c.loop-left.rank < length (lives v.events) =
@@ -97,7 +97,7 @@ loop-left-init g c w h =
       (
         h,
         (
-          ap (λ (k : ℕ). gaps_from g.L.Listener.faulted k 0 w) all,
+          ap (λ (k : ℕ). gaps_from g.L.Listener.reader k 0 w) all,
           subst (λ (k : ℕ). SoFar k 0 w) (sym all) (start_so_far w),
         ),
       ),

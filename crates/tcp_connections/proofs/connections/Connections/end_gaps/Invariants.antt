@@ -10,8 +10,8 @@ invariant-loop-left g l =
     (w : State) → IsState (g.L.Listener.observed l.initial.to.listener) l.initial.to.live.items
     l.initial.self w
     → (v : State) × (IsState (g.L.Listener.observed l.to.listener) l.to.live.items l.self v
-    × ((gaps_from g.L.Listener.faulted l.left l.rank v
-    ≡ gaps_from g.L.Listener.faulted (length w.held + length (lives w.events)) 0 w)
+    × ((gaps_from g.L.Listener.reader l.left l.rank v
+    ≡ gaps_from g.L.Listener.reader (length w.held + length (lives w.events)) 0 w)
     × SoFar l.left l.rank v))
 
 abbrev pub decreases-loop-left : goal.decreases-loop-left

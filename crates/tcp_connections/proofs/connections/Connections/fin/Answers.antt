@@ -8,11 +8,11 @@ use Rattle.tcp_connections.proofs.connections.Connections.fin.Goals as goal
 
 pub returns-then-not-segment-clause-does : goal.returns-then-not-segment-clause-does
 returns-then-not-segment-clause-does g c w h =
-    moved _ _ _ _ _ (no_fin g.L.Listener.faulted w c.args.id (segment_view c.args.segment)
+    moved _ _ _ _ _ (no_fin g.L.Listener.reader w c.args.id (segment_view c.args.segment)
     c.if-not-segment.true) h
 
 pub returns-clause-does : goal.returns-clause-does
 returns-clause-does g c w h = moved_ok c.fin_of_flow.result _ _ _ _ _
-    (a_fin g.L.Listener.faulted w c.args.id (segment_view c.args.segment) c.if-not-segment.false
-    ∙ ap (λ n. arrived g.L.Listener.faulted w c.args.id (End n)) (sym c.number_behind.ensures))
+    (a_fin g.L.Listener.reader w c.args.id (segment_view c.args.segment) c.if-not-segment.false
+    ∙ ap (λ n. arrived g.L.Listener.reader w c.args.id (End n)) (sym c.number_behind.ensures))
     (c.fin_of_flow.ensures.does w h)

@@ -11,16 +11,16 @@ use Rattle.tcp_connections.proofs.connections.Connections.fin_of_flow.Goals as g
 
 pub returns-in_default-clause-does : goal.returns-in_default-clause-does
 returns-in_default-clause-does g c w h =
-    makes_by _ _ _ _ _ _ (λ w. arrived g.L.Listener.faulted w c.args.id
+    makes_by _ _ _ _ _ _ (λ w. arrived g.L.Listener.reader w c.args.id
     (End c.args.number)) (λ es h0.
     let S = state_of c.args.self.now es in
-    moved _ _ _ _ _ (arrived_none g.L.Listener.faulted S c.args.id (End c.args.number)
+    moved _ _ _ _ _ (arrived_none g.L.Listener.reader S c.args.id (End c.args.number)
     (sym c.flow.ensures ∙ c.in_default.is)) h0) w h
 
 pub returns-clause-does : goal.returns-clause-does
 returns-clause-does g c w h =
     makes_by _ _ _ _ c.args.self.now _
-    (λ w. arrived g.L.Listener.faulted w c.args.id (End c.args.number)) (λ es h0.
+    (λ w. arrived g.L.Listener.reader w c.args.id (End c.args.number)) (λ es h0.
     let S : State = state_of c.args.self.now es in
     let e : flow_at S c.args.id ≡ Some c.in-Some.flow = sym c.flow.ensures ∙ c.in-Some.is in
     let f : Flow = state c.in-Some.flow S.held es in
@@ -28,7 +28,7 @@ returns-clause-does g c w h =
     let fewer : blocks_of c.fin.new.pool.held ≤ c.args.self.now.pool.blocks =
     omega (arith, h0.sound.blocks, c.fin.ensures.blocks, c.in_ok-fin.ensures.room f start) in
     moved _ _ _ _ _
-    (arrived_some g.L.Listener.faulted S c.args.id (End c.args.number) c.in-Some.flow e)
+    (arrived_some g.L.Listener.reader S c.args.id (End c.args.number) c.in-Some.flow e)
     (flow_turned _ _ _ _ c.args.self.now _ es c.args.id c.in-Some.flow c.fin.new.self _ h0 e
     (c.in_ok-fin.ensures.does f start) c.fin.ensures.id
     (c.in_ok-fin.ensures.beside f start) fewer

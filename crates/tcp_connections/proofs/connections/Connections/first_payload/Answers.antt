@@ -7,7 +7,7 @@ use Rattle.tcp_connections.proofs.connections.Connections.first_payload.Goals as
 
 pub returns-then-not-is_first-clause-does : goal.returns-then-not-is_first-clause-does
 returns-then-not-is_first-clause-does g c w h =
-    moved _ _ _ _ _ (payload_nothing g.L.Listener.faulted w c.args.id (segment_view c.args.segment)
+    moved _ _ _ _ _ (payload_nothing g.L.Listener.reader w c.args.id (segment_view c.args.segment)
     (sym (ap (λ (u : State). flow_at u c.args.id) h.same) ∙ c.requires.vacant)
     (sym (ap (λ (u : State). is_first u.ports (segment_view c.args.segment)) h.same)
     ∙ sym c.is_first.ensures ∙ c.if-not-is_first.true)) (c.pass.ensures w h)
@@ -15,7 +15,7 @@ returns-then-not-is_first-clause-does g c w h =
 pub returns-clause-does : goal.returns-clause-does
 returns-clause-does g c w h =
     moved_ok c.begin.result _ _ _ _ _
-    (payload_first g.L.Listener.faulted w c.args.id (segment_view c.args.segment)
+    (payload_first g.L.Listener.reader w c.args.id (segment_view c.args.segment)
     (sym (ap (λ (u : State). flow_at u c.args.id) h.same) ∙ c.requires.vacant)
     (sym (ap (λ (u : State). is_first u.ports (segment_view c.args.segment)) h.same)
     ∙ sym c.is_first.ensures ∙ c.if-not-is_first.false)) (c.begin.ensures.does w h)

@@ -11,20 +11,20 @@ use Rattle.tcp_connections.proofs.connections.Connections.gap.Goals as goal
 
 pub returns-in_default-clause-does : goal.returns-in_default-clause-does
 returns-in_default-clause-does g c w h =
-    makes_by _ _ _ _ _ _ (λ w. gapped g.L.Listener.faulted w c.args.id)
-    (λ es h0. moved _ _ _ _ _ (gapped_none g.L.Listener.faulted (state_of c.args.self.now es)
+    makes_by _ _ _ _ _ _ (λ w. gapped g.L.Listener.reader w c.args.id)
+    (λ es h0. moved _ _ _ _ _ (gapped_none g.L.Listener.reader (state_of c.args.self.now es)
     c.args.id (sym c.flow.ensures ∙ c.in_default.is)) h0) w h
 
 pub returns-clause-does : goal.returns-clause-does
 returns-clause-does g c w h =
-    makes_by _ _ _ _ c.args.self.now _ (λ w. gapped g.L.Listener.faulted w c.args.id) (λ es h0.
+    makes_by _ _ _ _ c.args.self.now _ (λ w. gapped g.L.Listener.reader w c.args.id) (λ es h0.
     let S : State = state_of c.args.self.now es in
     let e : flow_at S c.args.id ≡ Some c.in-Some.flow = sym c.flow.ensures ∙ c.in-Some.is in
     let f : Flow = state c.in-Some.flow S.held es in
     let start = flow_start _ _ c.args.self.now es c.in-Some.flow h0 in
     let fewer : blocks_of c.gap.new.pool.held ≤ c.args.self.now.pool.blocks =
     omega (arith, h0.sound.blocks, c.gap.ensures.blocks, c.in_ok-gap.ensures.room f start) in
-    moved _ _ _ _ _ (gapped_some g.L.Listener.faulted S c.args.id c.in-Some.flow e)
+    moved _ _ _ _ _ (gapped_some g.L.Listener.reader S c.args.id c.in-Some.flow e)
     (flow_turned _ _ _ _ c.args.self.now _ es c.args.id c.in-Some.flow c.gap.new.self _ h0 e
     (c.in_ok-gap.ensures.does f start) c.gap.ensures.id
     (c.in_ok-gap.ensures.beside f start) fewer

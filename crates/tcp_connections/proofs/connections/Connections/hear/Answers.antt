@@ -11,23 +11,23 @@ use Rattle.tcp_connections.proofs.connections.Connections.hear.Goals as goal
 
 pub returns-then-len-eq0-clause-does : goal.returns-then-len-eq0-clause-does
 returns-then-len-eq0-clause-does g c w h =
-    moved _ _ _ _ _ (none_waits g.L.Listener.faulted w c.args.id c.args.acknowledged c.args.answers
+    moved _ _ _ _ _ (none_waits g.L.Listener.reader w c.args.id c.args.acknowledged c.args.answers
     (ap (λ (u : State). length u.held) (sym h.same) ∙ sym c.len.ensures.held
     ∙ c.if-len-eq0.true)) h
 
 pub returns-in_default-clause-does : goal.returns-in_default-clause-does
 unfolding heard
 returns-in_default-clause-does g c w h =
-    makes_by _ _ _ _ _ _ (λ w. heard g.L.Listener.faulted w c.args.id c.args.acknowledged
+    makes_by _ _ _ _ _ _ (λ w. heard g.L.Listener.reader w c.args.id c.args.acknowledged
     c.args.answers) (λ es h0.
     let S = state_of c.args.self.now es in
-    moved _ _ _ _ _ (arrived_none g.L.Listener.faulted S c.args.id _
+    moved _ _ _ _ _ (arrived_none g.L.Listener.reader S c.args.id _
     (sym c.flow.ensures ∙ c.in_default.is)) h0) w h
 
 pub returns-clause-does : goal.returns-clause-does
 unfolding heard
 returns-clause-does g c w h =
-    makes_by _ _ _ _ c.args.self.now _ (λ w. heard g.L.Listener.faulted w c.args.id
+    makes_by _ _ _ _ c.args.self.now _ (λ w. heard g.L.Listener.reader w c.args.id
     c.args.acknowledged c.args.answers) (λ es h0.
     let S : State = state_of c.args.self.now es in
     let e : flow_at S c.args.id ≡ Some c.in-Some.flow =
@@ -37,7 +37,7 @@ returns-clause-does g c w h =
     let fewer : blocks_of c.hear.new.pool.held ≤ c.args.self.now.pool.blocks =
     omega (arith, h0.sound.blocks, c.hear.ensures.blocks, c.in_ok-hear.ensures.room f start) in
     moved _ _ _ _ _
-    (arrived_some g.L.Listener.faulted S c.args.id _ c.in-Some.flow e)
+    (arrived_some g.L.Listener.reader S c.args.id _ c.in-Some.flow e)
     (flow_turned _ _ _ _ c.args.self.now _ es c.args.id c.in-Some.flow
     c.hear.new.self _ h0 e
     (c.in_ok-hear.ensures.does f start) c.hear.ensures.id

@@ -9,7 +9,7 @@ use Rattle.tcp_connections.proofs.connections.Connections.make_room.Goals as goa
 pub returns-then-not-is_full-clause-does : goal.returns-then-not-is_full-clause-does
 returns-then-not-is_full-clause-does g c w h =
     let less = leb-false _ _ (sym c.is_full.ensures ∙ c.if-not-is_full.true) in
-    moved _ _ _ _ _ (room_there g.L.Listener.faulted w (omega (
+    moved _ _ _ _ _ (room_there g.L.Listener.reader w (omega (
       arith,
       less,
       h.room,
@@ -19,7 +19,7 @@ returns-then-not-is_full-clause-does g c w h =
 
 pub returns-clause-does : goal.returns-clause-does
 returns-clause-does g c w h =
-    let F = g.L.Listener.faulted in
+    let F = g.L.Listener.reader in
     let known = known_of _ _ _ _ h in
     let full = leb-true _ _ (sym c.is_full.ensures ∙ c.if-not-is_full.false) in
     let n : c.eldest.result ≡ eldest w (length w.known) =

@@ -19,13 +19,13 @@ payload-requires-clause-settled g c = (sound_of _ _ _ _ c.requires.state.1).sett
 
 pub returns-then-segment-clause-does : goal.returns-then-segment-clause-does
 returns-then-segment-clause-does g c w h =
-    moved _ _ _ _ _ (payload_reset g.L.Listener.faulted w c.args.id (segment_view c.args.segment)
+    moved _ _ _ _ _ (payload_reset g.L.Listener.reader w c.args.id (segment_view c.args.segment)
     c.in-Some.flow (sym (ap (λ (u : State). flow_at u c.args.id) h.same) ∙ sym c.flow.ensures
     ∙ c.in-Some.is) c.if-segment.true) h
 
 pub returns-clause-does : goal.returns-clause-does
 returns-clause-does g c w h =
-    makes_by _ _ _ _ c.args.self.now _ (λ w. payload_taken g.L.Listener.faulted w c.args.id
+    makes_by _ _ _ _ c.args.self.now _ (λ w. payload_taken g.L.Listener.reader w c.args.id
     (segment_view c.args.segment)) (λ es h0.
     let S : State = state_of c.args.self.now es in
     let e : flow_at S c.args.id ≡ Some c.in-Some.flow = sym c.flow.ensures ∙ c.in-Some.is in
@@ -39,11 +39,11 @@ returns-clause-does g c w h =
       c.in_ok-payload.ensures.room f start,
     ) in
     moved _ _ _ _ _
-    (payload_later g.L.Listener.faulted S c.args.id (segment_view c.args.segment) c.in-Some.flow
-    e c.if-segment.false ∙ arrived_some g.L.Listener.faulted S c.args.id
+    (payload_later g.L.Listener.reader S c.args.id (segment_view c.args.segment) c.in-Some.flow
+    e c.if-segment.false ∙ arrived_some g.L.Listener.reader S c.args.id
     (Octets (first_number (segment_view c.args.segment)) c.args.segment.payload.now S.arrival)
     c.in-Some.flow e ∙ ap (λ n. with_flow S c.args.id
-    (flow_step (setting g.L.Listener.faulted S.blocks) f
+    (flow_step (setting g.L.Listener.reader S.blocks) f
     (Octets n c.args.segment.payload.now S.arrival)))
     (sym c.first_number.ensures))
     (flow_turned _ _ _ _ c.args.self.now _ es c.args.id c.in-Some.flow c.payload.new.self _ h0 e

@@ -15,7 +15,7 @@ flow_id-id-requires g c =
 
 pub returns-then-not-segment-clause-does : goal.returns-then-not-segment-clause-does
 returns-then-not-segment-clause-does g c w h =
-    moved _ _ _ _ _ (no_reset g.L.Listener.faulted w c.args.place c.args.side
+    moved _ _ _ _ _ (no_reset g.L.Listener.reader w c.args.place c.args.side
     (segment_view c.args.segment)
     (ap (λ (b : Bool). b && is_near_due (flow_of_side w c.args.place c.args.side)
     c.args.segment.sequence) c.if-not-segment.true)) h
@@ -33,7 +33,7 @@ returns-then-not-is_near_due-clause-does g c w h =
     let counts : is_reset (flow_of_side w c.args.place c.args.side) S ≡ false =
     ap (λ (b : Bool). b && is_near_due (flow_of_side w c.args.place c.args.side) S.sequence)
     c.if-not-segment.false ∙ near in
-    moved _ _ _ _ _ (no_reset g.L.Listener.faulted w c.args.place c.args.side S counts) h
+    moved _ _ _ _ _ (no_reset g.L.Listener.reader w c.args.place c.args.side S counts) h
 
 pub returns-clause-does : goal.returns-clause-does
 returns-clause-does g c w h =
@@ -49,5 +49,5 @@ returns-clause-does g c w h =
     ap (λ (b : Bool). b && is_near_due (flow_of_side w c.args.place c.args.side) S.sequence)
     c.if-not-segment.false ∙ near in
     moved_ok c.end_by.result _ _ _ _ _
-    (a_reset g.L.Listener.faulted w c.args.place c.args.side S counts)
+    (a_reset g.L.Listener.reader w c.args.place c.args.side S counts)
     (c.end_by.ensures.does w h)

@@ -12,7 +12,7 @@ empty-requires-2 g c = record {
 pub returns-clause-does : goal.returns-clause-does
 unfolding shown
 returns-clause-does g c w h =
-    let F = g.L.Listener.faulted in
+    let F = g.L.Listener.reader in
     let own : c.flow_id.result ≡ flow_id c.args.room c.args.side = c.flow_id.ensures.id in
     let other : c.flow_id-2.result ≡ flow_id c.args.room (opposite c.args.side) =
     c.flow_id-2.ensures.id ∙ ap (flow_id c.args.room) c.other.ensures in

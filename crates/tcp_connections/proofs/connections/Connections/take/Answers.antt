@@ -23,7 +23,7 @@ take_unknown-requires-clause-state g c = (
 
 pub returns-in_default-clause-does : goal.returns-in_default-clause-does
 returns-in_default-clause-does g c w h =
-    let F = g.L.Listener.faulted in
+    let F = g.L.Listener.reader in
     let V = segment_view c.args.segment in
     let pair = c.pair_of-side.result.0 in
     let known = known_of _ _ _ _ h in
@@ -39,7 +39,7 @@ returns-in_default-clause-does g c w h =
 pub returns-in_default-clause-count : goal.returns-in_default-clause-count
 returns-in_default-clause-count g c =
     segments_of c.take_unknown.result _ _ _ _ _
-    (step_segments g.L.Listener.faulted c.requires.state.0 (segment_view c.args.segment)
+    (step_segments g.L.Listener.reader c.requires.state.0 (segment_view c.args.segment)
     ∙ ap (λ n. n + 1) (sym (ap (λ (u : State). u.segments) c.requires.state.1.same)))
     (returns-in_default-clause-does g c c.requires.state.0 c.requires.state.1)
 
@@ -58,7 +58,7 @@ keep_syn-requires g c =
 
 pub returns-then-is_kept-clause-does : goal.returns-then-is_kept-clause-does
 returns-then-is_kept-clause-does g c w h =
-    let F = g.L.Listener.faulted in
+    let F = g.L.Listener.reader in
     let V = segment_view c.args.segment in
     let pair = c.pair_of-side.result.0 in
     let known = known_of _ _ _ _ h in
@@ -126,13 +126,13 @@ take_unknown-requires-then-is_anew-clause-new g c =
     ap (place_of pair) (sym (known_of _ _ _ _ h)) ∙ sym c.place_of.ensures.place
     ∙ c.in-Some.is in
     ap (place_of pair) (known_of _ _ _ _ n
-    ∙ shown_known g.L.Listener.faulted v c.in-Some.place (room_at v c.in-Some.place)
+    ∙ shown_known g.L.Listener.reader v c.in-Some.place (room_at v c.in-Some.place)
     c.pair_of-side.result.1 c.pair_of-side.result.1 Syn)
     ∙ forgotten_unknown pair w.known c.in-Some.place h.sound.order some
 
 pub returns-then-is_anew-clause-does : goal.returns-then-is_anew-clause-does
 returns-then-is_anew-clause-does g c w h =
-    let F = g.L.Listener.faulted in
+    let F = g.L.Listener.reader in
     let V = segment_view c.args.segment in
     let pair = c.pair_of-side.result.0 in
     let known = known_of _ _ _ _ h in
@@ -166,7 +166,7 @@ returns-then-is_anew-clause-does g c w h =
 pub returns-then-is_anew-clause-count : goal.returns-then-is_anew-clause-count
 returns-then-is_anew-clause-count g c =
     segments_of c.take_unknown-then-is_anew.result _ _ _ _ _
-    (step_segments g.L.Listener.faulted c.requires.state.0 (segment_view c.args.segment)
+    (step_segments g.L.Listener.reader c.requires.state.0 (segment_view c.args.segment)
     ∙ ap (λ n. n + 1) (sym (ap (λ (u : State). u.segments) c.requires.state.1.same)))
     (returns-then-is_anew-clause-does g c c.requires.state.0 c.requires.state.1)
 
@@ -180,7 +180,7 @@ take_known-requires-clause-state g c = (
 
 pub returns-clause-does : goal.returns-clause-does
 returns-clause-does g c w h =
-    let F = g.L.Listener.faulted in
+    let F = g.L.Listener.reader in
     let V = segment_view c.args.segment in
     let pair = c.pair_of-side.result.0 in
     let known = known_of _ _ _ _ h in
@@ -210,6 +210,6 @@ returns-clause-does g c w h =
 pub returns-clause-count : goal.returns-clause-count
 returns-clause-count g c =
     segments_of c.take_known.result _ _ _ _ _
-    (step_segments g.L.Listener.faulted c.requires.state.0 (segment_view c.args.segment)
+    (step_segments g.L.Listener.reader c.requires.state.0 (segment_view c.args.segment)
     ∙ ap (λ n. n + 1) (sym (ap (λ (u : State). u.segments) c.requires.state.1.same)))
     (returns-clause-does g c c.requires.state.0 c.requires.state.1)

@@ -52,7 +52,7 @@ payload-requires-clause-within g c =
     (noted _ _ c.args.self.now _ w c.room-room.result h
     (λ e. ap (λ (ns : List ℕ). record (state_of c.args.self.now e) { lasts = ns })
     c.note.ensures.last) refl refl) in
-    let k = acknowledgement_kept g.L.Listener.faulted
+    let k = acknowledgement_kept g.L.Listener.reader
     (record w { lasts = set w.lasts c.room-room.result w.segments }) c.flow_id.result
     (segment_view c.args.segment) in
     let sound = sound_of _ _ _ _ h in
@@ -78,7 +78,7 @@ payload-requires-clause-taken g c =
     (noted _ _ c.args.self.now _ w c.room-room.result h
     (λ e. ap (λ (ns : List ℕ). record (state_of c.args.self.now e) { lasts = ns })
     c.note.ensures.last) refl refl) in
-    let k = acknowledgement_kept g.L.Listener.faulted
+    let k = acknowledgement_kept g.L.Listener.reader
     (record w { lasts = set w.lasts c.room-room.result w.segments }) c.flow_id.result
     (segment_view c.args.segment) in
     let sound = sound_of _ _ _ _ h in
@@ -117,7 +117,7 @@ reset-requires-clause-state g c = (
 
 pub reset-requires-clause-place : goal.reset-requires-clause-place
 reset-requires-clause-place g c =
-    let F = g.L.Listener.faulted in
+    let F = g.L.Listener.reader in
     let V = segment_view c.args.segment in
     let w = c.requires.state.0 in
     let h = c.requires.state.1 in
@@ -157,7 +157,7 @@ pub returns-clause-does : goal.returns-clause-does
 returns-clause-does g c w h =
     let at = c.room-room.ensures ∙ ap (λ (u : State). get_or u.rooms c.args.place 0) h.same in
     moved_ok c.hear.result _ _ _ _ _
-    (known_is g.L.Listener.faulted w c.args.place (segment_view c.args.segment) c.room-room.result
+    (known_is g.L.Listener.reader w c.args.place (segment_view c.args.segment) c.room-room.result
     c.args.side c.flow_id-id.result c.flow_id.result at (sym c.requires.flow)
     c.flow_id-id.ensures.id
     (c.flow_id.ensures.id ∙ ap (flow_id c.room-room.result) c.other.ensures))

@@ -11,7 +11,7 @@ use Rattle.tcp_connections.proofs.connections.Connections.take_unknown.Goals as 
 
 pub returns-then-not-is_first-clause-does : goal.returns-then-not-is_first-clause-does
 returns-then-not-is_first-clause-does g c w h =
-    moved _ _ _ _ _ (unknown_nothing g.L.Listener.faulted w (segment_view c.args.segment)
+    moved _ _ _ _ _ (unknown_nothing g.L.Listener.reader w (segment_view c.args.segment)
     (sym (ap (λ (u : State). is_first u.ports (segment_view c.args.segment)) h.same)
     ∙ sym c.is_first.ensures ∙ c.if-not-is_first.true)) (c.pass.ensures w h)
 
@@ -27,7 +27,7 @@ make_known-requires-clause-new g c =
     let h = c.requires.state.1 in
     let n = c.in_ok-make_room.ensures.does w h in
     ap (place_of c.args.pair) (known_of _ _ _ _ n)
-    ∙ (room_enough g.L.Listener.faulted w c.args.pair h.sound
+    ∙ (room_enough g.L.Listener.reader w c.args.pair h.sound
     (sym (ap (place_of c.args.pair) (known_of _ _ _ _ h)) ∙ c.requires.new)).0
 
 pub make_known-requires-clause-room : goal.make_known-requires-clause-room
@@ -35,7 +35,7 @@ make_known-requires-clause-room g c =
     let w = c.requires.state.0 in
     let h = c.requires.state.1 in
     let n = c.in_ok-make_room.ensures.does w h in
-    let less = (room_enough g.L.Listener.faulted w c.args.pair h.sound
+    let less = (room_enough g.L.Listener.reader w c.args.pair h.sound
     (sym (ap (place_of c.args.pair) (known_of _ _ _ _ h)) ∙ c.requires.new)).1 in
     omega (
       arith,
@@ -50,10 +50,10 @@ flow_id-id-requires g c =
     let w = c.requires.state.0 in
     let h = c.requires.state.1 in
     let n = c.in_ok-make_room.ensures.does w h in
-    let less = (room_enough g.L.Listener.faulted w c.args.pair h.sound
+    let less = (room_enough g.L.Listener.reader w c.args.pair h.sound
     (sym (ap (place_of c.args.pair) (known_of _ _ _ _ h)) ∙ c.requires.new)).1 in
     let room = c.in_ok-room.ensures.room ∙ ap next_room (ap (λ (u : State). u.free) n.same) in
-    omega (arith, room, next_below (with_room g.L.Listener.faulted w) n.sound less, n.sound.most)
+    omega (arith, room, next_below (with_room g.L.Listener.reader w) n.sound less, n.sound.most)
 
 pub begin-requires-clause-state : goal.begin-requires-clause-state
 begin-requires-clause-state g c = (
@@ -67,18 +67,18 @@ begin-requires-clause-within g c =
     let w = c.requires.state.0 in
     let h = c.requires.state.1 in
     let n = c.in_ok-make_room.ensures.does w h in
-    let less = (room_enough g.L.Listener.faulted w c.args.pair h.sound
+    let less = (room_enough g.L.Listener.reader w c.args.pair h.sound
     (sym (ap (place_of c.args.pair) (known_of _ _ _ _ h)) ∙ c.requires.new)).1 in
     let room = c.in_ok-room.ensures.room ∙ ap next_room (ap (λ (u : State). u.free) n.same) in
     let m = c.in_ok-room.ensures.does _ n in
     omega (
       arith,
       room,
-      next_below (with_room g.L.Listener.faulted w) n.sound less,
+      next_below (with_room g.L.Listener.reader w) n.sound less,
       n.sound.flows,
       c.flow_id-id.ensures.bound,
       ap (λ (u : State). length u.flows) m.same,
-      made_flows (with_room g.L.Listener.faulted w) c.args.pair,
+      made_flows (with_room g.L.Listener.reader w) c.args.pair,
       c.make_known.new.self.flows.ok.0,
     )
 
@@ -87,7 +87,7 @@ begin-requires-clause-taken g c =
     let w = c.requires.state.0 in
     let h = c.requires.state.1 in
     let n = c.in_ok-make_room.ensures.does w h in
-    let less = (room_enough g.L.Listener.faulted w c.args.pair h.sound
+    let less = (room_enough g.L.Listener.reader w c.args.pair h.sound
     (sym (ap (place_of c.args.pair) (known_of _ _ _ _ h)) ∙ c.requires.new)).1 in
     let room = c.in_ok-room.ensures.room ∙ ap next_room (ap (λ (u : State). u.free) n.same) in
     let m = c.in_ok-room.ensures.does _ n in
@@ -95,22 +95,22 @@ begin-requires-clause-taken g c =
     subst (λ (rs : List ℕ). 0 < times (c.flow_id-id.result / 2) rs)
     (sym (ap (λ (u : State). u.rooms) m.same))
     (subst (λ (k : ℕ).
-    0 < times k (made_known (with_room g.L.Listener.faulted w) c.args.pair).rooms) (sym id)
-    (next_taken (with_room g.L.Listener.faulted w) c.args.pair))
+    0 < times k (made_known (with_room g.L.Listener.reader w) c.args.pair).rooms) (sym id)
+    (next_taken (with_room g.L.Listener.reader w) c.args.pair))
 
 pub begin-requires-clause-vacant : goal.begin-requires-clause-vacant
 begin-requires-clause-vacant g c =
     let w = c.requires.state.0 in
     let h = c.requires.state.1 in
     let n = c.in_ok-make_room.ensures.does w h in
-    let less = (room_enough g.L.Listener.faulted w c.args.pair h.sound
+    let less = (room_enough g.L.Listener.reader w c.args.pair h.sound
     (sym (ap (place_of c.args.pair) (known_of _ _ _ _ h)) ∙ c.requires.new)).1 in
     let room = c.in_ok-room.ensures.room ∙ ap next_room (ap (λ (u : State). u.free) n.same) in
     let m = c.in_ok-room.ensures.does _ n in
     let id = c.flow_id-id.ensures.id ∙ ap (λ (r : ℕ). flow_id r c.args.side) room in
     ap (λ (u : State). flow_at u c.flow_id-id.result) m.same
-    ∙ ap (flow_at (made_known (with_room g.L.Listener.faulted w) c.args.pair)) id
-    ∙ next_vacant (with_room g.L.Listener.faulted w) c.args.pair c.args.side n.sound less
+    ∙ ap (flow_at (made_known (with_room g.L.Listener.reader w) c.args.pair)) id
+    ∙ next_vacant (with_room g.L.Listener.reader w) c.args.pair c.args.side n.sound less
 
 pub fin-requires : goal.fin-requires
 fin-requires g c =
@@ -125,7 +125,7 @@ fin-requires g c =
 
 pub returns-clause-does : goal.returns-clause-does
 returns-clause-does g c w h =
-    let F = g.L.Listener.faulted in
+    let F = g.L.Listener.reader in
     let V = segment_view c.args.segment in
     let v : State = with_room F w in
     let n = c.in_ok-make_room.ensures.does w h in

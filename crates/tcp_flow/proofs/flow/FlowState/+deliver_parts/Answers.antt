@@ -11,7 +11,7 @@ use Rattle.tcp_flow.proofs.flow.FlowState.+deliver_parts.Goals.{then-is_empty-vi
 
 pub returns-then-is_empty-clause-does : goal.returns-then-is_empty-clause-does
 returns-then-is_empty-clause-does g t c held f arrival h =
-    let F = g.T.Listener.faulted in
+    let F = g.T.Listener.reader in
     let s = c.args.self.now in
     let xss = cut_up c.args.octets.now c.args.parts.now in
     let G = IsState (g.T.Listener.observed c.args.to.now) s held in
@@ -27,7 +27,7 @@ returns-then-is_empty-clause-does g t c held f arrival h =
 
 pub returns-clause-does : goal.returns-clause-does
 returns-clause-does g t c held f arrival h =
-    let F = g.T.Listener.faulted in
+    let F = g.T.Listener.reader in
     let s = c.args.self.now in
     let xs = c.args.octets.now in
     let ks = c.args.parts.now in

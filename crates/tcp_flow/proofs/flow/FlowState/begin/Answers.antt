@@ -22,7 +22,7 @@ pub returns-clause-gapless : goal.returns-clause-gapless
 unfolding first_payload step
 returns-clause-gapless g c payloads events o t =
     let f = fresh c.args.id c.args.number c.args.pool.now.held events in
-    let A = setting g.T.Listener.faulted c.args.pool.now.blocks in
+    let A = setting g.T.Listener.reader c.args.pool.now.blocks in
     let e : c.new-flow.result.id ≡ c.args.id =
     ap (λ (d : Flow). d.id) (c.new-flow.ensures c.args.pool.now.held events) in
     subst (λ id. IsGapless (payloads ++ (payload id c.args.number c.args.octets.now

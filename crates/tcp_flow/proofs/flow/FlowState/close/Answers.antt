@@ -1,6 +1,6 @@
 use Rattle.std.proofs.Common.{is_some, refl, sym, subst, ◌∙◌}
 use Rattle.std.proofs.lemmas.Bool.{cond-true, cond-false}
-use Rattle.tcp_flow.specs.Flow.{with_event, stopped, closed}
+use Rattle.tcp_flow.specs.Flow.{with_event, lives, out_of_step, stopped, closed}
 use Rattle.tcp_flow.specs.State.{state, IsState}
 use Rattle.tcp_flow.proofs.States.{by_state}
 use Rattle.tcp_flow.proofs.Truth.{true_keeps}
@@ -12,24 +12,26 @@ returns-in_ok-closes-clause-does g c held f h =
     let G = IsState (g.T.Listener.observed c.closes.new.self) _ held in
     by_state (λ f. G (closed f c.args.cause)) _ c.args.self.now held f h (λ events o.
     let s = state c.args.self.now held events in
-    subst G (sym (cond-true (is_some c.args.self.now.live) (stopped s s.next c.args.cause) s
-    (sym c.is_live.ensures ∙ c.if-is_live.true)))
+    subst G (sym (cond-true (lives s.live s.waits) (stopped s s.next c.args.cause)
+    (out_of_step s)
+    (sym c.is_live-is_live.ensures ∙ c.if-is_live.true)))
     (record { observed = c.in_ok-closes.ensures.does events o; same = refl }))
 
 pub returns-else-is_live-clause-does : goal.returns-else-is_live-clause-does
 unfolding closed with_event
 returns-else-is_live-clause-does g c held f h =
-    let G = IsState (g.T.Listener.observed c.args.to.now) c.args.self.now held in
+    let G = IsState (g.T.Listener.observed c.args.to.now) _ held in
     by_state (λ f. G (closed f c.args.cause)) _ c.args.self.now held f h (λ events o.
     let s = state c.args.self.now held events in
-    subst G (sym (cond-false (is_some c.args.self.now.live) (stopped s s.next c.args.cause) s
-    (sym c.is_live.ensures ∙ c.if-is_live.false)))
+    subst G (sym (cond-false (lives s.live s.waits) (stopped s s.next c.args.cause)
+    (out_of_step s)
+    (sym c.is_live-is_live.ensures ∙ c.if-is_live.false)))
     (record { observed = o; same = refl }))
 
 pub returns-in_ok-closes-clause-gapless : goal.returns-in_ok-closes-clause-gapless
 returns-in_ok-closes-clause-gapless g c payloads held f h t =
-    (true_keeps g.T.Listener.faulted payloads).closes f c.args.cause t
+    (true_keeps g.T.Listener.reader payloads).closes f c.args.cause t
 
 pub returns-else-is_live-clause-gapless : goal.returns-else-is_live-clause-gapless
 returns-else-is_live-clause-gapless g c payloads held f h t =
-    (true_keeps g.T.Listener.faulted payloads).closes f c.args.cause t
+    (true_keeps g.T.Listener.reader payloads).closes f c.args.cause t

@@ -8,7 +8,7 @@ use Rattle.tcp_flow.proofs.flow.FlowState.deliver.Goals as goal
 pub returns-in_ok-closes-clause-does : goal.returns-in_ok-closes-clause-does
 unfolding with_event
 returns-in_ok-closes-clause-does g c held f arrival h =
-    let F = g.T.Listener.faulted in
+    let F = g.T.Listener.reader in
     let p = payload c.args.self.now.id c.args.number c.args.octets.now arrival in
     let G = IsState (g.T.Listener.observed c.closes.new.self) _ held in
     by_state (λ f. G (delivered F f p)) _ c.args.self.now held f h (λ events o.
@@ -23,7 +23,7 @@ returns-in_ok-closes-clause-does g c held f arrival h =
 pub returns-in_default-clause-does : goal.returns-in_default-clause-does
 unfolding with_event
 returns-in_default-clause-does g c held f arrival h =
-    let F = g.T.Listener.faulted in
+    let F = g.T.Listener.reader in
     let p = payload c.args.self.now.id c.args.number c.args.octets.now arrival in
     let G = IsState (g.T.Listener.observed c.delivers.new.self) _ held in
     by_state (λ f. G (delivered F f p)) _ c.args.self.now held f h (λ events o.

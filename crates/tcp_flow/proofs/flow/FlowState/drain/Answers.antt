@@ -7,7 +7,7 @@ use Rattle.tcp_waiting.proofs.Order.{first_within}
 use Rattle.tcp_flow.proofs.Steps.{flowing_none, flowing_stays, drain_takes, length_remove, due_now, due_reached, due_not}
 use Rattle.tcp_flow.proofs.States.{by_state, held_of}
 use Rattle.tcp_flow.proofs.flow.FlowState.drain.Goals as goal
-use Rattle.tcp_flow.proofs.flow.FlowState.drain.Goals.{else-is_live-via-then-is_live+else-is_to_come, else-is_live-via-else-is_live}
+use Rattle.tcp_flow.proofs.flow.FlowState.drain.Goals.{else-is_in_step-via-then-is_in_step+else-is_to_come, else-is_in_step-via-else-is_in_step}
 
 pub loop-first-init : goal.loop-first-init
 unfolding drained
@@ -17,7 +17,7 @@ loop-first-init g c = (
     f,
     (
       h,
-      ap (λ (ps : List Payload). drained_at_most g.T.Listener.faulted (length ps) f)
+      ap (λ (ps : List Payload). drained_at_most g.T.Listener.reader (length ps) f)
           (held_of _ _ _ f h),
     ),
   )),
@@ -35,7 +35,7 @@ number-number-requires g c =
 pub returns-then-is_to_come-clause-does : goal.returns-then-is_to_come-clause-does
 unfolding first_of at
 returns-then-is_to_come-clause-does g c f h =
-    let F = g.T.Listener.faulted in
+    let F = g.T.Listener.reader in
     let s = c.loop-first.self in
     let held = c.loop-first.pool.held in
     let G = IsState (g.T.Listener.observed c.loop-first.to) s held in
@@ -43,7 +43,7 @@ returns-then-is_to_come-clause-does g c f h =
     by_state (λ d. drained_at_most F (length held) d ≡ drained F f → G (drained F f)) _ s held i.0
     i.1.0 (λ events o e.
     let d : is_due (state s held events) c.in-Some.index ≡ false =
-    due_not (state s held events) c.in-Some.index (sym c.is_live.ensures ∙ c.if-is_live.true)
+    due_not (state s held events) c.in-Some.index (sym c.is_in_step.ensures ∙ c.if-is_in_step.true)
     (rw (← c.number-number.ensures, ← c.is_to_come.ensures) c.if-is_to_come.true) in
     subst G (sym (flowing_stays F (length held) (state s held events) c.in-Some.index
     (sym c.loop-first.invariant.0 ∙ c.in-Some.is) d) ∙ e)
@@ -84,17 +84,18 @@ loop-first-smaller g c =
 pub loop-first-preserved : goal.loop-first-preserved
 unfolding at
 loop-first-preserved g c =
-    let F = g.T.Listener.faulted in
+    let F = g.T.Listener.reader in
     let s = c.loop-first.self in
     let held = c.loop-first.pool.held in
     let index = c.in-Some.index in
     let rest = remove held index in
     let due : (events : List Event) → is_due (state s held events) index ≡ true = λ events.
-    elim c.else-is_live.branch [
-      | else-is_live-via-then-is_live+else-is_to_come w ↦ due_reached (state s held events) index
+    elim c.else-is_in_step.branch [
+      | else-is_in_step-via-then-is_in_step+else-is_to_come w ↦
+          due_reached (state s held events) index
           (rw (← c.number-number.ensures, ← w.is_to_come.ensures) w.if-is_to_come.false)
-      | else-is_live-via-else-is_live w ↦ due_now (state s held events) index
-          (sym c.is_live.ensures ∙ w.if-is_live.false)
+      | else-is_in_step-via-else-is_in_step w ↦ due_now (state s held events) index
+          (sym c.is_in_step.ensures ∙ w.if-is_in_step.false)
     ] in (
       c.first-first-in-Some.ensures,
       (λ f h.
@@ -121,7 +122,7 @@ loop-first-preserved g c =
 pub returns-clause-does : goal.returns-clause-does
 unfolding first_of
 returns-clause-does g c f h =
-    let F = g.T.Listener.faulted in
+    let F = g.T.Listener.reader in
     let s = c.loop-first.self in
     let held = c.loop-first.pool.held in
     let G = IsState (g.T.Listener.observed c.loop-first.to) s held in

@@ -10,8 +10,8 @@ invariant-loop-first g l =
     × ((f : Flow) → IsState (g.T.Listener.observed l.initial.to) l.initial.self l.initial.pool.held
     f
     → (d : Flow) × (IsState (g.T.Listener.observed l.to) l.self l.pool.held d
-    × (drained_at_most g.T.Listener.faulted (length l.pool.held) d
-    ≡ drained g.T.Listener.faulted f)))
+    × (drained_at_most g.T.Listener.reader (length l.pool.held) d
+    ≡ drained g.T.Listener.reader f)))
     × (l.self.id ≡ l.initial.self.id)
     × (l.pool.blocks ≡ l.initial.pool.blocks)
 

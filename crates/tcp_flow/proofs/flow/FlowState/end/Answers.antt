@@ -10,7 +10,7 @@ use Rattle.tcp_flow.proofs.flow.FlowState.end.Goals as goal
 pub returns-then-fin_is_reached-clause-does : goal.returns-then-fin_is_reached-clause-does
 unfolding ended
 returns-then-fin_is_reached-clause-does g c f h =
-    let F = g.T.Listener.faulted in
+    let F = g.T.Listener.reader in
     let s = c.args.self.now in
     let held = c.args.pool.now.held in
     by_state (λ f. OnOk c.drain.result (IsState (g.T.Listener.observed c.drain.new.to)
@@ -26,7 +26,7 @@ returns-then-fin_is_reached-clause-does g c f h =
 pub returns-clause-does : goal.returns-clause-does
 unfolding ended
 returns-clause-does g c f h =
-    let F = g.T.Listener.faulted in
+    let F = g.T.Listener.reader in
     let s = c.args.self.now in
     let held = c.args.pool.now.held in
     let G = IsState (g.T.Listener.observed c.args.to.now) s held in

@@ -16,19 +16,19 @@ returns-clause-does g c f h = c.in_ok-take_fin.ensures.does f h
 
 pub returns-clause-gapless : goal.returns-clause-gapless
 unfolding step
-returns-clause-gapless g c payloads f h t = fin_true g.T.Listener.faulted payloads f c.args.number t
+returns-clause-gapless g c payloads f h t = fin_true g.T.Listener.reader payloads f c.args.number t
 
 pub returns-clause-room : goal.returns-clause-room
 returns-clause-room g c f h =
     let n = c.in_ok-take_fin.ensures.does f h in
-    let less = fin_blocks g.T.Listener.faulted f c.args.number in
+    let less = fin_blocks g.T.Listener.reader f c.args.number in
     subst (λ ps. blocks_of c.take_fin.new.pool.held ≤ blocks_of ps) (sym (held_of _ _ _ f h))
     (subst (λ ps. blocks_of ps ≤ blocks_of f.held) (sym (held_of _ _ _ _ n)) less)
 
 pub returns-clause-settled : goal.returns-clause-settled
 returns-clause-settled g c f h t =
     let n = c.in_ok-take_fin.ensures.does f h in
-    settled_state _ _ _ _ n (fin_settled g.T.Listener.faulted f c.args.number
+    settled_state _ _ _ _ n (fin_settled g.T.Listener.reader f c.args.number
     (settled_flow _ _ _ f h t) (next_of _ _ _ _ n (omega arith)))
 
 pub returns-clause-beside : goal.returns-clause-beside
@@ -36,4 +36,4 @@ unfolding step
 returns-clause-beside g c f h =
     let n = c.in_ok-take_fin.ensures.does f h in
     others_of _ _ c.args.self.now c.take_fin.new.self c.args.pool.now.held c.take_fin.new.pool.held
-    f _ h n (step_others (setting g.T.Listener.faulted 0) f (End c.args.number))
+    f _ h n (step_others (setting g.T.Listener.reader 0) f (End c.args.number))

@@ -1,10 +1,9 @@
 use Rattle.std.proofs.Common.{◌≡◌, ◌<◌, ◌≤◌, length, is_some, true, subst, sym, arith}
 use Rattle.tcp_waiting.specs.Payload.{blocks_of}
-use Rattle.tcp_flow.specs.declared.flow.CloseCause.TheVariants.{Gap}
-use Rattle.tcp_flow.specs.Flow.{Flow, closed, gap, first_of}
+use Rattle.tcp_flow.specs.Flow.{Flow, parted, passed_over, gap, first_of}
 use Rattle.tcp_flow.proofs.Direct.{gap_settled}
 use Rattle.tcp_flow.proofs.Room.{gap_blocks, gap_fewer}
-use Rattle.tcp_flow.proofs.States.{held_of, next_of, settled_state}
+use Rattle.tcp_flow.proofs.States.{held_of, next_of, parted_on, settled_state}
 use Rattle.tcp_flow.proofs.Truth.{gap_true}
 use Rattle.tcp_flow.proofs.Others.{gap_others}
 use Rattle.tcp_flow.proofs.States.{others_of}
@@ -12,43 +11,49 @@ use Rattle.tcp_flow.proofs.flow.FlowState.gap.Goals as goal
 
 pub returns-clause-does : goal.returns-clause-does
 unfolding gap
-returns-clause-does g c f h = c.in_ok-go_on.ensures.does (closed f Gap)
-    (c.in_ok-close.ensures.does c.args.pool.now.held f h)
+returns-clause-does g c f h =
+    let over = c.in_ok-passed.ensures.does f h in
+    c.in_ok-go_on.ensures.does (parted f (passed_over g.T.Listener.reader f))
+    (parted_on _ _ _ f _ _ over.1 (c.in_ok-part.ensures.does _ f over.0))
 
 pub returns-clause-gapless : goal.returns-clause-gapless
-returns-clause-gapless g c payloads f h t = gap_true g.T.Listener.faulted payloads f t
+returns-clause-gapless g c payloads f h t = gap_true g.T.Listener.reader payloads f t
 
 pub returns-clause-room : goal.returns-clause-room
 unfolding gap
 returns-clause-room g c f h =
-    let n = c.in_ok-go_on.ensures.does (closed f Gap)
-    (c.in_ok-close.ensures.does c.args.pool.now.held f h) in
-    let less = gap_blocks g.T.Listener.faulted f in
+    let over = c.in_ok-passed.ensures.does f h in
+    let n = c.in_ok-go_on.ensures.does (parted f (passed_over g.T.Listener.reader f))
+    (parted_on _ _ _ f _ _ over.1 (c.in_ok-part.ensures.does _ f over.0)) in
+    let less = gap_blocks g.T.Listener.reader f in
     subst (λ ps. blocks_of c.go_on.new.pool.held ≤ blocks_of ps) (sym (held_of _ _ _ f h))
     (subst (λ ps. blocks_of ps ≤ blocks_of f.held) (sym (held_of _ _ _ _ n)) less)
 
 pub returns-clause-shorter : goal.returns-clause-shorter
 unfolding gap first_of
 returns-clause-shorter g c f h some =
-    let n = c.in_ok-go_on.ensures.does (closed f Gap)
-    (c.in_ok-close.ensures.does c.args.pool.now.held f h) in
+    let over = c.in_ok-passed.ensures.does f h in
+    let n = c.in_ok-go_on.ensures.does (parted f (passed_over g.T.Listener.reader f))
+    (parted_on _ _ _ f _ _ over.1 (c.in_ok-part.ensures.does _ f over.0)) in
     let own : is_some (first_of f) ≡ true =
     subst (λ (d : Flow). is_some (first_of d) ≡ true) h.same some in
-    let less = gap_fewer g.T.Listener.faulted f own in
+    let less = gap_fewer g.T.Listener.reader f own in
     subst (λ ps. length c.go_on.new.pool.held < length ps) (sym (held_of _ _ _ f h))
     (subst (λ ps. length ps < length f.held) (sym (held_of _ _ _ _ n)) less)
 
 pub returns-clause-settled : goal.returns-clause-settled
 unfolding gap
 returns-clause-settled g c f h =
-    let n = c.in_ok-go_on.ensures.does (closed f Gap)
-    (c.in_ok-close.ensures.does c.args.pool.now.held f h) in
-    settled_state _ _ _ _ n (gap_settled g.T.Listener.faulted f (next_of _ _ _ _ n (omega arith)))
+    let over = c.in_ok-passed.ensures.does f h in
+    let n = c.in_ok-go_on.ensures.does (parted f (passed_over g.T.Listener.reader f))
+    (parted_on _ _ _ f _ _ over.1 (c.in_ok-part.ensures.does _ f over.0)) in
+    settled_state _ _ _ _ n (gap_settled g.T.Listener.reader f (next_of _ _ _ _ n (omega arith)))
 
 pub returns-clause-beside : goal.returns-clause-beside
 unfolding gap
 returns-clause-beside g c f h =
-    let n = c.in_ok-go_on.ensures.does (closed f Gap)
-    (c.in_ok-close.ensures.does c.args.pool.now.held f h) in
+    let over = c.in_ok-passed.ensures.does f h in
+    let n = c.in_ok-go_on.ensures.does (parted f (passed_over g.T.Listener.reader f))
+    (parted_on _ _ _ f _ _ over.1 (c.in_ok-part.ensures.does _ f over.0)) in
     others_of _ _ c.args.self.now c.go_on.new.self c.args.pool.now.held c.go_on.new.pool.held f
-    (gap g.T.Listener.faulted f) h n (gap_others g.T.Listener.faulted f)
+    (gap g.T.Listener.reader f) h n (gap_others g.T.Listener.reader f)

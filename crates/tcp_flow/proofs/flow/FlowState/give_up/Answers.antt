@@ -12,7 +12,7 @@ loop-left-init g c = (
     (
       h,
       ap (λ (k : ℕ).
-          heard g.T.Listener.faulted k c.args.packet f) refl,
+          heard g.T.Listener.reader k c.args.packet f) refl,
     ),
   )),
   refl,
@@ -21,7 +21,7 @@ loop-left-init g c = (
 
 pub returns-then-not-is_lost-clause-does : goal.returns-then-not-is_lost-clause-does
 returns-then-not-is_lost-clause-does g c f h =
-    let F = g.T.Listener.faulted in
+    let F = g.T.Listener.reader in
     let s = c.loop-left.self in
     let held = c.loop-left.pool.held in
     let G = IsState (g.T.Listener.observed c.loop-left.to) s held in
@@ -37,7 +37,7 @@ returns-then-not-is_lost-clause-does g c f h =
 
 pub loop-left-preserved : goal.loop-left-preserved
 loop-left-preserved g c =
-    let F = g.T.Listener.faulted in
+    let F = g.T.Listener.reader in
     let s = c.loop-left.self in
     let held = c.loop-left.pool.held in
     let n = c.args.packet in (
@@ -63,7 +63,7 @@ loop-left-preserved g c =
 
 pub returns-clause-does : goal.returns-clause-does
 returns-clause-does g c f h =
-    let F = g.T.Listener.faulted in
+    let F = g.T.Listener.reader in
     let i = c.loop-left.invariant.0 f h in
     let all = ap (λ (k : ℕ). heard F k c.args.packet f) c.len-left.ensures.held in
     subst (IsState (g.T.Listener.observed c.loop-left.to) c.loop-left.self c.loop-left.pool.held)

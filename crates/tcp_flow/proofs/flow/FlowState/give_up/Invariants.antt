@@ -7,8 +7,8 @@ abbrev pub invariant-loop-left : goal.invariant-loop-left
 invariant-loop-left g l =
     ((f : Flow) → IsState (g.T.Listener.observed l.initial.to) l.initial.self l.initial.pool.held f
     → (d : Flow) × (IsState (g.T.Listener.observed l.to) l.self l.pool.held d
-    × (heard g.T.Listener.faulted l.left l.packet d
-    ≡ heard g.T.Listener.faulted l.initial.left l.packet f)))
+    × (heard g.T.Listener.reader l.left l.packet d
+    ≡ heard g.T.Listener.reader l.initial.left l.packet f)))
     × (l.self.id ≡ l.initial.self.id)
     × (l.pool.blocks ≡ l.initial.pool.blocks)
 

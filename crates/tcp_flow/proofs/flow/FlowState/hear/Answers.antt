@@ -16,18 +16,18 @@ unfolding step
 returns-clause-does g c f h =
     subst (λ (k : ℕ). IsState (g.T.Listener.observed c.give_up.new.to)
     c.give_up.new.self c.give_up.new.pool.held
-    (heard g.T.Listener.faulted k c.args.packet f))
+    (heard g.T.Listener.reader k c.args.packet f))
     (ap length (held_of _ _ _ f h)) (c.in_ok-give_up.ensures.does f h)
 
 pub returns-clause-gapless : goal.returns-clause-gapless
 unfolding step
 returns-clause-gapless g c payloads f h t =
-    heard_true g.T.Listener.faulted payloads (length f.held) c.args.packet f t
+    heard_true g.T.Listener.reader payloads (length f.held) c.args.packet f t
 
 pub returns-clause-room : goal.returns-clause-room
 returns-clause-room g c f h =
     let n = c.in_ok-give_up.ensures.does f h in
-    let less = heard_blocks g.T.Listener.faulted (length c.args.pool.now.held) c.args.packet f in
+    let less = heard_blocks g.T.Listener.reader (length c.args.pool.now.held) c.args.packet f in
     subst (λ ps. blocks_of c.give_up.new.pool.held ≤ blocks_of ps)
     (sym (held_of _ _ _ f h)) (subst (λ ps. blocks_of ps ≤ blocks_of f.held)
     (sym (held_of _ _ _ _ n)) less)
@@ -35,7 +35,7 @@ returns-clause-room g c f h =
 pub returns-clause-settled : goal.returns-clause-settled
 returns-clause-settled g c f h t =
     let n = c.in_ok-give_up.ensures.does f h in
-    settled_state _ _ _ _ n (heard_settled g.T.Listener.faulted (length c.args.pool.now.held)
+    settled_state _ _ _ _ n (heard_settled g.T.Listener.reader (length c.args.pool.now.held)
     c.args.packet f (settled_flow _ _ _ f h t) (next_of _ _ _ _ n (omega arith)))
 
 pub returns-clause-over : goal.returns-clause-over
@@ -45,15 +45,15 @@ returns-clause-over g c f h =
     let all : length f.held ≤ length c.args.pool.now.held =
     omega (arith, ap length (held_of _ _ _ f h)) in
     subst (λ (d : Flow). is_lost c.args.packet d ≡ false) (sym n.same)
-    (heard_ends g.T.Listener.faulted (length c.args.pool.now.held) c.args.packet f all)
+    (heard_ends g.T.Listener.reader (length c.args.pool.now.held) c.args.packet f all)
 
 pub returns-clause-beside : goal.returns-clause-beside
 unfolding step
 returns-clause-beside g c f h =
     let n = subst (λ (k : ℕ). IsState (g.T.Listener.observed c.give_up.new.to)
     c.give_up.new.self c.give_up.new.pool.held
-    (heard g.T.Listener.faulted k c.args.packet f))
+    (heard g.T.Listener.reader k c.args.packet f))
     (ap length (held_of _ _ _ f h)) (c.in_ok-give_up.ensures.does f h) in
     others_of _ _ c.args.self.now c.give_up.new.self c.args.pool.now.held
     c.give_up.new.pool.held f _ h n
-    (step_others (setting g.T.Listener.faulted 0) f (Hears c.args.packet))
+    (step_others (setting g.T.Listener.reader 0) f (Hears c.args.packet))

@@ -10,7 +10,7 @@ loop-left-init g c = ((λ f h. (f, (h, refl))), refl, refl)
 
 pub returns-then-not-is_too_much-clause-does : goal.returns-then-not-is_too_much-clause-does
 returns-then-not-is_too_much-clause-does g c f h =
-    let A = setting g.T.Listener.faulted c.args.pool.now.blocks in
+    let A = setting g.T.Listener.reader c.args.pool.now.blocks in
     let s = c.loop-left.self in
     let held = c.loop-left.pool.held in
     let G = IsState (g.T.Listener.observed c.loop-left.to) s held in
@@ -18,15 +18,15 @@ returns-then-not-is_too_much-clause-does g c f h =
     by_state (λ d. within_bounds A c.loop-left.left d ≡ within_bounds A c.args.count f →
     G (within_bounds A c.args.count f)) _ s held i.0 i.1.0 (λ events o e.
     let few : is_too_much A (state s held events) ≡ false =
-    ap (λ (n : ℕ). is_too_much (setting g.T.Listener.faulted n) (state s held events))
-    (sym c.loop-left.invariant.2) ∙ sym (c.is_too_much.ensures events g.T.Listener.faulted)
+    ap (λ (n : ℕ). is_too_much (setting g.T.Listener.reader n) (state s held events))
+    (sym c.loop-left.invariant.2) ∙ sym (c.is_too_much.ensures events g.T.Listener.reader)
     ∙ c.if-not-is_too_much.true in
     subst G (sym (relieved_stops A c.loop-left.left (state s held events) few) ∙ e)
     (record { observed = o; same = refl })) i.1.1
 
 pub loop-left-preserved : goal.loop-left-preserved
 loop-left-preserved g c =
-    let F = g.T.Listener.faulted in
+    let F = g.T.Listener.reader in
     let A = setting F c.args.pool.now.blocks in
     let s = c.loop-left.self in
     let held = c.loop-left.pool.held in (
@@ -37,9 +37,9 @@ loop-left-preserved g c =
           c.gap.new.pool.held n × (within_bounds A (c.loop-left.left - 1) n
           ≡ within_bounds A c.args.count f))) _ s held i.0 i.1.0 (λ events o e.
           let much : is_too_much A (state s held events) ≡ true =
-          ap (λ (n : ℕ). is_too_much (setting g.T.Listener.faulted n) (state s held events))
+          ap (λ (n : ℕ). is_too_much (setting g.T.Listener.reader n) (state s held events))
           (sym c.loop-left.invariant.2) ∙ sym (c.is_too_much.ensures events
-          g.T.Listener.faulted) ∙ c.if-not-is_too_much.false in (
+          g.T.Listener.reader) ∙ c.if-not-is_too_much.false in (
             gap F (state s held events),
             (
               c.in_ok-gap.ensures.does (state s held events) (record { observed = o; same = refl }),
@@ -53,7 +53,7 @@ loop-left-preserved g c =
 
 pub returns-clause-does : goal.returns-clause-does
 returns-clause-does g c f h =
-    let A = setting g.T.Listener.faulted c.args.pool.now.blocks in
+    let A = setting g.T.Listener.reader c.args.pool.now.blocks in
     let i = c.loop-left.invariant.0 f h in
     subst (IsState (g.T.Listener.observed c.loop-left.to) c.loop-left.self c.loop-left.pool.held)
     (sym (relieved_none A c.loop-left.left i.0 c.loop-left-test.false) ∙ i.1.1) i.1.0

@@ -7,8 +7,8 @@ abbrev pub invariant-loop-left : goal.invariant-loop-left
 invariant-loop-left g l =
     ((f : Flow) → IsState (g.T.Listener.observed l.initial.to) l.initial.self l.initial.pool.held f
     → (d : Flow) × (IsState (g.T.Listener.observed l.to) l.self l.pool.held d
-    × (within_bounds (setting g.T.Listener.faulted l.initial.pool.blocks) l.left d
-    ≡ within_bounds (setting g.T.Listener.faulted l.initial.pool.blocks) l.initial.left f)))
+    × (within_bounds (setting g.T.Listener.reader l.initial.pool.blocks) l.left d
+    ≡ within_bounds (setting g.T.Listener.reader l.initial.pool.blocks) l.initial.left f)))
     × (l.self.id ≡ l.initial.self.id)
     × (l.pool.blocks ≡ l.initial.pool.blocks)
 

@@ -5,14 +5,14 @@ use Rattle.tcp_waiting.specs.Payload.{window}
 use Rattle.tcp_flow.specs.Flow.{left}
 use Rattle.tcp_flow.proofs.Lefts.{cut}
 use Rattle.tcp_flow.proofs.flow.FlowState.left.Goals as goal
-use Rattle.tcp_flow.proofs.flow.FlowState.left.Goals.{else-age-gt-WINDOW-via-then-age-gt-WINDOW+else-not-is_live, else-age-gt-WINDOW-via-else-age-gt-WINDOW}
+use Rattle.tcp_flow.proofs.flow.FlowState.left.Goals.{else-age-gt-WINDOW-via-then-age-gt-WINDOW+else-not-is_in_step, else-age-gt-WINDOW-via-else-age-gt-WINDOW}
 
-pub returns-then-not-is_live-clause-left : goal.returns-then-not-is_live-clause-left
+pub returns-then-not-is_in_step-clause-left : goal.returns-then-not-is_in_step-clause-left
 unfolding left
-returns-then-not-is_live-clause-left c arrival =
+returns-then-not-is_in_step-clause-left c arrival =
     let e : nat_lt window (age c.args.self.now.next c.args.number) ≡ true =
     rw (← c.age-age.ensures) (lt-ltb 1048576 c.age-age.result c.if-age-gt-WINDOW.true) in
-    rw (e, sym c.is_live.ensures ∙ c.if-not-is_live.true) refl
+    rw (e, sym c.is_in_step.ensures ∙ c.if-not-is_in_step.true) refl
 
 pub returns-clause-left : goal.returns-clause-left
 unfolding left
@@ -20,11 +20,11 @@ returns-clause-left c arrival =
     let e : (nat_lt window (age c.args.self.now.next c.args.number)
     && not (is_some c.args.self.now.live)) ≡ false =
     elim c.else-age-gt-WINDOW.branch [
-      | else-age-gt-WINDOW-via-then-age-gt-WINDOW+else-not-is_live w ↦
+      | else-age-gt-WINDOW-via-then-age-gt-WINDOW+else-not-is_in_step w ↦
           and_right (nat_lt window (age c.args.self.now.next c.args.number))
           (not (is_some c.args.self.now.live))
           (not_from_true (is_some c.args.self.now.live)
-          (sym w.is_live.ensures ∙ w.if-not-is_live.false))
+          (sym w.is_in_step.ensures ∙ w.if-not-is_in_step.false))
       | else-age-gt-WINDOW-via-else-age-gt-WINDOW w ↦
           and_left (nat_lt window (age c.args.self.now.next c.args.number))
           (not (is_some c.args.self.now.live))

@@ -15,7 +15,7 @@ rejoin-requires g c = (before_is c.args.self.now.tail c.in-Some.tail c.args.numb
 pub returns-in-Some-clause-does : goal.returns-in-Some-clause-does
 unfolding looked_through
 returns-in-Some-clause-does g c held f arrival h =
-    let F = g.T.Listener.faulted in
+    let F = g.T.Listener.reader in
     let s = c.args.self.now in
     let n = c.args.number in
     let xs = c.args.octets.now in
@@ -31,7 +31,7 @@ returns-in-Some-clause-does g c held f arrival h =
 pub returns-in-Some-stream_at-clause-does : goal.returns-in-Some-stream_at-clause-does
 unfolding with_event delivered
 returns-in-Some-stream_at-clause-does g c held f arrival h =
-    let F = g.T.Listener.faulted in
+    let F = g.T.Listener.reader in
     let s = c.args.self.now in
     let n = c.args.number in
     let xs = c.args.octets.now in
@@ -53,7 +53,7 @@ returns-in-Some-stream_at-clause-does g c held f arrival h =
 pub returns-then-is_beginning-clause-does : goal.returns-then-is_beginning-clause-does
 unfolding with_event
 returns-then-is_beginning-clause-does g c held f arrival h =
-    let F = g.T.Listener.faulted in
+    let F = g.T.Listener.reader in
     let s = c.args.self.now in
     let n = c.args.number in
     let xs = c.args.octets.now in
@@ -70,7 +70,7 @@ returns-then-is_beginning-clause-does g c held f arrival h =
 pub returns-else-is_beginning-clause-does : goal.returns-else-is_beginning-clause-does
 unfolding with_event
 returns-else-is_beginning-clause-does g c held f arrival h =
-    let F = g.T.Listener.faulted in
+    let F = g.T.Listener.reader in
     let s = c.args.self.now in
     let n = c.args.number in
     let xs = c.args.octets.now in

@@ -15,7 +15,7 @@ use Rattle.tcp_flow.proofs.flow.FlowState.payload.Goals as goal
 pub returns-clause-does : goal.returns-clause-does
 unfolding step
 returns-clause-does g c f h =
-    let A = setting g.T.Listener.faulted c.args.pool.now.blocks in
+    let A = setting g.T.Listener.reader c.args.pool.now.blocks in
     by_state (λ f. IsState (g.T.Listener.observed c.take_payload.new.to) c.take_payload.new.self
     c.take_payload.new.pool.held (payload_came A f
     (payload f.id c.args.number c.args.octets.now c.args.arrival))) _ c.args.self.now
@@ -26,7 +26,7 @@ returns-clause-does g c f h =
 pub returns-clause-gapless : goal.returns-clause-gapless
 unfolding step
 returns-clause-gapless g c payloads f h t =
-    let A = setting g.T.Listener.faulted c.args.pool.now.blocks in
+    let A = setting g.T.Listener.reader c.args.pool.now.blocks in
     let n = c.args.number in
     let octets = c.args.octets.now in
     let arrival = c.args.arrival in
@@ -39,7 +39,7 @@ returns-clause-gapless g c payloads f h t =
 
 pub returns-clause-room : goal.returns-clause-room
 returns-clause-room g c f h =
-    let A = setting g.T.Listener.faulted c.args.pool.now.blocks in
+    let A = setting g.T.Listener.reader c.args.pool.now.blocks in
     let p = payload c.args.self.now.id c.args.number c.args.octets.now c.args.arrival in
     by_state (λ f. blocks_of c.take_payload.new.pool.held ≤ c.take_payload.new.pool.blocks) _
     c.args.self.now c.args.pool.now.held f h (λ events o.
@@ -54,7 +54,7 @@ returns-clause-room g c f h =
 
 pub returns-clause-settled : goal.returns-clause-settled
 returns-clause-settled g c f h =
-    let A = setting g.T.Listener.faulted c.args.pool.now.blocks in
+    let A = setting g.T.Listener.reader c.args.pool.now.blocks in
     let p = payload c.args.self.now.id c.args.number c.args.octets.now c.args.arrival in
     let n = c.in_ok-take_payload.ensures.does f h in
     settled_state _ _ _ _ n (came_settled A f p (settled_flow _ _ _ f h c.requires.settled)
@@ -63,7 +63,7 @@ returns-clause-settled g c f h =
 pub returns-clause-beside : goal.returns-clause-beside
 unfolding step
 returns-clause-beside g c f h =
-    let A = setting g.T.Listener.faulted c.args.pool.now.blocks in
+    let A = setting g.T.Listener.reader c.args.pool.now.blocks in
     let n : IsState (g.T.Listener.observed c.take_payload.new.to) c.take_payload.new.self
     c.take_payload.new.pool.held (payload_came A f
     (payload f.id c.args.number c.args.octets.now c.args.arrival)) =

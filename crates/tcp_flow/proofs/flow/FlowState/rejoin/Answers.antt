@@ -2,7 +2,7 @@ use Rattle.std.proofs.Common.{◌≡◌, ◌+◌, ◌∷◌, ◌++◌, ℕ, List
 use Rattle.std.specs.Prelude.{OnOk}
 use Rattle.std.proofs.lemmas.Bool.{lt-ltb, le-ltb}
 use Rattle.tcp_waiting.specs.Payload.{payload}
-use Rattle.tcp_flow.specs.Flow.{Flow, Passes, OfCapture, with_event, started, delivered, all_delivered, cut_up, first_five, rejoined, parts_of}
+use Rattle.tcp_flow.specs.Flow.{Flow, Passes, OfCapture, lives, with_event, started, delivered, all_delivered, cut_up, first_five, rejoined, parts_of}
 use Rattle.tcp_flow.proofs.States.{by_state, on_ok_equal}
 use Rattle.tcp_flow.proofs.Tails.{rejoined_vain, rejoined_begun, last_live, all_dead, together}
 use Rattle.tcp_flow.specs.State.{state, IsState}
@@ -11,7 +11,7 @@ use Rattle.tcp_flow.proofs.flow.FlowState.rejoin.Goals as goal
 pub returns-then-count-lt6-clause-does : goal.returns-then-count-lt6-clause-does
 unfolding with_event
 returns-then-count-lt6-clause-does g c held f arrival h =
-    let F = g.T.Listener.faulted in
+    let F = g.T.Listener.reader in
     let s = c.args.self.now in
     let t = c.args.tail in
     let xs = c.args.octets.now in
@@ -32,7 +32,7 @@ returns-then-count-lt6-clause-does g c held f arrival h =
 
 pub returns-then-is_live-clause-does : goal.returns-then-is_live-clause-does
 returns-then-is_live-clause-does g c held f arrival h =
-    let F = g.T.Listener.faulted in
+    let F = g.T.Listener.reader in
     let s = c.args.self.now in
     let t = c.args.tail in
     let xs = c.args.octets.now in
@@ -50,8 +50,8 @@ returns-then-is_live-clause-does g c held f arrival h =
     (cut_up first_five ks))) c.parts.ensures
     (c.in_ok-deliver_parts.ensures.does held (started S t.number) arrival
     (c.in_ok-start.ensures.does held S (record { observed = o; same = refl }))) in
-    let live : is_some D.live ≡ true =
-    subst (λ (f : Flow). is_some f.live ≡ true) is.same
+    let live : lives D.live D.waits ≡ true =
+    subst (λ (f : Flow). lives f.live f.waits ≡ true) is.same
     (sym c.is_live.ensures ∙ c.if-is_live.true) in
     on_ok_equal r _ _ held _ _
     (ap (λ (f : Flow). delivered F D (payload f.id f.next xs arrival)) is.same
@@ -60,7 +60,7 @@ returns-then-is_live-clause-does g c held f arrival h =
 
 pub returns-clause-does : goal.returns-clause-does
 returns-clause-does g c held f arrival h =
-    let F = g.T.Listener.faulted in
+    let F = g.T.Listener.reader in
     let s = c.args.self.now in
     let t = c.args.tail in
     let xs = c.args.octets.now in
@@ -75,7 +75,7 @@ returns-clause-does g c held f arrival h =
     (cut_up first_five ks))) c.parts.ensures
     (c.in_ok-deliver_parts.ensures.does held (started S t.number) arrival
     (c.in_ok-start.ensures.does held S (record { observed = o; same = refl }))) in
-    let dead : is_some D.live ≡ false =
-    subst (λ (f : Flow). is_some f.live ≡ false) is.same
+    let dead : lives D.live D.waits ≡ false =
+    subst (λ (f : Flow). lives f.live f.waits ≡ false) is.same
     (sym c.is_live.ensures ∙ c.if-is_live.false) in
     subst G (sym (rejoined_begun F S p t many ∙ all_dead F D arrival (xs ∷ []) dead)) is)

@@ -14,7 +14,7 @@ returns-clause-does g c held f h =
     let G = IsState O _ held in
     by_state (λ f. G (started f n)) _ s held f h (λ events o.
     record {
-      observed = subst (λ (x : Start). O (events ++ Begins s.id x ∷ [])) c.start_at.ensures
+      observed = subst (λ (x : Start). O (events ++ Begins s.id x ∷ [])) c.start_at-start.ensures
           (c.in_ok-begins.ensures.does events o);
-      same = refl;
+      same = rw c.start_at-start.ensures refl;
     })

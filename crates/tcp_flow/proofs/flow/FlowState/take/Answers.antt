@@ -1,7 +1,7 @@
 use Rattle.std.proofs.Common.{refl, sym, subst, ◌∙◌}
 use Rattle.std.specs.Prelude.{OnOk}
 use Rattle.tcp_waiting.specs.Payload.{payload}
-use Rattle.tcp_flow.specs.Flow.{with_event, told_from, taken}
+use Rattle.tcp_flow.specs.Flow.{with_event, told_from, resumed, delivered, taken}
 use Rattle.tcp_flow.proofs.Steps.{taken_none, taken_live, taken_dead}
 use Rattle.tcp_flow.proofs.States.{by_state, on_ok_equal}
 use Rattle.tcp_flow.specs.State.{state, IsState}
@@ -9,7 +9,7 @@ use Rattle.tcp_flow.proofs.flow.FlowState.take.Goals as goal
 
 pub returns-then-is_empty-clause-does : goal.returns-then-is_empty-clause-does
 returns-then-is_empty-clause-does g c held f h =
-    let F = g.T.Listener.faulted in
+    let F = g.T.Listener.reader in
     let p = payload c.args.self.now.id c.args.number c.args.octets.now c.args.arrival in
     let q = payload c.args.self.now.id c.left-number.result.0 c.left-number.result.1.now
     c.args.arrival in
@@ -20,10 +20,10 @@ returns-then-is_empty-clause-does g c held f h =
     (sym c.is_empty.ensures ∙ c.if-is_empty.true)))
     (record { observed = o; same = refl }))
 
-pub returns-then-is_live-clause-does : goal.returns-then-is_live-clause-does
-unfolding told_from with_event
-returns-then-is_live-clause-does g c held f h =
-    let F = g.T.Listener.faulted in
+pub returns-then-is_in_step-clause-does : goal.returns-then-is_in_step-clause-does
+unfolding told_from with_event delivered
+returns-then-is_in_step-clause-does g c held f h =
+    let F = g.T.Listener.reader in
     let p = payload c.args.self.now.id c.args.number c.args.octets.now c.args.arrival in
     let q = payload c.args.self.now.id c.left-number.result.0 c.left-number.result.1.now
     c.args.arrival in
@@ -32,14 +32,17 @@ returns-then-is_live-clause-does g c held f h =
     on_ok_equal c.deliver.result _ _ held _ _
     (sym (taken_live F (state c.args.self.now held events) p q
     (c.left-number.ensures.left c.args.arrival)
-    (sym c.is_empty.ensures ∙ c.if-is_empty.false) (sym c.is_live.ensures ∙ c.if-is_live.true)))
-    (c.deliver.ensures.does held (told_from (state c.args.self.now held events) p) c.args.arrival
-    (record { observed = c.comes_from.ensures events o; same = refl })))
+    (sym c.is_empty.ensures ∙ c.if-is_empty.false)
+    (sym c.is_in_step.ensures ∙ c.if-is_in_step.true)))
+    (c.deliver.ensures.does held (resumed (told_from (state c.args.self.now held events) p))
+    c.args.arrival
+    (c.in_ok-resume.ensures.does held (told_from (state c.args.self.now held events) p)
+    (record { observed = c.comes_from.ensures events o; same = refl }))))
 
 pub returns-clause-does : goal.returns-clause-does
 unfolding told_from with_event
 returns-clause-does g c held f h =
-    let F = g.T.Listener.faulted in
+    let F = g.T.Listener.reader in
     let p = payload c.args.self.now.id c.args.number c.args.octets.now c.args.arrival in
     let q = payload c.args.self.now.id c.left-number.result.0 c.left-number.result.1.now
     c.args.arrival in
@@ -49,6 +52,7 @@ returns-clause-does g c held f h =
     on_ok_equal r _ _ held _ _
     (sym (taken_dead F (state c.args.self.now held events) p q
     (c.left-number.ensures.left c.args.arrival)
-    (sym c.is_empty.ensures ∙ c.if-is_empty.false) (sym c.is_live.ensures ∙ c.if-is_live.false)))
+    (sym c.is_empty.ensures ∙ c.if-is_empty.false)
+    (sym c.is_in_step.ensures ∙ c.if-is_in_step.false)))
     (c.look_through.ensures.does held (told_from (state c.args.self.now held events) p)
     c.args.arrival (record { observed = c.comes_from.ensures events o; same = refl })))

@@ -6,12 +6,12 @@ use Rattle.tcp_flow.specs.Flow.{gone_on, fin_came}
 use Rattle.tcp_flow.specs.State.{state, IsState}
 use Rattle.tcp_flow.proofs.States.{by_state, on_ok_equal, with_fin}
 use Rattle.tcp_flow.proofs.flow.FlowState.take_fin.Goals as goal
-use Rattle.tcp_flow.proofs.flow.FlowState.take_fin.Goals.{else-is_live-via-then-is_live+else-age-eq0, else-is_live-via-else-is_live}
+use Rattle.tcp_flow.proofs.flow.FlowState.take_fin.Goals.{else-is_in_step-via-then-is_in_step+else-age-eq0, else-is_in_step-via-else-is_in_step}
 
 pub returns-then-age-eq0-clause-does : goal.returns-then-age-eq0-clause-does
 unfolding fin_came
 returns-then-age-eq0-clause-does g c f h =
-    let F = g.T.Listener.faulted in
+    let F = g.T.Listener.reader in
     let s = c.args.self.now in
     let n = c.args.number in
     let held = c.args.pool.now.held in
@@ -22,24 +22,24 @@ returns-then-age-eq0-clause-does g c f h =
     (sym (cond-true (is_some s.live && (nat_eq (age s.next n) 0))
     (gone_on F (record S { fin = Some n })) S
     (and_from (is_some s.live) (nat_eq (age s.next n) 0)
-    (sym c.is_live.ensures ∙ c.if-is_live.true)
+    (sym c.is_in_step.ensures ∙ c.if-is_in_step.true)
     (eq-eqb (age s.next n) 0 (sym c.age.ensures ∙ c.if-age-eq0.true)))))
     (c.go_on.ensures.does _ (with_fin _ s held S (Some n) (record { observed = o; same = refl }))))
 
 pub returns-clause-does : goal.returns-clause-does
 unfolding fin_came
 returns-clause-does g c f h =
-    let F = g.T.Listener.faulted in
+    let F = g.T.Listener.reader in
     let s = c.args.self.now in
     let n = c.args.number in
     let held = c.args.pool.now.held in
     let e : (is_some s.live && (nat_eq (age s.next n) 0)) ≡ false =
-    elim c.else-is_live.branch [
-      | else-is_live-via-then-is_live+else-age-eq0 w ↦ and_right (is_some s.live)
+    elim c.else-is_in_step.branch [
+      | else-is_in_step-via-then-is_in_step+else-age-eq0 w ↦ and_right (is_some s.live)
           (nat_eq (age s.next n) 0) (ne_eqb (age s.next n) 0
           (λ z. w.if-age-eq0.false (w.age.ensures ∙ z)))
-      | else-is_live-via-else-is_live w ↦ and_left (is_some s.live) (nat_eq (age s.next n) 0)
-          (sym c.is_live.ensures ∙ w.if-is_live.false)
+      | else-is_in_step-via-else-is_in_step w ↦ and_left (is_some s.live) (nat_eq (age s.next n) 0)
+          (sym c.is_in_step.ensures ∙ w.if-is_in_step.false)
     ] in
     let G = IsState (g.T.Listener.observed c.args.to.now) s held in
     by_state (λ f. G (fin_came F f n)) _ s held f h (λ events o.

@@ -12,7 +12,7 @@ use Rattle.tcp_flow.proofs.flow.FlowState.take_payload.Goals as goal
 
 pub returns-then-is_empty-clause-does : goal.returns-then-is_empty-clause-does
 returns-then-is_empty-clause-does g c f h =
-    let A = setting g.T.Listener.faulted c.args.pool.now.blocks in
+    let A = setting g.T.Listener.reader c.args.pool.now.blocks in
     let s = c.args.self.now in
     let held = c.args.pool.now.held in
     let p = payload s.id c.args.number c.args.octets.now c.args.arrival in
@@ -27,7 +27,7 @@ returns-then-is_empty-clause-does g c f h =
 
 pub returns-then-has_as_much-clause-does : goal.returns-then-has_as_much-clause-does
 returns-then-has_as_much-clause-does g c f h =
-    let A = setting g.T.Listener.faulted c.args.pool.now.blocks in
+    let A = setting g.T.Listener.reader c.args.pool.now.blocks in
     let s = c.args.self.now in
     let held = c.args.pool.now.held in
     let p = payload s.id c.args.number c.args.octets.now c.args.arrival in
@@ -43,7 +43,7 @@ returns-then-has_as_much-clause-does g c f h =
 pub returns-clause-does : goal.returns-clause-does
 unfolding holding
 returns-clause-does g c f h =
-    let F = g.T.Listener.faulted in
+    let F = g.T.Listener.reader in
     let A = setting F c.args.pool.now.blocks in
     let s = c.args.self.now in
     let held = c.args.pool.now.held in
@@ -84,7 +84,7 @@ returns-clause-does g c f h =
 pub returns-then-keeps_nothing-clause-does : goal.returns-then-keeps_nothing-clause-does
 unfolding first_of
 returns-then-keeps_nothing-clause-does g c f h =
-    let F = g.T.Listener.faulted in
+    let F = g.T.Listener.reader in
     let A = setting F c.args.pool.now.blocks in
     let s = c.args.self.now in
     let held = c.args.pool.now.held in
@@ -113,7 +113,7 @@ returns-then-keeps_nothing-clause-does g c f h =
 
 pub returns-then-is_due-clause-does : goal.returns-then-is_due-clause-does
 returns-then-is_due-clause-does g c f h =
-    let F = g.T.Listener.faulted in
+    let F = g.T.Listener.reader in
     let A = setting F c.args.pool.now.blocks in
     let s = c.args.self.now in
     let held = c.args.pool.now.held in

@@ -10,6 +10,7 @@ unfolding behind
 returns-clause-does g c events o =
     told_if c.delivers.result (λ at. g.L.Listener.observed c.delivers.new.self
     (events ++ Delivers c.args.flow c.args.octets.now ∷ []))
-    (λ at. at ≡ g.L.Listener.faulted (events ++ Delivers c.args.flow c.args.octets.now ∷ [])) _
+    (λ at. at ≡ g.L.Listener.reader.faulted
+    (events ++ Delivers c.args.flow c.args.octets.now ∷ [])) _
     (c.delivers.ensures.does events o.0)
     (o.1 ∙ sym (lives_more [] events (Delivers c.args.flow c.args.octets.now)))

@@ -1,0 +1,411 @@
+-- The marks of a message: they only grow with its octets, one octet has one at most, and they are
+-- the same by any table and whatever the ids answer.
+use Rattle.std.proofs.Common.{◌≡◌, ℕ, zero, suc, ◌+◌, ◌⊎◌, inl, inr, Bool, true, false, List, [], ◌∷◌, ◌++◌, length, map, drop, Option, Some, None, refl, sym, ap, subst, ◌∙◌, append-nil, append_assoc, add-zero, arith}
+use Rattle.std.specs.Prelude.{◌==◌, nat_lt, if◌then◌else◌}
+use Rattle.std.proofs.Math.Seq.{drop-append_seam}
+use Rattle.std.proofs.lemmas.Bool.{cases_lt, lt-ltb, false≢true}
+use Rattle.giop_cdr.specs.Alignment.{padding}
+use Rattle.giop_sig.specs.Types.{Ty}
+use Rattle.giop_sig.specs.Table.{Table}
+use Rattle.giop_sig.specs.Builtin.{builtin_table}
+use Rattle.giop_decode.specs.ReadResult.{plain, OpenPart, Leaf, Read, Done, Short, Fault}
+use Rattle.giop_decode.specs.Reading.{reading}
+use Rattle.giop_decode.specs.ReadingSteps.{IsEmptyResult, root_step}
+use Rattle.giop_decode.specs.Noted.{Noted, nothing_noted, noted, is_header_root}
+use Rattle.giop_decode.proofs.ReadingLaws.{reading_quiet, root_now}
+use Rattle.giop_message.specs.declared.part.Section.{Section}
+use Rattle.giop_message.specs.declared.part.Section.TheVariants as sections
+use Rattle.giop_message.specs.Headers.{order}
+use Rattle.giop_message.specs.Signatures.{Signatures, Answer, signatures_of}
+use Rattle.giop_message.specs.Messages.{Mark, HeaderMark, NameMark, RestLine, line_at, Said, only_lines, nothing_said, BodyType, Untyped, Typed, UserException, SystemException, Stage, In_typed, In_padding, In_rest, Over, Message, ReadTo, with_front, name_mark, end_mark, section_then, rest_in, rest, typed, option_typed, after_exception, type_if, request_body, result_body, reply_body, body, body_of, padded, after_header, of_header, message, message_marks, stage_of, root_of, after, section_and_rest}
+use Rattle.giop_message.specs.StageSteps.{rest_step, message_step, advance, goes_on}
+use Rattle.giop_message.specs.HeaderEnds.{marks, end_of, header_ends}
+use Rattle.giop_message.specs.MessageState.{is_header}
+use Rattle.giop_message.proofs.Going.{message_resumes, after_has, body_has}
+use Rattle.giop_message.proofs.Octets.{stage_front}
+use Rattle.giop_message.proofs.Parts.{ReadsAll, now_all}
+
+pub marks_front : (front : Said) (m : Message) →
+    message_marks (with_front front m) ≡ front.marks ++ message_marks m
+unfolding message_marks with_front
+marks_front front (ReadTo said at stage) = refl
+
+-- ---- a rest and a body have none but those of the name that the body begins with
+
+rest_in_unmarked : (full offset at : ℕ) (s : List ℕ) → message_marks (rest_in full offset at s) ≡ []
+unfolding rest_in message_marks
+rest_in_unmarked zero offset at s = refl
+rest_in_unmarked (suc full) offset at s =
+    marks_front _ _ ∙ rest_in_unmarked full (offset + 32) (at + 32) (drop 32 s)
+
+pub rest_unmarked : (at : ℕ) (s : List ℕ) → message_marks (rest at s) ≡ []
+unfolding rest
+rest_unmarked at s = rest_in_unmarked _ 0 at s
+
+-- the mark of a section that is read so, with what was noted before
+abbrev pub ended : Section → Noted → Read → List Mark
+ended section h (Done lines at s) =
+    end_mark section (noted (is_header_root (root_of section)) h lines)
+ended section h (Short lines at outer leaf) = []
+ended section h (Fault lines at why T) = []
+
+section_marks : (section : Section) (next : Noted → ℕ → List ℕ → Message) →
+    ((h : Noted) (at : ℕ) (s : List ℕ) → message_marks (next h at s) ≡ []) → (r : Read) →
+    message_marks (section_then section false next nothing_noted r) ≡ ended section nothing_noted r
+unfolding section_then message_marks
+section_marks section next none (Done lines at s) = search (arith, marks_front, append-nil)
+section_marks section next none (Short lines at outer leaf) = refl
+section_marks section next none (Fault lines at why T) = refl
+
+body_unended : (r : Read) → ended sections.Body nothing_noted r ≡ []
+body_unended (Done lines at s) = refl
+body_unended (Short lines at outer leaf) = refl
+body_unended (Fault lines at why T) = refl
+
+module _ (header : List ℕ) where
+  typed_unmarked : (T : Ty) (at : ℕ) (s : List ℕ) → message_marks (typed (order header) T at s) ≡ []
+  unfolding typed
+  typed_unmarked T at s = search (arith, section_marks, body_unended, rest_unmarked)
+
+  members_unmarked : (S : Signatures) (h : Noted) (at : ℕ) (s : List ℕ) →
+      message_marks (after_exception S header h at s) ≡ []
+  unfolding after_exception option_typed
+  members_unmarked S h at s = search (arith, rest_unmarked, typed_unmarked)
+
+  abbrev Raising : Signatures → BodyType → ℕ → List ℕ → List Mark
+  Raising S Untyped at s = []
+  Raising S (Typed T) at s = []
+  Raising S UserException at s =
+      ended sections.Exception nothing_noted (reading (plain (order header)) [] S.exception_id at s)
+  Raising S SystemException at s =
+      ended sections.SystemException nothing_noted
+      (reading (plain (order header)) [] S.system_exception at s)
+
+  body_marks : (S : Signatures) (b : BodyType) (at : ℕ) (s : List ℕ) →
+      message_marks (body S header b at s) ≡ Raising S b at s
+  unfolding body
+  body_marks S Untyped at s = rest_unmarked at s
+  body_marks S (Typed T) at s = typed_unmarked T at s
+  body_marks S UserException at s =
+      section_marks sections.Exception (after_exception S header) (members_unmarked S) _
+  body_marks S SystemException at s =
+      section_marks sections.SystemException (λ h. rest) (λ h. rest_unmarked) _
+
+  type_raises : (S : Signatures) (found : Option Ty) (at : ℕ) (s : List ℕ) →
+      Raising S (type_if found) at s ≡ []
+  unfolding type_if
+  type_raises S None at s = refl
+  type_raises S (Some T) at s = refl
+
+  request_raises : (S : Signatures) (name : Option (List ℕ)) (at : ℕ) (s : List ℕ) →
+      Raising S (request_body S name) at s ≡ []
+  unfolding request_body
+  request_raises S None at s = refl
+  request_raises S (Some name) at s = type_raises S (S.request name) at s
+
+  result_raises : (S : Signatures) (id : Option ℕ) (at : ℕ) (s : List ℕ) →
+      Raising S (result_body S id) at s ≡ []
+  unfolding result_body
+  result_raises S None at s = refl
+  result_raises S (Some id) at s = type_raises S (S.reply id) at s
+
+  -- ---- the same by any table, whatever the ids answer
+
+  module _ (C D : Table) (x y : Answer) where
+    abbrev Sx : Signatures
+    Sx = signatures_of C x
+
+    abbrev Sy : Signatures
+    Sy = signatures_of D y
+
+    reply_same : (id status : Option ℕ) (at : ℕ) (s : List ℕ) →
+        Raising Sx (reply_body Sx id status) at s ≡ Raising Sy (reply_body Sy id status) at s
+    unfolding reply_body signatures_of
+    reply_same id None at s = refl
+    reply_same id (Some status) at s = search (arith, result_raises)
+
+    raising_same : (h : Noted) (at : ℕ) (s : List ℕ) →
+        Raising Sx (body_of Sx header h) at s ≡ Raising Sy (body_of Sy header h) at s
+    unfolding body_of
+    raising_same h at s = search (arith, request_raises, reply_same)
+
+    body_same : (h : Noted) (at : ℕ) (s : List ℕ) →
+        message_marks (body Sx header (body_of Sx header h) at s)
+        ≡ message_marks (body Sy header (body_of Sy header h) at s)
+    body_same h at s = body_marks Sx (body_of Sx header h) at s
+        ∙ (raising_same h at s ∙ sym (body_marks Sy (body_of Sy header h) at s))
+
+    padded_same : (h : Noted) (at : ℕ) (s : List ℕ) →
+        message_marks (padded Sx header (body_of Sx header h) at s)
+        ≡ message_marks (padded Sy header (body_of Sy header h) at s)
+    unfolding padded message_marks
+    padded_same h at s = search (arith, body_same)
+
+    after_same : (h : Noted) (at : ℕ) (s : List ℕ) →
+        message_marks (after_header Sx header h at s)
+        ≡ message_marks (after_header Sy header h at s)
+    unfolding after_header
+    after_same h at s = search (arith, body_same, padded_same)
+
+    through_same : (r : Read) →
+        message_marks (section_and_rest Sx header sections.Header nothing_noted r)
+        ≡ message_marks (section_and_rest Sy header sections.Header nothing_noted r)
+    unfolding section_then message_marks
+    through_same (Done lines at s) = search (arith, marks_front, after_same)
+    through_same (Short lines at outer leaf) = refl
+    through_same (Fault lines at why T) = refl
+
+    marks_same : (found : Option Ty) (s : List ℕ) → message_marks (of_header Sx header found 12 s)
+        ≡ message_marks (of_header Sy header found 12 s)
+    unfolding of_header
+    marks_same None s = refl
+    marks_same (Some T) s = through_same (reading (plain (order header)) [] T 12 s)
+
+pub marks_are : (C : Table) (answer : Answer) (header s : List ℕ) →
+    marks header s ≡ message_marks (message (signatures_of C answer) header s)
+unfolding marks message signatures_of
+marks_are C answer header s = marks_same header builtin_table C (λ id. None) answer _ s
+
+pub ends_alike : (C : Table) (answer : Answer) (number : ℕ) (header s more : List ℕ) →
+    header_ends number header s more ≡ map (end_of number header)
+    (drop (length (message_marks (message (signatures_of C answer) header s)))
+    (message_marks (message (signatures_of C answer) header (s ++ more))))
+unfolding header_ends
+ends_alike C answer number header s more =
+    rw (marks_are C answer header s, marks_are C answer header (s ++ more)) refl
+
+-- ---- more octets
+
+-- Later marks come after those before.
+goes_marks : (S : Signatures) (header t : List ℕ) (m : Message) →
+    (later : List Mark) × (message_marks (goes_on S header m t) ≡ message_marks m ++ later)
+unfolding advance message_marks
+goes_marks S header [] m = ([], sym (append-nil (message_marks m)))
+goes_marks S header (b ∷ t) (ReadTo said at stage) =
+    let step = message_step S header at stage b in
+    let more = goes_marks S header t (with_front said step) in (
+      message_marks step ++ more.0,
+      more.1 ∙ (ap (λ ms. ms ++ more.0) (marks_front said step)
+          ∙ append_assoc said.marks (message_marks step) more.0),
+    )
+
+pub marks_on : (header s more : List ℕ) →
+    (later : List Mark) × (marks header (s ++ more) ≡ marks header s ++ later)
+unfolding marks
+marks_on header s more =
+    let S = signatures_of builtin_table (λ id. None) in
+    let all = goes_marks S header more (message S header s) in
+    (all.0, ap message_marks (message_resumes S header s more) ∙ all.1)
+
+pub ends_by : (number : ℕ) (header s more : List ℕ) (later : List Mark) →
+    marks header (s ++ more) ≡ marks header s ++ later →
+    header_ends number header s more ≡ map (end_of number header) later
+unfolding header_ends
+ends_by number header s more later e = search (arith, drop, drop-append_seam)
+
+-- What ends in octets more are the marks that the message then has more.
+pub ends_are : (C : Table) (answer : Answer) (number : ℕ) (header s more : List ℕ)
+    (later : List Mark) → message_marks (message (signatures_of C answer) header (s ++ more))
+    ≡ message_marks (message (signatures_of C answer) header s) ++ later →
+    header_ends number header s more ≡ map (end_of number header) later
+ends_are C answer number header s more later e =
+    ends_by number header s more later (marks_are C answer header (s ++ more)
+    ∙ (e ∙ ap (λ ms. ms ++ later) (sym (marks_are C answer header s))))
+
+pub unmarked : (C : Table) (answer : Answer) (number : ℕ) (header s more : List ℕ) →
+    message_marks (message (signatures_of C answer) header (s ++ more))
+    ≡ message_marks (message (signatures_of C answer) header s) →
+    header_ends number header s more ≡ []
+unmarked C answer number header s more e = ends_are C answer number header s more []
+    (e ∙ sym (append-nil _))
+
+-- ---- one octet
+
+-- in the header
+abbrev pub heads : Stage → Bool
+heads (In_typed section h outer leaf) = is_header section
+heads (In_padding b) = false
+heads (In_rest offset held) = false
+heads Over = false
+
+-- Of a part after the header no octet has no mark, and it is in no header.
+record IsPast (reader : ℕ → List ℕ → Message) : Type 0 where
+  quiet : (n : ℕ) → message_marks (reader n []) ≡ []
+  past : (at : ℕ) (s : List ℕ) → heads (stage_of (reader at s)) ≡ false
+
+rest_in_past : (full offset at : ℕ) (s : List ℕ) →
+    heads (stage_of (rest_in full offset at s)) ≡ false
+unfolding rest_in stage_of
+rest_in_past zero offset at s = refl
+rest_in_past (suc full) offset at s =
+    ap heads (stage_front _ _) ∙ rest_in_past full (offset + 32) (at + 32) (drop 32 s)
+
+rest_past : IsPast rest
+unfolding rest
+rest_past = record {
+  quiet = λ n. rest_unmarked n [];
+  past = λ at s. rest_in_past _ 0 at s;
+}
+
+nothing_ended : (section : Section) → is_header section ≡ false →
+    end_mark section nothing_noted ≡ []
+nothing_ended sections.Header e = absurd (false≢true (sym e))
+nothing_ended sections.Exception e = refl
+nothing_ended sections.SystemException e = refl
+nothing_ended sections.Body e = refl
+
+-- no mark, that of a header where the message is in it, or that of a name
+abbrev pub OneMark : Stage → List Mark → Type 0
+OneMark stage ms = (ms ≡ [])
+    ⊎ (((n : Noted) × (ms ≡ HeaderMark n ∷ []) × (heads stage ≡ true))
+    ⊎ ((name : List ℕ) × (ms ≡ NameMark name ∷ [])))
+
+name_one : (stage : Stage) (name : Option (List ℕ)) → OneMark stage (name_mark name)
+name_one stage None = inl refl
+name_one stage (Some name) = inr (inr (name, refl))
+
+section_one : (section : Section) (h now : Noted) (outer : List OpenPart) (leaf : Leaf) →
+    OneMark (In_typed section h outer leaf) (end_mark section now)
+section_one sections.Header h now outer leaf = inr (inl (now, refl, refl))
+section_one sections.Exception h now outer leaf =
+    name_one (In_typed sections.Exception h outer leaf) now.name
+section_one sections.SystemException h now outer leaf =
+    name_one (In_typed sections.SystemException h outer leaf) now.name
+section_one sections.Body h now outer leaf = inl refl
+
+ended_one : (section : Section) (h : Noted) (outer : List OpenPart) (leaf : Leaf) (r : Read) →
+    OneMark (In_typed section h outer leaf) (ended section h r)
+ended_one section h outer leaf (Done lines at s) = section_one section h _ outer leaf
+ended_one section h outer leaf (Short lines at outer' leaf') = inl refl
+ended_one section h outer leaf (Fault lines at why T) = inl refl
+
+module _ (S : Signatures) (header : List ℕ) where
+  module _ (section : Section) (other : is_header section ≡ false)
+      (next : (h : Noted) → IsPast (after S header section h)) where
+    section_quiet : (n : ℕ) (r : Read) → IsEmptyResult n r →
+        message_marks (section_and_rest S header section nothing_noted r) ≡ []
+    unfolding section_then message_marks
+    section_quiet n (Done lines at s) h =
+        rw (h.0, h.2) (marks_front _ _
+        ∙ rw (nothing_ended section other) ((next nothing_noted).quiet at))
+    section_quiet n (Short lines at outer leaf) h = refl
+    section_quiet n (Fault lines at why T) h = absurd h
+
+    section_past : (r : Read) →
+        heads (stage_of (section_and_rest S header section nothing_noted r)) ≡ false
+    unfolding section_then stage_of
+    section_past (Done lines at s) = ap heads (stage_front _ _) ∙ (next _).past at s
+    section_past (Short lines at outer leaf) = other
+    section_past (Fault lines at why T) = refl
+
+  reads_past : (section : Section) (T : Ty) → is_header section ≡ false →
+      ((h : Noted) → IsPast (after S header section h)) →
+      IsPast (λ at s. section_and_rest S header section nothing_noted
+      (reading (plain (order header)) [] T at s))
+  reads_past section T other next = record {
+    quiet = λ n. section_quiet section other next n _
+        (reading_quiet (plain (order header)) [] T n);
+    past = λ at s. section_past section other next _;
+  }
+
+  padded_past : (t : BodyType) → IsPast (body S header t) → IsPast (padded S header t)
+  unfolding padded message_marks stage_of
+  padded_past t next = record {
+    quiet = λ n. search (arith, cases_lt, drop, lt-ltb, add-zero);
+    past = λ at s. search (arith);
+  }
+
+  body_past : (t : BodyType) → IsPast (body S header t)
+  body_past t = body_has S header IsPast rest_past reads_past padded_past t
+
+  after_past : (section : Section) (h : Noted) → IsPast (after S header section h)
+  after_past section h = after_has S header IsPast rest_past reads_past padded_past section h
+
+  -- a section that ends with no octet left
+  pub marks_ended : (section : Section) (h : Noted) (r : Read) → ReadsAll r →
+      message_marks (section_and_rest S header section h r) ≡ ended section h r
+  unfolding section_then message_marks
+  marks_ended section h (Done lines at s) all =
+      let now = noted (is_header_root (root_of section)) h lines in
+      rw all (marks_front _ _ ∙ (ap (λ (ms : List Mark). end_mark section now ++ ms)
+      ((after_past section now).quiet at) ∙ append-nil (end_mark section now)))
+  marks_ended section h (Short lines at outer leaf) all = refl
+  marks_ended section h (Fault lines at why T) all = refl
+
+  -- ---- a step
+
+  pub rest_step_marks : (offset : ℕ) (held : List ℕ) (at : ℕ) →
+      message_marks (rest_step offset held at) ≡ []
+  unfolding rest_step message_marks
+  rest_step_marks offset held at = search (arith)
+
+  pub rest_goes_unmarked : (t : List ℕ) (said : Said) (at offset : ℕ) (held : List ℕ) →
+      message_marks (goes_on S header (ReadTo said at (In_rest offset held)) t) ≡ said.marks
+  unfolding advance message_step rest_step with_front message_marks
+  rest_goes_unmarked [] said at offset held = refl
+  rest_goes_unmarked (b ∷ t) said at offset held =
+      go (length (held ++ b ∷ []) == 32) (λ said. rest_goes_unmarked t said (at + 1))
+    where
+      go : (full : Bool) → ((said' : Said) (offset' : ℕ) (held' : List ℕ) →
+          message_marks (goes_on S header (ReadTo said' (at + 1) (In_rest offset' held')) t)
+          ≡ said'.marks) → message_marks (goes_on S header (with_front said
+          (if full then
+          ReadTo (only_lines (line_at (at + 1) (RestLine offset (held ++ b ∷ [])) ∷ []))
+          (at + 1) (In_rest (offset + 32) [])
+          else ReadTo nothing_said (at + 1) (In_rest offset (held ++ b ∷ [])))) t) ≡ said.marks
+      go true more = more _ (offset + 32) [] ∙ append-nil said.marks
+      go false more = more _ offset (held ++ b ∷ []) ∙ append-nil said.marks
+
+  pub padding_step_marks : (at : ℕ) (t : BodyType) (b : ℕ) →
+      message_marks (message_step S header at (In_padding t) b) ≡ []
+  unfolding message_step message_marks
+  padding_step_marks at t b = go (nat_lt 1 (padding at 8))
+    where
+      go : (test : Bool) → message_marks
+          (if test then ReadTo nothing_said (at + 1) (In_padding t)
+          else body S header t (at + 1) [])
+          ≡ []
+      go true = refl
+      go false = (body_past t).quiet (at + 1)
+
+  step_one : (at : ℕ) (stage : Stage) (b : ℕ) →
+      OneMark stage (message_marks (message_step S header at stage b))
+  unfolding message_step message_marks
+  step_one at (In_typed section h outer leaf) b =
+      let r = root_step (plain (order header)) [] outer leaf at b in
+      subst (OneMark (In_typed section h outer leaf))
+      (sym (marks_ended section h r (now_all (at + 1) r
+      (root_now (plain (order header)) [] outer leaf at b))))
+      (ended_one section h outer leaf r)
+  step_one at (In_padding t) b = inl (padding_step_marks at t b)
+  step_one at (In_rest offset held) b = inl (rest_step_marks offset (held ++ b ∷ []) (at + 1))
+  step_one at Over b = inl refl
+
+  -- what one octet adds
+  pub marks_of_octet : (m : Message) (b : ℕ) → (ms : List Mark)
+      × (message_marks (advance S header m b) ≡ message_marks m ++ ms) × OneMark (stage_of m) ms
+  unfolding advance message_marks stage_of
+  marks_of_octet (ReadTo said at stage) b =
+      (message_marks (message_step S header at stage b), marks_front said _, step_one at stage b)
+
+  -- A message that is in its header has no mark.
+  in_header_unmarked : (found : Option Ty) (s : List ℕ) →
+      heads (stage_of (of_header S header found 12 s)) ≡ true →
+      message_marks (of_header S header found 12 s) ≡ []
+  unfolding of_header section_then stage_of message_marks
+  in_header_unmarked None s e = rest_unmarked 12 s
+  in_header_unmarked (Some T) s e = go (reading (plain (order header)) [] T 12 s) e
+    where
+      go : (r : Read) →
+          heads (stage_of (section_and_rest S header sections.Header nothing_noted r)) ≡ true →
+          message_marks (section_and_rest S header sections.Header nothing_noted r) ≡ []
+      go (Done lines at z) e =
+          let none = ap heads (stage_front _ _) ∙ (after_past sections.Header _).past at z in
+          absurd (false≢true (sym none ∙ e))
+      go (Short lines at outer leaf) e = refl
+      go (Fault lines at why T) e = refl
+
+  pub head_unmarked : (s : List ℕ) → heads (stage_of (message S header s)) ≡ true →
+      message_marks (message S header s) ≡ []
+  unfolding message
+  head_unmarked s e = in_header_unmarked _ s e

@@ -1,0 +1,52 @@
+use Rattle.std.proofs.Common.{◌≡◌, ◌<◌, List, length, get_or, None, Some, refl, sym, ap, ◌∙◌}
+use Rattle.std.proofs.lemmas.Bool.{cond-false}
+use Rattle.tcp_waiting.proofs.Order.{first_within}
+use Rattle.tcp_flow.specs.Flow.{lives, first_of, at, passing, passed_over}
+use Rattle.tcp_flow.specs.State.{state, IsState}
+use Rattle.tcp_flow.proofs.States.{by_state}
+use Rattle.tcp_flow.proofs.flow.FlowState.passed_over.Goals as goal
+
+pub returns-then-not-is_live-clause-does : goal.returns-then-not-is_live-clause-does
+unfolding passed_over
+returns-then-not-is_live-clause-does g c f h = (
+  h,
+  by_state (λ f. None ≡ passed_over g.T.Listener.reader f) _ c.args.self.now
+      c.args.pool.now.held f h
+      (λ events o. rw (sym c.is_live.ensures ∙ c.if-not-is_live.true) refl),
+)
+
+pub returns-in_default-clause-does : goal.returns-in_default-clause-does
+unfolding passed_over first_of
+returns-in_default-clause-does g c f h = (
+  h,
+  by_state (λ f. None ≡ passed_over g.T.Listener.reader f) _ c.args.self.now
+      c.args.pool.now.held f h
+      (λ events o. rw (
+        sym c.is_live.ensures ∙ c.if-not-is_live.false,
+        sym c.first.ensures ∙ c.in_default.is,
+      ) refl),
+)
+
+pub number-requires : goal.number-requires
+number-requires g c =
+    let within : c.in-Some.first < length c.args.pool.now.held =
+    rw (sym c.first.ensures ∙ c.in-Some.is) at
+    (first_within c.args.self.now.id c.args.self.now.next c.args.pool.now.held) in
+    within
+
+pub returns-clause-does : goal.returns-clause-does
+unfolding passed_over first_of at
+returns-clause-does g c f h =
+    let G = IsState (g.T.Listener.observed c.lacks.new.self) c.args.self.now c.args.pool.now.held in
+    by_state (λ f. G f × (c.passing.result ≡ passed_over g.T.Listener.reader f)) _ c.args.self.now
+    c.args.pool.now.held f h (λ events o.
+    let d = c.in_ok-lacking.ensures.does events o in (
+      record { observed = d.0; same = refl },
+      rw (
+        sym c.is_live.ensures ∙ c.if-not-is_live.false,
+        sym c.first.ensures ∙ c.in-Some.is,
+        c.passing.ensures,
+        c.number.ensures,
+        d.1,
+      ) refl,
+    ))
