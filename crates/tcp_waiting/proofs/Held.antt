@@ -1,5 +1,5 @@
 -- What waits, by where it is in the pool's memory.
-use Rattle.std.proofs.Common.{Result, Ok, Err, OnOk, OnErr, IsOk, is_ok, cond, ◌≡◌, ℕ, zero, suc, ◌+◌, ◌<◌, ◌≤◌, List, [], ◌∷◌, ◌++◌, length, get_or, refl, ap, sym, ◌∙◌, arith}
+use Rattle.std.proofs.Common.{Result, Ok, Err, OnOk, OnErr, IsOk, is_ok, cond, ◌≡◌, ℕ, zero, suc, ◌+◌, ◌<◌, ◌≤◌, List, [], ◌∷◌, ◌++◌, length, get_or, map, refl, ap, sym, ◌∙◌, arith}
 use Rattle.std.specs.List.{AllByRecursion, insert, remove}
 use Rattle.std.proofs.lemmas.List.{length-map, get_or-map, take-append-le, length-take, length-drop}
 use Rattle.std.proofs.lemmas.Bool.{cond-true}
@@ -15,19 +15,24 @@ pub get_held : (all : List ℕ) (ws : List Waiting) (i : ℕ) (w : Waiting) (d :
     i < length ws → w ≡ get_or ws i w → get_or (held_in all ws) i d ≡ payload_in all w
 get_held all ws i w d h is = get_or-map (payload_in all) ws i w d h ∙ ap (payload_in all) (sym is)
 
+-- what is mapped, with one more, and with one less
+pub map_insert : {X Y : Type 0} (f : X → Y) (xs : List X) (i : ℕ) (x : X) →
+    map f (insert xs i x) ≡ insert (map f xs) i (f x)
+map_insert f [] zero x = refl
+map_insert f [] (suc i) x = refl
+map_insert f (y ∷ xs) zero x = refl
+map_insert f (y ∷ xs) (suc i) x = ap (λ ys. f y ∷ ys) (map_insert f xs i x)
+
+pub map_remove : {X Y : Type 0} (f : X → Y) (xs : List X) (i : ℕ) →
+    map f (remove xs i) ≡ remove (map f xs) i
+map_remove f [] zero = refl
+map_remove f [] (suc i) = refl
+map_remove f (x ∷ xs) zero = refl
+map_remove f (x ∷ xs) (suc i) = ap (λ ys. f x ∷ ys) (map_remove f xs i)
+
 pub remove_held : (all : List ℕ) (ws : List Waiting) (i : ℕ) →
     held_in all (remove ws i) ≡ remove (held_in all ws) i
-remove_held all [] zero = refl
-remove_held all [] (suc i) = refl
-remove_held all (w ∷ ws) zero = refl
-remove_held all (w ∷ ws) (suc i) = ap (λ xs. payload_in all w ∷ xs) (remove_held all ws i)
-
-insert_held : (all : List ℕ) (ws : List Waiting) (i : ℕ) (w : Waiting) →
-    held_in all (insert ws i w) ≡ insert (held_in all ws) i (payload_in all w)
-insert_held all [] zero w = refl
-insert_held all [] (suc i) w = refl
-insert_held all (v ∷ ws) zero w = refl
-insert_held all (v ∷ ws) (suc i) w = ap (λ xs. payload_in all v ∷ xs) (insert_held all ws i w)
+remove_held all ws i = map_remove (payload_in all) ws i
 
 -- what all of some are, those are with one more, and with one less
 pub all_insert : {X : Type 0} (P : X → Type 0) (xs : List X) (i : ℕ) (x : X) →
@@ -82,7 +87,7 @@ pub held_inserted : (all more : List ℕ) (ws : List Waiting) (i : ℕ) (w : Wai
 held_inserted all more ws i w h f c =
     let here : octets_at (all ++ more) w.from w.count ≡ more =
     rw (f, c, drop-append_seam all more) (take-length more) in
-    insert_held (all ++ more) ws i w ∙ rw (held_more all more ws h, here) refl
+    map_insert (payload_in (all ++ more)) ws i w ∙ rw (held_more all more ws h, here) refl
 
 pub ok_items : {U E X : Type 0} (r : Result U E) (xs a b : List X) → IsOk r →
     xs ≡ cond (is_ok r) a b → xs ≡ a

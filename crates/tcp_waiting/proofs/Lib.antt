@@ -1,6 +1,7 @@
 pub mod Counts
 pub mod Ends
 pub mod Held
+pub mod Numbered
 pub mod Order
 pub mod Packing
 pub mod Queries

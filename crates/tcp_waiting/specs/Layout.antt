@@ -2,7 +2,6 @@
 use Rattle.std.specs.Prelude.{◌≡◌, ℕ, ◌+◌, ◌*◌, ◌^◌, ◌<◌, ◌≤◌, Bool, false, not, nat_eq, nat_lt, ◌&&◌, ◌||◌, List, [], ◌∷◌, ◌++◌, length, get_or, map, take, drop, Option, Some, None}
 use Rattle.std.specs.List.{AllByRecursion}
 use Rattle.std.specs.Vec.{vec_capacity}
-use Rattle.std.specs.VecDeque.{deque_capacity}
 use Rattle.tcp_waiting.specs.Payload.{Payload, payload, no_payload, blocks_of, count_of, key_of, ends_far}
 use Rattle.tcp_waiting.specs.Pool.{PoolView}
 use Rattle.tcp_waiting.specs.declared.pool.Near.{Near}
@@ -61,7 +60,7 @@ store_of a = record { held = held_in a.octets.items a.waiting.items; blocks = a.
 -- nothing that was taken is too small
 pub record IsRoomy (a : Inside) : Type 0 where
   pub most : a.blocks ≤ 1048576
-  pub places : a.blocks + 256 ≤ deque_capacity a.waiting
+  pub places : a.blocks + 256 ≤ a.waiting.room
   pub octets : 1024 * (a.blocks + 256) ≤ vec_capacity a.octets
   pub spare : 1024 * (a.blocks + 256) ≤ vec_capacity a.spare
   pub fits : length a.octets.items ≤ 1024 * (a.blocks + 256)

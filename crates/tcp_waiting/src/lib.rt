@@ -4,6 +4,7 @@
 
 mod arrival;
 mod numbers;
+mod places;
 mod pool;
 
 pub use arrival::Arrival;

@@ -3,14 +3,13 @@
 ghost use Rattle.std.specs.Prelude.{◌≡◌, ℕ, true, false, cond, ◌≤◌, ◌<◌, ◌+◌, ◌*◌, ◌/◌, ◌^◌, [], length, IfOk, IfSome, None, get_or, set, nat_eq, nat_lt};
 ghost use Rattle.std.specs.List.{remove};
 ghost use Rattle.std.specs.Vec.{vec_capacity};
-ghost use Rattle.std.specs.VecDeque.{deque_capacity};
 ghost use Rattle.tcp_waiting.specs.Payload.{payload, no_payload, count_of, first, blocks_of, has_as_much, is_far, put, place_of, key as spec_key, ends_far as spec_ends_far};
 ghost use Rattle.tcp_waiting.specs.Layout.{AreWithin, counts, held_in, stands_at, is_far_but};
 
 use crate::arrival::Arrival;
 use crate::numbers::{ahead, is_to_come};
+use crate::places::Places;
 use std::alloc::{AllocError, Global};
-use std::collections::VecDeque;
 use std::marker::Model;
 use std::mem::swap;
 
@@ -39,7 +38,7 @@ pub(crate) struct Near {
 /// The payloads that wait, of all flows, and the blocks that they take.
 #[derive(Drop)]
 pub struct Pool {
-    waiting: VecDeque<Waiting>,
+    waiting: Places,
     octets: Vec<u8>,
     /// What waits is copied to it when there is no room else, and it is the other's place then.
     spare: Vec<u8>,
@@ -71,7 +70,7 @@ impl Pool {
         ensures blocks { IfOk result (λ p. p.blocks ≡ blocks) }
     {
         let most = blocks + 256;
-        let waiting = VecDeque::with_capacity(alloc, most)?;
+        let waiting = Places::with_capacity(alloc, most)?;
         let octets = Vec::with_capacity(alloc, 1024 * most)?;
         let spare = Vec::with_capacity(alloc, 1024 * most)?;
         let counts = vec![in alloc; 0; flows]?;
@@ -103,7 +102,7 @@ impl Pool {
         let mut high = self.waiting.len();
         while low < high {
             let middle = low + (high - low) / 2;
-            let here = self.waiting[middle];
+            let here = self.waiting.at(middle);
             if key(here.flow, here.number, here.count) < wanted {
                 low = middle + 1;
             } else {
@@ -117,7 +116,7 @@ impl Pool {
     fn stands_at(&self, place: usize, flow: u32) -> bool
         ensures { result ≡ stands_at place flow self.now.held }
     {
-        place < self.waiting.len() && self.waiting[place].flow == flow
+        place < self.waiting.len() && self.waiting.at(place).flow == flow
     }
 
     /// Which of the payloads that a flow holds is first.
@@ -152,7 +151,7 @@ impl Pool {
         requires { index < length self.now.held }
         ensures { result ≡ (get_or self.now.held index no_payload).number }
     {
-        self.waiting[index].number
+        self.waiting.at(index).number
     }
 
     /// The octets of a payload that waits.
@@ -160,7 +159,7 @@ impl Pool {
         requires { index < length self.now.held }
         ensures { result.now ≡ (get_or self.now.held index no_payload).octets }
     {
-        let here = self.waiting[index];
+        let here = self.waiting.at(index);
         &self.octets[here.from..here.from + here.count]
     }
 
@@ -169,7 +168,7 @@ impl Pool {
         requires { index < length self.now.held }
         ensures { result ≡ (get_or self.now.held index no_payload).arrival }
     {
-        let held = self.waiting[index];
+        let held = self.waiting.at(index);
         Arrival {
             time: held.time,
             packet: held.packet,
@@ -184,7 +183,7 @@ impl Pool {
             return false;
         }
         let place = self.place(key(flow, number, count));
-        self.stands_at(place, flow) && self.waiting[place].number == number
+        self.stands_at(place, flow) && self.waiting.at(place).number == number
     }
 
     /// Whether one of the payloads that a flow holds ends too far after the number that is due.
@@ -217,7 +216,9 @@ impl Pool {
         let Some(index) = self.first(flow, next) else {
             return None;
         };
-        if ahead(near.base, next) <= 0x8000_0000 && is_to_come(next, self.waiting[index].number) {
+        if ahead(near.base, next) <= 0x8000_0000
+            && is_to_come(next, self.waiting.at(index).number)
+        {
             return Some(near);
         }
         None
@@ -241,7 +242,7 @@ impl Pool {
     {
         let mut index = 0;
         while index < self.waiting.len() {
-            let here = self.waiting[index];
+            let here = self.waiting.at(index);
             if here.flow == flow && ends_far(next, here.number, here.count) {
                 return true;
             }
@@ -299,7 +300,7 @@ impl Pool {
         count_more(&mut self.counts, flow);
         // Neither fails: there has been room for the most octets and payloads since the pool was made.
         let _copied = self.octets.extend_from_slice(octets);
-        let _noted = self.waiting.insert(
+        self.waiting.insert(
             place,
             Waiting {
                 flow,
@@ -318,7 +319,7 @@ impl Pool {
         ensures held { self.new.held ≡ remove self.old.held index }
         ensures blocks { self.new.blocks ≡ self.old.blocks }
     {
-        let removed = self.waiting[index];
+        let removed = self.waiting.at(index);
         self.used -= blocks_for(removed.count);
         count_less(&mut self.counts, removed.flow);
         self.waiting.remove(index);
@@ -384,32 +385,35 @@ fn note(nears: &mut Vec<Option<Near>>, flow: u32, near: Option<Near>)
 }
 
 /// Copies what waits to the spare memory, without holes, and has it in place of the other.
-fn pack(waiting: &mut VecDeque<Waiting>, octets: &mut Vec<u8>, spare: &mut Vec<u8>)
+fn pack(waiting: &mut Places, octets: &mut Vec<u8>, spare: &mut Vec<u8>)
     requires within { AreWithin (length octets.old.items) waiting.old.items }
     requires room { counts waiting.old.items ≤ vec_capacity spare.old }
     ensures held { held_in octets.new.items waiting.new.items
         ≡ held_in octets.old.items waiting.old.items }
     ensures within { AreWithin (length octets.new.items) waiting.new.items }
     ensures fits { length octets.new.items ≡ counts waiting.old.items }
-    ensures places { deque_capacity waiting.new ≡ deque_capacity waiting.old }
+    ensures places { waiting.new.room ≡ waiting.old.room }
     ensures room { vec_capacity spare.old ≤ vec_capacity octets.new }
     ensures spare { vec_capacity spare.new ≡ vec_capacity octets.old }
 {
     spare.clear();
     let mut index = 0;
     while index < waiting.len() {
-        let here = waiting[index];
+        let here = waiting.at(index);
         let from = spare.len();
         // It doesn't fail: the spare memory has room for all.
         let _copied = spare.extend_from_slice(&octets[here.from..here.from + here.count]);
-        waiting[index] = Waiting {
-            flow: here.flow,
-            number: here.number,
-            from,
-            count: here.count,
-            time: here.time,
-            packet: here.packet,
-        };
+        waiting.replace(
+            index,
+            Waiting {
+                flow: here.flow,
+                number: here.number,
+                from,
+                count: here.count,
+                time: here.time,
+                packet: here.packet,
+            },
+        );
         index += 1;
     }
     swap(octets, spare);
@@ -417,7 +421,7 @@ fn pack(waiting: &mut VecDeque<Waiting>, octets: &mut Vec<u8>, spare: &mut Vec<u
 
 /// Closes the holes, where there is no room else.
 fn make_room(
-    waiting: &mut VecDeque<Waiting>,
+    waiting: &mut Places,
     octets: &mut Vec<u8>,
     spare: &mut Vec<u8>,
     count: usize,
@@ -431,7 +435,7 @@ fn make_room(
         ≡ held_in octets.old.items waiting.old.items }
     ensures within { AreWithin (length octets.new.items) waiting.new.items }
     ensures fits { length octets.new.items + count ≤ most }
-    ensures places { deque_capacity waiting.new ≡ deque_capacity waiting.old }
+    ensures places { waiting.new.room ≡ waiting.old.room }
     ensures room { most ≤ vec_capacity octets.new }
     ensures spare { most ≤ vec_capacity spare.new }
 {

@@ -18,13 +18,13 @@ overflow_add-here c =
     let all = c.args.octets.now.items in
     let ws = c.args.waiting.now.items in
     let k = c.loop-index.index in
-    let w = c.index-here.result.now in
+    let w = c.at-here.result in
     let p = c.loop-index.invariant.0 in
     let h : k < length ws =
     omega (arith, length_places all ws k c.loop-index.spare.items c.loop-index.waiting.items p) in
     let n = here all ws k w c.requires.within h
     (next_of all ws k c.loop-index.spare.items c.loop-index.waiting.items p h w
-    c.index-here.ensures) in
+    c.at-here.ensures) in
     omega (arith, n.ends, ap length c.deref.ensures.value)
 
 pub slice_bounds-extend_from_slice-end : goal.slice_bounds-extend_from_slice-end
@@ -32,13 +32,13 @@ slice_bounds-extend_from_slice-end c =
     let all = c.args.octets.now.items in
     let ws = c.args.waiting.now.items in
     let k = c.loop-index.index in
-    let w = c.index-here.result.now in
+    let w = c.at-here.result in
     let p = c.loop-index.invariant.0 in
     let h : k < length ws =
     omega (arith, length_places all ws k c.loop-index.spare.items c.loop-index.waiting.items p) in
     let n = here all ws k w c.requires.within h
     (next_of all ws k c.loop-index.spare.items c.loop-index.waiting.items p h w
-    c.index-here.ensures) in
+    c.at-here.ensures) in
     omega (arith, n.ends, ap length c.deref.ensures.value)
 
 pub loop-index-smaller : goal.loop-index-smaller
@@ -55,12 +55,12 @@ loop-index-preserved c =
     let all = c.args.octets.now.items in
     let ws = c.args.waiting.now.items in
     let k = c.loop-index.index in
-    let w = c.index-here.result.now in
+    let w = c.at-here.result in
     let p = c.loop-index.invariant.0 in
     let now = c.loop-index.spare.items in
     let h : k < length ws =
     omega (arith, length_places all ws k now c.loop-index.waiting.items p) in
-    let same = next_of all ws k now c.loop-index.waiting.items p h w c.index-here.ensures in
+    let same = next_of all ws k now c.loop-index.waiting.items p h w c.at-here.ensures in
     let long : length now ≡ counts (take k ws) =
     length_copied all ws k now c.loop-index.waiting.items c.requires.within p in
     let n = here all ws k w c.requires.within h same in
@@ -77,9 +77,9 @@ loop-index-preserved c =
       c.clear.ensures.capacity,
       c.loop-index.invariant.2,
     )))) c.extend_from_slice-copied.ensures.items ∙ rw (m, c.deref.ensures.value) refl in (
-      rw (copied, here_from) (pack_step all ws k now c.loop-index.waiting.items
-          c.requires.within p h w c.index-here.ensures),
-      c.loop-index.invariant.1,
+      rw (c.replace.ensures.items, copied, here_from) (pack_step all ws k now
+          c.loop-index.waiting.items c.requires.within p h w c.at-here.ensures),
+      c.replace.ensures.room ∙ c.loop-index.invariant.1,
       omega (arith, c.loop-index.invariant.2, c.extend_from_slice-copied.ensures.capacity),
     )
 

@@ -3,8 +3,8 @@ use Rattle.tcp_waiting.specs.Payload.{no_payload, Payload}
 use Rattle.tcp_waiting.proofs.Held.{length_held, get_held}
 use Rattle.tcp_waiting.proofs.pool.Pool.arrival.Goals as goal
 
-pub index-held-requires : goal.index-held-requires
-index-held-requires c = omega (
+pub at-held-requires : goal.at-held-requires
+at-held-requires c = omega (
   arith,
   length_held c.self.inside.octets.items c.self.inside.waiting.items,
   rw (← c.self.view_is) at c.requires,
@@ -20,4 +20,4 @@ returns c =
     ) in
     rw (← c.self.view_is) (sym (ap (λ (p : Payload). p.arrival)
     (get_held c.self.inside.octets.items c.self.inside.waiting.items c.args.index
-    c.index-held.result.now no_payload h c.index-held.ensures)))
+    c.at-held.result no_payload h c.at-held.ensures)))

@@ -8,9 +8,9 @@ use Rattle.tcp_waiting.proofs.pool.Pool.finds_far.Goals as goal
 pub returns-then-ends_far : goal.returns-then-ends_far
 returns-then-ends_far c =
     let a = c.self.inside in
-    let w = c.index-here.result.now in
+    let w = c.at-here.result in
     let h = here a.octets.items a.waiting.items c.loop-index.index w c.self.invariant.within
-    (omega arith) c.index-here.ensures in
+    (omega arith) c.at-here.ensures in
     rw (← c.self.view_is) (sym (sym c.loop-index.invariant.1
     ∙ far_turn a.octets.items a.waiting.items c.loop-index.index w c.args.flow c.args.next h
     ∙ rw (
@@ -21,9 +21,9 @@ returns-then-ends_far c =
 pub loop-index-preserved : goal.loop-index-preserved
 loop-index-preserved c =
     let a = c.self.inside in
-    let w = c.index-here.result.now in
+    let w = c.at-here.result in
     let h = here a.octets.items a.waiting.items c.loop-index.index w c.self.invariant.within
-    (omega arith) c.index-here.ensures in
+    (omega arith) c.at-here.ensures in
     let e : (nat_eq w.flow c.args.flow && ends_far c.args.next w.number w.count) ≡ false =
     elim c.else-here-flow.branch [
       | else-here-flow-via-then-here-flow+else-ends_far b ↦

@@ -32,4 +32,4 @@ returns-then-stands_at c =
     (rw (← c.self.view_is) c.self.invariant.ordered) (rw (← c.self.view_is) c.self.invariant.small)
     (c.place-place.ensures.place ∙ ap (λ (k : ℕ). place_of k held) c.key.ensures) at
     ∙ rw (← c.self.view_is) (ap (λ (p : Payload). nat_eq p.number c.args.number)
-    (get_held a.octets.items a.waiting.items i c.index.result.now d l c.index.ensures)))
+    (get_held a.octets.items a.waiting.items i c.at.result d l c.at.ensures)))

@@ -5,7 +5,7 @@ use Rattle.tcp_waiting.specs.declared.pool.Waiting.{Waiting}
 use Rattle.tcp_waiting.specs.Payload.{payload, blocks_of, count_of, key_of, place_of, put}
 use Rattle.tcp_waiting.specs.Layout.{held_in, IsSmall, is_far_but}
 use Rattle.tcp_waiting.specs.Pool.{PoolView}
-use Rattle.tcp_waiting.proofs.Held.{length_held, held_inserted, all_insert, within_more, ok_items, ok_so}
+use Rattle.tcp_waiting.proofs.Held.{length_held, held_inserted, all_insert, within_more, ok_items}
 use Rattle.tcp_waiting.proofs.Counts.{count_insert, count_most}
 use Rattle.tcp_waiting.proofs.Ends.{far_insert, far_none_but, itself, another, set_cases}
 use Rattle.tcp_waiting.proofs.Order.{place_within, ordered_insert}
@@ -25,32 +25,51 @@ make_room-requires-clause-room c =
 pub count_more-requires : goal.count_more-requires
 count_more-requires c at l =
     let a = c.self.inside in
+    let before = held_in a.octets.items a.waiting.items in
     omega (
       arith,
       c.self.invariant.counts at l,
-      count_most at (held_in a.octets.items a.waiting.items),
-      length_held a.octets.items a.waiting.items,
+      count_most at before,
+      length_blocks before c.self.invariant.small,
+      rw (← c.self.view_is) at c.requires.room,
+      c.self.invariant.roomy.most,
     )
 
-pub insert-noted-requires : goal.insert-noted-requires
-insert-noted-requires c =
+pub insert-requires : goal.insert-requires
+insert-requires c =
     let a = c.self.inside in
+    let before = held_in a.octets.items a.waiting.items in
     let same = ap length c.make_room.ensures.held in
-    omega (
-      arith,
-      same,
-      c.place-place.ensures.place,
-      place_within c.key.result c.args.self.now.held,
-      ap (λ (v : PoolView). length v.held) c.self.view_is,
-      length_held a.octets.items a.waiting.items,
-      length_held c.make_room.new.octets.items c.make_room.new.waiting.items,
-    )
+    let was = length_held a.octets.items a.waiting.items in
+    let is = length_held c.make_room.new.octets.items c.make_room.new.waiting.items in
+    record {
+      place = omega (
+        arith,
+        same,
+        c.place-place.ensures.place,
+        place_within c.key.result c.args.self.now.held,
+        ap (λ (v : PoolView). length v.held) c.self.view_is,
+        was,
+        is,
+      );
+      room = omega (
+        arith,
+        same,
+        c.make_room.ensures.places,
+        c.self.invariant.roomy.places,
+        was,
+        is,
+        length_blocks before c.self.invariant.small,
+        rw (← c.self.view_is) at c.requires.room,
+        c.requires.some,
+      );
+    }
 
 -- what waits after it, by where it is
-record IsHeld (c : goal.After-insert-noted) : Type 0 where
+record IsHeld (c : goal.After-insert) : Type 0 where
   octets : c.extend_from_slice-copied.new.self.items ≡ c.make_room.new.octets.items
       ++ c.args.octets.now
-  waiting : c.insert-noted.new.self.items
+  waiting : c.insert.new.self.items
       ≡ insert c.make_room.new.waiting.items c.place-place.result (record {
         flow = c.args.flow;
         number = c.args.number;
@@ -59,11 +78,11 @@ record IsHeld (c : goal.After-insert-noted) : Type 0 where
         time = c.args.arrival.time;
         packet = c.args.arrival.packet;
       })
-  held : held_in c.extend_from_slice-copied.new.self.items c.insert-noted.new.self.items
+  held : held_in c.extend_from_slice-copied.new.self.items c.insert.new.self.items
       ≡ put (payload c.args.flow c.args.number c.args.octets.now c.args.arrival)
       (held_in c.self.inside.octets.items c.self.inside.waiting.items)
 
-held_is : (c : goal.After-insert-noted) → IsHeld c
+held_is : (c : goal.After-insert) → IsHeld c
 held_is c =
     let a = c.self.inside in
     let mr = c.make_room.new in
@@ -83,27 +102,13 @@ held_is c =
     ok_items c.extend_from_slice-copied.result _ _ _ (c.extend_from_slice-copied.ensures.succeeds
     (omega (arith, c.make_room.ensures.fits, c.make_room.ensures.room)))
     c.extend_from_slice-copied.ensures.items in
-    let waiting : c.insert-noted.new.self.items
-    ≡ insert mr.waiting.items c.place-place.result v = ok_so c.insert-noted.result _ _
-    c.insert-noted.ensures.full (λ h. omega (
-      arith,
-      h,
-      ap length c.make_room.ensures.held,
-      c.make_room.ensures.places,
-      c.self.invariant.roomy.places,
-      length_held a.octets.items a.waiting.items,
-      length_held mr.octets.items mr.waiting.items,
-      length_blocks before c.self.invariant.small,
-      room,
-      c.requires.some,
-    )) c.insert-noted.ensures.items in
     let place : c.place-place.result ≡ place_of (key_of p) before =
     rw (← c.self.view_is) at (c.place-place.ensures.place
     ∙ ap (λ (k : ℕ). place_of k c.args.self.now.held) c.key.ensures) in
     record {
       octets = octets;
-      waiting = waiting;
-      held = rw (octets, waiting) (held_inserted mr.octets.items c.args.octets.now
+      waiting = c.insert.ensures.items;
+      held = rw (octets, c.insert.ensures.items) (held_inserted mr.octets.items c.args.octets.now
           mr.waiting.items c.place-place.result v c.make_room.ensures.within
           (omega (arith, c.len-from.ensures)) refl
           ∙ rw (c.make_room.ensures.held, place) refl);
@@ -142,7 +147,7 @@ invariant_of-self c =
         most = c.self.invariant.roomy.most;
         places = omega (
           arith,
-          c.insert-noted.ensures.capacity,
+          c.insert.ensures.room,
           c.make_room.ensures.places,
           c.self.invariant.roomy.places,
         );

@@ -3,8 +3,8 @@ use Rattle.tcp_waiting.specs.Payload.{no_payload, Payload}
 use Rattle.tcp_waiting.proofs.Held.{length_held, get_held}
 use Rattle.tcp_waiting.proofs.pool.Pool.number.Goals as goal
 
-pub index-requires : goal.index-requires
-index-requires c = omega (
+pub at-requires : goal.at-requires
+at-requires c = omega (
   arith,
   length_held c.self.inside.octets.items c.self.inside.waiting.items,
   rw (← c.self.view_is) at c.requires,
@@ -20,4 +20,4 @@ returns c =
     ) in
     rw (← c.self.view_is) (sym (ap (λ (p : Payload). p.number)
     (get_held c.self.inside.octets.items c.self.inside.waiting.items c.args.index
-    c.index.result.now no_payload h c.index.ensures)))
+    c.at.result no_payload h c.at.ensures)))

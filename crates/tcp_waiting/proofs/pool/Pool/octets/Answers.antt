@@ -4,8 +4,8 @@ use Rattle.tcp_waiting.proofs.Held.{length_held, get_held}
 use Rattle.tcp_waiting.proofs.Queries.{here}
 use Rattle.tcp_waiting.proofs.pool.Pool.octets.Goals as goal
 
-pub index-here-requires : goal.index-here-requires
-index-here-requires c = omega (
+pub at-here-requires : goal.at-here-requires
+at-here-requires c = omega (
   arith,
   length_held c.self.inside.octets.items
       c.self.inside.waiting.items,
@@ -21,7 +21,7 @@ overflow_add-result c =
       rw (← c.self.view_is) at c.requires,
     ) in
     let k = here c.self.inside.octets.items c.self.inside.waiting.items c.args.index
-    c.index-here.result.now c.self.invariant.within h c.index-here.ensures in
+    c.at-here.result c.self.invariant.within h c.at-here.ensures in
     omega (arith, k.ends, ap length c.deref.ensures.value)
 
 pub slice_bounds-result-end : goal.slice_bounds-result-end
@@ -33,7 +33,7 @@ slice_bounds-result-end c =
       rw (← c.self.view_is) at c.requires,
     ) in
     let k = here c.self.inside.octets.items c.self.inside.waiting.items c.args.index
-    c.index-here.result.now c.self.invariant.within h c.index-here.ensures in
+    c.at-here.result c.self.invariant.within h c.at-here.ensures in
     omega (arith, k.ends, ap length c.deref.ensures.value)
 
 pub returns : goal.returns
@@ -44,12 +44,12 @@ returns c =
       length_held c.self.inside.octets.items c.self.inside.waiting.items,
       rw (← c.self.view_is) at c.requires,
     ) in
-    let e : c.index-here.result.now.from + c.index-here.result.now.count -
-    c.index-here.result.now.from ≡ c.index-here.result.now.count = omega arith in
+    let e : c.at-here.result.from + c.at-here.result.count -
+    c.at-here.result.from ≡ c.at-here.result.count = omega arith in
     rw (
       ← c.self.view_is,
       get_held c.self.inside.octets.items c.self.inside.waiting.items
-          c.args.index c.index-here.result.now no_payload h c.index-here.ensures,
+          c.args.index c.at-here.result no_payload h c.at-here.ensures,
       e,
       c.deref.ensures.value,
     ) refl

@@ -8,8 +8,8 @@ use Rattle.tcp_waiting.proofs.Held.{get_held, length_held}
 use Rattle.tcp_waiting.proofs.Order.{first_within}
 use Rattle.tcp_waiting.proofs.pool.Pool.others_are_near.Goals as goal
 
-pub index-requires : goal.index-requires
-index-requires c =
+pub at-requires : goal.at-requires
+at-requires c =
     let a = c.self.inside in
     let held = c.args.self.now.held in
     let e = sym c.first.ensures ∙ c.in-Some-first.is in
@@ -22,7 +22,7 @@ pub returns-then-is_to_come : goal.returns-then-is_to_come
 returns-then-is_to_come c =
     let a = c.self.inside in
     let i = c.in-Some-first.index in
-    let w = c.index.result.now in
+    let w = c.at.result in
     let e = sym c.first.ensures ∙ c.in-Some-first.is in
     let l : i < length c.args.self.now.held =
     subst (λ (r : Option ℕ). IfSome r (λ k. k < length c.args.self.now.held)) e
@@ -44,5 +44,5 @@ returns-then-is_to_come c =
       arith,
       come,
       ap (λ (p : Payload). ahead c.args.next p.number)
-          (get_held a.octets.items a.waiting.items i w d l' c.index.ensures),
+          (get_held a.octets.items a.waiting.items i w d l' c.at.ensures),
     ))) (rw (← c.self.view_is) at c.in-Some.ensures))

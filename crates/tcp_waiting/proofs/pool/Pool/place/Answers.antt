@@ -31,8 +31,8 @@ loop-low-preserved-then-key-wanted c =
     omega (arith, c.loop-low.invariant, c.loop-low-test.true) in
     let e : key_of (get_or held middle no_payload) < c.args.wanted = omega (
       arith,
-      key_here a.octets.items a.waiting.items middle c.index-here.result.now no_payload
-          c.self.invariant.within l c.index-here.ensures,
+      key_here a.octets.items a.waiting.items middle c.at-here.result no_payload
+          c.self.invariant.within l c.at-here.ensures,
       c.key.ensures,
       c.if-key-wanted.true,
     ) in (
@@ -56,8 +56,8 @@ loop-low-preserved c =
     omega (arith, c.loop-low.invariant, c.loop-low-test.true) in
     let e : c.args.wanted ≤ key_of (get_or held middle no_payload) = omega (
       arith,
-      key_here a.octets.items a.waiting.items middle c.index-here.result.now no_payload
-          c.self.invariant.within l c.index-here.ensures,
+      key_here a.octets.items a.waiting.items middle c.at-here.result no_payload
+          c.self.invariant.within l c.at-here.ensures,
       c.key.ensures,
       c.if-key-wanted.false,
     ) in (

@@ -1,6 +1,5 @@
-use Rattle.std.proofs.Common.{◌≡◌, ◌<◌, ◌≤◌, ◌+◌, length, arith, subst, ap, List, Option}
+use Rattle.std.proofs.Common.{◌≡◌, ◌<◌, ◌≤◌, ◌+◌, length, arith, ap, List}
 use Rattle.std.specs.List.{remove}
-use Rattle.std.specs.Option.{OnSome}
 use Rattle.tcp_waiting.specs.Layout.{IsSmall, held_in}
 use Rattle.tcp_waiting.specs.Payload.{blocks_of, count_of}
 use Rattle.tcp_waiting.proofs.Counts.{removed_counts, one_own}
@@ -24,14 +23,14 @@ overflow_sub-self c =
       arith,
       c.self.invariant.used,
       c.blocks_for.ensures,
-      removed_blocks a.octets.items a.waiting.items c.args.index c.index-removed.result.now
-          c.self.invariant.within within c.index-removed.ensures,
+      removed_blocks a.octets.items a.waiting.items c.args.index c.at-removed.result
+          c.self.invariant.within within c.at-removed.ensures,
     )
 
 pub count_less-requires : goal.count_less-requires
 count_less-requires c l =
     let a = c.self.inside in
-    let w = c.index-removed.result.now in
+    let w = c.at-removed.result in
     let within : c.args.index < length a.waiting.items =
     omega (
       arith,
@@ -39,29 +38,14 @@ count_less-requires c l =
       rw (← c.self.view_is) at c.requires,
     ) in
     let own = removed_counts a.octets.items a.waiting.items c.args.index w w.flow within
-    c.index-removed.ensures in
+    c.at-removed.ensures in
     let own_one = one_own w.flow in
     omega (arith, c.self.invariant.counts w.flow l, own, own_one)
-
-gone : (c : goal.After-remove) → c.remove.new.self.items
-    ≡ remove c.self.inside.waiting.items c.args.index
-gone c =
-    let a = c.self.inside in
-    let within : c.args.index < length a.waiting.items =
-    omega (
-      arith,
-      length_held a.octets.items a.waiting.items,
-      rw (← c.self.view_is) at c.requires,
-    ) in
-    subst (λ (r : Option Waiting). OnSome r (c.remove.new.self.items
-    ≡ remove a.waiting.items c.args.index))
-    (c.remove.ensures.succeeds c.index-removed.result.now (omega (arith, within)))
-    c.remove.ensures.items
 
 pub invariant_of-self : goal.invariant_of-self
 invariant_of-self c =
     let a = c.self.inside in
-    let w = c.index-removed.result.now in
+    let w = c.at-removed.result in
     let within : c.args.index < length a.waiting.items =
     omega (
       arith,
@@ -70,13 +54,14 @@ invariant_of-self c =
     ) in
     let before = held_in a.octets.items a.waiting.items in
     let held : held_in a.octets.items c.remove.new.self.items ≡ remove before c.args.index =
-    rw (gone c) (remove_held a.octets.items a.waiting.items c.args.index) in
+    rw c.remove.ensures.items (remove_held a.octets.items a.waiting.items c.args.index) in
     record {
-      within = rw (gone c) (all_remove (λ (v : Waiting). v.from + v.count ≤ length a.octets.items)
-          a.waiting.items c.args.index c.self.invariant.within);
+      within = rw c.remove.ensures.items (all_remove
+          (λ (v : Waiting). v.from + v.count ≤ length a.octets.items) a.waiting.items
+          c.args.index c.self.invariant.within);
       roomy = record {
         most = c.self.invariant.roomy.most;
-        places = omega (arith, c.self.invariant.roomy.places, c.remove.ensures.capacity);
+        places = omega (arith, c.self.invariant.roomy.places, c.remove.ensures.room);
         octets = c.self.invariant.roomy.octets;
         spare = c.self.invariant.roomy.spare;
         fits = c.self.invariant.roomy.fits;
@@ -88,8 +73,8 @@ invariant_of-self c =
         c.self.invariant.used,
         c.blocks_for.ensures,
         removed_blocks a.octets.items a.waiting.items c.args.index w c.self.invariant.within within
-            c.index-removed.ensures,
-        ap (λ (ws : List Waiting). blocks_of (held_in a.octets.items ws)) (gone c),
+            c.at-removed.ensures,
+        ap (λ (ws : List Waiting). blocks_of (held_in a.octets.items ws)) c.remove.ensures.items,
       );
       counts = λ flow l.
           (let l' : flow < length a.counts.items = omega (arith, l, c.count_less.ensures.len) in
@@ -97,14 +82,15 @@ invariant_of-self c =
             arith,
             c.count_less.ensures.counts flow l',
             c.self.invariant.counts flow l',
-            ap (λ (ws : List Waiting). count_of flow (held_in a.octets.items ws)) (gone c),
+            ap (λ (ws : List Waiting). count_of flow (held_in a.octets.items ws))
+                c.remove.ensures.items,
             removed_counts a.octets.items a.waiting.items c.args.index w flow within
-                c.index-removed.ensures,
+                c.at-removed.ensures,
           ));
       nears = λ flow n is. rw held (far_remove flow n.base n.number n.count before c.args.index
           (c.self.invariant.nears flow n is));
     }
 
 pub returns-clause-held : goal.returns-clause-held
-returns-clause-held c = rw (← c.self.view_is, gone c)
+returns-clause-held c = rw (← c.self.view_is, c.remove.ensures.items)
     (remove_held c.self.inside.octets.items c.self.inside.waiting.items c.args.index)

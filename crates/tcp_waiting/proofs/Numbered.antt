@@ -1,0 +1,199 @@
+-- What stands under the numbers of an order: when one is put in, taken out, or has another thing.
+use Rattle.std.proofs.Common.{◌≡◌, ◌≢◌, ℕ, zero, suc, ◌+◌, ◌<◌, ◌≤◌, false, eqb, cond, List, [], ◌∷◌, length, get_or, set, map, Option, Some, None, IsSome, OnSome, is_some, count_by, refl, ap, sym, ◌∙◌, inl, inr, arith}
+use Rattle.std.specs.List.{AllByRecursion, IsDistinct, insert, remove}
+use Rattle.std.proofs.lemmas.Bool.{eqb-false, ne_eqb, cases_eq}
+use Rattle.std.proofs.lemmas.List.Edits.{length-insert, length-remove}
+use Rattle.std.proofs.lemmas.List.Sums.{sum_by-cons}
+use Rattle.slab.specs.Slab.{Slab, get, slab_len, with_value, Updates}
+use Rattle.slab.proofs.SlabLemmas.{Updates-with_value}
+use Rattle.tcp_waiting.specs.declared.pool.Waiting.{Waiting}
+use Rattle.tcp_waiting.specs.Places.{waiting_under, IsTied}
+use Rattle.tcp_waiting.proofs.Held.{map_insert, map_remove, all_insert, all_remove, all_at}
+
+-- the numbers all differ from one
+abbrev pub AreOthers : ℕ → List ℕ → Type 0
+AreOthers n ns = AllByRecursion (λ m. m ≢ n) ns
+
+-- what is so on Some, if there is one
+pub some_so : {X : Type 0} (o : Option X) (P : Type 0) → IsSome o → OnSome o P → P
+some_so None P s h = absurd (cc)
+some_so (Some x) P s h = h
+
+pub all_mapped : (P Q : ℕ → Type 0) (ns : List ℕ) → ((n : ℕ) → P n → Q n) →
+    AllByRecursion P ns → AllByRecursion Q ns
+all_mapped P Q [] f h = tt
+all_mapped P Q (n ∷ ns) f h = (f n h.0, all_mapped P Q ns f h.1)
+
+pub map_same : (f g : ℕ → Waiting) (ns : List ℕ) → AllByRecursion (λ n. g n ≡ f n) ns →
+    map g ns ≡ map f ns
+map_same f g [] h = refl
+map_same f g (n ∷ ns) h = rw (h.0, map_same f g ns h.1) refl
+
+apart : (n : ℕ) (ns : List ℕ) → AllByRecursion (λ m. eqb n m ≡ false) ns → AreOthers n ns
+apart n ns h =
+    all_mapped (λ m. eqb n m ≡ false) (λ m. m ≢ n) ns (λ m e same. eqb-false n m e (sym same)) h
+
+pub map_changed : (f g : ℕ → Waiting) (ns : List ℕ) (i : ℕ) → IsDistinct eqb ns → i < length ns →
+    ((m : ℕ) → m ≢ get_or ns i 0 → g m ≡ f m)
+    → map g ns ≡ set (map f ns) i (g (get_or ns i 0))
+unfolding IsDistinct
+map_changed f g [] i d l o = absurd (omega (arith, l))
+map_changed f g (n ∷ ns) zero d l o =
+    rw (map_same f g ns (all_mapped (λ m. m ≢ n) (λ m. g m ≡ f m) ns o (apart n ns d.0))) refl
+map_changed f g (n ∷ ns) (suc i) d l o =
+    let within : i < length ns = omega (arith, l) in
+    let other : n ≢ get_or ns i 0 =
+    λ e. all_at (λ m. m ≢ n) ns i 0 (apart n ns d.0) within (sym e) in
+    rw (o n other, map_changed f g ns i d.1 within o) refl
+
+pub distinct_remove : (ns : List ℕ) (i : ℕ) → IsDistinct eqb ns → IsDistinct eqb (remove ns i)
+unfolding IsDistinct
+distinct_remove [] zero d = tt
+distinct_remove [] (suc i) d = tt
+distinct_remove (n ∷ ns) zero d = d.1
+distinct_remove (n ∷ ns) (suc i) d =
+    (all_remove (λ m. eqb n m ≡ false) ns i d.0, distinct_remove ns i d.1)
+
+pub distinct_insert : (ns : List ℕ) (i n : ℕ) → IsDistinct eqb ns → AreOthers n ns →
+    IsDistinct eqb (insert ns i n)
+unfolding IsDistinct
+distinct_insert [] zero n d o = (tt, tt)
+distinct_insert [] (suc i) n d o = (tt, tt)
+distinct_insert (m ∷ ns) zero n d o = (
+  all_mapped (λ k. k ≢ n) (λ k. eqb n k ≡ false) (m ∷ ns) (λ k e. ne_eqb n k (λ s. e (sym s))) o,
+  d,
+)
+distinct_insert (m ∷ ns) (suc i) n d o =
+    (all_insert (λ k. eqb m k ≡ false) ns i n d.0 (ne_eqb m n o.0), distinct_insert ns i n d.1 o.1)
+
+-- those that are left differ from the one that is taken out
+pub others_remove : (ns : List ℕ) (i : ℕ) → IsDistinct eqb ns → i < length ns →
+    AreOthers (get_or ns i 0) (remove ns i)
+unfolding IsDistinct
+others_remove [] i d l = absurd (omega (arith, l))
+others_remove (n ∷ ns) zero d l = apart n ns d.0
+others_remove (n ∷ ns) (suc i) d l =
+    let within : i < length ns = omega (arith, l) in (
+      λ e. all_at (λ m. m ≢ n) ns i 0 (apart n ns d.0) within (sym e),
+      others_remove ns i d.1 within,
+    )
+
+-- a number under which nothing stands is in no order of those under which something does
+pub vacant_others : (slots : Slab Waiting) (n : ℕ) (ns : List ℕ) → get slots n ≡ None →
+    AllByRecursion (λ m. IsSome (get slots m)) ns → AreOthers n ns
+vacant_others slots n ns e h =
+    all_mapped (λ m. IsSome (get slots m)) (λ m. m ≢ n) ns
+    (λ m s same. grind (arith, s, same, e)) h
+
+-- what stands under each of an order, if the slab has all else as before
+others_same : (old new : Slab Waiting) (n : ℕ) (slot : Option Waiting) (ns : List ℕ) →
+    Updates old new n slot → AreOthers n ns
+    → AllByRecursion (λ m. get new m ≡ get old m) ns
+others_same old new n slot ns u o =
+    all_mapped (λ m. m ≢ n) (λ m. get new m ≡ get old m) ns (λ m e. u.others m e) o
+
+held_same : (old new : Slab Waiting) (ns : List ℕ) →
+    AllByRecursion (λ m. get new m ≡ get old m) ns
+    → AllByRecursion (λ m. IsSome (get old m)) ns → AllByRecursion (λ m. IsSome (get new m)) ns
+held_same old new [] s h = tt
+held_same old new (n ∷ ns) s h = (rw s.0 h.0, held_same old new ns s.1 h.1)
+
+map_under : (old new : Slab Waiting) (ns : List ℕ) →
+    AllByRecursion (λ m. get new m ≡ get old m) ns
+    → map (waiting_under new) ns ≡ map (waiting_under old) ns
+map_under old new [] s = refl
+map_under old new (n ∷ ns) s = rw (s.0, map_under old new ns s.1) refl
+
+-- an order and a slab after something more waits
+pub record IsPut (order now : List ℕ) (old new : Slab Waiting) (i : ℕ) (w : Waiting) : Type 0 where
+  pub tied : IsTied now new
+  pub items : map (waiting_under new) now ≡ insert (map (waiting_under old) order) i w
+
+pub is_put : (order now : List ℕ) (old new : Slab Waiting) (i n : ℕ) (w : Waiting) →
+    IsTied order old → i ≤ length order → now ≡ insert order i n → get old n ≡ None
+    → Updates old new n (Some w) → slab_len new ≡ slab_len old + 1
+    → IsPut order now old new i w
+is_put order now old new i n w t l e v u c =
+    let others = vacant_others old n order v t.held in
+    let same = others_same old new n (Some w) order u others in
+    rw e (record {
+      tied = record {
+        distinct = distinct_insert order i n t.distinct others;
+        held = all_insert (λ m. IsSome (get new m)) order i n
+            (held_same old new order same t.held) (rw u.changed refl);
+        counted = omega (arith, c, t.counted, length-insert order i n l);
+      };
+      items = map_insert (waiting_under new) order i n
+          ∙ rw (u.changed, map_under old new order same) refl;
+    })
+
+-- an order and a slab after something less waits
+pub record IsTaken (order now : List ℕ) (old new : Slab Waiting) (i : ℕ) : Type 0 where
+  pub tied : IsTied now new
+  pub items : map (waiting_under new) now ≡ remove (map (waiting_under old) order) i
+
+pub is_taken : (order now : List ℕ) (old new : Slab Waiting) (i : ℕ) → IsTied order old →
+    i < length order → now ≡ remove order i → Updates old new (get_or order i 0) None
+    → slab_len new + 1 ≡ slab_len old → IsTaken order now old new i
+is_taken order now old new i t l e u c =
+    let others = others_remove order i t.distinct l in
+    let same = others_same old new (get_or order i 0) None (remove order i) u others in
+    let held = all_remove (λ m. IsSome (get old m)) order i t.held in
+    rw e (record {
+      tied = record {
+        distinct = distinct_remove order i t.distinct;
+        held = held_same old new (remove order i) same held;
+        counted = omega (arith, c, t.counted, length-remove order i l);
+      };
+      items = map_under old new (remove order i) same
+          ∙ map_remove (waiting_under old) order i;
+    })
+
+count_kept : (slots : List (Option Waiting)) (n : ℕ) (w : Waiting) → IsSome (get_or slots n None) →
+    count_by is_some (set slots n (Some w)) ≡ count_by is_some slots
+count_kept [] n w h = refl
+count_kept (None ∷ rest) zero w h = absurd (cc)
+count_kept (Some v ∷ rest) zero w h =
+    let one = λ (o : Option Waiting). cond (is_some o) 1 0 in
+    sum_by-cons one (Some w) rest ∙ sym (sum_by-cons one (Some v) rest)
+count_kept (slot ∷ rest) (suc n) w h =
+    let one = λ (o : Option Waiting). cond (is_some o) 1 0 in
+    sum_by-cons one slot (set rest n (Some w)) ∙ ap (λ k. one slot + k) (count_kept rest n w h)
+    ∙ sym (sum_by-cons one slot rest)
+
+all_held_with : (old : Slab Waiting) (n : ℕ) (w : Waiting) (ns : List ℕ) → IsSome (get old n) →
+    AllByRecursion (λ m. IsSome (get old m)) ns
+    → AllByRecursion (λ m. IsSome (get (with_value old n w) m)) ns
+all_held_with old n w ns here h =
+    let u = Updates-with_value old n w here in
+    all_mapped (λ m. IsSome (get old m)) (λ m. IsSome (get (with_value old n w) m)) ns
+    (λ m s. elim (cases_eq m n) [
+      | inl e ↦ rw (e, u.changed) refl
+      | inr o ↦ rw (u.others m o) s
+    ]) h
+
+-- an order and a slab after something else waits at a place
+pub record IsReplaced (order : List ℕ) (old new : Slab Waiting) (i : ℕ) (w : Waiting) : Type 0 where
+  pub tied : IsTied order new
+  pub items : map (waiting_under new) order ≡ set (map (waiting_under old) order) i w
+
+pub is_replaced : (order : List ℕ) (old : Slab Waiting) (i n : ℕ) (w : Waiting) →
+    IsTied order old → i < length order → n ≡ get_or order i 0
+    → IsReplaced order old (with_value old n w) i w
+is_replaced order old i n w t l e =
+    let held : IsSome (get old n) =
+    rw e (all_at (λ m. IsSome (get old m)) order i 0 t.held l) in
+    let u = Updates-with_value old n w held in
+    let new = with_value old n w in
+    let here : waiting_under new (get_or order i 0) ≡ w = rw (← e, u.changed) refl in
+    let others : (m : ℕ) → m ≢ get_or order i 0 → waiting_under new m ≡ waiting_under old m =
+    λ m o. rw (u.others m (λ s. o (s ∙ e))) refl in
+    record {
+      tied = record {
+        distinct = t.distinct;
+        held = all_held_with old n w order held t.held;
+        counted = count_kept old.slots n w held ∙ t.counted;
+      };
+      items = map_changed (waiting_under old) (waiting_under new) order i t.distinct l others
+          ∙ ap (λ v. set (map (waiting_under old) order) i v) here;
+    }
