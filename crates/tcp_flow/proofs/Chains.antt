@@ -1,5 +1,5 @@
 -- Messages that stand one after another up to the end, one after the other.
-use Rattle.std.proofs.Common.{◌≡◌, ℕ, zero, suc, ◌-◌, ◌<◌, ◌≤◌, Bool, true, false, cond, nat_eq, ◌||◌, List, [], ◌∷◌, length, drop, Option, Some, None, refl, ◌∙◌, ap, arith, true≢false}
+use Rattle.std.proofs.Common.{◌≡◌, ℕ, zero, suc, ◌-◌, ◌<◌, ◌≤◌, Bool, true, false, cond, nat_eq, ◌||◌, List, [], ◌∷◌, length, drop, Option, Some, None, refl, ap, arith, true≢false}
 use Rattle.std.proofs.lemmas.Bool.{eq-eqb, eqb-true, ne_eqb}
 use Rattle.tcp_flow.specs.Flow.{header_at, message_end, is_front, chain_from, is_chain, stream_at}
 
@@ -21,29 +21,21 @@ pub chain_over : (count : ℕ) (whole : Bool) (xs : List ℕ) → length xs ≡ 
     chain_from count whole xs ≡ whole
 unfolding chain_from
 chain_over zero whole xs e = refl
-chain_over (suc n) whole xs e = ap (λ (b : Bool).
-    first_of_chain n whole xs b (is_front xs) (message_end xs)) (eq-eqb (length xs) 0 e)
+chain_over (suc n) whole xs e = search (arith, eq-eqb)
 
 -- what begins no message
 pub chain_broken : (count : ℕ) (whole : Bool) (xs : List ℕ) → 0 < length xs → length xs ≤ count →
     is_front xs ≡ false → chain_from count whole xs ≡ false
 unfolding chain_from
 chain_broken zero whole xs s l f = absurd (omega (arith, s, l))
-chain_broken (suc n) whole xs s l f =
-    ap (λ (b : Bool). first_of_chain n whole xs b (is_front xs) (message_end xs))
-    (ne_eqb (length xs) 0 (λ o. absurd (omega (arith, s, o))))
-    ∙ ap (λ (b : Bool). first_of_chain n whole xs false b (message_end xs)) f
+chain_broken (suc n) whole xs s l f = search (arith, ne_eqb)
 
 -- a message that is cut
 pub chain_cut : (count : ℕ) (whole : Bool) (xs : List ℕ) → 0 < length xs → length xs ≤ count →
     is_front xs ≡ true → message_end xs ≡ None → chain_from count whole xs ≡ whole
 unfolding chain_from
 chain_cut zero whole xs s l f e = absurd (omega (arith, s, l))
-chain_cut (suc n) whole xs s l f e =
-    ap (λ (b : Bool). first_of_chain n whole xs b (is_front xs) (message_end xs))
-    (ne_eqb (length xs) 0 (λ o. absurd (omega (arith, s, o))))
-    ∙ ap (λ (b : Bool). first_of_chain n whole xs false b (message_end xs)) f
-    ∙ ap (λ (o : Option ℕ). first_of_chain n whole xs false true o) e
+chain_cut (suc n) whole xs s l f e = search (arith, ne_eqb)
 
 -- a whole one
 pub chain_on : (count : ℕ) (whole : Bool) (xs : List ℕ) (end : ℕ) → 0 < length xs →
@@ -51,13 +43,7 @@ pub chain_on : (count : ℕ) (whole : Bool) (xs : List ℕ) (end : ℕ) → 0 < 
     chain_from count whole xs ≡ chain_from (count - 1) true (drop end xs)
 unfolding chain_from
 chain_on zero whole xs end s l f e = absurd (omega (arith, s, l))
-chain_on (suc n) whole xs end s l f e =
-    let k : n ≡ suc n - 1 = omega arith in
-    ap (λ (b : Bool). first_of_chain n whole xs b (is_front xs) (message_end xs))
-    (ne_eqb (length xs) 0 (λ o. absurd (omega (arith, s, o))))
-    ∙ ap (λ (b : Bool). first_of_chain n whole xs false b (message_end xs)) f
-    ∙ ap (λ (o : Option ℕ). first_of_chain n whole xs false true o) e
-    ∙ ap (λ (m : ℕ). chain_from m true (drop end xs)) k
+chain_on (suc n) whole xs end s l f e = search (arith, ne_eqb, drop)
 
 -- ---- Where a stream begins.
 
@@ -75,15 +61,10 @@ stream_none xs e = ap (stream_of xs) e
 pub stream_front : (xs : List ℕ) (place : ℕ) → header_at xs ≡ Some place → place ≡ 0 →
     stream_at xs ≡ Some place
 unfolding stream_at
-stream_front xs place e z =
-    ap (stream_of xs) e
-    ∙ ap (λ (b : Bool). cond (b || is_chain (drop place xs)) (Some place) None) (eq-eqb place 0 z)
+stream_front xs place e z = search (arith, cond, drop, eq-eqb)
 
 pub stream_later : (xs : List ℕ) (place : ℕ) (chain : Bool) → header_at xs ≡ Some place →
     nat_eq place 0 ≡ false → is_chain (drop place xs) ≡ chain →
     stream_at xs ≡ cond chain (Some place) None
 unfolding stream_at
-stream_later xs place chain e n is =
-    ap (stream_of xs) e
-    ∙ ap (λ (b : Bool). cond (b || is_chain (drop place xs)) (Some place) None) n
-    ∙ ap (λ (b : Bool). cond b (Some place) None) is
+stream_later xs place chain e n is = search (arith, cond, drop)

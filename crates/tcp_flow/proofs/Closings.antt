@@ -1,12 +1,10 @@
 -- A stream of a flow that has closed stays so, whatever comes.
-use Rattle.std.proofs.Common.{◌≡◌, ℕ, ◌+◌, ◌<◌, Bool, true, false, cond, nat_eq, ◌||◌, List, [], ◌∷◌, ◌++◌, length, Option, Some, None, is_some, sym, ◌∙◌, ap, arith, append-nil}
-use Rattle.std.specs.List.{remove}
+use Rattle.std.proofs.Common.{◌≡◌, ℕ, ◌+◌, ◌<◌, Bool, true, false, cond, nat_eq, ◌||◌, List, [], ◌∷◌, ◌++◌, length, Option, Some, None, is_some, arith, append-nil}
 use Rattle.std.proofs.lemmas.List.{append_assoc}
 use Rattle.tcp_flow.specs.declared.flow.CloseCause.{CloseCause}
-use Rattle.tcp_flow.specs.declared.flow.CloseCause.TheVariants.{Fault, Gap}
 use Rattle.tcp_flow.specs.declared.tail.Tail.{Tail}
 use Rattle.tcp_waiting.specs.Payload.{Payload, has_as_much, put}
-use Rattle.tcp_flow.specs.Flow.{Flow, Event, Begins, Delivers, Closes, OfCapture, ComesFrom, Passes, Reader, Setting, left, with_event, stopped, checked, handed, delivered, start_at, started, resumed, lives, out_of_step, looked_through, tail_before, told_from, taken, at as held_at, closed, holding, gone_on, within_bounds, payload_came}
+use Rattle.tcp_flow.specs.Flow.{Flow, Event, Closes, OfCapture, ComesFrom, Passes, Reader, Setting, left, with_event, stopped, checked, delivered, started, resumed, lives, out_of_step, looked_through, tail_before, told_from, taken, closed, holding, gone_on, within_bounds, payload_came}
 use Rattle.tcp_flow.specs.Order.{octets_in, octets_of, closes_in, closes_of}
 use Rattle.tcp_flow.proofs.Tails.{looked_by}
 use Rattle.tcp_flow.proofs.Preserving.{Keeps, gone_on_keeps, relieved_keeps}
@@ -17,8 +15,7 @@ pub octets_more : (id : ℕ) (es : List Event) (e : Event) →
     octets_of id (es ++ e ∷ []) ≡ octets_of id es ++ octets_in id e
 unfolding octets_of
 octets_more id [] e = append-nil (octets_in id e)
-octets_more id (d ∷ es) e = ap (λ (xs : List ℕ). octets_in id d ++ xs) (octets_more id es e)
-    ∙ sym (append_assoc (octets_in id d) (octets_of id es) (octets_in id e))
+octets_more id (d ∷ es) e = search (arith, append_assoc, octets_more id es e)
 
 pub closes_more : (id : ℕ) (es : List Event) (e : Event) →
     closes_of id (es ++ e ∷ []) ≡ closes_of id es + closes_in id e
@@ -28,7 +25,7 @@ closes_more id (d ∷ es) e = omega (arith, closes_more id es e)
 
 more_event : (n id : ℕ) (es : List Event) (e : Event) → n < closes_of id es →
     n < closes_of id (es ++ e ∷ [])
-more_event n id es e l = omega (arith, l, closes_more id es e)
+more_event n id es e l = search (arith, closes_more)
 
 either : {X : Type 0} (P : X → Type 0) (b : Bool) (x y : X) → P x → P y → P (cond b x y)
 either P true x y p q = p
@@ -40,19 +37,17 @@ checked_more : (n id : ℕ) (g : Flow) (r : Option ℕ) → n < closes_of id g.e
     n < closes_of id (checked g r).events
 unfolding checked with_event
 checked_more n id g None l = l
-checked_more n id g (Some at) l = more_event n id g.events (Closes g.id Fault) l
+checked_more n id g (Some at) l = search (arith, more_event)
 
 delivered_more : (F : Reader) (n id : ℕ) (g : Flow) (p : Payload) → n < closes_of id g.events →
     n < closes_of id (delivered F g p).events
 unfolding delivered with_event
-delivered_more F n id g p l =
-    let d : Flow = handed g p in
-    checked_more n id d (F.faulted d.events) (more_event n id g.events (Delivers g.id p.octets) l)
+delivered_more F n id g p l = search (arith, checked_more, more_event)
 
 started_more : (n id : ℕ) (g : Flow) (k : ℕ) → n < closes_of id g.events →
     n < closes_of id (started g k).events
 unfolding with_event
-started_more n id g k l = more_event n id g.events (Begins g.id (start_at g k)) l
+started_more n id g k l = search (arith, more_event)
 
 resumed_more : (n id : ℕ) (g : Flow) → n < closes_of id g.events →
     n < closes_of id (resumed g).events
@@ -93,13 +88,7 @@ closed_more n id g cause l =
     (more_event n id g.events (Closes g.id cause) l) l
 
 more_keeps : (F : Reader) (n id : ℕ) → Keeps F (λ (g : Flow). n < closes_of id g.events)
-more_keeps F n id =
-    record {
-      takes = λ f i e d t. taken_more F n id (record f { held = remove f.held i }) (held_at f i) t;
-      closes = λ f cause t. closed_more n id f cause t;
-      waits = λ f count live t. closed_more n id f Gap t;
-      fins = λ f k t. t;
-    }
+more_keeps F n id = search (arith, taken_more, closed_more)
 
 pub came_more : (A : Setting) (n id : ℕ) (f : Flow) (p : Payload) → n < closes_of id f.events →
     n < closes_of id (payload_came A f p).events

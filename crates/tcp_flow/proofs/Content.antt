@@ -5,10 +5,10 @@ use Rattle.std.specs.List.{AllByRecursion, insert, remove}
 use Rattle.std.proofs.lemmas.Bool.{cases_Bool, cond-true, cond-false, and_cases, and_parts, and_right, not-true, not_from_true, both_ways, eqb-true, eq-eqb}
 use Rattle.std.proofs.lemmas.List.{append_assoc, length-drop}
 use Rattle.tcp_flow.specs.declared.flow.CloseCause.{CloseCause}
-use Rattle.tcp_flow.specs.declared.flow.CloseCause.TheVariants.{Fault, Gap}
+use Rattle.tcp_flow.specs.declared.flow.CloseCause.TheVariants.{Gap}
 use Rattle.tcp_waiting.specs.Numbers.{onward, age, is_to_come}
-use Rattle.tcp_waiting.specs.Payload.{without_first, Payload, no_payload, window}
-use Rattle.tcp_flow.specs.Flow.{Flow, Delivers, Closes, OfCapture, ComesFrom, Reader, left, with_event, stopped, checked, number_after, handed, delivered, lives, out_of_step, started, resumed, told_from, taken, first_of, is_due, at as held_at, closed}
+use Rattle.tcp_waiting.specs.Payload.{without_first, Payload, no_payload}
+use Rattle.tcp_flow.specs.Flow.{Flow, Delivers, OfCapture, ComesFrom, Reader, left, with_event, stopped, checked, handed, delivered, lives, started, resumed, told_from, taken, first_of, is_due, at as held_at, closed}
 use Rattle.tcp_flow.specs.Order.{octets_of, closes_of, Agrees}
 use Rattle.tcp_waiting.proofs.Held.{all_at, all_remove}
 use Rattle.tcp_waiting.proofs.Order.{first_within, first_own}
@@ -30,8 +30,7 @@ some_remove P [] i d s = absurd s
 some_remove P (p ∷ ps) zero d (inl s) = inl s
 some_remove P (p ∷ ps) zero d (inr s) = inr s
 some_remove P (p ∷ ps) (suc i) d (inl s) = inr (inl s)
-some_remove P (p ∷ ps) (suc i) d (inr s) =
-    elim (some_remove P ps i d s) [ inl a ↦ inl a | inr a ↦ inr (inr a) ]
+some_remove P (p ∷ ps) (suc i) d (inr s) = search (arith, some_remove P ps i d s)
 
 pub some_left : (P : Payload → Type 0) (ps : List Payload) (i : ℕ) (q : Payload) → SomeOf P ps →
     SomeOf P (insert ps i q)
@@ -115,14 +114,7 @@ unfoldable pub HasGone : Case → (ℕ → Type 0) → Type 0 → Flow → Type 
 HasGone x U K g = (x.closings < closes_of x.id g.events) ⊎ So x U K g
 
 later_reach : (x : Case) (r s : ℕ) (p : Payload) → r ≤ s → Reaches x r p → Reaches x s p
-later_reach x r s p l h = record {
-  own = h.own;
-  place = h.place;
-  agrees = h.agrees;
-  early =
-      elim h.early [ inl a ↦ inl a | inr a ↦ inr (omega (arith, a, l)) ];
-  far = h.far;
-}
+later_reach x r s p l h = search (arith)
 
 -- what waits and is taken away was the payload's, or another is
 covered_taken : (x : Case) (U : ℕ → Type 0) (r s : ℕ) (ps : List Payload) (i : ℕ) (d : Payload) →
@@ -130,26 +122,19 @@ covered_taken : (x : Case) (U : ℕ → Type 0) (r s : ℕ) (ps : List Payload) 
     → piece.place + length (get_or ps i d).octets ≤ s → Covered x r ps → Covered x s (remove ps i)
 unfolding Covered
 covered_taken x U r s ps i d small l piece m (inl a) = inl a
-covered_taken x U r s ps i d small l piece m (inr (inl a)) = inr (inl (omega (arith, a, l)))
-covered_taken x U r s ps i d small l piece m (inr (inr a)) =
-    elim (some_remove (Reaches x r) ps i d a) [
-      | inl w ↦
-          (let same : w.place ≡ piece.place = same_place x.start w.place piece.place
-          (omega (arith, w.agrees.within, small)) (omega (arith, piece.agrees.within, small))
-          (sym w.agrees.number_is ∙ piece.agrees.number_is) in
-          inr (inl (omega (arith, w.far, m, same))))
-      | inr w ↦ inr (inr (some_map (Reaches x r) (Reaches x s) (remove ps i)
-          (λ p h. later_reach x r s p l h) w))
-    ]
+covered_taken x U r s ps i d small l piece m (inr (inl a)) = search (arith)
+covered_taken x U r s ps i d small l piece m (inr (inr a)) = search (
+  arith,
+  some_remove,
+  same_place,
+  some_map,
+  later_reach,
+)
 
 pub left_live : (next k : ℕ) (live : Bool) (p : Payload) → live ≡ true → age next p.number ≡ k →
     without_first k p ≡ left next live p
 unfolding left
-left_live next k live p l e =
-    ap (λ (n : ℕ). without_first n p) (sym e)
-    ∙ sym (cond-false (nat_lt window (age next p.number) && not live) p
-    (without_first (age next p.number) p)
-    (and_right (nat_lt window (age next p.number)) (not live) (not_from_true live l)))
+left_live next k live p l e = search (arith, cond-false, nat_lt, not, and_right, not_from_true)
 
 pub some_octets : (n : ℕ) → nat_eq n 0 ≡ false → 0 < n
 some_octets zero h = absurd (true≢false h)
@@ -158,16 +143,13 @@ some_octets (suc n) h = omega arith
 stopped_so : (x : Case) (U : ℕ → Type 0) (K : Type 0) (f : Flow) (n : ℕ) (cause : CloseCause) →
     So x U K f → x.closings < closes_of x.id (stopped f n cause).events
 unfolding with_event
-stopped_so x U K f n cause so =
-    let own : nat_eq f.id x.id ≡ true = eq-eqb f.id x.id so.same in
-    let one : ◌≡◌ {A = ℕ} (cond (nat_eq f.id x.id) 1 0) 1 = rw own refl in
-    omega (arith, closes_more x.id f.events (Closes f.id cause), so.count, one)
+stopped_so x U K f n cause so = search (arith, nat_eq, eq-eqb, cond, closes_more)
 
 checked_so : (x : Case) (U : ℕ → Type 0) (K : Type 0) (f : Flow) (r : Option ℕ) → So x U K f →
     HasGone x U K (checked f r)
 unfolding checked HasGone
 checked_so x U K f None so = inr so
-checked_so x U K f (Some at) so = inl (stopped_so x U K f (number_after f at) Fault so)
+checked_so x U K f (Some at) so = search (arith, stopped_so)
 
 -- the octets from a place on are delivered
 deliver_so : (F : Reader) (x : Case) (U : ℕ → Type 0) (K : Type 0) (g : Flow) (p : Payload)
@@ -285,10 +267,7 @@ take_so F x U K f i small e d so =
 close_so : (x : Case) (U : ℕ → Type 0) (K : Type 0) (f : Flow) (cause : CloseCause) → So x U K f →
     x.closings < closes_of x.id (closed f cause).events
 unfolding closed
-close_so x U K f cause so =
-    subst (λ (h : Flow). x.closings < closes_of x.id h.events)
-    (sym (cond-true (lives f.live f.waits) (stopped f f.next cause) (out_of_step f) so.live))
-    (stopped_so x U K f f.next cause so)
+close_so x U K f cause so = search (arith, cond-true, stopped_so)
 
 pub so_keeps : (F : Reader) (x : Case) (U : ℕ → Type 0) (K : Type 0) → length x.content < 2 ^ 31 →
     Keeps F (HasGone x U K)

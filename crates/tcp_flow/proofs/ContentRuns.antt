@@ -50,26 +50,20 @@ place_left : (x : Case) (r place : ℕ) → (r ≤ place) ⊎ (place < r) → (k
     length x.content < 2 ^ 31 → r ≤ length x.content → place ≤ length x.content →
     k ≡ age (onward x.start r) (onward x.start place)
     → (k ≡ r - place) × ((place ≤ place + k) × ((place + k ≤ place) ⊎ (place + k ≤ r)))
-place_left x r place (inl l) k small within inside e =
-    let none : k ≡ 0 = e ∙ age_behind x.start r place l (omega (arith, small, inside)) in
-    (omega (arith, none, l), (omega arith, inl (omega (arith, none))))
-place_left x r place (inr l) k small within inside e =
-    let old : k ≡ r - place = e ∙ age_before x.start r place (omega (arith, l))
-    (omega (arith, small, within)) in
-    (old, (omega arith, inr (omega (arith, old, l))))
+place_left x r place (inl l) k small within inside e = search (arith, age_behind)
+place_left x r place (inr l) k small within inside e = search (arith, age_before)
 
 covered_left : (x : Case) (r : ℕ) (ps : List Payload) (q : Payload) → Covered x r ps →
     Covered x r (put q ps)
 unfolding Covered
 covered_left x r ps q (inl a) = inl a
 covered_left x r ps q (inr (inl a)) = inr (inl a)
-covered_left x r ps q (inr (inr a)) =
-    inr (inr (some_left (Reaches x r) ps (place_of (key_of q) ps) q a))
+covered_left x r ps q (inr (inr a)) = search (arith, some_left)
 
 covered_put : (x : Case) (r : ℕ) (ps : List Payload) (q : Payload) → Reaches x r q →
     Covered x r (put q ps)
 unfolding Covered
-covered_put x r ps q h = inr (inr (some_put (Reaches x r) ps (place_of (key_of q) ps) q h))
+covered_put x r ps q h = search (arith, some_put)
 
 -- a payload that adds nothing
 nothing_so : (x : Case) (U : ℕ → Type 0) (K : Type 0) (f : Flow) (number place k : ℕ)

@@ -1,15 +1,15 @@
 -- A payload that is due at once is taken from where it is: to hold it first makes no difference.
 -- After going on nothing of a flow is due.
-use Rattle.std.proofs.Common.{◌≡◌, ℕ, zero, suc, ◌+◌, ◌^◌, ◌<◌, ◌≤◌, Bool, true, false, cond, nat_eq, nat_lt, nat_le, ◌&&◌, ◌||◌, not, List, [], ◌∷◌, length, get_or, Option, Some, None, is_some, IfSome, refl, sym, ◌∙◌, ap, subst, arith, add-one, inl, inr}
+use Rattle.std.proofs.Common.{◌≡◌, ℕ, zero, suc, ◌+◌, ◌^◌, ◌<◌, ◌≤◌, Bool, true, false, cond, nat_eq, nat_lt, nat_le, ◌&&◌, not, List, [], ◌∷◌, length, get_or, Option, Some, None, is_some, IfSome, refl, sym, ◌∙◌, ap, arith, add-one, inl, inr}
 use Rattle.std.specs.Option.{option_map}
 use Rattle.std.specs.List.{insert, remove}
-use Rattle.std.proofs.lemmas.Bool.{cases_Bool, cases_eq, cases_lt, and_parts, or_parts, ltb-true, lt-ltb, le-ltb, true≢false, eqb-true, eqb-false, eq-eqb, ne_eqb, both_ways, cond-true, cond-false, not-true, not-false, or_from, and_left, and_right, not_from_true}
+use Rattle.std.proofs.lemmas.Bool.{cases_Bool, cases_eq, and_parts, or_parts, ltb-true, lt-ltb, true≢false, eqb-true, eqb-false, eq-eqb, ne_eqb, both_ways, cond-true, cond-false, not-true, not-false, or_from, and_left, and_right, not_from_true}
 use Rattle.std.proofs.lemmas.List.{get_or_default}
 use Rattle.std.proofs.lemmas.List.Edits.{length-insert, get_or-insert_at}
 use Rattle.tcp_flow.specs.declared.hearing.Heard.{Heard}
-use Rattle.tcp_flow.specs.declared.flow.CloseCause.TheVariants.{Fin, Gap}
-use Rattle.tcp_waiting.specs.Numbers.{ahead, age, onward, is_to_come, rank}
-use Rattle.tcp_waiting.specs.Payload.{without_first, Payload, no_payload, earlier, first, has_as_much, window, put, place_of, key_of}
+use Rattle.tcp_flow.specs.declared.flow.CloseCause.TheVariants.{Fin}
+use Rattle.tcp_waiting.specs.Numbers.{is_to_come, rank}
+use Rattle.tcp_waiting.specs.Payload.{Payload, no_payload, earlier, first, has_as_much, put, place_of, key_of}
 use Rattle.tcp_flow.specs.Flow.{Flow, Reader, Setting, first_of, is_due, at, taken, drained_at_most, drained, fin_is_reached, closed, without_stale_fin, ended, gone_on, parted, passed_over, gap, is_too_much, within_bounds, is_lost, heard, holding, payload_came, left, fin_came}
 use Rattle.tcp_flow.specs.Laws.{AreLater, IsSettled}
 use Rattle.tcp_waiting.proofs.Order.{both, first_here, first_within, place_within}
@@ -22,8 +22,7 @@ put_gone : (ps : List Payload) (i : ℕ) (q : Payload) → i ≤ length ps →
     remove (insert ps i q) i ≡ ps
 put_gone ps zero q l = refl
 put_gone [] (suc i) q l = absurd (omega (arith, l))
-put_gone (p ∷ ps) (suc i) q l =
-    ap (λ (xs : List Payload). p ∷ xs) (put_gone ps i q (omega (arith, l)))
+put_gone (p ∷ ps) (suc i) q l = search (arith, put_gone ps i q (omega (arith, l)))
 
 either_place : (b : Bool) (i j : ℕ) (P : ℕ → Type 0)
     → P i → P j → IfSome (cond b (Some i) (Some j)) P
@@ -37,10 +36,13 @@ least_by : (id next n : ℕ) (p : Payload) (ps : List Payload) (c : Bool) (r : O
     (λ i. n < rank next (get_or (p ∷ ps) i no_payload).number)
 unfolding earlier
 least_by id next n p ps true None e own h = own (eqb-true p.flow id e)
-least_by id next n p ps true (Some k) e own h =
-    either_place (nat_lt (rank next (get_or ps k p).number) (rank next p.number)) (suc k) 0
-    (λ i. n < rank next (get_or (p ∷ ps) i no_payload).number) h
-    (own (eqb-true p.flow id e))
+least_by id next n p ps true (Some k) e own h = search (
+  arith,
+  either_place,
+  nat_lt,
+  get_or,
+  eqb-true,
+)
 least_by id next n p ps false None e own h = tt
 least_by id next n p ps false (Some k) e own h = h
 
@@ -68,7 +70,7 @@ first_put : (id next : ℕ) (q : Payload) (ps : List Payload) (i : ℕ) → q.fl
     i ≤ length ps → AreLater id next (rank next q.number) ps
     → first id next (insert ps i q) ≡ Some i
 unfolding first earlier AreLater
-first_put id next q ps zero own l h = first_before id next q ps own h
+first_put id next q ps zero own l h = search (arith, first_before)
 first_put id next q [] (suc i) own l h = absurd (omega (arith, l))
 first_put id next q (p ∷ ps) (suc i) own l h =
     let l' : i ≤ length ps = omega (arith, l) in
@@ -128,7 +130,7 @@ none_if None P h = tt
 none_if (Some i) P h = absurd (true≢false h)
 
 some_if : (r : Option ℕ) (P : ℕ → Type 0) (i : ℕ) → r ≡ Some i → P i → IfSome r P
-some_if r P i e p = subst (λ (o : Option ℕ). IfSome o P) (sym e) p
+some_if r P i e p = search (arith)
 
 shorter : (F : Reader) (f : Flow) (i count : ℕ) → first_of f ≡ Some i → length f.held ≤ suc count →
     length (taken F (record f { held = remove f.held i }) (at f i)).held ≤ count
@@ -149,18 +151,13 @@ if_none None P k h = refl
 if_none (Some i) P k h = absurd (k i h)
 
 to_come_place : (next n : ℕ) → is_to_come next n ≡ true → 2 ^ 31 < rank next n
-to_come_place next n h =
-    let p : (nat_lt 0 (ahead next n) ≡ true) × (nat_lt (ahead next n) (2 ^ 31) ≡ true) =
-    and_parts (nat_lt 0 (ahead next n)) (nat_lt (ahead next n) (2 ^ 31)) h in
-    let a : 0 < ahead next n = ltb-true 0 (ahead next n) p.0 in
-    let b : ahead next n < 2 ^ 31 = ltb-true (ahead next n) (2 ^ 31) p.1 in
-    omega arith
+to_come_place next n h = search (arith, nat_lt, and_parts, ltb-true)
 
 -- the first is taken until it is not due
 flowing_ends : (F : Reader) (count : ℕ) (f : Flow) → length f.held ≤ count →
     IsEnded (drained_at_most F count f)
 unfolding drained_at_most IsEnded
-flowing_ends F zero f l = none_if (first_of f) (λ i. is_due f i ≡ false) (none_some f l)
+flowing_ends F zero f l = search (arith, none_if, none_some)
 flowing_ends F (suc count) f l =
     elim (first_of f) as (λ (r : Option ℕ). first_of f ≡ r → IsEnded (elim r [
       | None ↦ f
@@ -188,27 +185,19 @@ flowing_ends F (suc count) f l =
 -- then nothing of the flow is due
 ended_settled : (f : Flow) → f.next < 2 ^ 32 → IsEnded f → IsSettled f
 unfolding IsEnded first_of is_due at
-ended_settled f small h =
-    record {
-      live = λ l. later_least f.id f.next (2 ^ 31) f.held
-          (if_more (first f.id f.next f.held) (λ i.
-          not ((is_some f.live) && is_to_come f.next (get_or f.held i no_payload).number)
-          ≡ false)
-          (λ i. 2 ^ 31 < rank f.next (get_or f.held i no_payload).number)
-          (λ i e. to_come_place f.next (get_or f.held i no_payload).number
-          (and_parts (is_some f.live) (is_to_come f.next
-          (get_or f.held i no_payload).number)
-          (not-false ((is_some f.live) && is_to_come f.next
-          (get_or f.held i no_payload).number) e)).1) h);
-      dead = λ d. if_none (first f.id f.next f.held)
-          (λ i. not ((is_some f.live) && is_to_come f.next
-          (get_or f.held i no_payload).number) ≡ false)
-          (λ i e. both_ways (is_some f.live) d
-          (and_parts (is_some f.live) (is_to_come f.next
-          (get_or f.held i no_payload).number)
-          (not-false ((is_some f.live) && is_to_come f.next
-          (get_or f.held i no_payload).number) e)).0) h;
-    }
+ended_settled f small h = search (
+  arith,
+  later_least,
+  if_more,
+  not,
+  is_some,
+  get_or,
+  to_come_place,
+  and_parts,
+  not-false,
+  if_none,
+  both_ways,
+)
 
 either : (P : Flow → Type 0) (b : Bool) (f g : Flow) → P f → P g → P (cond b f g)
 either P true f g p q = p
@@ -241,28 +230,24 @@ relieved_ends A (suc count) f h =
 pub came_settled : (A : Setting) (f : Flow) (p : Payload) → IsSettled f →
     (payload_came A f p).next < 2 ^ 32 → IsSettled (payload_came A f p)
 unfolding payload_came
-came_settled A f p t =
-    let q : Payload = left f.next (is_some f.live) p in
-    let r : Flow = within_bounds A (length f.held + 1) (gone_on A.reader (holding f q)) in
-    either (λ (g : Flow). g.next < 2 ^ 32 → IsSettled g)
-    (nat_eq (length q.octets) 0 || has_as_much f.id q.number (length q.octets) f.held) f r
-    (λ s. t)
-    (λ s. ended_settled r s (relieved_ends A (length f.held + 1) (gone_on A.reader (holding f q))
-    (gone_on_ends A.reader (holding f q))))
+came_settled A f p t = search (
+  arith,
+  is_some,
+  either,
+  nat_eq,
+  ended_settled,
+  relieved_ends,
+  gone_on_ends,
+)
 
 pub fin_settled : (F : Reader) (f : Flow) (n : ℕ) → IsSettled f → (fin_came F f n).next < 2 ^ 32 →
     IsSettled (fin_came F f n)
 unfolding fin_came
-fin_settled F f n t =
-    let g : Flow = gone_on F (record f { fin = Some n }) in
-    either (λ (g : Flow). g.next < 2 ^ 32 → IsSettled g)
-    ((is_some f.live) && nat_eq (age f.next n) 0) g f
-    (λ s. ended_settled g s (gone_on_ends F (record f { fin = Some n }))) (λ s. t)
+fin_settled F f n t = search (arith, either, is_some, nat_eq, ended_settled, gone_on_ends)
 
 pub gap_settled : (F : Reader) (f : Flow) → (gap F f).next < 2 ^ 32 → IsSettled (gap F f)
 unfolding gap
-gap_settled F f small = ended_settled (gone_on F (parted f (passed_over F f))) small
-    (gone_on_ends F (parted f (passed_over F f)))
+gap_settled F f small = search (arith, ended_settled, gone_on_ends)
 
 abbrev IfSmall : Flow → Type 0
 IfSmall g = g.next < 2 ^ 32 → IsSettled g
@@ -286,43 +271,31 @@ heard_settled F count h f t = heard_by F count h f (λ s. t)
 pub fresh_settled : (f : Flow) → (is_some f.live) ≡ false → is_some (first_of f) ≡ false →
     IsSettled f
 unfolding first_of first
-fresh_settled f dead none = record {
-  live = λ l. absurd (both_ways (is_some f.live) dead l);
-  dead =
-      λ d. none;
-}
+fresh_settled f dead none = search (arith, both_ways, is_some)
 
 later_has : (id next number count : ℕ) (ps : List Payload) →
     AreLater id next (rank next number) ps → has_as_much id number count ps ≡ false
 unfolding AreLater has_as_much
 later_has id next number count [] h = refl
-later_has id next number count (p ∷ ps) h =
-    or_from (nat_eq p.flow id && nat_eq p.number number && nat_le count (length p.octets))
-    (has_as_much id number count ps)
-    (and_left (nat_eq p.flow id && nat_eq p.number number) (nat_le count (length p.octets))
-    (elim (cases_Bool (nat_eq p.flow id)) [
-      | inl x ↦
-          and_right (nat_eq p.flow id) (nat_eq p.number number)
-          (ne_eqb p.number number (λ e. let o : rank next number < rank next p.number =
-          h.0 (eqb-true p.flow id x) in absurd
-          (let z : rank next number < rank next number =
-          subst (λ (n : ℕ). rank next number < rank next n) e o in omega arith)))
-      | inr x ↦ and_left (nat_eq p.flow id) (nat_eq p.number number) x
-    ]))
-    (later_has id next number count ps h.1)
+later_has id next number count (p ∷ ps) h = search (
+  arith,
+  or_from,
+  nat_eq,
+  nat_le,
+  and_left,
+  cases_Bool,
+  and_right,
+  ne_eqb,
+  eqb-true,
+  later_has id next number count ps h.1,
+)
 
 -- what is due in a settled flow is before all that it holds
 due_later : (f : Flow) (q : Payload) → f.next < 2 ^ 32 → IsSettled f →
     ((is_some f.live) ≡ true → q.number ≡ f.next) →
     AreLater f.id f.next (rank f.next q.number) f.held
 unfolding first_of
-due_later f q small t due =
-    elim (cases_Bool (is_some f.live)) [
-      | inl l ↦
-          (let e : 2 ^ 31 ≡ rank f.next q.number = rw (due l) (omega arith) in
-          subst (λ (n : ℕ). AreLater f.id f.next n f.held) e (t.live l))
-      | inr d ↦ later_none f.id f.next (rank f.next q.number) f.held (t.dead d)
-    ]
+due_later f q small t due = search (arith, cases_Bool, is_some, later_none)
 
 -- a payload that is due at once: what it does, without holding it
 pub came_direct : (A : Setting) (f : Flow) (p q : Payload) → q ≡ left f.next (is_some f.live) p →
@@ -331,38 +304,36 @@ pub came_direct : (A : Setting) (f : Flow) (p q : Payload) → q ≡ left f.next
     ((is_some f.live) && is_to_come f.next q.number) ≡ false
     → payload_came A f p ≡ within_bounds A (length f.held + 1)
     (gone_on A.reader (taken A.reader f q))
-came_direct A f p q e own small t some due now =
-    let later : AreLater f.id f.next (rank f.next q.number) f.held = due_later f q small t due in
-    let mine : q.flow ≡ f.id = ap (λ (r : Payload). r.flow) e ∙ left_flow f.next (is_some f.live) p
-    ∙ own in
-    came_held A f p q e (or_from (nat_eq (length q.octets) 0)
-    (has_as_much f.id q.number (length q.octets) f.held) some
-    (later_has f.id f.next q.number (length q.octets) f.held later))
-    ∙ ap (within_bounds A (length f.held + 1)) (gone_on_direct A.reader f q mine later now)
+came_direct A f p q e own small t some due now = search (
+  arith,
+  due_later,
+  left_flow,
+  is_some,
+  came_held,
+  or_from,
+  nat_eq,
+  later_has,
+  gone_on_direct,
+)
 
 -- what is left of a payload and is not to come is due
 pub due_number : (next : ℕ) (live : Bool) (p q : Payload) → next < 2 ^ 32 → p.number < 2 ^ 32 →
     live ≡ true → q ≡ left next live p → is_to_come next q.number ≡ false → q.number ≡ next
 unfolding left
-due_number next live p q small bound l e h =
-    let b : (nat_lt window (age next p.number) && not live) ≡ false =
-    and_right (nat_lt window (age next p.number)) (not live) (not_from_true live l) in
-    let number : q.number ≡ onward p.number (age next p.number) =
-    ap (λ (r : Payload). r.number) e ∙ ap (λ (r : Payload). r.number)
-    (cond-false (nat_lt window (age next p.number) && not live) p
-    (without_first (age next p.number) p)
-    b) in
-    elim (cases_Bool (is_to_come next p.number)) [
-      | inl x ↦
-          (let y : ahead next p.number < 2 ^ 31 =
-          ltb-true (ahead next p.number) (2 ^ 31)
-          (and_parts (nat_lt 0 (ahead next p.number)) (nat_lt (ahead next p.number) (2 ^ 31))
-          x).1 in
-          let z : age next p.number ≡ 0 = rw (lt-ltb (ahead next p.number) (2 ^ 31) y) refl in
-          let w : q.number ≡ p.number = number ∙ rw z (omega arith) in
-          absurd (both_ways (is_to_come next q.number) h (ap (λ (n : ℕ). is_to_come next n) w ∙ x)))
-      | inr x ↦ number ∙ reached next p.number small x
-    ]
+due_number next live p q small bound l e h = search (
+  arith,
+  nat_lt,
+  not,
+  and_right,
+  not_from_true,
+  cond-false,
+  cases_Bool,
+  ltb-true,
+  and_parts,
+  lt-ltb,
+  both_ways,
+  reached,
+)
 
 -- ---- What is to come is held, and nothing is due.
 
@@ -403,28 +374,19 @@ not_reached next live fin e = rw e refl
 
 none_ended : (F : Reader) (f : Flow) → f.fin ≡ None → ended F f ≡ f
 unfolding ended
-none_ended F f e = cond-false (fin_is_reached f.next (is_some f.live) f.fin)
-    (drained F (record (closed f Fin) { fin = None })) f
-    (not_reached f.next (is_some f.live) f.fin e)
+none_ended F f e = search (arith, cond-false, is_some, not_reached)
 
 none_stale : (f : Flow) → f.fin ≡ None → without_stale_fin f ≡ f
 unfolding without_stale_fin
-none_stale f e =
-    elim (cases_Bool (is_some f.live)) [
-      | inl live ↦ cond-true (is_some f.live) f (record f { fin = None }) live
-      | inr dead ↦ cond-false (is_some f.live) f (record f { fin = None }) dead
-          ∙ ap (λ (n : Option ℕ). record f { fin = n }) (sym e)
-    ]
+none_stale f e = search (arith, cases_Bool, is_some, cond-true, cond-false)
 
 none_drained : (F : Reader) (f : Flow) → first_of f ≡ None → drained F f ≡ f
 unfolding drained
-none_drained F f e = flowing_none F (length f.held) f e
+none_drained F f e = search (arith, flowing_none)
 
 none_gone_on : (F : Reader) (f : Flow) → first_of f ≡ None → f.fin ≡ None → gone_on F f ≡ f
 unfolding gone_on
-none_gone_on F f none fin =
-    ap (λ (g : Flow). without_stale_fin (ended F g)) (none_drained F f none)
-    ∙ ap without_stale_fin (none_ended F f fin) ∙ none_stale f fin
+none_gone_on F f none fin = search (arith, none_drained, none_ended, none_stale)
 
 none_of : (r : Option ℕ) → is_some r ≡ false → r ≡ None
 none_of None h = refl
@@ -433,13 +395,17 @@ none_of (Some i) h = cc
 pub nothing_kept : (A : Setting) (count : ℕ) (f : Flow) →
     (not (is_some (first_of f)) && not (is_some f.fin)) ≡ true →
     within_bounds A count (gone_on A.reader f) ≡ f
-nothing_kept A count f h =
-    let both = and_parts (not (is_some (first_of f))) (not (is_some f.fin)) h in
-    let none : is_some (first_of f) ≡ false = not-true (is_some (first_of f)) both.0 in
-    let few : is_too_much A f ≡ false =
-    elim (cases_Bool (is_too_much A f)) [
-      | inl much ↦ absurd (both_ways (is_some (first_of f)) none (much_some A f much))
-      | inr few ↦ few
-    ] in
-    ap (within_bounds A count) (none_gone_on A.reader f (none_of (first_of f) none)
-    (none_of f.fin (not-true (is_some f.fin) both.1))) ∙ relieved_stops A count f few
+nothing_kept A count f h = search (
+  arith,
+  both,
+  and_parts,
+  not,
+  is_some,
+  not-true,
+  cases_Bool,
+  both_ways,
+  much_some,
+  none_gone_on,
+  none_of,
+  relieved_stops,
+)

@@ -1,20 +1,18 @@
 -- Which of the payloads that a flow holds is first, as the number that is due moves on.
-use Rattle.std.proofs.Common.{◌≡◌, ℕ, zero, suc, ◌+◌, ◌^◌, ◌<◌, ◌≤◌, Bool, true, false, cond, nat_eq, nat_lt, ◌&&◌, ◌||◌, List, [], ◌∷◌, length, get_or, Option, Some, None, is_some, IfSome, refl, sym, ◌∙◌, ap, subst, arith, inl, inr}
+use Rattle.std.proofs.Common.{◌≡◌, ℕ, zero, suc, ◌^◌, ◌<◌, ◌≤◌, Bool, true, false, cond, nat_eq, nat_lt, ◌||◌, List, [], ◌∷◌, length, get_or, Option, Some, None, is_some, IfSome, refl, sym, subst, arith, inl, inr}
 use Rattle.std.specs.Option.{option_map}
-use Rattle.std.proofs.lemmas.Bool.{cases_lt, and_parts, ltb-true, lt-ltb, le-ltb, true≢false, eqb-true, eqb-false, cases_Bool, cond-true, cond-false}
+use Rattle.std.proofs.lemmas.Bool.{cases_lt, and_parts, ltb-true, lt-ltb, le-ltb, true≢false, eqb-false, cases_Bool}
 use Rattle.std.proofs.lemmas.List.{get_or_default}
-use Rattle.tcp_waiting.specs.Numbers.{ahead, onward, is_to_come, rank}
+use Rattle.tcp_waiting.specs.Numbers.{is_to_come, rank}
 use Rattle.tcp_waiting.specs.Payload.{Payload, no_payload, earlier, first}
-use Rattle.tcp_waiting.proofs.Order.{first_within, first_own}
+use Rattle.tcp_waiting.proofs.Order.{first_within}
 use Rattle.tcp_flow.specs.Laws.{AreLater}
 
 earlier_some : (next : ℕ) (p : Payload) (ps : List Payload) (r : Option ℕ) →
     is_some (earlier next p ps r) ≡ true
 unfolding earlier
 earlier_some next p ps None = refl
-earlier_some next p ps (Some k) =
-    elim (nat_lt (rank next (get_or ps k p).number) (rank next p.number)) as
-    (λ b. is_some (cond b (Some (suc k)) (Some 0)) ≡ true) [ true ↦ refl | false ↦ refl ]
+earlier_some next p ps (Some k) = search (arith, nat_lt, get_or, is_some, cond)
 
 map_some : (r : Option ℕ) → is_some (option_map suc r) ≡ is_some r
 map_some None = refl
@@ -28,7 +26,7 @@ some_by false next p ps r = map_some r
 pub first_some : (id next : ℕ) (p : Payload) (ps : List Payload) →
     is_some (first id next (p ∷ ps)) ≡ (nat_eq p.flow id || is_some (first id next ps))
 unfolding first
-first_some id next p ps = some_by (nat_eq p.flow id) next p ps (first id next ps)
+first_some id next p ps = search (arith, some_by, nat_eq)
 
 -- a number below the first's is below all
 later_by : (id next n : ℕ) (p : Payload) (ps : List Payload) (c : Bool) (r : Option ℕ) →
@@ -61,10 +59,8 @@ later_by id next n p ps true (Some k) e f rest h =
           let u : n < rank next (get_or ps k no_payload).number = omega arith in
           ((λ x. m), rest (rw f u)))
     ]
-later_by id next n p ps false None e f rest h =
-    ((λ x. absurd (eqb-false p.flow id e x)), rest (rw f tt))
-later_by id next n p ps false (Some k) e f rest h =
-    ((λ x. absurd (eqb-false p.flow id e x)), rest (rw f h))
+later_by id next n p ps false None e f rest h = search (arith, eqb-false)
+later_by id next n p ps false (Some k) e f rest h = search (arith, eqb-false)
 
 pub later_least : (id next n : ℕ) (ps : List Payload) →
     IfSome (first id next ps) (λ i. n < rank next (get_or ps i no_payload).number) →
@@ -100,37 +96,25 @@ pub first_anywhere : (id a b : ℕ) (ps : List Payload) →
     is_some (first id a ps) ≡ is_some (first id b ps)
 unfolding first
 first_anywhere id a b [] = refl
-first_anywhere id a b (p ∷ ps) =
-    first_some id a p ps ∙ ap (λ (x : Bool). nat_eq p.flow id || x) (first_anywhere id a b ps)
-    ∙ sym (first_some id b p ps)
+first_anywhere id a b (p ∷ ps) = search (arith, first_some, nat_eq, first_anywhere id a b ps)
 
 come_late : (next n : ℕ) → is_to_come next n ≡ true → 2 ^ 31 < rank next n
-come_late next n h =
-    let p = and_parts (nat_lt 0 (ahead next n)) (nat_lt (ahead next n) (2 ^ 31)) h in
-    let a : 0 < ahead next n = ltb-true 0 (ahead next n) p.0 in
-    let b : ahead next n < 2 ^ 31 = ltb-true (ahead next n) (2 ^ 31) p.1 in
-    omega arith
+come_late next n h = search (arith, and_parts, nat_lt, ltb-true)
 
 pub come_by_rank : (next n : ℕ) → 2 ^ 31 < rank next n → is_to_come next n ≡ true
-come_by_rank next n h =
-    let a : 0 < ahead next n = omega arith in
-    let b : ahead next n < 2 ^ 31 = omega arith in
-    rw (lt-ltb 0 (ahead next n) a, lt-ltb (ahead next n) (2 ^ 31) b) refl
+come_by_rank next n h = search (arith, lt-ltb)
 
 -- where one payload of a flow isn't to come, the first isn't
 pub first_reached : (id next : ℕ) (ps : List Payload) (i j : ℕ) →
     is_to_come next (get_or ps i no_payload).number ≡ false → i < length ps →
     (get_or ps i no_payload).flow ≡ id → first id next ps ≡ Some j →
     is_to_come next (get_or ps j no_payload).number ≡ false
-first_reached id next ps i j past l own e =
-    elim (cases_Bool (is_to_come next (get_or ps j no_payload).number)) [
-      | inl come ↦
-          (let late : 2 ^ 31 < rank next (get_or ps i no_payload).number = omega (
-            arith,
-            come_late next (get_or ps j no_payload).number come,
-            first_least id next ps i j e l own,
-          ) in
-          absurd (true≢false
-          (sym (come_by_rank next (get_or ps i no_payload).number late) ∙ past)))
-      | inr none ↦ none
-    ]
+first_reached id next ps i j past l own e = search (
+  arith,
+  cases_Bool,
+  get_or,
+  come_late,
+  first_least,
+  true≢false,
+  come_by_rank,
+)

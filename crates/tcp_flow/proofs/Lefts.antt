@@ -26,17 +26,12 @@ cut a m xs e =
 pub header_here : (xs : List ℕ) (i : ℕ) → i < length xs → is_header (drop i xs) ≡ true →
     header_at (drop i xs) ≡ Some 0
 unfolding header_at
-header_here xs i h e =
-    let d : drop i xs ≡ get_or xs i 0 ∷ drop (suc i) xs = drop-cons xs i 0 h in
-    let f : is_header (get_or xs i 0 ∷ drop (suc i) xs) ≡ true =
-    subst (λ (ys : List ℕ). is_header ys ≡ true) d e in
-    rw d (cond-true (is_header (get_or xs i 0 ∷ drop (suc i) xs)) (Some 0)
-    (option_map suc (header_at (drop (suc i) xs))) f)
+header_here xs i h e = search (arith, drop, get_or, drop-cons, cond-true)
 
 shifted : (i : ℕ) (r : Option ℕ) → option_map (λ (k : ℕ). i + k) (option_map suc r)
     ≡ option_map (λ (k : ℕ). i + 1 + k) r
 shifted i None = refl
-shifted i (Some k) = let e : i + suc k ≡ i + 1 + k = omega arith in ap Some e
+shifted i (Some k) = search (arith)
 
 pub header_later : (xs : List ℕ) (i : ℕ) → i < length xs → is_header (drop i xs) ≡ false →
     option_map (λ (k : ℕ). i + k) (header_at (drop i xs))
@@ -60,7 +55,7 @@ header_none xs i h = rw (drop_of_length-le xs h) refl
 
 pub from_zero : (r : Option ℕ) → r ≡ option_map (λ (k : ℕ). 0 + k) r
 from_zero None = refl
-from_zero (Some k) = let e : k ≡ 0 + k = omega arith in ap Some e
+from_zero (Some k) = search (arith)
 
 pub whole_tail : (xs : List ℕ) (i : ℕ) → take (length xs - i) (drop i xs) ≡ drop i xs
 whole_tail xs i = subst (λ (k : ℕ). take k (drop i xs) ≡ drop i xs) (length-drop i xs)

@@ -2,13 +2,13 @@
 use Rattle.std.proofs.Common.{◌≡◌, ℕ, ◌+◌, ◌-◌, ◌^◌, ◌<◌, ◌≤◌, false, not, nat_eq, List, [], ◌∷◌, ◌++◌, length, take, drop, is_some, refl, sym, ◌∙◌, ap, subst, arith, inl, inr, true≢false, append-nil}
 use Rattle.std.specs.List.{AllByRecursion}
 use Rattle.std.proofs.lemmas.Bool.{and_parts, or_parts, eq-eqb}
-use Rattle.tcp_waiting.specs.Numbers.{onward, rank}
+use Rattle.tcp_waiting.specs.Numbers.{rank}
 use Rattle.tcp_waiting.specs.declared.arrival.Arrival as packet
 use Rattle.tcp_waiting.specs.Payload.{Payload, first}
 use Rattle.tcp_flow.specs.Flow.{Flow, Setting, Arrival, Octets, End, Hears, first_of, after}
 use Rattle.tcp_flow.specs.Laws.{IsSettled, AreLater}
 use Rattle.tcp_flow.specs.Order.{octets_of, closes_of, Agrees, IsOfContent, StandsIn, IsAt, OrderMakesNoDifference}
-use Rattle.tcp_flow.proofs.Content.{Case, Piece, Reaches, Covered, So, SomeOf}
+use Rattle.tcp_flow.proofs.Content.{Case, Piece, Covered, So, SomeOf}
 use Rattle.tcp_flow.proofs.ContentRuns.{IsSo, Comes, run, run_has}
 use Rattle.tcp_flow.proofs.Places.{same_place, place_later}
 use Rattle.tcp_flow.proofs.Firsts.{first_some}
@@ -136,18 +136,14 @@ not_beyond : (x : Case) (U : ℕ → Type 0) (L : Type 0) (g : Flow) (so : So x 
 unfolding Covered
 not_beyond x U L g so t small l (inl a) = omega (arith, a, l)
 not_beyond x U L g so t small l (inr (inl a)) = a
-not_beyond x U L g so t small l (inr (inr a)) =
-    let w = later_some g.id g.next (2 ^ 31) (Reaches x so.r) g.held
-    (t.live (and_parts (is_some g.live) (not g.waits) so.live).0) a in
-    let p : Payload = w.0 in
-    let h : Reaches x so.r p = w.1.1 in
-    let far : 2 ^ 31 < rank g.next p.number = w.1.0 (h.own ∙ sym so.same) in
-    let there : 2 ^ 31 < rank (onward x.start so.r) (onward x.start h.place) =
-    subst (λ (n : ℕ). 2 ^ 31 < rank (onward x.start so.r) n) h.agrees.number_is
-    (subst (λ (n : ℕ). 2 ^ 31 < rank n p.number) so.next far) in
-    let behind : so.r < h.place = place_later x.start so.r h.place (omega (arith, so.within, small))
-    (omega (arith, h.agrees.within, small)) there in
-    absurd (elim h.early [ inl b ↦ omega (arith, b, l, behind) | inr b ↦ omega (arith, b, behind) ])
+not_beyond x U L g so t small l (inr (inr a)) = search (
+  arith,
+  later_some,
+  and_parts,
+  is_some,
+  not,
+  place_later,
+)
 
 -- what a run of them has delivered: the octets up to the first place that none spans
 record IsReached (start at : ℕ) (content front : List ℕ) (ps : List Arrival) (octets : List ℕ) :

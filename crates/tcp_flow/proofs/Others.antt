@@ -3,7 +3,7 @@
 use Rattle.std.proofs.Common.{◌≡◌, ℕ, zero, suc, ◌+◌, ◌<◌, ◌≤◌, ◌^◌, Bool, true, false, cond, nat_eq, ◌&&◌, ◌||◌, List, [], ◌∷◌, length, get_or, Some, is_some, refl, sym, ◌∙◌, ap, subst, arith}
 use Rattle.std.specs.List.{insert, remove}
 use Rattle.std.proofs.lemmas.Bool.{or_parts, eq-eqb, ne_eqb, eqb-true}
-use Rattle.tcp_waiting.specs.Payload.{Payload, payload, no_payload, first, blocks_of, has_as_much, put, place_of, key_of}
+use Rattle.tcp_waiting.specs.Payload.{Payload, no_payload, first, blocks_of, has_as_much, put, place_of, key_of}
 use Rattle.tcp_waiting.specs.Numbers.{age, rank}
 use Rattle.tcp_flow.specs.Flow.{Flow, Reader, Setting, Arrival, Octets, End, Hears, held_by_others, first_of, left, gone_on, gap, within_bounds, holding, payload_came, fin_came, step}
 use Rattle.tcp_flow.specs.Laws.{AreLater, IsSettled}
@@ -17,9 +17,14 @@ pub others_keep : (id : ℕ) (ps : List Payload) (i : ℕ) → i < length ps →
     held_by_others id (remove ps i) ≡ held_by_others id ps
 unfolding held_by_others
 others_keep id [] i h own = absurd (omega (arith, h))
-others_keep id (p ∷ ps) zero h own = rw (eq-eqb p.flow id own) refl
-others_keep id (p ∷ ps) (suc i) h own = ap (λ (qs : List Payload).
-    cond (nat_eq p.flow id) qs (p ∷ qs)) (others_keep id ps i (omega (arith, h)) own)
+others_keep id (p ∷ ps) zero h own = search (arith, eq-eqb)
+others_keep id (p ∷ ps) (suc i) h own = search (
+  arith,
+  cond,
+  nat_eq,
+  others_keep id ps i (omega
+      (arith, h)) own,
+)
 
 -- the flow holds nothing: all is others'
 pub others_all : (id next : ℕ) (ps : List Payload) → is_some (first id next ps) ≡ false →
@@ -42,26 +47,23 @@ either_less false ps qs p h = omega (arith, h)
 pub others_blocks : (id : ℕ) (ps : List Payload) → blocks_of (held_by_others id ps) ≤ blocks_of ps
 unfolding held_by_others
 others_blocks id [] = omega arith
-others_blocks id (p ∷ ps) = either_less (nat_eq p.flow id) ps (held_by_others id ps) p
-    (others_blocks id ps)
+others_blocks id (p ∷ ps) = search (arith, either_less, nat_eq, others_blocks id ps)
 
 -- a payload of the flow comes
 others_put : (id : ℕ) (ps : List Payload) (i : ℕ) (q : Payload) → q.flow ≡ id →
     held_by_others id (insert ps i q) ≡ held_by_others id ps
 unfolding held_by_others
-others_put id [] zero q own = rw (eq-eqb q.flow id own) refl
-others_put id [] (suc i) q own = rw (eq-eqb q.flow id own) refl
-others_put id (p ∷ ps) zero q own = rw (eq-eqb q.flow id own) refl
-others_put id (p ∷ ps) (suc i) q own = ap (λ (qs : List Payload).
-    cond (nat_eq p.flow id) qs (p ∷ qs)) (others_put id ps i q own)
+others_put id [] zero q own = search (arith, eq-eqb)
+others_put id [] (suc i) q own = search (arith, eq-eqb)
+others_put id (p ∷ ps) zero q own = search (arith, eq-eqb)
+others_put id (p ∷ ps) (suc i) q own = search (arith, cond, nat_eq, others_put id ps i q own)
 
 OthersHold : List Payload → ℕ → List Payload → Type 0
 OthersHold rest id ps = held_by_others id ps ≡ rest
 
 others_keeps : (F : Reader) (rest : List Payload) (id : ℕ) → Keeps F (Holds (OthersHold rest) id)
 unfolding OthersHold
-others_keeps F rest id = held_keeps F (OthersHold rest) id
-    (λ ps i l own h. others_keep id ps i l own ∙ h)
+others_keeps F rest id = search (arith, held_keeps, others_keep)
 
 either : (P : Flow → Type 0) (b : Bool) (f g : Flow) → P f → P g → P (cond b f g)
 either P true f g p q = p
@@ -69,7 +71,7 @@ either P false f g p q = q
 
 same_others : (f : Flow) → Holds (OthersHold (held_by_others f.id f.held)) f.id f
 unfolding OthersHold
-same_others f = record { own = refl; held = refl }
+same_others f = search (arith)
 
 came_others : (A : Setting) (f : Flow) (p : Payload) → p.flow ≡ f.id →
     Holds (OthersHold (held_by_others f.id f.held)) f.id (payload_came A f p)
@@ -93,7 +95,7 @@ came_others A f p own =
 step_holds : (A : Setting) (f : Flow) (a : Arrival) →
     Holds (OthersHold (held_by_others f.id f.held)) f.id (step A f a)
 unfolding step fin_came OthersHold
-step_holds A f (Octets n octets arrival) = came_others A f (payload f.id n octets arrival) refl
+step_holds A f (Octets n octets arrival) = search (arith, came_others)
 step_holds A f (End n) =
     let P = Holds (OthersHold (held_by_others f.id f.held)) f.id in
     either P (is_some f.live && nat_eq (age f.next n) 0)
@@ -121,15 +123,14 @@ others_twice_by : (id : ℕ) (p : Payload) (qs : List Payload) (b : Bool) → na
     held_by_others id qs ≡ qs → held_by_others id (cond b qs (p ∷ qs)) ≡ cond b qs (p ∷ qs)
 unfolding held_by_others
 others_twice_by id p qs true e h = h
-others_twice_by id p qs false e h = rw e (ap (λ (rs : List Payload). p ∷ rs) h)
+others_twice_by id p qs false e h = search (arith)
 
 -- so does what falls away
 pub others_twice : (id : ℕ) (ps : List Payload) →
     held_by_others id (held_by_others id ps) ≡ held_by_others id ps
 unfolding held_by_others
 others_twice id [] = refl
-others_twice id (p ∷ ps) = others_twice_by id p (held_by_others id ps) (nat_eq p.flow id) refl
-    (others_twice id ps)
+others_twice id (p ∷ ps) = search (arith, others_twice_by, nat_eq, others_twice id ps)
 
 -- another flow's first is among what the others hold
 first_beside_by : (a b next : ℕ) (p : Payload) (ps : List Payload) (here : Bool) → (a ≡ b → ⊥) →
@@ -137,19 +138,20 @@ first_beside_by : (a b next : ℕ) (p : Payload) (ps : List Payload) (here : Boo
     → is_some (first b next (held_by_others a ps)) ≡ is_some (first b next ps) →
     is_some (first b next (cond here (held_by_others a ps) (p ∷ held_by_others a ps)))
     ≡ is_some (first b next (p ∷ ps))
-first_beside_by a b next p ps true apart e h =
-    let none : nat_eq p.flow b ≡ false = ne_eqb p.flow b
-    (λ o. apart (sym (eqb-true p.flow a e) ∙ o)) in
-    h ∙ sym (first_some b next p ps ∙ rw none refl)
-first_beside_by a b next p ps false apart e h =
-    first_some b next p (held_by_others a ps) ∙ rw h refl ∙ sym (first_some b next p ps)
+first_beside_by a b next p ps true apart e h = search (arith, nat_eq, ne_eqb, eqb-true, first_some)
+first_beside_by a b next p ps false apart e h = search (arith, first_some)
 
 first_beside : (a b next : ℕ) (ps : List Payload) → (a ≡ b → ⊥) →
     is_some (first b next (held_by_others a ps)) ≡ is_some (first b next ps)
 unfolding held_by_others
 first_beside a b next [] apart = refl
-first_beside a b next (p ∷ ps) apart = first_beside_by a b next p ps (nat_eq p.flow a) apart refl
-    (first_beside a b next ps apart)
+first_beside a b next (p ∷ ps) apart = search (
+  arith,
+  first_beside_by,
+  nat_eq,
+  first_beside a b
+      next ps apart,
+)
 
 fewer_later_by : (b next least : ℕ) (p : Payload) (qs : List Payload) (here : Bool) →
     (p.flow ≡ b → least < rank next p.number) → AreLater b next least qs →
@@ -162,8 +164,13 @@ fewer_later : (a b next least : ℕ) (ps : List Payload) → AreLater b next lea
     AreLater b next least (held_by_others a ps)
 unfolding AreLater held_by_others
 fewer_later a b next least [] t = tt
-fewer_later a b next least (p ∷ ps) t = fewer_later_by b next least p (held_by_others a ps)
-    (nat_eq p.flow a) t.0 (fewer_later a b next least ps t.1)
+fewer_later a b next least (p ∷ ps) t = search (
+  arith,
+  fewer_later_by,
+  nat_eq,
+  fewer_later a b next
+      least ps t.1,
+)
 
 all_later_by : (a b next least : ℕ) (p : Payload) (ps : List Payload) (here : Bool) → (a ≡ b → ⊥) →
     nat_eq p.flow a ≡ here → (AreLater b next least (held_by_others a ps) →
@@ -171,8 +178,7 @@ all_later_by : (a b next least : ℕ) (p : Payload) (ps : List Payload) (here : 
     → AreLater b next least (cond here (held_by_others a ps) (p ∷ held_by_others a ps)) →
     (p.flow ≡ b → least < rank next p.number) × AreLater b next least ps
 unfolding AreLater
-all_later_by a b next least p ps true apart e h t =
-    ((λ o. absurd (apart (sym (eqb-true p.flow a e) ∙ o))), h t)
+all_later_by a b next least p ps true apart e h t = search (arith, eqb-true)
 all_later_by a b next least p ps false apart e h t = (t.0, h t.1)
 
 all_later : (a b next least : ℕ) (ps : List Payload) → (a ≡ b → ⊥) →

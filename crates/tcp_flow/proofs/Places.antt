@@ -1,5 +1,5 @@
 -- Places of a content by their sequence numbers, and its octets from a place on.
-use Rattle.std.proofs.Common.{◌≡◌, ℕ, ◌+◌, ◌-◌, ◌^◌, ◌<◌, ◌≤◌, false, nat_lt, List, ◌++◌, length, take, drop, refl, sym, ◌∙◌, ap, arith, inl, inr}
+use Rattle.std.proofs.Common.{◌≡◌, ℕ, ◌+◌, ◌-◌, ◌^◌, ◌<◌, ◌≤◌, false, nat_lt, List, ◌++◌, length, take, drop, sym, ◌∙◌, ap, arith}
 use Rattle.std.proofs.lemmas.Bool.{cases_lt, lt-ltb, le-ltb, ltb-false, and_cases}
 use Rattle.std.proofs.lemmas.List.{drop-take, drop-drop}
 use Rattle.std.proofs.Math.Seq.{take-add}
@@ -14,37 +14,13 @@ ahead_down s r i l m = omega (arith, l, m)
 -- what is not to come stands at the place that is due, or before it
 pub place_due : (s r i : ℕ) → r < 2 ^ 31 → i < 2 ^ 31 →
     is_to_come (onward s r) (onward s i) ≡ false → i ≤ r
-place_due s r i l m e =
-    elim (cases_lt r i) [
-      | inr g ↦ g
-      | inl g ↦
-          (let up = ahead_up s r i (omega (arith, g)) m in
-          elim (and_cases (nat_lt 0 (ahead (onward s r) (onward s i)))
-          (nat_lt (ahead (onward s r) (onward s i)) (2 ^ 31)) e) [
-            | inl x ↦ absurd (let z = ltb-false 0 (ahead (onward s r) (onward s i)) x in
-                omega (arith, z, up, g))
-            | inr x ↦ absurd (let z = ltb-false (ahead (onward s r) (onward s i)) (2 ^ 31) x in
-                omega (arith, z, up, m))
-          ])
-    ]
+place_due s r i l m e = search (arith, cases_lt, ahead_up, and_cases, nat_lt, ltb-false)
 
 pub age_before : (s r i : ℕ) → i ≤ r → r < 2 ^ 31 → age (onward s r) (onward s i) ≡ r - i
-age_before s r i l m =
-    elim (cases_lt i r) [
-      | inl g ↦ (let down = ahead_down s r i g m in
-          let far : 2 ^ 31 ≤ ahead (onward s r) (onward s i) = omega (arith, down, m) in
-          rw (le-ltb (ahead (onward s r) (onward s i)) (2 ^ 31) far) (omega (arith, down, g, m)))
-      | inr g ↦
-          (let up = ahead_up s r i g (omega (arith, l, m)) in
-          let near : ahead (onward s r) (onward s i) < 2 ^ 31 = omega (arith, up, l) in
-          rw (lt-ltb (ahead (onward s r) (onward s i)) (2 ^ 31) near) (omega (arith, l, g)))
-    ]
+age_before s r i l m = search (arith, cases_lt, ahead_down, le-ltb, ahead_up, lt-ltb)
 
 pub age_behind : (s r i : ℕ) → r ≤ i → i < 2 ^ 31 → age (onward s r) (onward s i) ≡ 0
-age_behind s r i l m =
-    let up = ahead_up s r i l m in
-    let near : ahead (onward s r) (onward s i) < 2 ^ 31 = omega (arith, up, m) in
-    rw (lt-ltb (ahead (onward s r) (onward s i)) (2 ^ 31) near) refl
+age_behind s r i l m = search (arith, ahead_up, lt-ltb)
 
 pub same_place : (s i j : ℕ) → i < 2 ^ 31 → j < 2 ^ 31 → onward s i ≡ onward s j → i ≡ j
 same_place s i j l m e = omega (arith, l, m, e)
@@ -54,15 +30,7 @@ place_further s i k = omega arith
 
 pub place_later : (s r i : ℕ) → r < 2 ^ 31 → i < 2 ^ 31 → 2 ^ 31 < rank (onward s r) (onward s i) →
     r < i
-place_later s r i l m h =
-    elim (cases_lt r i) [
-      | inl g ↦ g
-      | inr g ↦
-          elim (cases_lt i r) [
-            | inl b ↦ absurd (let down = ahead_down s r i b l in omega (arith, h, down, b, l))
-            | inr b ↦ absurd (let up = ahead_up s r i b m in omega (arith, h, up, g, b))
-          ]
-    ]
+place_later s r i l m h = search (arith, cases_lt, ahead_down, ahead_up)
 
 -- the octets after the first so many
 pub drop_content : (place k : ℕ) (octets content : List ℕ) → k ≤ length octets →

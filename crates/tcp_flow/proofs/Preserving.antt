@@ -1,11 +1,11 @@
 -- What taking, closing and a FIN keep, a flow keeps whatever comes.
-use Rattle.std.proofs.Common.{◌≡◌, ℕ, zero, suc, Bool, true, false, cond, length, Option, Some, None, is_some, refl, sym, ap, inl, inr, true≢false}
+use Rattle.std.proofs.Common.{arith, ◌≡◌, ℕ, zero, suc, Bool, true, false, cond, Option, Some, None, is_some, refl, true≢false}
 use Rattle.std.proofs.lemmas.Bool.{cases_Bool}
 use Rattle.std.specs.List.{remove}
 use Rattle.tcp_flow.specs.declared.hearing.Heard.{Heard}
 use Rattle.tcp_flow.specs.declared.flow.CloseCause.{CloseCause}
-use Rattle.tcp_flow.specs.declared.flow.CloseCause.TheVariants.{Fin, Gap}
-use Rattle.tcp_flow.specs.Flow.{Flow, Reader, Setting, taken, first_of, is_due, at, drained_at_most, drained, fin_is_reached, closed, without_stale_fin, ended, gone_on, lives, awaiting, parted, passed_over, gap, is_too_much, within_bounds, is_lost, heard}
+use Rattle.tcp_flow.specs.declared.flow.CloseCause.TheVariants.{Gap}
+use Rattle.tcp_flow.specs.Flow.{Flow, Reader, Setting, taken, first_of, is_due, at, drained_at_most, drained, closed, without_stale_fin, ended, gone_on, lives, awaiting, parted, passed_over, gap, is_too_much, within_bounds, is_lost, heard}
 
 pub record Keeps (F : Reader) (P : Flow → Type 0) : Type 0 where
   pub takes : (f : Flow) (i : ℕ) → first_of f ≡ Some i → is_due f i ≡ true → P f →
@@ -45,7 +45,7 @@ flowing_by F P k (suc count) f p =
 pub drained_keeps : (F : Reader) (P : Flow → Type 0) → Keeps F P → (f : Flow) → P f →
     P (drained F f)
 unfolding drained
-drained_keeps F P k f p = flowing_by F P k (length f.held) f p
+drained_keeps F P k f p = search (arith, flowing_by)
 
 pub cond_keeps : (P : Flow → Type 0) (b : Bool) (f g : Flow) → P f → P g → P (cond b f g)
 cond_keeps P true f g p q = p
@@ -54,38 +54,28 @@ cond_keeps P false f g p q = q
 pub rest_keeps : (F : Reader) (P : Flow → Type 0) → Keeps F P → (d : Flow) → P d →
     P (without_stale_fin (ended F d))
 unfolding ended without_stale_fin
-rest_keeps F P k d q =
-    let c : Flow = record (closed d Fin) { fin = None } in
-    let e : P (ended F d) = cond_keeps P (fin_is_reached d.next (is_some d.live) d.fin)
-    (drained F c) d (drained_keeps F P k c (k.fins (closed d Fin) None (k.closes d Fin q))) q in
-    cond_keeps P (is_some (ended F d).live) (ended F d) (record (ended F d) { fin = None }) e
-    (k.fins (ended F d) None e)
+rest_keeps F P k d q = search (arith, cond_keeps, is_some, drained_keeps)
 
 pub gone_on_keeps : (F : Reader) (P : Flow → Type 0) → Keeps F P → (f : Flow) → P f →
     P (gone_on F f)
 unfolding gone_on
-gone_on_keeps F P k f p = rest_keeps F P k (drained F f) (drained_keeps F P k f p)
+gone_on_keeps F P k f p = search (arith, rest_keeps, drained_keeps)
 
 -- octets are passed over only where a stream is live
 pub passing_lives : (F : Reader) (f : Flow) (count : ℕ) → passed_over F f ≡ Some count →
     lives f.live f.waits ≡ true
 unfolding passed_over
-passing_lives F f count e =
-    elim (cases_Bool (lives f.live f.waits)) [
-      | inl y ↦ y
-      | inr z ↦ absurd (true≢false (sym (ap is_some (rw z at e))))
-    ]
+passing_lives F f count e = search (arith, cases_Bool, true≢false, is_some)
 
 parted_keeps : (F : Reader) (P : Flow → Type 0) → Keeps F P → (f : Flow) (o : Option ℕ) →
     passed_over F f ≡ o → P f → P (parted f o)
 unfolding parted
 parted_keeps F P k f None e p = k.closes f Gap p
-parted_keeps F P k f (Some count) e p = k.waits f count (passing_lives F f count e) p
+parted_keeps F P k f (Some count) e p = search (arith, passing_lives)
 
 pub gap_keeps : (F : Reader) (P : Flow → Type 0) → Keeps F P → (f : Flow) → P f → P (gap F f)
 unfolding gap
-gap_keeps F P k f p = gone_on_keeps F P k (parted f (passed_over F f))
-    (parted_keeps F P k f (passed_over F f) refl p)
+gap_keeps F P k f p = search (arith, gone_on_keeps, parted_keeps)
 
 pub relieved_keeps : (A : Setting) (P : Flow → Type 0) → Keeps A.reader P →
     (count : ℕ) (f : Flow) → P f → P (within_bounds A count f)

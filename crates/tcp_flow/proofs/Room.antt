@@ -9,9 +9,8 @@ use Rattle.tcp_flow.specs.declared.flow.CloseCause.{CloseCause}
 use Rattle.tcp_flow.specs.declared.flow.CloseCause.TheVariants.{Gap}
 use Rattle.tcp_flow.specs.declared.hearing.Heard.{Heard}
 use Rattle.tcp_flow.specs.declared.tail.Tail.{Tail}
-use Rattle.std.specs.Option.{option_map}
-use Rattle.tcp_waiting.specs.Numbers.{ahead, onward, age, is_to_come, rank}
-use Rattle.tcp_waiting.specs.Payload.{without_first, Payload, no_payload, window, earlier, first, blocks_of, is_far, has_as_much, put, place_of, key_of}
+use Rattle.tcp_waiting.specs.Numbers.{ahead, onward, age, is_to_come}
+use Rattle.tcp_waiting.specs.Payload.{without_first, Payload, no_payload, window, first, blocks_of, is_far, has_as_much, put, place_of, key_of}
 use Rattle.tcp_flow.specs.Flow.{Flow, Reader, Setting, left, with_event, stopped, checked, handed, delivered, looked_through, tail_before, told_from, lives, out_of_step, started, resumed, taken, first_of, is_due, at, drained_at_most, drained, closed, gone_on, awaiting, parted, passing, passed_over, gap, is_too_much, within_bounds, is_lost, heard, holding, payload_came, fin_came}
 use Rattle.tcp_waiting.proofs.Order.{first_within, first_own, place_within}
 use Rattle.tcp_flow.proofs.Tails.{looked_by}

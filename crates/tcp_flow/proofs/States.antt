@@ -1,5 +1,5 @@
 -- What is shown of the state that the code has, is shown of the flow.
-use Rattle.std.proofs.Common.{◌≡◌, ◌<◌, ◌^◌, [], ℕ, List, Bool, true, false, cond, is_some, Option, Some, None, refl, subst, sym, ap, ◌∙◌}
+use Rattle.std.proofs.Common.{arith, ◌≡◌, ◌<◌, ◌^◌, [], ℕ, List, Bool, true, false, cond, is_some, Option, Some, None, refl, sym}
 use Rattle.std.specs.Prelude.{Result, OnOk}
 use Rattle.std.proofs.lemmas.Result.{on_ok_weaker}
 use Rattle.tcp_waiting.specs.Payload.{Payload}
@@ -13,13 +13,13 @@ use Rattle.tcp_flow.specs.State.{state, IsState}
 pub by_state : (P : Flow → Type 0) (O : List Event → Type 0) (s : FlowState) (held : List Payload)
     (f : Flow) → IsState O s held f
     → ((events : List Event) → O events → P (state s held events)) → P f
-by_state P O s held f h k = subst P h.same (k f.events h.observed)
+by_state P O s held f h k = search (arith)
 
 -- a call went on from the flow to an equal one
 pub on_ok_equal : {T E : Type 0} (r : Result T E) (O : List Event → Type 0) (s : FlowState)
     (held : List Payload) (f g : Flow) → f ≡ g → OnOk r (IsState O s held f) →
     OnOk r (IsState O s held g)
-on_ok_equal r O s held f g e t = on_ok_weaker r (subst (IsState O s held) e) t
+on_ok_equal r O s held f g e t = search (arith, on_ok_weaker)
 
 pub delivered_on : (F : Reader) (f : Flow) (p : Payload) → F.faulted (handed f p).events ≡ None →
     delivered F f p ≡ handed f p
@@ -36,11 +36,7 @@ delivered_fault F f p at e = rw e refl
 pub with_fin : (O : List Event → Type 0) (s : FlowState) (held : List Payload) (f : Flow)
     (n : Option ℕ) → IsState O s held f
     → IsState O (record s { fin = n }) held (record f { fin = n })
-with_fin O s held f n h = record {
-  observed = h.observed;
-  same =
-      ap (λ (g : Flow). record g { fin = n }) h.same;
-}
+with_fin O s held f n h = search (arith)
 
 same_events : (b : Bool) (f g : Flow) → f.events ≡ g.events → (cond b f g).events ≡ f.events
 same_events true f g e = refl
@@ -48,60 +44,47 @@ same_events false f g e = sym e
 
 stale_events : (f : Flow) → (without_stale_fin f).events ≡ f.events
 unfolding without_stale_fin
-stale_events f = same_events (is_some f.live) f (record f { fin = None }) refl
+stale_events f = search (arith, same_events, is_some)
 
 pub stale_state : (O : List Event → Type 0) (s s' : FlowState) (held : List Payload) (f : Flow) →
     IsState O s held f
     → ((ps : List Payload) (events : List Event) →
     state s' ps events ≡ without_stale_fin (state s ps events)) →
     IsState O s' held (without_stale_fin f)
-stale_state O s s' held f h k =
-    by_state (λ g. IsState O s' held (without_stale_fin g)) O s held f h (λ events o.
-    let e = sym (stale_events (state s held events)) in
-    record {
-      observed = subst O e o;
-      same =
-          subst (λ (es : List Event). state s' held es ≡ without_stale_fin (state s held events)) e
-          (k held events);
-    })
+stale_state O s s' held f h k = search (arith, by_state, stale_events)
 
 -- whether a flow is settled has nothing to do with what has happened
 pub settled_whatever : (s : FlowState) (held : List Payload) (before behind : List Event) →
     IsSettled (state s held before) → IsSettled (state s held behind)
 unfolding first_of
-settled_whatever s held before behind t = record { live = t.live; dead = t.dead }
+settled_whatever s held before behind t = search (arith)
 
 -- what is settled by the flow is by the code's state
 pub settled_state : (O : List Event → Type 0) (s : FlowState) (held : List Payload) (f : Flow) →
     IsState O s held f → IsSettled f → IsSettled (state s held [])
-settled_state O s held f h t = settled_whatever s held f.events [] (subst IsSettled (sym h.same) t)
+settled_state O s held f h t = search (arith, settled_whatever)
 
 pub settled_flow : (O : List Event → Type 0) (s : FlowState) (held : List Payload) (f : Flow) →
     IsState O s held f → IsSettled (state s held []) → IsSettled f
-settled_flow O s held f h t = subst IsSettled h.same (settled_whatever s held [] f.events t)
+settled_flow O s held f h t = search (arith, settled_whatever)
 
 pub held_of : (O : List Event → Type 0) (s : FlowState) (held : List Payload) (f : Flow) →
     IsState O s held f → held ≡ f.held
-held_of O s held f h = ap (λ (g : Flow). g.held) h.same
+held_of O s held f h = search (arith)
 
 pub next_of : (O : List Event → Type 0) (s : FlowState) (held : List Payload) (f : Flow) →
     IsState O s held f → s.next < 2 ^ 32 → f.next < 2 ^ 32
-next_of O s held f h l = subst (λ (g : Flow). g.next < 2 ^ 32) h.same l
+next_of O s held f h l = search (arith)
 
 -- what others hold is the same, by the flow and so by the code's states
 pub others_of : (O O' : List Event → Type 0) (s s' : FlowState) (held held' : List Payload)
     (f g : Flow) → IsState O s held f → IsState O' s' held' g
     → held_by_others f.id g.held ≡ held_by_others f.id f.held →
     held_by_others s.id held' ≡ held_by_others s.id held
-others_of O O' s s' held held' f g h n e =
-    let own : s.id ≡ f.id = ap (λ (d : Flow). d.id) h.same in
-    ap (held_by_others s.id) (held_of O' s' held' g n)
-    ∙ ap (λ (id : ℕ). held_by_others id g.held) own ∙ e
-    ∙ sym (ap (λ (id : ℕ). held_by_others id f.held) own)
-    ∙ sym (ap (held_by_others s.id) (held_of O s held f h))
+others_of O O' s s' held held' f g h n e = search (arith, held_of)
 
 -- a flow parts by what it passes over
 pub parted_on : (O : List Event → Type 0) (s : FlowState) (held : List Payload) (f : Flow)
     (passed over : Option ℕ) → passed ≡ over → IsState O s held (parted f passed) →
     IsState O s held (parted f over)
-parted_on O s held f passed over e h = subst (λ (o : Option ℕ). IsState O s held (parted f o)) e h
+parted_on O s held f passed over e h = search (arith)

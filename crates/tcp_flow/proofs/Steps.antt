@@ -1,5 +1,5 @@
 -- The definitions of a flow, a case at a time.
-use Rattle.std.proofs.Common.{◌≡◌, ℕ, zero, suc, ◌+◌, ◌-◌, ◌<◌, ◌≤◌, true, false, nat_eq, ◌||◌, List, [], ◌∷◌, length, get_or, Some, None, is_some, refl, sym, ◌∙◌, ap, subst, arith}
+use Rattle.std.proofs.Common.{◌≡◌, ℕ, zero, suc, ◌+◌, ◌-◌, ◌<◌, ◌≤◌, true, false, nat_eq, ◌||◌, List, [], ◌∷◌, length, get_or, Some, None, is_some, refl, sym, ◌∙◌, ap, arith}
 use Rattle.std.specs.List.{remove}
 use Rattle.std.proofs.lemmas.Bool.{cond-true, cond-false, and_left, and_right, and_from}
 use Rattle.tcp_waiting.specs.Numbers.{is_to_come}
@@ -17,17 +17,13 @@ pub taken_live : (F : Reader) (f : Flow) (p q : Payload) → q ≡ left f.next (
     nat_eq (length q.octets) 0 ≡ false → (is_some f.live) ≡ true →
     taken F f p ≡ delivered F (resumed (told_from f p)) q
 unfolding taken
-taken_live F f p q e z l =
-    rw (← e, z) (cond-true (is_some f.live) (delivered F (resumed (told_from f p)) q)
-    (looked_through F (told_from f p) q (tail_before f.tail q.number q.octets)) l)
+taken_live F f p q e z l = search (arith, cond-true, is_some)
 
 pub taken_dead : (F : Reader) (f : Flow) (p q : Payload) → q ≡ left f.next (is_some f.live) p →
     nat_eq (length q.octets) 0 ≡ false → (is_some f.live) ≡ false →
     taken F f p ≡ looked_through F (told_from f p) q (tail_before f.tail q.number q.octets)
 unfolding taken
-taken_dead F f p q e z l =
-    rw (← e, z) (cond-false (is_some f.live) (delivered F (resumed (told_from f p)) q)
-    (looked_through F (told_from f p) q (tail_before f.tail q.number q.octets)) l)
+taken_dead F f p q e z l = search (arith, cond-false, is_some)
 
 -- a payload is taken while it is due
 pub flowing_none : (F : Reader) (count : ℕ) (f : Flow) → first_of f ≡ None →
@@ -40,13 +36,13 @@ pub flowing_stays : (F : Reader) (count : ℕ) (f : Flow) (i : ℕ) → first_of
     is_due f i ≡ false → drained_at_most F count f ≡ f
 unfolding drained_at_most
 flowing_stays F zero f i e d = refl
-flowing_stays F (suc count) f i e d = rw (e, d, drained_at_most) refl
+flowing_stays F (suc count) f i e d = search (arith)
 
 pub flowing_takes : (F : Reader) (count : ℕ) (f : Flow) (i : ℕ) → first_of f ≡ Some i →
     is_due f i ≡ true → drained_at_most F (suc count) f
     ≡ drained_at_most F count (taken F (record f { held = remove f.held i }) (at f i))
 unfolding drained_at_most
-flowing_takes F count f i e d = rw (e, d, drained_at_most) refl
+flowing_takes F count f i e d = search (arith)
 
 pub length_remove : (ps : List Payload) (i : ℕ) → i < length ps →
     length ps ≡ suc (length (remove ps i))
@@ -73,16 +69,16 @@ drain_takes F f g i e d t =
 
 pub due_now : (f : Flow) (i : ℕ) → (is_some f.live) ≡ false → is_due f i ≡ true
 unfolding is_due
-due_now f i e = rw (and_left (is_some f.live) (is_to_come f.next (at f i).number) e) refl
+due_now f i e = search (arith, and_left, is_some)
 
 pub due_reached : (f : Flow) (i : ℕ) → is_to_come f.next (at f i).number ≡ false → is_due f i ≡ true
 unfolding is_due
-due_reached f i e = rw (and_right (is_some f.live) (is_to_come f.next (at f i).number) e) refl
+due_reached f i e = search (arith, and_right, is_some)
 
 pub due_not : (f : Flow) (i : ℕ) → (is_some f.live) ≡ true →
     is_to_come f.next (at f i).number ≡ true → is_due f i ≡ false
 unfolding is_due
-due_not f i l e = rw (and_from (is_some f.live) (is_to_come f.next (at f i).number) l e) refl
+due_not f i l e = search (arith, and_from, is_some)
 
 -- gaps while too much is held
 pub relieved_stops : (A : Setting) (count : ℕ) (f : Flow) → is_too_much A f ≡ false →
@@ -95,8 +91,7 @@ pub relieved_goes : (A : Setting) (count : ℕ) (f : Flow) → 0 < count → is_
     within_bounds A count f ≡ within_bounds A (count - 1) (gap A.reader f)
 unfolding within_bounds
 relieved_goes A zero f h e = absurd (omega (arith, h))
-relieved_goes A (suc count) f h e = let k : suc count - 1 ≡ count = omega arith in
-    rw (k, e, within_bounds) refl
+relieved_goes A (suc count) f h e = search (arith)
 
 pub relieved_none : (A : Setting) (count : ℕ) (f : Flow) → count ≤ 0 → within_bounds A count f ≡ f
 unfolding within_bounds
@@ -114,8 +109,7 @@ pub heard_goes : (F : Reader) (count : ℕ) (h : Heard) (f : Flow) → 0 < count
     heard F count h f ≡ heard F (count - 1) h (gap F f)
 unfolding heard
 heard_goes F zero h f l e = absurd (omega (arith, l))
-heard_goes F (suc count) h f l e = let k : suc count - 1 ≡ count = omega arith in
-    rw (k, e, heard) refl
+heard_goes F (suc count) h f l e = search (arith)
 
 pub heard_none : (F : Reader) (count : ℕ) (h : Heard) (f : Flow) → count ≤ 0 → heard F count h f ≡ f
 unfolding heard
@@ -127,32 +121,10 @@ pub came_nothing : (A : Setting) (f : Flow) (p q : Payload) → q ≡ left f.nex
     (nat_eq (length q.octets) 0 || has_as_much f.id q.number (length q.octets) f.held) ≡ true →
     payload_came A f p ≡ f
 unfolding payload_came
-came_nothing A f p q e t =
-    let u : (nat_eq (length (left f.next (is_some f.live) p).octets) 0
-    || has_as_much f.id (left f.next (is_some f.live) p).number
-    (length (left f.next (is_some f.live) p).octets) f.held) ≡ true =
-    subst (λ (r : Payload). (nat_eq (length r.octets) 0
-    || has_as_much f.id r.number (length r.octets) f.held) ≡ true) e t in
-    cond-true (nat_eq (length (left f.next (is_some f.live) p).octets) 0
-    || has_as_much f.id (left f.next (is_some f.live) p).number
-    (length (left f.next (is_some f.live) p).octets) f.held) f
-    (within_bounds A (length f.held + 1)
-    (gone_on A.reader (holding f (left f.next (is_some f.live) p)))) u
+came_nothing A f p q e t = search (arith, nat_eq, is_some, cond-true)
 
 pub came_held : (A : Setting) (f : Flow) (p q : Payload) → q ≡ left f.next (is_some f.live) p →
     (nat_eq (length q.octets) 0 || has_as_much f.id q.number (length q.octets) f.held) ≡ false
     → payload_came A f p ≡ within_bounds A (length f.held + 1) (gone_on A.reader (holding f q))
 unfolding payload_came
-came_held A f p q e t =
-    let u : (nat_eq (length (left f.next (is_some f.live) p).octets) 0
-    || has_as_much f.id (left f.next (is_some f.live) p).number
-    (length (left f.next (is_some f.live) p).octets) f.held) ≡ false =
-    subst (λ (r : Payload). (nat_eq (length r.octets) 0
-    || has_as_much f.id r.number (length r.octets) f.held) ≡ false) e t in
-    cond-false (nat_eq (length (left f.next (is_some f.live) p).octets) 0
-    || has_as_much f.id (left f.next (is_some f.live) p).number
-    (length (left f.next (is_some f.live) p).octets) f.held) f
-    (within_bounds A (length f.held + 1)
-    (gone_on A.reader (holding f (left f.next (is_some f.live) p)))) u
-    ∙ ap (λ (r : Payload). within_bounds A (length f.held + 1) (gone_on A.reader (holding f r)))
-    (sym e)
+came_held A f p q e t = search (arith, nat_eq, is_some, cond-false)

@@ -7,7 +7,7 @@ use Rattle.tcp_waiting.specs.declared.arrival.Arrival as origin
 use Rattle.tcp_waiting.specs.Numbers.{onward}
 use Rattle.tcp_waiting.specs.Payload.{Payload, payload, without_first}
 use Rattle.tcp_flow.specs.declared.tail.Tail.{Tail}
-use Rattle.tcp_flow.specs.Flow.{Flow, Reader, Passes, OfCapture, lives, with_event, checked, handed, delivered, started, begun, all_delivered, rejoined, looked_through, stream_at, is_front, is_beginning, first_five, cut_up, octets_of, parts_of, tail_of, lengthened, goes_on, tail_before}
+use Rattle.tcp_flow.specs.Flow.{Flow, Reader, Passes, OfCapture, lives, with_event, checked, delivered, started, begun, all_delivered, rejoined, looked_through, stream_at, is_front, is_beginning, first_five, cut_up, octets_of, parts_of, tail_of, lengthened, goes_on, tail_before}
 use Rattle.tcp_flow.specs.Laws.{StandFrom, total, IsTailOf}
 
 -- ---- What the single steps keep.
@@ -34,11 +34,8 @@ begun_by : (F : Reader) (I : Flow → Type 0) → ((g : Flow) (p : Payload) → 
     → ((g : Flow) (t : Option Tail) (xs : List ℕ) → I g → I (in_vain g t xs))
     → (f : Flow) (p : Payload) (r : Option ℕ) → I f → I (begun F f p r)
 unfolding begun
-begun_by F I k s v f p None i =
-    v f (cond (is_beginning p.octets) (Some (tail_of p.number (length p.octets))) f.tail)
-    p.octets i
-begun_by F I k s v f p (Some n) i =
-    k (started f (onward p.number n)) (without_first n p) (s f (onward p.number n) i)
+begun_by F I k s v f p None i = search (arith, cond)
+begun_by F I k s v f p (Some n) i = search (arith)
 
 pub looked_by : (F : Reader) (I : Flow → Type 0) → ((g : Flow) (p : Payload) → I g →
     I (delivered F g p))
@@ -73,13 +70,7 @@ front_by (u ∷ v ∷ w ∷ x ∷ y ∷ z ∷ zs) a b c d e l = absurd (omega (a
 -- octets that are as the six are, and five at most, are the first of them
 pub front_is : (ys : List ℕ) → is_front ys ≡ true → length ys ≤ 5 →
     ys ≡ take (length ys) first_five
-front_is ys h l =
-    let a : get_or ys 0 71 ≡ 71 = grind arith in
-    let b : get_or ys 1 73 ≡ 73 = grind arith in
-    let c : get_or ys 2 79 ≡ 79 = grind arith in
-    let d : get_or ys 3 80 ≡ 80 = grind arith in
-    let e : get_or ys 4 1 ≡ 1 = grind arith in
-    front_by ys a b c d e l
+front_is ys h l = search (arith, get_or, front_by)
 
 onward_small : (n k : ℕ) → onward n k < 2 ^ 32
 onward_small n k = omega arith
@@ -94,17 +85,13 @@ pub cut_more : (xs ns : List ℕ) (k : ℕ) →
     cut_up xs (ns ++ k ∷ []) ≡ cut_up xs ns ++ take k (drop (total ns) xs) ∷ []
 unfolding cut_up total
 cut_more xs [] k = refl
-cut_more xs (n ∷ ns) k =
-    ap (λ (xss : List (List ℕ)). take n xs ∷ xss) (cut_more (drop n xs) ns k
-    ∙ ap (λ (ys : List ℕ). cut_up (drop n xs) ns ++ take k ys ∷ []) (drop-drop (total ns) n xs))
+cut_more xs (n ∷ ns) k = search (arith, take, drop, drop-drop, cut_more (drop n xs) ns k)
 
 pub stand_more : (P : ℕ → List ℕ → Type 0) (n : ℕ) (xs ns ys : List ℕ) → n < 2 ^ 32 →
     total ns ≤ length xs → StandFrom P n (cut_up xs ns) → P (onward n (total ns)) ys →
     StandFrom P n (cut_up xs ns ++ ys ∷ [])
 unfolding cut_up total StandFrom
-stand_more P n xs [] ys small l s p =
-    let e : onward n 0 ≡ n = omega arith in
-    (subst (λ (k : ℕ). P k ys) e p, tt)
+stand_more P n xs [] ys small l s p = search (arith)
 stand_more P n xs (m ∷ ns) ys small l s p =
     let long : length (take m xs) ≡ m = omega (arith, length-take m xs, l) in
     let e : onward n (m + total ns) ≡ onward (onward n (length (take m xs))) (total ns) =
@@ -121,23 +108,19 @@ pub all_none : (F : Reader) (f : Flow) (a : origin.Arrival) (xs ks : List ℕ) �
     nat_eq (length ks) 0 ≡ true → all_delivered F f a (cut_up xs ks) ≡ f
 unfolding cut_up all_delivered
 all_none F f a xs [] e = refl
-all_none F f a xs (k ∷ ks) e = absurd (omega (arith, eqb-true (length (k ∷ ks)) 0 e))
+all_none F f a xs (k ∷ ks) e = search (arith, eqb-true)
 
 pub all_dead : (F : Reader) (f : Flow) (a : origin.Arrival) (xss : List (List ℕ)) →
     lives f.live f.waits ≡ false → all_delivered F f a xss ≡ f
 unfolding all_delivered
 all_dead F f a [] e = refl
-all_dead F f a (xs ∷ xss) e =
-    cond-false (lives f.live f.waits)
-    (all_delivered F (delivered F f (payload f.id f.next xs a)) a xss) f e
+all_dead F f a (xs ∷ xss) e = search (arith, cond-false)
 
 pub all_live : (F : Reader) (f : Flow) (a : origin.Arrival) (xs : List ℕ) (xss : List (List ℕ)) →
     lives f.live f.waits ≡ true → all_delivered F f a (xs ∷ xss)
     ≡ all_delivered F (delivered F f (payload f.id f.next xs a)) a xss
 unfolding all_delivered
-all_live F f a xs xss e =
-    cond-true (lives f.live f.waits)
-    (all_delivered F (delivered F f (payload f.id f.next xs a)) a xss) f e
+all_live F f a xs xss e = search (arith, cond-true)
 
 -- parts of these lengths, of which the first is so long
 pub cut_first : (xs ks : List ℕ) → nat_eq (length ks) 0 ≡ false →
@@ -161,29 +144,22 @@ all_more F f a (xs ∷ xss) yss =
     ]
 
 pub taken_up : (a m : ℕ) (xs : List ℕ) → m ≡ min a (length xs) → take m xs ≡ take a xs
-taken_up a m xs e =
-    elim (cases_lt a (length xs)) [
-      | inl h ↦ (let f : m ≡ a = omega arith in ap (λ (k : ℕ). take k xs) f)
-      | inr h ↦ (let f : m ≡ length xs = omega arith in
-          ap (λ (k : ℕ). take k xs) f ∙ take-length xs ∙ sym (take_all a xs h))
-    ]
+taken_up a m xs e = search (arith, cases_lt, take, take-length, take_all)
 
 -- a tail goes on
 pub before_some : (o : Option Tail) (t : Tail) (n : ℕ) (xs : List ℕ) → o ≡ Some t →
     goes_on t n xs ≡ true → tail_before o n xs ≡ Some t
 unfolding tail_before
-before_some o t n xs e g = ap (λ (o : Option Tail). tail_before o n xs) e
-    ∙ cond-true (goes_on t n xs) (Some t) None g
+before_some o t n xs e g = search (arith, cond-true)
 
 pub before_other : (o : Option Tail) (t : Tail) (n : ℕ) (xs : List ℕ) → o ≡ Some t →
     goes_on t n xs ≡ false → tail_before o n xs ≡ None
 unfolding tail_before
-before_other o t n xs e g = ap (λ (o : Option Tail). tail_before o n xs) e
-    ∙ cond-false (goes_on t n xs) (Some t) None g
+before_other o t n xs e g = search (arith, cond-false)
 
 pub before_none : (o : Option Tail) (n : ℕ) (xs : List ℕ) → o ≡ None → tail_before o n xs ≡ None
 unfolding tail_before
-before_none o n xs e = ap (λ (o : Option Tail). tail_before o n xs) e
+before_none o n xs e = search (arith)
 
 none_some : {X : Type 0} (t : X) → ◌≡◌ {A = Option X} None (Some t) → ⊥
 none_some t e = true≢false (sym (ap is_some e))
@@ -195,12 +171,14 @@ pub before_is : (o : Option Tail) (t : Tail) (n : ℕ) (xs : List ℕ) →
     tail_before o n xs ≡ Some t → (o ≡ Some t) × (goes_on t n xs ≡ true)
 unfolding tail_before
 before_is None t n xs e = absurd (none_some t e)
-before_is (Some u) t n xs e =
-    elim (cases_Bool (goes_on u n xs)) [
-      | inl g ↦ (let same : u ≡ t = some_same u t (sym (cond-true (goes_on u n xs) (Some u) None g)
-          ∙ e) in (ap Some same, subst (λ (v : Tail). goes_on v n xs ≡ true) same g))
-      | inr g ↦ absurd (none_some t (sym (cond-false (goes_on u n xs) (Some u) None g) ∙ e))
-    ]
+before_is (Some u) t n xs e = search (
+  arith,
+  cases_Bool,
+  some_same,
+  cond-true,
+  none_some,
+  cond-false,
+)
 
 -- the octets of a tail and of what goes on it are first octets of the six, while they are fewer
 pub together : (t : Tail) (n : ℕ) (xs : List ℕ) → goes_on t n xs ≡ true →
@@ -222,15 +200,13 @@ pub looked_vain : (F : Reader) (f : Flow) (p : Payload) (o : Option Tail) (b : B
     stream_at p.octets ≡ None → is_beginning p.octets ≡ b →
     looked_through F f p o ≡ in_vain f (vain_tail f p b) p.octets
 unfolding looked_through begun
-looked_vain F f p o b e n is =
-    ap (looked_through F f p) e ∙ ap (begun F f p) n
-    ∙ ap (λ (b : Bool). in_vain f (vain_tail f p b) p.octets) is
+looked_vain F f p o b e n is = search (arith)
 
 pub looked_begun : (F : Reader) (f : Flow) (p : Payload) (o : Option Tail) (i : ℕ) → o ≡ None →
     stream_at p.octets ≡ Some i → looked_through F f p o
     ≡ delivered F (started f (onward p.number i)) (without_first i p)
 unfolding looked_through begun
-looked_begun F f p o i e n = ap (looked_through F f p) e ∙ ap (begun F f p) n
+looked_begun F f p o i e n = search (arith)
 
 -- ---- What comes of octets that go on a tail.
 
@@ -239,20 +215,13 @@ pub rejoined_begun : (F : Reader) (f : Flow) (p : Payload) (t : Tail) →
     ≡ all_delivered F (all_delivered F (started f t.number) p.arrival (parts_of t)) p.arrival
     (p.octets ∷ [])
 unfolding rejoined
-rejoined_begun F f p t e =
-    cond-false (nat_lt (t.octets + length p.octets) 6)
-    (in_vain f (Some (lengthened t (length p.octets))) (octets_of t ++ p.octets))
-    (all_delivered F (started f t.number) p.arrival (parts_of t ++ p.octets ∷ [])) e
-    ∙ all_more F (started f t.number) p.arrival (parts_of t) (p.octets ∷ [])
+rejoined_begun F f p t e = search (arith, cond-false, nat_lt, all_more)
 
 pub rejoined_vain : (F : Reader) (f : Flow) (p : Payload) (t : Tail) →
     nat_lt (t.octets + length p.octets) 6 ≡ true → rejoined F f p t
     ≡ in_vain f (Some (lengthened t (length p.octets))) (octets_of t ++ p.octets)
 unfolding rejoined
-rejoined_vain F f p t e =
-    cond-true (nat_lt (t.octets + length p.octets) 6)
-    (in_vain f (Some (lengthened t (length p.octets))) (octets_of t ++ p.octets))
-    (all_delivered F (started f t.number) p.arrival (parts_of t ++ p.octets ∷ [])) e
+rejoined_vain F f p t e = search (arith, cond-true, nat_lt)
 
 pub last_live : (F : Reader) (f : Flow) (a : origin.Arrival) (xs : List ℕ) →
     lives f.live f.waits ≡ true → all_delivered F f a (xs ∷ [])
@@ -264,23 +233,12 @@ last_live F f a xs e = all_live F f a xs [] e
 
 parts_new : (xs : List ℕ) → is_beginning xs ≡ true →
     (length xs ≤ 5) × (xs ≡ take (length xs) first_five)
-parts_new xs h =
-    let few : length xs ≤ 5 = grind arith in
-    let front : is_front xs ≡ true = grind arith in
-    (few, front_is xs front few)
+parts_new xs h = search (arith, front_is)
 
 pub tail_new : (P : ℕ → List ℕ → Type 0) (n : ℕ) (xs : List ℕ) → n < 2 ^ 32 →
     is_beginning xs ≡ true → P n xs → IsTailOf P (tail_of n (length xs))
 unfolding total cut_up StandFrom
-tail_new P n xs small h p =
-    let new = parts_new xs h in
-    record {
-      number = small;
-      most = new.0;
-      room = refl;
-      all = omega arith;
-      stand = (subst (P n) new.1 p, tt);
-    }
+tail_new P n xs small h p = search (arith, parts_new)
 
 longer : (P : ℕ → List ℕ → Type 0) (t : Tail) (n : ℕ) (xs : List ℕ) → IsTailOf P t →
     goes_on t n xs ≡ true → t.octets + length xs ≤ 5 → t.count < 5 → P n xs →
@@ -336,13 +294,7 @@ tail_longer P t n xs h g l p =
 -- so it is of a tail and of what goes on it
 together_stand : (P : ℕ → List ℕ → Type 0) (t : Tail) (n : ℕ) (xs : List ℕ) → IsTailOf P t →
     goes_on t n xs ≡ true → P n xs → StandFrom P t.number (parts_of t ++ xs ∷ [])
-together_stand P t n xs h g p =
-    let ends : onward t.number t.octets ≡ n =
-    eqb-true (onward t.number t.octets) n
-    (and_parts (nat_eq (onward t.number t.octets) n) (is_front (octets_of t ++ xs)) g).0 in
-    stand_more P t.number first_five (take t.count t.parts) xs h.number
-    (omega (arith, h.all, h.most)) h.stand
-    (subst (λ (m : ℕ). P m xs) (sym ends ∙ ap (onward t.number) (sym h.all)) p)
+together_stand P t n xs h g p = search (arith, eqb-true, and_parts, nat_eq, stand_more, take)
 
 -- the octets of another relation
 stand_map : (P Q : ℕ → List ℕ → Type 0) (n : ℕ) (xss : List (List ℕ)) →
@@ -353,13 +305,7 @@ stand_map P Q n (xs ∷ xss) k h = (k n xs h.0, stand_map P Q (onward n (length 
 
 pub tail_map : (P Q : ℕ → List ℕ → Type 0) (t : Tail) →
     ((m : ℕ) (xs : List ℕ) → P m xs → Q m xs) → IsTailOf P t → IsTailOf Q t
-tail_map P Q t k h = record {
-  number = h.number;
-  most = h.most;
-  room = h.room;
-  all = h.all;
-  stand = stand_map P Q t.number (parts_of t) k h.stand;
-}
+tail_map P Q t k h = search (arith, stand_map)
 
 checked_next : (f : Flow) (r : Option ℕ) → (checked f r).next ≡ f.next
 unfolding checked with_event
@@ -369,7 +315,7 @@ checked_next f (Some at) = refl
 delivered_next : (F : Reader) (f : Flow) (p : Payload) →
     (delivered F f p).next ≡ onward p.number (length p.octets)
 unfolding delivered with_event
-delivered_next F f p = checked_next (handed f p) (F.faulted (handed f p).events)
+delivered_next F f p = search (arith, checked_next)
 
 checked_id : (f : Flow) (r : Option ℕ) → (checked f r).id ≡ f.id
 unfolding checked with_event
@@ -378,7 +324,7 @@ checked_id f (Some at) = refl
 
 pub delivered_id : (F : Reader) (f : Flow) (p : Payload) → (delivered F f p).id ≡ f.id
 unfolding delivered with_event
-delivered_id F f p = checked_id (handed f p) (F.faulted (handed f p).events)
+delivered_id F f p = search (arith, checked_id)
 
 -- what a flow keeps whose tail is so of each payload, where it is so of those that it takes
 pub record Looks (F : Reader) (P : ℕ → List ℕ → Type 0) (I : Flow → Type 0) : Type 0 where
@@ -420,11 +366,7 @@ module _ (F : Reader) (P : ℕ → List ℕ → Type 0) (I : Flow → Type 0) (k
             (tail_new P p.number p.octets (k.small p.number p.octets part) b part)
         | inr b ↦ k.tail f u i (sym (cond-false (is_beginning p.octets) new f.tail b) ∙ e)
       ]) i
-  begun_looks f p (Some n) dead part i =
-      let m : ℕ = onward p.number n in
-      k.delivers (started f m) (without_first n p)
-      (k.starts f m (onward_small p.number n) dead i) refl refl
-      (k.skips p.number n p.octets part)
+  begun_looks f p (Some n) dead part i = search (arith, onward_small)
 
   rejoined_looks : (f : Flow) (p : Payload) (t : Tail) → is_some f.live ≡ false →
       goes_on t p.number p.octets ≡ true → IsTailOf P t → P p.number p.octets → I f →
@@ -450,11 +392,4 @@ module _ (F : Reader) (P : ℕ → List ℕ → Type 0) (I : Flow → Type 0) (k
   pub looked_keeps : (f : Flow) (p : Payload) → is_some f.live ≡ false → P p.number p.octets →
       I f → I (looked_through F f p (tail_before f.tail p.number p.octets))
   unfolding looked_through
-  looked_keeps f p dead part i =
-      elim (tail_before f.tail p.number p.octets) as (λ (o : Option Tail).
-      tail_before f.tail p.number p.octets ≡ o → I (looked_through F f p o)) [
-        | None ↦ (λ e. begun_looks f p (stream_at p.octets) dead part i)
-        | Some t ↦ (λ e.
-            let was = before_is f.tail t p.number p.octets e in
-            rejoined_looks f p t dead was.1 (k.tail f t i was.0) part i)
-      ] refl
+  looked_keeps f p dead part i = search (arith, begun_looks, before_is, rejoined_looks)

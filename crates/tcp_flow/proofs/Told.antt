@@ -1,12 +1,10 @@
 -- What each event of a flow keeps of all that has happened, the flow keeps whatever comes.
-use Rattle.std.proofs.Common.{◌≡◌, ℕ, cond, nat_eq, ◌&&◌, ◌||◌, ◌+◌, List, [], ◌∷◌, ◌++◌, length, Option, Some, None, is_some, unwrap_or, sym, ◌∙◌, ap, true≢false}
-use Rattle.std.specs.List.{remove}
+use Rattle.std.proofs.Common.{arith, ◌≡◌, ℕ, cond, nat_eq, ◌&&◌, ◌||◌, ◌+◌, List, [], ◌∷◌, ◌++◌, length, Option, Some, None, is_some, unwrap_or, true≢false}
 use Rattle.tcp_flow.specs.declared.flow.CloseCause.{CloseCause}
-use Rattle.tcp_flow.specs.declared.flow.CloseCause.TheVariants.{Fault, Gap}
 use Rattle.tcp_flow.specs.declared.tail.Tail.{Tail}
 use Rattle.tcp_waiting.specs.Numbers.{age}
 use Rattle.tcp_waiting.specs.Payload.{Payload, payload, has_as_much, put}
-use Rattle.tcp_flow.specs.Flow.{Flow, Event, Begins, Delivers, Closes, flow_of, OfCapture, ComesFrom, Passes, CaptureEvent, Reader, Setting, Arrival, Octets, End, Hears, left, with_event, stopped, checked, number_after, handed, delivered, start_at, started, resumed, lives, out_of_step, looked_through, tail_before, told_from, taken, at, closed, holding, gone_on, within_bounds, payload_came, fin_came, gap, step}
+use Rattle.tcp_flow.specs.Flow.{Flow, Event, flow_of, OfCapture, Passes, CaptureEvent, Reader, Setting, Arrival, Octets, End, Hears, left, with_event, stopped, checked, delivered, started, resumed, looked_through, told_from, taken, at, closed, holding, gone_on, within_bounds, payload_came, fin_came, gap, step}
 use Rattle.tcp_flow.proofs.Tails.{looked_by}
 use Rattle.tcp_flow.proofs.Preserving.{Keeps, cond_keeps, gone_on_keeps, relieved_keeps, heard_keeps, gap_keeps}
 
@@ -21,56 +19,41 @@ IsKept Q id = (es : List Event) (e : Event) → ((j : ℕ) → flow_of e ≡ Som
     Q (es ++ e ∷ [])
 
 pub same_flow : (n id : ℕ) → n ≡ id → (j : ℕ) → Some n ≡ Some j → j ≡ id
-same_flow n id same j e = ap (λ (o : Option ℕ). unwrap_or o n) (sym e) ∙ same
+same_flow n id same j e = search (arith, unwrap_or)
 
 of_capture : (id j : ℕ) → ◌≡◌ {A = Option ℕ} None (Some j) → j ≡ id
-of_capture id j e = absurd (true≢false (sym (ap is_some e)))
+of_capture id j e = search (arith, true≢false, is_some)
 
 module _ (Q : List Event → Type 0) (id : ℕ) (more : IsKept Q id) where
   stopped_told : (f : Flow) (n : ℕ) (cause : CloseCause) → Told Q id f →
       Told Q id (stopped f n cause)
   unfolding with_event
-  stopped_told f n cause t = record {
-    same = t.same;
-    told = more f.events (Closes f.id cause) (same_flow f.id id t.same) t.told;
-  }
+  stopped_told f n cause t = search (arith, same_flow)
 
   checked_told : (f : Flow) (r : Option ℕ) → Told Q id f → Told Q id (checked f r)
   unfolding checked
   checked_told f None t = t
-  checked_told f (Some at) t = stopped_told f (number_after f at) Fault t
+  checked_told f (Some at) t = search (arith, stopped_told)
 
   capture_told : (f : Flow) (e : CaptureEvent) → Told Q id f →
       Told Q id (with_event f (OfCapture e))
   unfolding with_event
-  capture_told f e t = record {
-    same = t.same;
-    told = more f.events (OfCapture e) (of_capture id) t.told;
-  }
+  capture_told f e t = search (arith, of_capture)
 
   pub closed_told : (f : Flow) (cause : CloseCause) → Told Q id f → Told Q id (closed f cause)
   unfolding closed
-  closed_told f cause t = cond_keeps (Told Q id) (lives f.live f.waits) (stopped f f.next cause)
-      (out_of_step f) (stopped_told f f.next cause t) (record { same = t.same; told = t.told })
+  closed_told f cause t = search (arith, cond_keeps, stopped_told)
 
   delivered_told : (F : Reader) (f : Flow) (p : Payload) → Told Q id f → Told Q id (delivered F f p)
   unfolding delivered with_event
-  delivered_told F f p t =
-      let d : Flow = handed f p in
-      checked_told d (F.faulted d.events) (record {
-        same = t.same;
-        told = more f.events (Delivers f.id p.octets) (same_flow f.id id t.same) t.told;
-      })
+  delivered_told F f p t = search (arith, checked_told, same_flow)
 
   started_told : (f : Flow) (n : ℕ) → Told Q id f → Told Q id (started f n)
   unfolding with_event
-  started_told f n t = record {
-    same = t.same;
-    told = more f.events (Begins f.id (start_at f n)) (same_flow f.id id t.same) t.told;
-  }
+  started_told f n t = search (arith, same_flow)
 
   resumed_told : (f : Flow) → Told Q id f → Told Q id (resumed f)
-  resumed_told f t = cond_keeps (Told Q id) f.waits (started f f.next) f (started_told f f.next t) t
+  resumed_told f t = search (arith, cond_keeps, started_told)
 
   looked_told : (F : Reader) (f : Flow) (q : Payload) (o : Option Tail) → Told Q id f →
       Told Q id (looked_through F f q o)
@@ -83,32 +66,24 @@ module _ (Q : List Event → Type 0) (id : ℕ) (more : IsKept Q id) where
 
   from_told : (f : Flow) (p : Payload) → Told Q id f → Told Q id (told_from f p)
   unfolding told_from
-  from_told f p t = capture_told f (ComesFrom p.arrival) t
+  from_told f p t = search (arith, capture_told)
 
   taken_told : (F : Reader) (f : Flow) (p : Payload) → Told Q id f → Told Q id (taken F f p)
   unfolding taken
-  taken_told F f p t =
-      let q : Payload = left f.next (is_some f.live) p in
-      let g : Flow = told_from f p in
-      let u : Told Q id g = from_told f p t in
-      let d : Flow = delivered F (resumed g) q in
-      let o : Option Tail = tail_before f.tail q.number q.octets in
-      let b : Flow = looked_through F g q o in
-      cond_keeps (Told Q id) (nat_eq (length q.octets) 0) f (cond (is_some f.live) d b) t
-      (cond_keeps (Told Q id) (is_some f.live) d b
-      (delivered_told F (resumed g) q (resumed_told g u))
-      (looked_told F g q o u))
+  taken_told F f p t = search (
+    arith,
+    is_some,
+    from_told,
+    cond_keeps,
+    nat_eq,
+    cond,
+    delivered_told,
+    resumed_told,
+    looked_told,
+  )
 
   told_keeps : (F : Reader) → Keeps F (Told Q id)
-  told_keeps F =
-      record {
-        takes = λ f i e d t. taken_told F (record f { held = remove f.held i }) (at f i)
-            (record { same = t.same; told = t.told });
-        closes = λ f cause t. closed_told f cause t;
-        waits = λ f count live t. (let c : Told Q id (closed f Gap) = closed_told f Gap t in
-            record { same = c.same; told = c.told });
-        fins = λ f n t. record { same = t.same; told = t.told };
-      }
+  told_keeps F = search (arith, taken_told, closed_told)
 
   pub came_told : (A : Setting) (f : Flow) (p : Payload) → Told Q id f →
       Told Q id (payload_came A f p)

@@ -1,15 +1,15 @@
 -- Streams are gapless, whatever comes.
-use Rattle.std.proofs.Common.{◌≡◌, ℕ, zero, suc, ◌+◌, ◌-◌, ◌^◌, ◌<◌, ◌≤◌, Bool, true, false, cond, nat_eq, nat_lt, ◌&&◌, ◌||◌, not, List, [], ◌∷◌, ◌++◌, length, drop, get_or, Option, Some, None, refl, sym, ◌∙◌, ap, subst, arith, inl, inr, is_some, true≢false}
+use Rattle.std.proofs.Common.{◌≡◌, ℕ, zero, suc, ◌+◌, ◌^◌, ◌<◌, Bool, true, false, cond, nat_eq, nat_lt, ◌&&◌, ◌||◌, not, List, [], ◌∷◌, ◌++◌, length, drop, get_or, Option, Some, None, refl, sym, ◌∙◌, ap, subst, arith, inl, inr, is_some, true≢false}
 use Rattle.std.specs.List.{insert, remove}
 use Rattle.std.proofs.lemmas.Bool.{cases_lt, cases_Bool, lt-ltb, le-ltb, ltb-false, and_cases, cond-true, cond-false, not-true, and_left, and_right, not_from_true, both_ways}
 use Rattle.std.proofs.lemmas.List.{drop-drop, get_or-append_right, get_or_append_left, length-append}
 use Rattle.tcp_flow.specs.declared.hearing.Heard.{Heard}
 use Rattle.tcp_flow.specs.declared.tail.Tail.{Tail}
 use Rattle.tcp_flow.specs.declared.flow.CloseCause.{CloseCause}
-use Rattle.tcp_flow.specs.declared.flow.CloseCause.TheVariants.{Fault, Gap}
-use Rattle.tcp_waiting.specs.Numbers.{ahead, onward, age, is_to_come}
-use Rattle.tcp_waiting.specs.Payload.{without_first, Payload, no_payload, window, has_as_much, put, place_of, key_of}
-use Rattle.tcp_flow.specs.Flow.{gap, Flow, Event, CaptureEvent, Begins, Delivers, Closes, Reader, Setting, left, with_event, stopped, checked, number_after, handed, delivered, start_at, started, lives, out_of_step, resumed, awaiting, looked_through, tail_before, told_from, OfCapture, ComesFrom, Passes, taken, first_of, is_due, at, closed, payload_came, holding, within_bounds, gone_on, fin_came, heard}
+use Rattle.tcp_flow.specs.declared.flow.CloseCause.TheVariants.{Gap}
+use Rattle.tcp_waiting.specs.Numbers.{onward, age, is_to_come}
+use Rattle.tcp_waiting.specs.Payload.{Payload, no_payload, has_as_much, put, place_of, key_of}
+use Rattle.tcp_flow.specs.Flow.{gap, Flow, Event, CaptureEvent, Delivers, Reader, Setting, left, with_event, stopped, checked, handed, delivered, started, lives, out_of_step, resumed, awaiting, looked_through, tail_before, told_from, OfCapture, taken, first_of, is_due, at, closed, payload_came, holding, within_bounds, gone_on, fin_came, heard}
 use Rattle.tcp_flow.specs.Laws.{IsPartOf, OwnMayFollow, MayFollow, AllFollow, AllArePartsOf, due_of, IsTailOf, IsGapless}
 use Rattle.tcp_waiting.proofs.Order.{first_within, first_own}
 use Rattle.tcp_flow.proofs.Tails.{Looks, looked_keeps, tail_map, delivered_id, in_vain}
@@ -24,41 +24,22 @@ onward_small n k = omega arith
 -- what is not to come is due after what is old
 pub reached : (next n : ℕ) → next < 2 ^ 32 → is_to_come next n ≡ false →
     onward n (age next n) ≡ next
-reached next n small h =
-    elim (cases_lt (ahead next n) (2 ^ 31)) [
-      | inl l ↦
-          (let z : ahead next n ≡ 0 =
-          elim (and_cases (nat_lt 0 (ahead next n)) (nat_lt (ahead next n) (2 ^ 31)) h) [
-            | inl x ↦ (let y : ahead next n ≤ 0 = ltb-false 0 (ahead next n) x in omega arith)
-            | inr x ↦ absurd (let y : 2 ^ 31 ≤ ahead next n = ltb-false (ahead next n) (2 ^ 31) x in
-                omega arith)
-          ] in
-          rw (lt-ltb (ahead next n) (2 ^ 31) l) (omega arith))
-      | inr m ↦ rw (le-ltb (ahead next n) (2 ^ 31) m) (omega arith)
-    ]
+reached next n small h = search (arith, cases_lt, and_cases, nat_lt, ltb-false, lt-ltb, le-ltb)
 
 pub runs_more : (payloads : List Payload) (id : ℕ) (before due behind : Option ℕ) (hs : List Event)
     (h : Event) → AllFollow payloads id before hs due → MayFollow payloads id due h behind →
     AllFollow payloads id before (hs ++ h ∷ []) behind
 unfolding AllFollow
-runs_more payloads id before due behind [] h r t =
-    (behind, (subst (λ (d : Option ℕ). MayFollow payloads id d h behind) (sym r) t, refl))
-runs_more payloads id before due behind (g ∷ hs) h r t =
-    (r.0, (r.1.0, runs_more payloads id r.0 due behind hs h r.1.1 t))
+runs_more payloads id before due behind [] h r t = search (arith)
+runs_more payloads id before due behind (g ∷ hs) h r t = search (
+  arith,
+  runs_more payloads id r.0
+      due behind hs h r.1.1 t,
+)
 
 has_more : (payloads : List Payload) (id n a : ℕ) (xs : List ℕ) → IsPartOf payloads id n xs →
     IsPartOf payloads id (onward n a) (drop a xs)
-has_more payloads id n a xs h =
-    record {
-      index = h.index;
-      among = h.among;
-      own = h.own;
-      skipped = h.skipped + a;
-      number_is = rw h.number_is (onward_onward (get_or payloads h.index no_payload).number
-          h.skipped a);
-      octets_are = rw h.octets_are (drop-drop a h.skipped
-          (get_or payloads h.index no_payload).octets);
-    }
+has_more payloads id n a xs h = search (arith, onward_onward, get_or, drop-drop)
 
 have_at : (payloads ps : List Payload) (i : ℕ) (d : Payload) → AllArePartsOf payloads ps →
     i < length ps → IsPartOf payloads (get_or ps i d).flow (get_or ps i d).number
@@ -89,62 +70,45 @@ either P true x y p q = p
 either P false x y p q = q
 
 when_true : {X : Type 0} (P : X → Type 0) (b : Bool) (x y : X) → b ≡ true → P x → P (cond b x y)
-when_true P b x y e p = subst P (sym (cond-true b x y e)) p
+when_true P b x y e p = search (arith, cond-true)
 
 when_false : {X : Type 0} (P : X → Type 0) (b : Bool) (x y : X) → b ≡ false → P y → P (cond b x y)
-when_false P b x y e p = subst P (sym (cond-false b x y e)) p
+when_false P b x y e p = search (arith, cond-false)
 
 left_has : (payloads : List Payload) (id next : ℕ) (live : Bool) (p : Payload) →
     IsPartOf payloads id p.number p.octets →
     IsPartOf payloads id (left next live p).number (left next live p).octets
 unfolding left
-left_has payloads id next live p h =
-    either (λ (q : Payload). IsPartOf payloads id q.number q.octets)
-    (nat_lt window (age next p.number) && not live) p
-    (without_first (age next p.number) p) h
-    (has_more payloads id p.number (age next p.number) p.octets h)
+left_has payloads id next live p h = search (arith, either, nat_lt, not, has_more)
 
 left_due : (next : ℕ) (live : Bool) (p : Payload) → next < 2 ^ 32 → live ≡ true →
     is_to_come next p.number ≡ false → (left next live p).number ≡ next
 unfolding left
-left_due next live p small l h =
-    when_false (λ (q : Payload). q.number ≡ next) (nat_lt window (age next p.number) && not live) p
-    (without_first (age next p.number) p)
-    (and_right (nat_lt window (age next p.number)) (not live) (not_from_true live l))
-    (reached next p.number small h)
+left_due next live p small l h = search (
+  arith,
+  when_false,
+  nat_lt,
+  not,
+  and_right,
+  not_from_true,
+  reached,
+)
 
 stopped_true : (payloads : List Payload) (f : Flow) (n : ℕ) (cause : CloseCause) →
     IsGapless payloads f → lives f.live f.waits ≡ true → IsGapless payloads (stopped f n cause)
 unfolding with_event OwnMayFollow
-stopped_true payloads f n cause t live =
-    let runs : AllFollow payloads f.id None f.events (Some f.next) =
-    subst (AllFollow payloads f.id None f.events)
-    (cond-true (lives f.live f.waits) (Some f.next) None live) t.events in
-    record {
-      next = t.next;
-      held = t.held;
-      tail = t.tail;
-      events = runs_more payloads f.id None (Some f.next) None f.events (Closes f.id cause) runs
-          (inl (refl, tt));
-    }
+stopped_true payloads f n cause t live = search (arith, cond-true, runs_more)
 
 checked_true : (payloads : List Payload) (f : Flow) (r : Option ℕ) → IsGapless payloads f →
     lives f.live f.waits ≡ true → IsGapless payloads (checked f r)
 unfolding checked
 checked_true payloads f None t live = t
-checked_true payloads f (Some at) t live =
-    stopped_true payloads f (number_after f at) Fault t live
+checked_true payloads f (Some at) t live = search (arith, stopped_true)
 
 capture_true : (payloads : List Payload) (f : Flow) (e : CaptureEvent) → IsGapless payloads f →
     IsGapless payloads (with_event f (OfCapture e))
 unfolding with_event
-capture_true payloads f e t = record {
-  next = t.next;
-  held = t.held;
-  tail = t.tail;
-  events = runs_more payloads f.id None (due_of f) (due_of f) f.events (OfCapture e) t.events
-      (inr (λ o. true≢false (sym (ap is_some o)), refl));
-}
+capture_true payloads f e t = search (arith, runs_more, true≢false, is_some)
 
 delivered_true : (F : Reader) (payloads : List Payload) (g : Flow) (p : Payload) (n : ℕ) →
     AllArePartsOf payloads g.held
@@ -181,32 +145,16 @@ delivered_live F payloads g p t live due has =
 started_true : (payloads : List Payload) (g : Flow) (n : ℕ) → n < 2 ^ 32 →
     lives g.live g.waits ≡ false → IsGapless payloads g → IsGapless payloads (started g n)
 unfolding with_event OwnMayFollow
-started_true payloads g n small dead t =
-    let none : due_of g ≡ None = cond-false (lives g.live g.waits) (Some g.next) None dead in
-    record {
-      next = small;
-      held = t.held;
-      tail = λ u e. absurd (true≢false (sym (ap is_some e)));
-      events = runs_more payloads g.id None None (Some n) g.events
-          (Begins g.id (start_at g n))
-          (subst (AllFollow payloads g.id None g.events) none t.events) (inl (refl, refl));
-    }
+started_true payloads g n small dead t = search (arith, cond-false, true≢false, is_some, runs_more)
 
 part_small : (payloads : List Payload) (id n : ℕ) (xs : List ℕ) → IsPartOf payloads id n xs →
     n < 2 ^ 32
-part_small payloads id n xs h = subst (λ (m : ℕ). m < 2 ^ 32) (sym h.number_is)
-    (onward_small (get_or payloads h.index no_payload).number h.skipped)
+part_small payloads id n xs h = search (arith, onward_small, get_or)
 
 -- a flow that isn't live is as well out of step
 idle_true : (payloads : List Payload) (f : Flow) → lives f.live f.waits ≡ false →
     IsGapless payloads f → IsGapless payloads (out_of_step f)
-idle_true payloads f dead t = record {
-  next = t.next;
-  held = t.held;
-  tail = t.tail;
-  events = subst (AllFollow payloads f.id None f.events)
-      (cond-false (lives f.live f.waits) (Some f.next) None dead) t.events;
-}
+idle_true payloads f dead t = search (arith, cond-false)
 
 closed_true : (payloads : List Payload) (f : Flow) (cause : CloseCause) → IsGapless payloads f →
     IsGapless payloads (closed f cause)
@@ -223,8 +171,7 @@ closed_true payloads f cause t =
 pub closed_idle : (f : Flow) (cause : CloseCause) →
     lives (closed f cause).live (closed f cause).waits ≡ false
 unfolding closed with_event
-closed_idle f cause = either (λ (g : Flow). lives g.live g.waits ≡ false) (lives f.live f.waits)
-    (stopped f f.next cause) (out_of_step f) refl refl
+closed_idle f cause = search (arith, either)
 
 awaiting_true : (payloads : List Payload) (f : Flow) (count : ℕ) → IsGapless payloads f →
     IsGapless payloads (awaiting f count)
@@ -254,22 +201,15 @@ resumed_true payloads f t =
 pub resumed_lives : (f : Flow) → is_some f.live ≡ true →
     lives (resumed f).live (resumed f).waits ≡ true
 unfolding with_event
-resumed_lives f e =
-    elim (cases_Bool f.waits) [
-      | inl y ↦ when_true (λ (g : Flow). lives g.live g.waits ≡ true) f.waits (started f f.next) f y
-          refl
-      | inr z ↦ when_false (λ (g : Flow). lives g.live g.waits ≡ true) f.waits
-          (started f f.next) f z
-          (rw (e, z) refl)
-    ]
+resumed_lives f e = search (arith, cases_Bool, when_true, when_false)
 
 pub resumed_next : (f : Flow) → (resumed f).next ≡ f.next
 unfolding with_event
-resumed_next f = either (λ (g : Flow). g.next ≡ f.next) f.waits (started f f.next) f refl refl
+resumed_next f = search (arith, either)
 
 resumed_id : (f : Flow) → (resumed f).id ≡ f.id
 unfolding with_event
-resumed_id f = either (λ (g : Flow). g.id ≡ f.id) f.waits (started f f.next) f refl refl
+resumed_id f = search (arith, either)
 
 -- what is so of a flow of an id
 record IsTrueOf (payloads : List Payload) (id : ℕ) (f : Flow) : Type 0 where
@@ -279,8 +219,7 @@ record IsTrueOf (payloads : List Payload) (id : ℕ) (f : Flow) : Type 0 where
 passed_true : (payloads : List Payload) (g : Flow) (t : Option Tail) (xs : List ℕ) →
     ((u : Tail) → t ≡ Some u → IsTailOf (IsPartOf payloads g.id) u) → IsGapless payloads g →
     IsGapless payloads (in_vain g t xs)
-passed_true payloads g t xs tail h = capture_true payloads (record g { tail = t }) (Passes xs)
-    (record { next = h.next; held = h.held; tail = tail; events = h.events })
+passed_true payloads g t xs tail h = search (arith, capture_true)
 
 looks_true : (F : Reader) (payloads : List Payload) (id : ℕ) →
     Looks F (IsPartOf payloads id) (IsTrueOf payloads id)
@@ -311,7 +250,7 @@ looks_true F payloads id =
 from_true : (payloads : List Payload) (f : Flow) (p : Payload) → IsGapless payloads f →
     IsGapless payloads (told_from f p)
 unfolding told_from
-from_true payloads f p t = capture_true payloads f (ComesFrom p.arrival) t
+from_true payloads f p t = search (arith, capture_true)
 
 pub taken_true : (F : Reader) (payloads : List Payload) (f : Flow) (p : Payload) →
     IsGapless payloads f → IsPartOf payloads f.id p.number p.octets →
@@ -384,41 +323,25 @@ true_keeps F payloads =
 -- one more payload comes
 has_grow : (payloads : List Payload) (p : Payload) (id n : ℕ) (xs : List ℕ) →
     IsPartOf payloads id n xs → IsPartOf (payloads ++ p ∷ []) id n xs
-has_grow payloads p id n xs h =
-    let d : Payload = no_payload in
-    let e : get_or payloads h.index d ≡ get_or (payloads ++ p ∷ []) h.index d =
-    sym (get_or_append_left payloads (p ∷ []) d h.index h.among) in
-    record {
-      index = h.index;
-      among = omega (arith, h.among, length-append payloads (p ∷ []));
-      own = subst (λ (q : Payload). q.flow ≡ id) e h.own;
-      skipped = h.skipped;
-      number_is = subst (λ (q : Payload). n ≡ onward q.number h.skipped) e h.number_is;
-      octets_are = subst (λ (q : Payload). xs ≡ drop h.skipped q.octets) e h.octets_are;
-    }
+has_grow payloads p id n xs h = search (arith, get_or, get_or_append_left, length-append, drop)
 
 pub all_grow : (payloads : List Payload) (p : Payload) (ps : List Payload) →
     AllArePartsOf payloads ps → AllArePartsOf (payloads ++ p ∷ []) ps
 unfolding AllArePartsOf
 all_grow payloads p [] h = tt
-all_grow payloads p (q ∷ ps) h = (
-  has_grow payloads p q.flow q.number q.octets h.0,
-  all_grow payloads p ps h.1,
-)
+all_grow payloads p (q ∷ ps) h = search (arith, has_grow, all_grow payloads p ps h.1)
 
 own_grow : (payloads : List Payload) (p : Payload) (id : ℕ) (before : Option ℕ) (h : Event)
     (behind : Option ℕ) → OwnMayFollow payloads id before h behind →
     OwnMayFollow (payloads ++ p ∷ []) id before h behind
 unfolding OwnMayFollow
-own_grow payloads p id (Some due) (Delivers flow xs) (Some next) t =
-    (has_grow payloads p id due xs t.0, t.1)
+own_grow payloads p id (Some due) (Delivers flow xs) (Some next) t = search (arith, has_grow)
 own_grow payloads p id before h behind t = t
 
 turns_grow : (payloads : List Payload) (p : Payload) (id : ℕ) (before : Option ℕ) (h : Event)
     (behind : Option ℕ) → MayFollow payloads id before h behind →
     MayFollow (payloads ++ p ∷ []) id before h behind
-turns_grow payloads p id before h behind (inl t) =
-    inl (t.0, own_grow payloads p id before h behind t.1)
+turns_grow payloads p id before h behind (inl t) = search (arith, own_grow)
 turns_grow payloads p id before h behind (inr t) = inr t
 
 pub runs_grow : (payloads : List Payload) (p : Payload) (id : ℕ) (before : Option ℕ)
@@ -426,18 +349,16 @@ pub runs_grow : (payloads : List Payload) (p : Payload) (id : ℕ) (before : Opt
     AllFollow (payloads ++ p ∷ []) id before hs behind
 unfolding AllFollow
 runs_grow payloads p id before [] behind r = r
-runs_grow payloads p id before (h ∷ hs) behind r = (
-  r.0,
-  (
-    turns_grow payloads p id before h r.0 r.1.0,
-    runs_grow payloads p id r.0 hs behind r.1.1,
-  ),
+runs_grow payloads p id before (h ∷ hs) behind r = search (
+  arith,
+  turns_grow,
+  runs_grow payloads p
+      id r.0 hs behind r.1.1,
 )
 
 pub tail_grows : (payloads : List Payload) (p : Payload) (id : ℕ) (t : Tail) →
     IsTailOf (IsPartOf payloads id) t → IsTailOf (IsPartOf (payloads ++ p ∷ []) id) t
-tail_grows payloads p id t h = tail_map (IsPartOf payloads id) (IsPartOf (payloads ++ p ∷ []) id) t
-    (λ n xs h. has_grow payloads p id n xs h) h
+tail_grows payloads p id t h = search (arith, tail_map, has_grow)
 
 pub true_grows : (payloads : List Payload) (p : Payload) (f : Flow) → IsGapless payloads f →
     IsGapless (payloads ++ p ∷ []) f
@@ -450,30 +371,13 @@ true_grows payloads p f t = record {
 
 has_last : (payloads : List Payload) (p : Payload) → p.number < 2 ^ 32 →
     IsPartOf (payloads ++ p ∷ []) p.flow p.number p.octets
-has_last payloads p small =
-    let d : Payload = no_payload in
-    let n : length payloads - length payloads ≡ 0 = omega arith in
-    let e : p ≡ get_or (payloads ++ p ∷ []) (length payloads) d =
-    sym (get_or-append_right payloads (p ∷ []) (length payloads) (length payloads) d refl
-    (omega arith) ∙ rw n refl) in
-    record {
-      index = length payloads;
-      among = omega (arith, length-append payloads (p ∷ []));
-      own = sym (ap (λ (q : Payload). q.flow) e);
-      skipped = 0;
-      number_is = subst (λ (q : Payload). p.number ≡ onward q.number 0) e (omega arith);
-      octets_are = ap (λ (q : Payload). q.octets) e;
-    }
+has_last payloads p small = search (arith, get_or, get_or-append_right, length-append)
 
 left_all : (payloads : List Payload) (next : ℕ) (live : Bool) (p : Payload) →
     IsPartOf payloads p.flow p.number p.octets →
     IsPartOf payloads (left next live p).flow (left next live p).number (left next live p).octets
 unfolding left
-left_all payloads next live p h =
-    either (λ (q : Payload). IsPartOf payloads q.flow q.number q.octets)
-    (nat_lt window (age next p.number) && not live) p
-    (without_first (age next p.number) p) h
-    (has_more payloads p.flow p.number (age next p.number) p.octets h)
+left_all payloads next live p h = search (arith, either, nat_lt, not, has_more)
 
 pub came_true : (A : Setting) (payloads' : List Payload) (f : Flow) (p : Payload) →
     p.number < 2 ^ 32 → IsGapless payloads' f → IsGapless (payloads' ++ p ∷ []) (payload_came A f p)
@@ -520,12 +424,11 @@ heard_true F payloads' count h f t = heard_keeps F (IsGapless payloads') (true_k
 pub fresh_true : (f : Flow) → f.next < 2 ^ 32 → (is_some f.live) ≡ false → f.tail ≡ None →
     f.held ≡ [] → f.events ≡ [] → IsGapless [] f
 unfolding AllArePartsOf AllFollow
-fresh_true f small dead lone none quiet =
-    record {
-      next = small;
-      held = subst (λ (ps : List Payload). AllArePartsOf [] ps) (sym none) tt;
-      tail = λ u e. absurd (true≢false (sym (ap is_some (sym lone ∙ e))));
-      events = subst (λ (hs : List Event). AllFollow [] f.id None hs (due_of f)) (sym quiet)
-          (sym (cond-false (lives f.live f.waits) (Some f.next) None
-          (and_left (is_some f.live) (not f.waits) dead)));
-    }
+fresh_true f small dead lone none quiet = search (
+  arith,
+  true≢false,
+  is_some,
+  cond-false,
+  and_left,
+  not,
+)

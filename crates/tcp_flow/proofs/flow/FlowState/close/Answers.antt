@@ -1,4 +1,4 @@
-use Rattle.std.proofs.Common.{is_some, refl, sym, subst, ◌∙◌}
+use Rattle.std.proofs.Common.{refl, sym, subst, ◌∙◌}
 use Rattle.std.proofs.lemmas.Bool.{cond-true, cond-false}
 use Rattle.tcp_flow.specs.Flow.{with_event, lives, out_of_step, stopped, closed}
 use Rattle.tcp_flow.specs.State.{state, IsState}

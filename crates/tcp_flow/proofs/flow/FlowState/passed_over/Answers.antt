@@ -1,8 +1,7 @@
-use Rattle.std.proofs.Common.{◌≡◌, ◌<◌, List, length, get_or, None, Some, refl, sym, ap, ◌∙◌}
-use Rattle.std.proofs.lemmas.Bool.{cond-false}
+use Rattle.std.proofs.Common.{◌≡◌, ◌<◌, length, None, refl, sym, ◌∙◌}
 use Rattle.tcp_waiting.proofs.Order.{first_within}
-use Rattle.tcp_flow.specs.Flow.{lives, first_of, at, passing, passed_over}
-use Rattle.tcp_flow.specs.State.{state, IsState}
+use Rattle.tcp_flow.specs.Flow.{first_of, at, passed_over}
+use Rattle.tcp_flow.specs.State.{IsState}
 use Rattle.tcp_flow.proofs.States.{by_state}
 use Rattle.tcp_flow.proofs.flow.FlowState.passed_over.Goals as goal
 
