@@ -10,12 +10,6 @@ some_octets (x ∷ xs) e = omega arith
 pub no_octets : (xs : List ℕ) → nat_eq (length xs) 0 ≡ true → length xs ≡ 0
 no_octets xs e = eqb-true (length xs) 0 e
 
--- what stands first, by whether anything does, whether it begins a message, and where that ends
-abbrev first_of_chain : ℕ → Bool → List ℕ → Bool → Bool → Option ℕ → Bool
-first_of_chain count whole xs none front end =
-    cond none whole
-    (cond front (elim end [ None ↦ whole | Some n ↦ chain_from count true (drop n xs) ]) false)
-
 -- after the last message
 pub chain_over : (count : ℕ) (whole : Bool) (xs : List ℕ) → length xs ≡ 0 →
     chain_from count whole xs ≡ whole
