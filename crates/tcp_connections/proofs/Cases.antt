@@ -13,7 +13,7 @@ use Rattle.tcp_flow.proofs.Steps.{heard_none}
 use Rattle.tcp_streams.specs.declared.pair.Side.{Side}
 use Rattle.tcp_streams.specs.Pairs.{pair_of, opposite, flow_id}
 use Rattle.tcp_streams.specs.Lives.{lives}
-use Rattle.tcp_connections.specs.Connections.{State, flow_at, with_flow, arrived, began, gapped, closed_at, flow_forgotten, place_of, room_at, gaps_at, ended_by, cleared, goes_before, eldest, with_room, next_room, made_known, first_number, number_behind, is_first, is_looked_through, looked_through, with_capture_event, is_kept, is_anew, is_reset, syn_at, syn_kept, flow_of_side, fin_taken, unknown_taken, heard, acknowledgement_heard, payload_taken, reset_taken, known_taken, step, is_holding, gaps_from, end_cause, all_closed}
+use Rattle.tcp_connections.specs.Connections.{State, flow_at, with_flow, arrived, began, gapped, closed_at, flow_forgotten, place_of, room_at, gaps_at, ended_by, cleared, goes_before, eldest, with_room, next_room, made_known, first_number, number_behind, is_first, is_looked_through, looked_through, with_capture_event, is_kept, is_anew, is_reset, syn_at, syn_kept, flow_of_side, fin_taken, unknown_taken, heard, acknowledgement_heard, payload_taken, reset_taken, known_taken, step, is_holding, gaps_from}
 
 pub arrived_none : (F : Reader) (w : State) (id : ℕ) (a : Arrival) → flow_at w id ≡ None →
     arrived F w id a ≡ w

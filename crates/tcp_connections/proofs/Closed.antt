@@ -1,15 +1,13 @@
 -- What follows payloads to the end of a capture has closed there: a flow of which something is due is
 -- told to have a stream.
-use Rattle.std.proofs.Common.{◌≡◌, ℕ, zero, suc, ◌<◌, ◌≤◌, Bool, true, false, not, cond, eqb, nat_lt, List, [], ◌∷◌, length, get_or, Option, Some, None, is_some, refl, sym, ◌∙◌, ap, subst, arith, inl, inr, true≢false}
-use Rattle.std.specs.List.{AllByRecursion}
-use Rattle.std.proofs.lemmas.Bool.{and_left, cases_Bool, cases_lt, cond-true, cond-false, lt-ltb, ne_eqb}
+use Rattle.std.proofs.Common.{◌≡◌, ℕ, zero, suc, ◌<◌, ◌≤◌, true, false, not, List, [], ◌∷◌, length, get_or, Option, Some, None, is_some, refl, sym, ◌∙◌, ap, subst, arith, inl, inr, true≢false}
+use Rattle.std.proofs.lemmas.Bool.{and_left, cases_Bool, cases_lt, cond-false}
 use Rattle.tcp_flow.specs.declared.flow.FlowState.{FlowState}
 use Rattle.tcp_flow.specs.Flow.{lives as has_stream, Event, Opens, Begins, Delivers, Closes, OfCapture, flow_of}
 use Rattle.tcp_flow.specs.Laws.{OwnMayFollow, MayFollow, AllFollow}
 use Rattle.tcp_waiting.specs.Payload.{Payload}
-use Rattle.tcp_streams.specs.Lives.{lives, lives_from, behind, begun, without, most_ids, AreIds}
-use Rattle.tcp_streams.proofs.Ids.{none_ids}
-use Rattle.tcp_connections.specs.Connections.{State, flow_at, live_of, all_closed}
+use Rattle.tcp_streams.specs.Lives.{lives, lives_from, behind, begun, most_ids}
+use Rattle.tcp_connections.specs.Connections.{State, flow_at, all_closed}
 use Rattle.tcp_connections.specs.State.{times}
 use Rattle.tcp_connections.proofs.Closing.{all_quiet}
 use Rattle.tcp_connections.proofs.Following.{some_same, due_in, Follow, closes_follow}

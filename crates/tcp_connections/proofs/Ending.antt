@@ -9,7 +9,7 @@ use Rattle.tcp_flow.specs.declared.flow.CloseCause.TheVariants.{Fin, Reset, Syn,
 use Rattle.tcp_flow.specs.declared.flow.CloseCause.TheVariants as causes
 use Rattle.tcp_flow.specs.declared.flow.FlowState.{FlowState}
 use Rattle.tcp_waiting.specs.Payload.{Payload, first, count_of}
-use Rattle.tcp_flow.specs.Flow.{Flow, Begins, Delivers, Closes, OfCapture, ComesFrom, Reader, left, with_event, delivered, looked_through as flow_looked, tail_before, told_from, taken, at, closed, gap, first_of, held_by_others, CaptureEvent, Passes, stopped, checked, number_after, handed, start_at, started, resumed, out_of_step, lives as has_stream}
+use Rattle.tcp_flow.specs.Flow.{Flow, OfCapture, Reader, left, with_event, delivered, looked_through as flow_looked, tail_before, told_from, taken, at, closed, gap, first_of, held_by_others, CaptureEvent, Passes, stopped, checked, started, resumed}
 use Rattle.tcp_flow.specs.State.{state}
 use Rattle.tcp_flow.specs.declared.tail.Tail.{Tail}
 use Rattle.tcp_flow.proofs.Tails.{looked_by}
@@ -51,52 +51,43 @@ at_without : (n : ℕ) (xs : List ℕ) (r k : ℕ) → IsDistinct eqb xs → k <
 unfolding without IsDistinct
 at_without n [] r k d l e b = absurd (omega (arith, l))
 at_without n (x ∷ xs) r zero d l e b = absurd (omega (arith, b))
-at_without n (x ∷ xs) zero (suc k) d l e b =
-    ap (λ (ys : List ℕ). get_or ys 0 0) (cond-false (nat_eq x n) xs (x ∷ without n xs)
-    (differs x n k xs d (omega (arith, l)) e))
-at_without n (x ∷ xs) (suc r) (suc k) d l e b =
-    ap (λ (ys : List ℕ). get_or ys (suc r) 0)
-    (cond-false (nat_eq x n) xs (x ∷ without n xs) (differs x n k xs d (omega (arith, l)) e))
-    ∙ at_without n xs r k d.1 (omega (arith, l)) e (omega (arith, b))
+at_without n (x ∷ xs) zero (suc k) d l e b = search (arith, get_or, cond-false, nat_eq, differs)
+at_without n (x ∷ xs) (suc r) (suc k) d l e b = search (
+  arith,
+  get_or,
+  cond-false,
+  nat_eq,
+  differs,
+  at_without n xs r k d.1 (omega (arith, l)) e (omega (arith, b)),
+)
 
 pub length_without : (n : ℕ) (xs : List ℕ) (k : ℕ) → k < length xs → get_or xs k 0 ≡ n →
     length (without n xs) + 1 ≡ length xs
 unfolding without
 length_without n [] k l e = absurd (omega (arith, l))
-length_without n (x ∷ xs) zero l e = omega (
+length_without n (x ∷ xs) zero l e = search (arith, cond-true, nat_eq, eq-eqb)
+length_without n (x ∷ xs) (suc k) l e = search (
   arith,
-  ap {B = ℕ} length (cond-true (nat_eq x n) xs (x ∷ without n xs) (eq-eqb x n e)),
+  cases_Bool,
+  nat_eq,
+  cond-true,
+  cond-false,
+  length_without n xs k (omega (arith, l)) e,
 )
-length_without n (x ∷ xs) (suc k) l e =
-    elim (cases_Bool (nat_eq x n)) [
-      | inl own ↦ omega (
-        arith,
-        ap {B = ℕ} length
-            (cond-true (nat_eq x n) xs (x ∷ without n xs) own),
-      )
-      | inr other ↦ omega (
-        arith,
-        ap {B = ℕ} length
-            (cond-false (nat_eq x n) xs (x ∷ without n xs) other),
-        length_without n xs k (omega (arith, l)) e,
-      )
-    ]
 
 not_own : (n x : ℕ) → eqb n x ≡ false → nat_eq x n ≡ false
-not_own n x h = ne_eqb x n (λ o. absurd (true≢false (sym (eq-eqb n x (sym o)) ∙ h)))
+not_own n x h = search (arith, ne_eqb, true≢false, eq-eqb)
 
 without_none : (n : ℕ) (xs : List ℕ) → AllByRecursion (λ y. eqb n y ≡ false) xs → without n xs ≡ xs
 unfolding without
 without_none n [] h = refl
-without_none n (x ∷ xs) h = cond-false (nat_eq x n) xs (x ∷ without n xs) (not_own n x h.0)
-    ∙ ap (λ (ys : List ℕ). x ∷ ys) (without_none n xs h.1)
+without_none n (x ∷ xs) h = search (arith, cond-false, nat_eq, not_own, without_none n xs h.1)
 
 without_last : (n : ℕ) (xs : List ℕ) → AllByRecursion (λ y. eqb n y ≡ false) xs →
     without n (xs ++ n ∷ []) ≡ xs
 unfolding without
-without_last n [] h = cond-true (nat_eq n n) [] (n ∷ []) (eq-eqb n n refl)
-without_last n (x ∷ xs) h = cond-false (nat_eq x n) (xs ++ n ∷ []) (x ∷ without n (xs ++ n ∷ []))
-    (not_own n x h.0) ∙ ap (λ (ys : List ℕ). x ∷ ys) (without_last n xs h.1)
+without_last n [] h = search (arith, cond-true, nat_eq, eq-eqb)
+without_last n (x ∷ xs) h = search (arith, cond-false, nat_eq, not_own, without_last n xs h.1)
 
 -- ---- A gap of a flow: it stands where it stood, or is the last from then on, or stands there no
 -- longer.
@@ -122,10 +113,8 @@ either P false x y p q = q
 gone_so : (id : ℕ) (all xs : List ℕ) → IsOther id (without id all) → StandsSo id all xs →
     StandsSo id all (without id xs)
 gone_so id all xs o (inl e) = inr (inl (ap (without id) e))
-gone_so id all xs o (inr (inl e)) =
-    inr (inl (ap (without id) e ∙ without_none id (without id all) o.none))
-gone_so id all xs o (inr (inr e)) =
-    inr (inl (ap (without id) e ∙ without_last id (without id all) o.none))
+gone_so id all xs o (inr (inl e)) = search (arith, without_none)
+gone_so id all xs o (inr (inr e)) = search (arith, without_last)
 
 ended_so : (id : ℕ) (all xs : List ℕ) (cause : CloseCause) → IsOther id (without id all) →
     StandsSo id all xs → StandsSo id all (ended id cause xs)
@@ -140,77 +129,43 @@ ended_so id all xs Room o h = gone_so id all xs o h
 closing_tail : (id : ℕ) (all : List ℕ) (g : Flow) (n : ℕ) (cause : CloseCause) →
     IsOther id (without id all) → IsTail id all g → IsTail id all (stopped g n cause)
 unfolding with_event behind
-closing_tail id all g n cause o t =
-    let more : lives (g.events ++ Closes g.id cause ∷ []) ≡ ended id cause (lives g.events) =
-    lives_more [] g.events (Closes g.id cause)
-    ∙ ap (λ (n : ℕ). ended n cause (lives g.events)) t.same in
-    record {
-      same = t.same;
-      tail = subst (StandsSo id all) (sym more) (ended_so id all (lives g.events) cause o t.tail);
-    }
+closing_tail id all g n cause o t = search (arith, lives_more, ended_so)
 
 closed_tail : (id : ℕ) (all : List ℕ) (g : Flow) (cause : CloseCause) →
     IsOther id (without id all) → IsTail id all g → IsTail id all (closed g cause)
 unfolding closed
-closed_tail id all g cause o t =
-    either (IsTail id all) (has_stream g.live g.waits) (stopped g g.next cause) (out_of_step g)
-    (closing_tail id all g g.next cause o t) (record { same = t.same; tail = t.tail })
+closed_tail id all g cause o t = search (arith, either, closing_tail)
 
 checked_tail : (id : ℕ) (all : List ℕ) (g : Flow) (r : Option ℕ) → IsOther id (without id all) →
     IsTail id all g → IsTail id all (checked g r)
 unfolding checked
 checked_tail id all g None o t = t
-checked_tail id all g (Some at) o t = closing_tail id all g (number_after g at) Fault o t
+checked_tail id all g (Some at) o t = search (arith, closing_tail)
 
 capture_tail : (id : ℕ) (all : List ℕ) (g : Flow) (e : CaptureEvent) → IsTail id all g →
     IsTail id all (with_event g (OfCapture e))
 unfolding with_event behind
-capture_tail id all g e t =
-    let more = lives_more [] g.events (OfCapture e) in
-    record { same = t.same; tail = subst (StandsSo id all) (sym more) t.tail }
+capture_tail id all g e t = search (arith, lives_more)
 
 delivered_tail : (F : Reader) (id : ℕ) (all : List ℕ) (g : Flow) (p : Payload) →
     IsOther id (without id all) → IsTail id all g → IsTail id all (delivered F g p)
 unfolding delivered with_event behind
-delivered_tail F id all g p o t =
-    let more = lives_more [] g.events (Delivers g.id p.octets) in
-    let d : Flow = handed g p in
-    let u : IsTail id all d =
-    record { same = t.same; tail = subst (StandsSo id all) (sym more) t.tail } in
-    checked_tail id all d (F.faulted d.events) o u
+delivered_tail F id all g p o t = search (arith, lives_more, checked_tail)
 
 -- a stream of it begins: it is the last
 begun_so : (id : ℕ) (all xs : List ℕ) → IsOther id (without id all) → StandsSo id all xs →
     StandsSo id all (begun id xs)
 unfolding begun
-begun_so id all xs o h =
-    let goes : begun id xs ≡ without id xs ++ id ∷ [] =
-    cond-true (nat_lt id most_ids) (without id xs ++ id ∷ []) xs (lt-ltb id most_ids o.small) in
-    let rest : without id xs ≡ without id all = elim h [
-      | inl e ↦ ap (without id) e
-      | inr e ↦ elim e [
-        | inl d ↦ ap (without id) d ∙ without_none id (without id all) o.none
-        | inr d ↦ ap (without id) d ∙ without_last id (without id all) o.none
-      ]
-    ] in
-    inr (inr (goes ∙ ap (λ (ys : List ℕ). ys ++ id ∷ []) rest))
+begun_so id all xs o h = search (arith, cond-true, nat_lt, lt-ltb, without_none, without_last)
 
 started_tail : (id : ℕ) (all : List ℕ) (g : Flow) (n : ℕ) → IsOther id (without id all) →
     IsTail id all g → IsTail id all (started g n)
 unfolding with_event behind
-started_tail id all g n o t =
-    let more : lives (started g n).events ≡ begun id (lives g.events) =
-    lives_more [] g.events (Begins g.id (start_at g n))
-    ∙ ap (λ (k : ℕ). begun k (lives g.events)) t.same in
-    record {
-      same = t.same;
-      tail = subst (StandsSo id all) (sym more) (begun_so id all (lives g.events) o t.tail);
-    }
+started_tail id all g n o t = search (arith, lives_more, begun_so)
 
 resumed_tail : (id : ℕ) (all : List ℕ) (g : Flow) → IsOther id (without id all) →
     IsTail id all g → IsTail id all (resumed g)
-resumed_tail id all g o t = either (IsTail id all) g.waits (started g g.next) g
-    (started_tail id all g g.next o t) t
+resumed_tail id all g o t = search (arith, either, started_tail)
 
 looked_tail : (F : Reader) (id : ℕ) (all : List ℕ) (g : Flow) (q : Payload) (r : Option Tail) →
     IsOther id (without id all) → IsTail id all g → IsTail id all (flow_looked F g q r)
@@ -223,7 +178,7 @@ looked_tail F id all g q r o t =
 from_tail : (id : ℕ) (all : List ℕ) (g : Flow) (p : Payload) → IsTail id all g →
     IsTail id all (told_from g p)
 unfolding told_from
-from_tail id all g p t = capture_tail id all g (ComesFrom p.arrival) t
+from_tail id all g p t = search (arith, capture_tail)
 
 taken_tail : (F : Reader) (id : ℕ) (all : List ℕ) (g : Flow) (p : Payload) →
     IsOther id (without id all) → IsTail id all g → IsTail id all (taken F g p)
@@ -272,49 +227,30 @@ pub record SoFar (left rank : ℕ) (w : State) : Type 0 where
 
 none_held : (id next : ℕ) (ps : List Payload) → is_some (first id next ps) ≡ false →
     count_of id ps ≡ 0
-none_held id next ps e = ap (count_of id) (sym (others_all id next ps e)) ∙ count_gone id ps
+none_held id next ps e = search (arith, others_all, count_gone)
 
 -- a flow that isn't holding holds nothing
 pub idle : (w : State) (id : ℕ) → IsSound w → is_holding w.held (flow_at w id) ≡ false →
     count_of id w.held ≡ 0
 unfolding is_holding
-idle w id h e = by (flow_at w id) refl
-  where
-    by : (o : Option FlowState) → flow_at w id ≡ o → count_of id w.held ≡ 0
-    by None a = h.vacant id a
-    by (Some s) a = subst (λ (n : ℕ). count_of n w.held ≡ 0) (h.ids id s a)
-        (none_held s.id s.next w.held (sym (ap (is_holding w.held) a) ∙ e))
+idle w id h e = search (arith, none_held)
 
 pub start_so_far : (w : State) → SoFar (length w.held + length (lives w.events)) 0 w
-start_so_far w = record {
-  reach = omega arith;
-  enough = omega arith;
-  before =
-      λ r l. absurd (omega (arith, l));
-}
+start_so_far w = search (arith)
 
 pub next_so_far : (left rank : ℕ) (w : State) → IsSound w → 0 < left →
     rank < length (lives w.events) → is_holding w.held (flow_at w (get_or (lives w.events) rank 0))
     ≡ false
     → SoFar left rank w → SoFar (left - 1) (rank + 1) w
-next_so_far left rank w h some l e t =
-    record {
-      reach = omega (arith, l);
-      enough = omega (arith, t.enough, some);
-      before =
-          λ r b.
-          elim (cases_Bool (nat_lt r rank)) [
-            | inl c ↦ t.before r (ltb-less c)
-            | inr c ↦ subst (λ (k : ℕ). count_of (get_or (lives w.events) k 0) w.held ≡ 0)
-                (ltb-same b c) (idle w (get_or (lives w.events) rank 0) h e)
-          ];
-    }
-  where
-    ltb-less : {r k : ℕ} → nat_lt r k ≡ true → r < k
-    ltb-less {r} {k} c = ltb-true r k c
-
-    ltb-same : {r k : ℕ} → r < k + 1 → nat_lt r k ≡ false → k ≡ r
-    ltb-same {r} {k} b c = let g : k ≤ r = ltb-false r k c in omega (arith, b, g)
+next_so_far left rank w h some l e t = search (
+  arith,
+  cases_Bool,
+  nat_lt,
+  get_or,
+  idle,
+  ltb-true,
+  ltb-false,
+)
 
 -- a gap of the flow at the rank
 by_gap : (left rank : ℕ) (w : State) (g : Flow) (id : ℕ) → id ≡ get_or (lives w.events) rank 0 →
@@ -391,7 +327,7 @@ gap_so_far F left rank w h some l e so = by (flow_at w id) refl
     id = get_or (lives w.events) rank 0
 
     by : (o : Option FlowState) → flow_at w id ≡ o → SoFar (left - 1) rank (gapped F w id)
-    by None a = absurd (true≢false (sym e ∙ ap (is_holding w.held) a))
+    by None a = search (arith, true≢false)
     by (Some s) a =
         let holds : is_some (first s.id s.next w.held) ≡ true =
         sym (ap (is_holding w.held) a) ∙ e in
@@ -419,17 +355,7 @@ all_so_far left rank w h told over so = empty_by w.held (λ id. by id (flow_at w
   where
     by : (id : ℕ) (o : Option FlowState) → flow_at w id ≡ o → count_of id w.held ≡ 0
     by id None a = h.vacant id a
-    by id (Some s) a =
-        elim (cases_Bool (is_some (first s.id s.next w.held))) [
-          | inl e ↦
-              (let live : is_some (live_at w id) ≡ true =
-              ap (λ (o : Option FlowState). is_some (live_of o)) a ∙ holds_live w id s h a e in
-              let i = times_index id (lives w.events) (told id live) in
-              subst (λ (n : ℕ). count_of n w.held ≡ 0) i.1.1
-              (so.before i.0 (omega (arith, i.1.0, over))))
-          | inr e ↦ subst (λ (n : ℕ). count_of n w.held ≡ 0) (h.ids id s a)
-              (none_held s.id s.next w.held e)
-        ]
+    by id (Some s) a = search (arith, cases_Bool, is_some, holds_live, times_index, none_held)
 
 -- where no gap is left to come, nothing is held
 pub none_so_far : (left rank : ℕ) (w : State) → left ≤ 0 → SoFar left rank w → w.held ≡ []

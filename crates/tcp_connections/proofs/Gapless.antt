@@ -6,7 +6,6 @@ use Rattle.std.specs.Option.{option_map}
 use Rattle.std.proofs.lemmas.Bool.{cases_Bool, cond-true, cond-false}
 use Rattle.std.proofs.lemmas.List.{length-replicate}
 use Rattle.tcp_segment.specs.Segments.{Segment}
-use Rattle.tcp_waiting.specs.Numbers.{onward}
 use Rattle.tcp_waiting.specs.Payload.{Payload}
 use Rattle.tcp_waiting.specs.declared.arrival.Arrival as origin
 use Rattle.tcp_flow.specs.declared.flow.CloseCause.TheVariants.{Syn}
@@ -14,9 +13,8 @@ use Rattle.tcp_flow.specs.Flow.{CaptureEvent, Reader}
 use Rattle.tcp_flow.specs.Laws.{AllFollow, AllArePartsOf}
 use Rattle.tcp_streams.specs.declared.pair.EndpointPair.{EndpointPair}
 use Rattle.tcp_streams.specs.declared.pair.Side.{Side}
-use Rattle.tcp_streams.specs.Lives.{lives}
 use Rattle.tcp_streams.specs.Pairs.{compare_pairs, pair_of, opposite, flow_id, flow_from}
-use Rattle.tcp_connections.specs.Connections.{State, none_known, flow_at, began, syn_at, syn_kept, flow_of_side, place_of, room_at, ended_by, with_room, next_room, made_known, first_number, is_first, looked_through, is_kept, is_anew, fin_taken, unknown_taken, acknowledgement_heard, payload_taken, reset_taken, known_taken, step, after, with_packet, with_capture_event, gaps_from, ended}
+use Rattle.tcp_connections.specs.Connections.{State, none_known, flow_at, began, syn_at, syn_kept, flow_of_side, place_of, room_at, ended_by, with_room, next_room, made_known, first_number, is_first, looked_through, is_kept, is_anew, fin_taken, unknown_taken, acknowledgement_heard, payload_taken, reset_taken, known_taken, step, after, with_packet, with_capture_event, ended}
 use Rattle.tcp_connections.specs.declared.syns.KeptSyn.{KeptSyn}
 use Rattle.tcp_connections.specs.Gapless.{IsOfSegment, AreGapless, AreWhole, HaveRooms}
 use Rattle.tcp_connections.specs.Owned.{AreOwned}
@@ -76,34 +74,12 @@ unknown_at segments F w s among new h =
 seen_at : (segments : List Segment) (w : State) (lasts : List ℕ) (syns : List (Option KeptSyn))
     (count : ℕ) (arrival : origin.Arrival) → length lasts ≡ length w.lasts → At segments w →
     At segments (record w { lasts = lasts; syns = syns; segments = count; arrival = arrival })
-seen_at segments w lasts syns count arrival e h =
-    record {
-      sound = sound_seen w lasts syns count w.events arrival e h.sound;
-      payloads = h.payloads;
-      came = h.came;
-      follow = record {
-        own = h.follow.own;
-        held = h.follow.held;
-        events = h.follow.events;
-        tails = h.follow.tails;
-        few = h.follow.few;
-      };
-      owns = record {
-        come = h.owns.come;
-        flows = h.owns.flows;
-        held = h.owns.held;
-        known = h.owns.known;
-        beyond = λ id many. h.owns.beyond id (omega (arith, many, e));
-      };
-    }
+seen_at segments w lasts syns count arrival e h = search (arith, sound_seen)
 
 syn_kept_at : (segments : List Segment) (w : State) (room id : ℕ) (s : Segment) → At segments w →
     At segments (syn_kept w room id s)
 unfolding syn_kept
-syn_kept_at segments w room id s h = seen_at segments w (set w.lasts room w.segments)
-    (set w.syns room (Some (record { flow = id; number = onward s.sequence 1 }))) w.segments
-    w.arrival
-    (length-set w.lasts room w.segments) h
+syn_kept_at segments w room id s h = search (arith, seen_at, set, length-set)
 
 known_at : (segments : List Segment) (F : Reader) (w : State) (place : ℕ) (s : Segment) →
     IsIn segments s → place_of (pair_of s.flow).0 w.known ≡ Some place → place < length w.known →
@@ -148,7 +124,7 @@ known_at segments F w place s among is l h =
 pub place_within : (p : EndpointPair) (ps : List EndpointPair) (i : ℕ) → place_of p ps ≡ Some i →
     i < length ps
 unfolding place_of
-place_within p [] i e = absurd (true≢false (sym (ap is_some e)))
+place_within p [] i e = search (arith, true≢false, is_some)
 place_within p (q ∷ qs) i e =
     elim (cases_Bool (is_eq (compare_pairs q p))) [
       | inl b ↦
@@ -163,8 +139,8 @@ place_within p (q ∷ qs) i e =
   where
     further : (o : Option ℕ) (n i : ℕ) → ((k : ℕ) → o ≡ Some k → k < n) →
         option_map suc o ≡ Some i → i < suc n
-    further None n i h d = absurd (true≢false (sym (ap is_some d)))
-    further (Some k) n i h d = omega (arith, h k refl, some_same (suc k) i d)
+    further None n i h d = search (arith, true≢false, is_some)
+    further (Some k) n i h d = search (arith, some_same)
 
 step_at_in : (segments : List Segment) (F : Reader) (w : State) (s : Segment) → IsIn segments s →
     At segments w → At segments (step F w s)
@@ -174,11 +150,10 @@ step_at_in segments F w s among h = by (place_of (pair_of s.flow).0 w.known) ref
     v = record w { segments = w.segments + 1 }
 
     counted : At segments v
-    counted = seen_at segments w w.lasts w.syns (w.segments + 1) w.arrival refl h
+    counted = search (arith, seen_at)
 
     by : (o : Option ℕ) → place_of (pair_of s.flow).0 w.known ≡ o → At segments (step F w s)
-    by None e = subst (At segments) (sym (step_unknown F w s e))
-        (unknown_at segments F v s among e counted)
+    by None e = search (arith, step_unknown, unknown_at, counted)
     by (Some place) e =
         let side : Side = (pair_of s.flow).1 in
         let within : place < length w.known = place_within (pair_of s.flow).0 w.known place e in
@@ -207,18 +182,7 @@ slice_last (x ∷ xs) y = slice_last xs y
 all_of_more : (segments : List Segment) (s : Segment) (ps : List Payload) →
     AllByRecursion (IsOfSegment segments) ps → AllByRecursion (IsOfSegment (segments ++ s ∷ [])) ps
 all_of_more segments s [] h = tt
-all_of_more segments s (p ∷ ps) h =
-    let one = h.0 in (
-      record {
-        index = one.index;
-        segment = one.segment;
-        among =
-            slice_more segments s one.index one.segment one.among;
-        number_is = one.number_is;
-        octets_are = one.octets_are;
-      },
-      all_of_more segments s ps h.1,
-    )
+all_of_more segments s (p ∷ ps) h = search (arith, slice_more, all_of_more segments s ps h.1)
 
 -- one segment more
 pub step_at : (segments : List Segment) (F : Reader) (w : State) (s : Segment) → At segments w →
@@ -238,7 +202,7 @@ step_at segments F w s h =
 pub after_at : (before segments : List Segment) (F : Reader) (w : State) → At before w →
     At (before ++ segments) (after F w segments)
 unfolding after
-after_at before [] F w h = subst (λ (ss : List Segment). At ss w) (sym (append-nil before)) h
+after_at before [] F w h = search (arith, append-nil)
 after_at before (s ∷ ss) F w h =
     subst (λ (all : List Segment). At all (after F (step F w s) ss))
     (append_assoc before (s ∷ []) ss) (after_at (before ++ s ∷ []) ss F (step F w s)
@@ -247,8 +211,7 @@ after_at before (s ∷ ss) F w h =
 -- one packet more is read
 pub packet_at : (segments : List Segment) (w : State) (time : Option ℕ) → At segments w →
     At segments (with_packet w time)
-packet_at segments w time h =
-    seen_at segments w w.lasts w.syns w.segments (with_packet w time).arrival refl h
+packet_at segments w time h = search (arith, seen_at)
 
 -- the listener is told of the capture
 pub told_at : (segments : List Segment) (w : State) (event : CaptureEvent) → At segments w →
@@ -291,15 +254,12 @@ gapless_by segments payloads w came h = record {
 
 pub gapless_of : (segments : List Segment) (w : State) → At segments w →
     AreGapless segments w.events
-gapless_of segments w h = gapless_by segments h.payloads w h.came h.follow
+gapless_of segments w h = search (arith, gapless_by)
 
 pub ended_whole : (segments : List Segment) (F : Reader) (w : State) → At segments w →
     AreWhole segments (ended F w).events
 unfolding ended
-ended_whole segments F w h =
-    let v : State = gaps_from F (length w.held + length (lives w.events)) 0 w in
-    let gaps = gaps_follow h.payloads F (length w.held + length (lives w.events)) 0 w h.follow in
-    record { payloads = h.payloads; came = h.came; follow = all_closed_follow h.payloads v gaps }
+ended_whole segments F w h = search (arith, gaps_follow, all_closed_follow)
 
 pub ended_gapless : (segments : List Segment) (F : Reader) (w : State) → At segments w →
     AreGapless segments (ended F w).events

@@ -1,19 +1,18 @@
 -- By what a connection is forgotten.
-use Rattle.std.proofs.Common.{◌≡◌, ℕ, zero, suc, ◌+◌, ◌<◌, ◌≤◌, Bool, true, false, cond, ◌&&◌, List, [], ◌∷◌, ◌++◌, length, set, get_or, Option, Some, None, is_some, is_eq, unwrap_or, ◌||◌, ◌⊎◌, refl, sym, ◌∙◌, ap, arith, inl, inr, true≢false}
+use Rattle.std.proofs.Common.{◌≡◌, ℕ, zero, suc, ◌+◌, ◌<◌, ◌≤◌, Bool, true, false, cond, List, [], ◌∷◌, ◌++◌, length, set, get_or, Option, Some, None, is_some, is_eq, unwrap_or, refl, sym, ◌∙◌, ap, arith, inl, inr, true≢false}
 use Rattle.std.specs.List.{insert, remove}
 use Rattle.std.specs.Option.{option_map}
 use Rattle.std.proofs.lemmas.Bool.{cases_Bool, cases_lt, cond-true, cond-false}
 use Rattle.std.proofs.lemmas.List.Edits.{length-remove}
 use Rattle.tcp_segment.specs.Segments.{Segment}
-use Rattle.tcp_flow.specs.declared.flow.CloseCause.TheVariants.{Reset, Syn, Room}
+use Rattle.tcp_flow.specs.declared.flow.CloseCause.TheVariants.{Syn, Room}
 use Rattle.tcp_flow.specs.declared.flow.FlowState.{FlowState}
 use Rattle.tcp_flow.specs.Flow.{Reader, is_near}
 use Rattle.tcp_streams.specs.declared.pair.EndpointPair.{EndpointPair}
 use Rattle.tcp_streams.specs.declared.pair.Side.{Side}
 use Rattle.tcp_streams.specs.Lives.{lives, elder_side}
-use Rattle.tcp_streams.specs.Pairs.{compare_pairs, pair_of, opposite, flow_id}
-use Rattle.tcp_connections.specs.declared.syns.KeptSyn.{KeptSyn}
-use Rattle.tcp_connections.specs.Connections.{State, none_known, place_of, place_among, room_at, shown_by_age, ended_by, with_room, next_room, made_known, began, first_number, is_first, is_kept, is_anew, is_reset, is_near_due, is_answer, is_following, flow_of_side, syn_at, syn_kept, before_reset, fin_taken, payload_taken, reset_taken, acknowledgement_heard, unknown_taken, known_taken, step, after}
+use Rattle.tcp_streams.specs.Pairs.{compare_pairs, pair_of, flow_id}
+use Rattle.tcp_connections.specs.Connections.{State, none_known, place_of, place_among, room_at, shown_by_age, ended_by, with_room, next_room, made_known, began, first_number, is_first, is_kept, is_anew, is_reset, is_near_due, flow_of_side, syn_at, syn_kept, before_reset, fin_taken, unknown_taken, known_taken, step, after}
 use Rattle.tcp_connections.specs.Forgetting.{MakesRoom, MakesWay, BeginsAnew, IsForgottenBy}
 use Rattle.tcp_connections.specs.State.{IsSound}
 use Rattle.tcp_connections.proofs.Cases.{no_reset, a_reset, unknown_nothing, unknown_first, room_there, step_unknown, step_kept, step_anew, step_known}
@@ -33,13 +32,16 @@ at_place : (p : EndpointPair) (ps : List EndpointPair) (i : ℕ) → i < length 
     is_some (place_of p ps) ≡ true → place_of p (remove ps i) ≡ None → get_or ps i p ≡ p
 unfolding place_of
 at_place p [] i l k e = absurd (omega (arith, l))
-at_place p (q ∷ qs) zero l k e =
-    elim (cases_Bool (is_eq (compare_pairs q p))) [
-      | inl b ↦ same_pair_of q p (equal_of (compare_pairs q p) b)
-      | inr b ↦ absurd (true≢false (sym k
-          ∙ ap is_some (cond-false (is_eq (compare_pairs q p)) (Some 0)
-          (option_map suc (place_of p qs)) b ∙ ap (option_map suc) e)))
-    ]
+at_place p (q ∷ qs) zero l k e = search (
+  arith,
+  cases_Bool,
+  is_eq,
+  same_pair_of,
+  equal_of,
+  true≢false,
+  is_some,
+  cond-false,
+)
 at_place p (q ∷ qs) (suc i) l k e =
     elim (cases_Bool (is_eq (compare_pairs q p))) [
       | inl b ↦ absurd (true≢false (ap is_some (sym (cond-true (is_eq (compare_pairs q p)) (Some 0)
@@ -138,7 +140,7 @@ unknown_gone F w s p some new k e =
 at_own : (q d : EndpointPair) (ps : List EndpointPair) (i : ℕ) → place_of q ps ≡ Some i →
     get_or ps i d ≡ q
 unfolding place_of
-at_own q d [] i e = absurd (true≢false (sym (ap is_some e)))
+at_own q d [] i e = search (arith, true≢false, is_some)
 at_own q d (x ∷ xs) i e =
     elim (cases_Bool (is_eq (compare_pairs x q))) [
       | inl b ↦
@@ -152,13 +154,12 @@ at_own q d (x ∷ xs) i e =
     ]
   where
     some_number : (m n : ℕ) → Some m ≡ Some n → m ≡ n
-    some_number m n r = ap (λ (s : Option ℕ). unwrap_or s m) r
+    some_number m n r = search (arith, unwrap_or)
 
     further : (o : Option ℕ) (i : ℕ) → ((k : ℕ) → o ≡ Some k → get_or xs k d ≡ q) →
         option_map suc o ≡ Some i → get_or (x ∷ xs) i d ≡ q
-    further None i f r = absurd (true≢false (sym (ap is_some r)))
-    further (Some k) i f r = ap (λ (n : ℕ). get_or (x ∷ xs) n d) (sym (some_number (suc k) i r))
-        ∙ f k refl
+    further None i f r = search (arith, true≢false, is_some)
+    further (Some k) i f r = search (arith, get_or, some_number)
 
 -- the connection of the segment goes
 own_gone : (q p : EndpointPair) (ps : List EndpointPair) (place : ℕ) → place < length ps →
@@ -171,17 +172,8 @@ own_gone q p ps place l found k e =
 reset_of : (o : Option FlowState) (s : Segment) → is_reset o s ≡ true →
     (f : FlowState) × ((o ≡ Some f) × ((s.reset ≡ true) × (is_near f.next s.sequence ≡ true)))
 unfolding is_near_due
-reset_of None s a = absurd (true≢false (sym a ∙ and_false s.reset))
-  where
-    and_false : (b : Bool) → b && false ≡ false
-    and_false true = refl
-    and_false false = refl
-reset_of (Some f) s a =
-    let both = and_true s.reset (is_near f.next s.sequence) a in (f, (refl, both))
-  where
-    and_true : (b c : Bool) → b && c ≡ true → (b ≡ true) × (c ≡ true)
-    and_true true c e = (refl, e)
-    and_true false c e = absurd (true≢false (sym e))
+reset_of None s a = search (arith, true≢false)
+reset_of (Some f) s a = search (arith, both, true≢false)
 
 -- of a connection that is known
 known_gone : (F : Reader) (w : State) (place : ℕ) (s : Segment) (p : EndpointPair) →
@@ -190,53 +182,27 @@ known_gone : (F : Reader) (w : State) (place : ℕ) (s : Segment) (p : EndpointP
     → ((pair_of s.flow).0 ≡ p)
     × (is_reset (flow_of_side (before_reset F w place s) place (pair_of s.flow).1) s ≡ true)
 unfolding known_taken
-known_gone F w place s p l found k e =
-    let side : Side = (pair_of s.flow).1 in
-    let room : ℕ = room_at w place in
-    let id : ℕ = flow_id room side in
-    let seen : State = record w { lasts = set w.lasts room w.segments } in
-    let told : State = acknowledgement_heard F seen (flow_id room (opposite side)) s in
-    let paid : State = payload_taken F told id s in
-    let ended : State = fin_taken F paid id s in
-    let known : ended.known ≡ w.known =
-    (fin_kept F paid id s).known ∙ (payload_kept F told id s).known
-    ∙ (acknowledgement_kept F seen (flow_id room (opposite side)) s).known in
-    let e : place_of p (reset_taken F ended place side s).known ≡ None =
-    sym (ap (place_of p) (heard_kept F (reset_taken F ended place side s) id None false).known)
-    ∙ e in
-    elim (cases_Bool (is_reset (flow_of_side ended place side) s)) [
-      | inr r ↦ absurd (both (place_of p w.known) k (sym (ap (place_of p) known)
-          ∙ sym (ap (λ (u : State). place_of p u.known) (no_reset F ended place side s r)) ∙ e))
-      | inl r ↦
-          (let gone : place_of p (remove w.known place) ≡ None =
-          ap (λ (ps : List EndpointPair). place_of p (remove ps place)) (sym known)
-          ∙ sym (ap (place_of p) (shown_known F ended place (room_at ended place) side side Reset))
-          ∙ sym (ap (λ (u : State). place_of p u.known) (a_reset F ended place side s r)) ∙ e in
-          (own_gone (pair_of s.flow).0 p w.known place l found k gone, r))
-    ]
+known_gone F w place s p l found k e = search (
+  arith,
+  set,
+  fin_kept,
+  payload_kept,
+  acknowledgement_kept,
+  heard_kept,
+  cases_Bool,
+  both,
+  no_reset,
+  shown_known,
+  a_reset,
+  own_gone,
+)
 
 -- what a segment that begins its connection anew says of the SYN that is kept
 anew_of : (w : State) (s : Segment) (place : ℕ) →
     is_anew (syn_at w (room_at w place)) (flow_id (room_at w place) (pair_of s.flow).1) s ≡ true →
     BeginsAnew w s place
 unfolding is_anew
-anew_of w s place a = by (syn_at w (room_at w place)) refl
-  where
-    id : ℕ
-    id = flow_id (room_at w place) (pair_of s.flow).1
-
-    or_true : (b c : Bool) → b || c ≡ true → (b ≡ true) ⊎ (c ≡ true)
-    or_true true c e = inl refl
-    or_true false c e = inr e
-
-    by : (o : Option KeptSyn) → syn_at w (room_at w place) ≡ o → BeginsAnew w s place
-    by None e = absurd (true≢false (sym a ∙ ap (λ (o : Option KeptSyn). is_anew o id s) e))
-    by (Some k) e = record {
-      syn = k;
-      kept = e;
-      is = or_true (is_answer k id s) (is_following k id s)
-          (sym (ap (λ (o : Option KeptSyn). is_anew o id s) e) ∙ a);
-    }
+anew_of w s place a = search (arith, true≢false)
 
 -- of one that begins anew
 anew_gone : (F : Reader) (w : State) (place : ℕ) (side : Side) (s : Segment) (p : EndpointPair) →
@@ -244,27 +210,18 @@ anew_gone : (F : Reader) (w : State) (place : ℕ) (side : Side) (s : Segment) (
     → is_some (place_of p w.known) ≡ true
     → place_of p (unknown_taken F (ended_by F w place side Syn) s).known ≡ None →
     (pair_of s.flow).0 ≡ p
-anew_gone F w place side s p h l found k e =
-    let f : State = ended_by F w place side Syn in
-    let room : ℕ = room_at w place in
-    let known : f.known ≡ remove w.known place = shown_known F w place room side side Syn in
-    let less : length f.known + 1 ≡ length w.known =
-    omega (arith, ap {B = ℕ} length known, length-remove w.known place l) in
-    let lasts : length f.lasts ≡ length w.lasts =
-    ap length (shown_lasts F w place room side side Syn) in
-    elim (cases_Bool (is_some (place_of p f.known))) [
-      | inr gone ↦ own_gone (pair_of s.flow).0 p w.known place l found k
-          (ap (place_of p) (sym known) ∙ none_of (place_of p f.known) gone)
-      | inl there ↦
-          (let way : MakesWay f s p = unknown_gone F f s p (omega (arith, lasts, h.some))
-          (ap (place_of (pair_of s.flow).0) known
-          ∙ forgotten_unknown (pair_of s.flow).0 w.known place h.order found) there e in
-          absurd (omega (arith, way.full, less, lasts, h.all)))
-    ]
-  where
-    none_of : (o : Option ℕ) → is_some o ≡ false → o ≡ None
-    none_of None d = refl
-    none_of (Some n) d = absurd (true≢false d)
+anew_gone F w place side s p h l found k e = search (
+  arith,
+  shown_known,
+  length-remove,
+  shown_lasts,
+  cases_Bool,
+  is_some,
+  own_gone,
+  unknown_gone,
+  forgotten_unknown,
+  true≢false,
+)
 
 kept_known : (p : EndpointPair) (u : State) (room id : ℕ) (s : Segment) →
     place_of p (syn_kept u room id s).known ≡ None → place_of p u.known ≡ None
@@ -280,27 +237,13 @@ step_gone F w s p h k e = by (place_of (pair_of s.flow).0 w.known) refl
     v = record w { segments = w.segments + 1 }
 
     sound : IsSound v
-    sound = sound_seen w w.lasts w.syns (w.segments + 1) w.events w.arrival refl h
+    sound = search (arith, sound_seen)
 
     after_step : (u : State) → step F w s ≡ u → place_of p u.known ≡ None
-    after_step u d = sym (ap (λ (x : State). place_of p x.known) d) ∙ e
+    after_step u d = search (arith)
 
     by : (o : Option ℕ) → place_of (pair_of s.flow).0 w.known ≡ o → IsForgottenBy F w s p
-    by None d =
-        let way : MakesWay v s p = unknown_gone F v s p h.some d k
-        (after_step (unknown_taken F v s) (step_unknown F w s d)) in
-        inr (record {
-          begins = way.begins;
-          new = way.new;
-          full = way.full;
-          place = way.place;
-          eldest = record {
-            within = way.eldest.within;
-            idle = way.eldest.idle;
-            oldest = way.eldest.oldest;
-          };
-          is = way.is;
-        })
+    by None d = search (arith, unknown_gone, after_step, step_unknown)
     by (Some place) d =
         let side : Side = (pair_of s.flow).1 in
         let within : place < length w.known = place_within (pair_of s.flow).0 w.known place d in

@@ -7,18 +7,17 @@ use Rattle.tcp_segment.specs.declared.endpoint.Flow.{Flow as Endpoints}
 use Rattle.tcp_segment.specs.Segments.{Segment}
 use Rattle.tcp_flow.specs.declared.flow.CloseCause.{CloseCause}
 use Rattle.tcp_flow.specs.declared.tail.Tail.{Tail}
-use Rattle.tcp_flow.specs.declared.flow.CloseCause.TheVariants.{Fault, Gap}
+use Rattle.tcp_flow.specs.declared.flow.CloseCause.TheVariants.{Gap}
 use Rattle.tcp_waiting.specs.Numbers.{onward, age, is_to_come}
 use Rattle.tcp_waiting.specs.declared.arrival.Arrival as origin
-use Rattle.tcp_waiting.specs.Payload.{without_first, Payload, payload, no_payload, window, has_as_much, put, place_of, key_of}
+use Rattle.tcp_waiting.specs.Payload.{Payload, payload, no_payload, has_as_much, put, place_of, key_of}
 use Rattle.tcp_waiting.proofs.Held.{all_at, all_insert, all_remove}
 use Rattle.tcp_waiting.proofs.Order.{first_within, first_own}
-use Rattle.tcp_flow.specs.Flow.{Flow, Event, Begins, Delivers, Closes, OfCapture, ComesFrom, Reader, Setting, lives, out_of_step, resumed, awaiting, Arrival, Octets, End, Hears, left, with_event, delivered, looked_through, tail_before, told_from, taken, first_of, is_due, at, closed, holding, gone_on, within_bounds, payload_came, fin_came, gap, step, CaptureEvent, Passes, stopped, checked, number_after, handed, start_at, started}
+use Rattle.tcp_flow.specs.Flow.{Flow, Event, Begins, Delivers, Closes, OfCapture, Reader, Setting, lives, out_of_step, resumed, awaiting, Arrival, Octets, End, Hears, left, with_event, delivered, looked_through, tail_before, told_from, taken, first_of, is_due, at, closed, holding, gone_on, within_bounds, payload_came, fin_came, gap, step, CaptureEvent, stopped, checked, handed, start_at, started}
 use Rattle.tcp_flow.proofs.Preserving.{Keeps, gone_on_keeps, relieved_keeps, heard_keeps, gap_keeps}
 use Rattle.tcp_flow.specs.Laws.{IsTailOf}
 use Rattle.tcp_flow.proofs.Tails.{Looks, looked_keeps, in_vain}
 use Rattle.tcp_flow.proofs.Truth.{reached, closed_idle, resumed_lives, resumed_next}
-use Rattle.tcp_connections.specs.Connections.{first_number}
 use Rattle.tcp_connections.specs.Owned.{IsPartOf, Standing, Unopened, Idle, Live, is_of, behind, MayCome, standing, AllMayCome}
 
 -- ---- One more event.
@@ -48,39 +47,24 @@ pub record Stands (segments : List Segment) (id : ℕ) (es : List Event) (s : St
 pub own_more : (segments : List Segment) (id : ℕ) (es : List Event) (s : Standing) (e : Event) →
     is_of id e ≡ true → MayCome segments s e → Stands segments id es s →
     Stands segments id (es ++ e ∷ []) (behind s e)
-own_more segments id es s e own may t = record {
-  come = come_more segments id Unopened es e t.come
-      (λ o. subst (λ (x : Standing). MayCome segments x e) (sym t.is) may);
-  is = standing_more id Unopened es e
-      ∙ cond-true (is_of id e) (behind (standing id Unopened es) e) (standing id Unopened es) own
-      ∙ ap (λ (x : Standing). behind x e) t.is;
-}
+own_more segments id es s e own may t = search (arith, come_more, standing_more, cond-true)
 
 -- one of another
 pub other_more : (segments : List Segment) (id : ℕ) (es : List Event) (s : Standing) (e : Event) →
     is_of id e ≡ false → Stands segments id es s → Stands segments id (es ++ e ∷ []) s
-other_more segments id es s e other t = record {
-  come = come_more segments id Unopened es e t.come
-      (λ o. absurd (true≢false (sym o ∙ other)));
-  is = standing_more id Unopened es e
-      ∙ cond-false (is_of id e) (behind (standing id Unopened es) e) (standing id Unopened es) other
-      ∙ t.is;
-}
+other_more segments id es s e other t = search (
+  arith,
+  come_more,
+  true≢false,
+  standing_more,
+  cond-false,
+)
 
 -- ---- A payload.
 
 part_more : (segments : List Segment) (o : Endpoints) (n a : ℕ) (xs : List ℕ) →
     IsPartOf segments o n xs → IsPartOf segments o (onward n a) (drop a xs)
-part_more segments o n a xs h =
-    record {
-      index = h.index;
-      segment = h.segment;
-      among = h.among;
-      flow_is = h.flow_is;
-      skipped = h.skipped + a;
-      number_is = rw h.number_is (omega arith);
-      octets_are = rw h.octets_are (drop-drop a h.skipped h.segment.payload);
-    }
+part_more segments o n a xs h = search (arith, drop-drop)
 
 pub either : {X : Type 0} (P : X → Type 0) (b : Bool) (x y : X) → P x → P y → P (cond b x y)
 either P true x y p q = p
@@ -90,33 +74,29 @@ part_left : (segments : List Segment) (o : Endpoints) (next : ℕ) (live : Bool)
     IsPartOf segments o p.number p.octets →
     IsPartOf segments o (left next live p).number (left next live p).octets
 unfolding left
-part_left segments o next live p h =
-    either (λ (q : Payload). IsPartOf segments o q.number q.octets)
-    (nat_lt window (age next p.number) && not live) p
-    (without_first (age next p.number) p) h
-    (part_more segments o p.number (age next p.number) p.octets h)
+part_left segments o next live p h = search (arith, either, nat_lt, not, part_more)
 
 flow_left : (next : ℕ) (live : Bool) (p : Payload) → (left next live p).flow ≡ p.flow
 unfolding left
-flow_left next live p = either (λ (q : Payload). q.flow ≡ p.flow)
-    (nat_lt window (age next p.number) && not live) p
-    (without_first (age next p.number) p) refl
-    refl
+flow_left next live p = search (arith, either, nat_lt, not)
 
 due_left : (next : ℕ) (live : Bool) (p : Payload) → next < 2 ^ 32 → live ≡ true →
     is_to_come next p.number ≡ false → (left next live p).number ≡ next
 unfolding left
-due_left next live p small l h =
-    subst (λ (q : Payload). q.number ≡ next)
-    (sym (cond-false (nat_lt window (age next p.number) && not live) p
-    (without_first (age next p.number) p)
-    (and_right (nat_lt window (age next p.number)) (not live) (not_from_true live l))))
-    (reached next p.number small h)
+due_left next live p small l h = search (
+  arith,
+  cond-false,
+  nat_lt,
+  not,
+  and_right,
+  not_from_true,
+  reached,
+)
 
 -- ---- A flow.
 
 some_endpoints : (x y : Endpoints) → Some x ≡ Some y → x ≡ y
-some_endpoints x y e = ap (λ (s : Option Endpoints). unwrap_or s x) e
+some_endpoints x y e = search (arith, unwrap_or)
 
 -- the payloads that are held, of whichever flows, are parts of segments of their flows
 abbrev pub IsPartOfOwn : List Segment → (ℕ → Option Endpoints) → Payload → Type 0
@@ -132,9 +112,7 @@ HasOwnTail segments o tail = (t : Tail) → tail ≡ Some t → IsTailOf (IsPart
 
 part_small : (segments : List Segment) (o : Endpoints) (n : ℕ) (xs : List ℕ) →
     IsPartOf segments o n xs → n < 2 ^ 32
-part_small segments o n xs h =
-    let small : onward (first_number h.segment) h.skipped < 2 ^ 32 = omega arith in
-    subst (λ (m : ℕ). m < 2 ^ 32) (sym h.number_is) small
+part_small segments o n xs h = search (arith)
 
 -- a flow between these endpoints
 pub record IsOwn (segments : List Segment) (owners : ℕ → Option Endpoints) (id : ℕ)
@@ -154,8 +132,7 @@ module _ (segments : List Segment) (owners : ℕ → Option Endpoints) (id : ℕ
     (own : owners id ≡ Some o) where
   live_stands : (g : Flow) → lives g.live g.waits ≡ true → IsOwn segments owners id o g →
       Stands segments id g.events (Live o g.next)
-  live_stands g live t = subst (Stands segments id g.events)
-      (cond-true (lives g.live g.waits) (Live o g.next) (Idle o) live) t.stands
+  live_stands g live t = search (arith, cond-true)
 
   closing_own : (g : Flow) (n : ℕ) (cause : CloseCause) → lives g.live g.waits ≡ true →
       IsOwn segments owners id o g → IsOwn segments owners id o (stopped g n cause)
@@ -173,44 +150,22 @@ module _ (segments : List Segment) (owners : ℕ → Option Endpoints) (id : ℕ
       IsOwn segments owners id o g → IsOwn segments owners id o (checked g r)
   unfolding checked
   checked_own g None live t = t
-  checked_own g (Some at) live t = closing_own g (number_after g at) Fault live t
+  checked_own g (Some at) live t = search (arith, closing_own)
 
   capture_own : (g : Flow) (e : CaptureEvent) → IsOwn segments owners id o g →
       IsOwn segments owners id o (with_event g (OfCapture e))
   unfolding with_event
-  capture_own g e t = record {
-    same = t.same;
-    next = t.next;
-    held = t.held;
-    tail = t.tail;
-    stands = other_more segments id g.events (stand_of o (lives g.live g.waits) g.next)
-        (OfCapture e) refl t.stands;
-  }
+  capture_own g e t = search (arith, other_more)
 
   -- a flow that isn't live is as well out of step
   idle_own : (g : Flow) → lives g.live g.waits ≡ false → IsOwn segments owners id o g →
       IsOwn segments owners id o (out_of_step g)
-  idle_own g dead t = record {
-    same = t.same;
-    next = t.next;
-    held = t.held;
-    tail = t.tail;
-    stands = subst (Stands segments id g.events)
-        (cond-false (lives g.live g.waits) (Live o g.next) (Idle o) dead) t.stands;
-  }
+  idle_own g dead t = search (arith, cond-false)
 
   pub closed_own : (g : Flow) (cause : CloseCause) → IsOwn segments owners id o g →
       IsOwn segments owners id o (closed g cause)
   unfolding closed
-  closed_own g cause t =
-      let c : Flow = stopped g g.next cause in
-      let idle : Flow = out_of_step g in
-      elim (cases_Bool (lives g.live g.waits)) [
-        | inl e ↦ subst (IsOwn segments owners id o)
-            (sym (cond-true (lives g.live g.waits) c idle e)) (closing_own g g.next cause e t)
-        | inr e ↦ subst (IsOwn segments owners id o)
-            (sym (cond-false (lives g.live g.waits) c idle e)) (idle_own g e t)
-      ]
+  closed_own g cause t = search (arith, cases_Bool, cond-true, closing_own, cond-false, idle_own)
 
   -- a flow that waits stands idle
   awaiting_own : (g : Flow) (count : ℕ) → IsOwn segments owners id o g →
@@ -255,9 +210,7 @@ module _ (segments : List Segment) (owners : ℕ → Option Endpoints) (id : ℕ
   delivered_live : (F : Reader) (g : Flow) (p : Payload) → IsOwn segments owners id o g →
       lives g.live g.waits ≡ true → p.number ≡ g.next → IsPartOf segments o p.number p.octets →
       IsOwn segments owners id o (delivered F g p)
-  delivered_live F g p t live due part =
-      delivered_own F g p g.next t.same t.held t.tail (live_stands g live t)
-      (subst (λ (n : ℕ). IsPartOf segments o n p.octets) due part) due live
+  delivered_live F g p t live due part = search (arith, delivered_own, live_stands)
 
   started_own : (g : Flow) (n : ℕ) → n < 2 ^ 32 → lives g.live g.waits ≡ false →
       IsOwn segments owners id o g → IsOwn segments owners id o (started g n)
@@ -277,13 +230,7 @@ module _ (segments : List Segment) (owners : ℕ → Option Endpoints) (id : ℕ
 
   passed_own : (g : Flow) (t : Option Tail) (xs : List ℕ) → HasOwnTail segments o t →
       IsOwn segments owners id o g → IsOwn segments owners id o (in_vain g t xs)
-  passed_own g t xs tail h = capture_own (record g { tail = t }) (Passes xs) (record {
-    same = h.same;
-    next = h.next;
-    held = h.held;
-    tail = tail;
-    stands = h.stands;
-  })
+  passed_own g t xs tail h = search (arith, capture_own)
 
   looks_own : (F : Reader) → Looks F (IsPartOf segments o) (IsOwn segments owners id o)
   looks_own F = record {
@@ -297,20 +244,22 @@ module _ (segments : List Segment) (owners : ℕ → Option Endpoints) (id : ℕ
   }
 
   resumed_own : (g : Flow) → IsOwn segments owners id o g → IsOwn segments owners id o (resumed g)
-  resumed_own g t =
-      elim (cases_Bool g.waits) [
-        | inl e ↦ subst (IsOwn segments owners id o)
-            (sym (cond-true g.waits (started g g.next) g e))
-            (started_own g g.next t.next
-            (and_right (is_some g.live) (not g.waits) (not_from_true g.waits e)) t)
-        | inr e ↦ subst (IsOwn segments owners id o)
-            (sym (cond-false g.waits (started g g.next) g e)) t
-      ]
+  resumed_own g t = search (
+    arith,
+    cases_Bool,
+    cond-true,
+    started_own,
+    and_right,
+    is_some,
+    not,
+    not_from_true,
+    cond-false,
+  )
 
   from_own : (g : Flow) (p : Payload) → IsOwn segments owners id o g →
       IsOwn segments owners id o (told_from g p)
   unfolding told_from
-  from_own g p t = capture_own g (ComesFrom p.arrival) t
+  from_own g p t = search (arith, capture_own)
 
   taken_own : (F : Reader) (f : Flow) (p : Payload) → IsOwn segments owners id o f →
       IsPartOf segments o p.number p.octets →

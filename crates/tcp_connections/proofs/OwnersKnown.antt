@@ -15,7 +15,7 @@ use Rattle.tcp_flow.proofs.Told.{closed_told}
 use Rattle.tcp_streams.specs.declared.pair.EndpointPair.{EndpointPair}
 use Rattle.tcp_streams.specs.declared.pair.Side.{Side}
 use Rattle.tcp_streams.specs.declared.pair.Side.TheVariants.{FromLesser, FromGreater}
-use Rattle.tcp_streams.specs.Pairs.{compare_pairs, compare_endpoints, pair_of, ordered, flow_id, flow_from}
+use Rattle.tcp_streams.specs.Pairs.{compare_pairs, pair_of, flow_id, flow_from}
 use Rattle.tcp_connections.specs.Connections.{State, flow_at, flow_forgotten, place_of, place_among, next_room, made_known, with_capture_event}
 use Rattle.tcp_connections.specs.Owned.{Standing, Unopened, Idle, Live, owner, MayCome, AllMayCome}
 use Rattle.tcp_connections.specs.State.{times}
@@ -38,8 +38,7 @@ all_others : (P : Payload → Type 0) (id : ℕ) (ps : List Payload) → AllByRe
     AllByRecursion P (held_by_others id ps)
 unfolding held_by_others
 all_others P id [] h = tt
-all_others P id (p ∷ ps) h = either (AllByRecursion P) (nat_eq p.flow id) (held_by_others id ps)
-    (p ∷ held_by_others id ps) (all_others P id ps h.1) (h.0, all_others P id ps h.1)
+all_others P id (p ∷ ps) h = search (arith, either, nat_eq, all_others P id ps h.1)
 
 pub forgot_owns : (segments : List Segment) (w : State) (id : ℕ) (cause : CloseCause) →
     AreNumbered w → Owns segments w → Owns segments (flow_forgotten w id cause)
@@ -102,11 +101,7 @@ pub theirs_without : (owners : ℕ → Option Endpoints) (ps : List EndpointPair
 theirs_without owners [] rs i h = none (remove rs i)
   where
     none : (xs : List ℕ) → AreTheirs owners (remove [] i) xs
-    none xs = by i
-      where
-        by : (k : ℕ) → AreTheirs owners (remove [] k) xs
-        by zero = tt
-        by (suc k) = tt
+    none xs = search (arith)
 theirs_without owners (p ∷ ps) [] zero h = none ps
   where
     none : (qs : List EndpointPair) → AreTheirs owners qs []
@@ -114,10 +109,10 @@ theirs_without owners (p ∷ ps) [] zero h = none ps
     none (q ∷ qs) = tt
 theirs_without owners (p ∷ ps) [] (suc i) h = tt
 theirs_without owners (p ∷ ps) (r ∷ rs) zero h = h.2
-theirs_without owners (p ∷ ps) (r ∷ rs) (suc i) h = (
-  h.0,
-  h.1,
-  theirs_without owners ps rs i h.2,
+theirs_without owners (p ∷ ps) (r ∷ rs) (suc i) h = search (
+  arith,
+  theirs_without owners ps rs i
+      h.2,
 )
 
 -- ---- The capture.
@@ -152,10 +147,13 @@ all_beside : (P Q : Payload → Type 0) (id : ℕ) (ps : List Payload) → count
     ((p : Payload) → (p.flow ≡ id → ⊥) → P p → Q p) → AllByRecursion P ps → AllByRecursion Q ps
 unfolding count_of
 all_beside P Q id [] none f h = tt
-all_beside P Q id (p ∷ ps) none f h = (
-  f p (λ o. let own : ◌≡◌ {A = ℕ} (cond (nat_eq p.flow id) 1 0) 1 = rw (eq-eqb p.flow id o) refl in
-      absurd (omega (arith, none, own))) h.0,
-  all_beside P Q id ps (omega (arith, none)) f h.1,
+all_beside P Q id (p ∷ ps) none f h = search (
+  arith,
+  cond,
+  nat_eq,
+  eq-eqb,
+  all_beside P Q id ps
+      (omega (arith, none)) f h.1,
 )
 
 -- what is so but for which connections are known
@@ -217,13 +215,13 @@ theirs_kept : (owners owners' : ℕ → Option Endpoints) (room : ℕ) (ps : Lis
 unfolding times
 theirs_kept owners owners' room [] rs none same h = tt
 theirs_kept owners owners' room (q ∷ ps) [] none same h = tt
-theirs_kept owners owners' room (q ∷ ps) (r ∷ rs) none same h =
-    let apart : r ≡ room → ⊥ = λ o. (let own : ◌≡◌ {A = ℕ} (cond (nat_eq r room) 1 0) 1 =
-    rw (eq-eqb r room o) refl in absurd (omega (arith, none, own))) in (
-      same (2 * r) (λ o. apart (omega (arith, o))) (λ o. absurd (omega (arith, o))) ∙ h.0,
-      same (2 * r + 1) (λ o. absurd (omega (arith, o))) (λ o. apart (omega (arith, o))) ∙ h.1,
-      theirs_kept owners owners' room ps rs (omega (arith, none)) same h.2,
-    )
+theirs_kept owners owners' room (q ∷ ps) (r ∷ rs) none same h = search (
+  arith,
+  cond,
+  nat_eq,
+  eq-eqb,
+  theirs_kept owners owners' room ps rs (omega (arith, none)) same h.2,
+)
 
 -- a room's flows are theirs from now on
 pub theirs_with : (owners owners' : ℕ → Option Endpoints) (p : EndpointPair) (room : ℕ)
@@ -238,16 +236,18 @@ theirs_with owners owners' p room [] [] zero none a b same l h = (a, b, tt)
 theirs_with owners owners' p room [] [] (suc i) none a b same l h = (a, b, tt)
 theirs_with owners owners' p room [] (r ∷ rs) i none a b same l h = absurd (omega (arith, l))
 theirs_with owners owners' p room (q ∷ ps) [] i none a b same l h = absurd (omega (arith, l))
-theirs_with owners owners' p room (q ∷ ps) (r ∷ rs) zero none a b same l h =
-    (a, b, theirs_kept owners owners' room (q ∷ ps) (r ∷ rs) none same h)
-theirs_with owners owners' p room (q ∷ ps) (r ∷ rs) (suc i) none a b same l h =
-    let apart : r ≡ room → ⊥ = λ o. (let own : ◌≡◌ {A = ℕ} (cond (nat_eq r room) 1 0) 1 =
-    rw (eq-eqb r room o) refl in absurd (omega (arith, none, own))) in (
-      same (2 * r) (λ o. apart (omega (arith, o))) (λ o. absurd (omega (arith, o))) ∙ h.0,
-      same (2 * r + 1) (λ o. absurd (omega (arith, o))) (λ o. apart (omega (arith, o))) ∙ h.1,
-      theirs_with owners owners' p room ps rs i (omega (arith, none)) a b same (omega (arith, l))
-          h.2,
-    )
+theirs_with owners owners' p room (q ∷ ps) (r ∷ rs) zero none a b same l h = search (
+  arith,
+  theirs_kept,
+)
+theirs_with owners owners' p room (q ∷ ps) (r ∷ rs) (suc i) none a b same l h = search (
+  arith,
+  cond,
+  nat_eq,
+  eq-eqb,
+  theirs_with owners owners' p room ps rs i (omega (arith, none)) a b same
+      (omega (arith, l)) h.2,
+)
 
 -- ---- Whose a segment is.
 
@@ -260,7 +260,7 @@ pub theirs_at : (owners : ℕ → Option Endpoints) (p : EndpointPair) (ps : Lis
     (rs : List ℕ) (i : ℕ) (side : Side) → length ps ≡ length rs → place_of p ps ≡ Some i →
     AreTheirs owners ps rs → owners (flow_id (get_or rs i 0) side) ≡ Some (flow_from p side)
 unfolding place_of
-theirs_at owners p [] rs i side l e h = absurd (true≢false (sym (ap is_some e)))
+theirs_at owners p [] rs i side l e h = search (arith, true≢false, is_some)
 theirs_at owners p (q ∷ ps) [] i side l e h = absurd (omega (arith, l))
 theirs_at owners p (q ∷ ps) (r ∷ rs) i side l e h =
     elim (cases_Bool (is_eq (compare_pairs q p))) [
@@ -278,7 +278,7 @@ theirs_at owners p (q ∷ ps) (r ∷ rs) i side l e h =
     ]
   where
     some_number : (x y : ℕ) → Some x ≡ Some y → x ≡ y
-    some_number x y e = ap (λ (s : Option ℕ). unwrap_or s x) e
+    some_number x y e = search (arith, unwrap_or)
 
     first : (d : Side) → owners (flow_id r d) ≡ Some (flow_from q d)
     first FromLesser = h.0
@@ -288,19 +288,12 @@ theirs_at owners p (q ∷ ps) (r ∷ rs) i side l e h =
         owners (flow_id (get_or rs k 0) side) ≡ Some (flow_from p side)) →
         option_map suc x ≡ Some i
         → owners (flow_id (get_or (r ∷ rs) i 0) side) ≡ Some (flow_from p side)
-    further None i f d = absurd (true≢false (sym (ap is_some d)))
-    further (Some k) i f d =
-        subst (λ (n : ℕ). owners (flow_id (get_or (r ∷ rs) n 0) side) ≡ Some (flow_from p side))
-        (some_number (suc k) i d) (f k refl)
+    further None i f d = search (arith, true≢false, is_some)
+    further (Some k) i f d = search (arith, get_or, some_number)
 
 -- a flow is that of its pair and side
 pub flow_of_pair : (flow : Endpoints) → flow_from (pair_of flow).0 (pair_of flow).1 ≡ flow
-flow_of_pair flow = by (compare_endpoints flow.from flow.to)
-  where
-    by : (r : Ordering) → flow_from (ordered r flow).0 (ordered r flow).1 ≡ flow
-    by Less = refl
-    by Equal = refl
-    by Greater = refl
+flow_of_pair flow = search (arith)
 
 -- ---- A connection becomes known.
 

@@ -1,6 +1,6 @@
 -- What is so of a state after segments is so after each part of what one more does: what comes
 -- for a flow, a connection is forgotten, one becomes known.
-use Rattle.std.proofs.Common.{◌≡◌, ℕ, zero, suc, ◌+◌, ◌*◌, ◌-◌, ◌<◌, ◌^◌, Bool, true, false, cond, nat_eq, List, [], ◌∷◌, ◌++◌, length, take, set, get_or, Option, Some, None, is_some, unwrap_or, refl, sym, ◌∙◌, ap, subst, arith, inl, inr, true≢false, length-set, get_or-set_same, get_or-set_other}
+use Rattle.std.proofs.Common.{◌≡◌, ℕ, zero, suc, ◌+◌, ◌*◌, ◌<◌, ◌^◌, Bool, true, false, cond, nat_eq, List, [], ◌∷◌, ◌++◌, length, take, set, get_or, Option, Some, None, is_some, unwrap_or, refl, sym, ◌∙◌, ap, subst, arith, inl, inr, true≢false, length-set, get_or-set_same, get_or-set_other}
 use Rattle.std.specs.Prelude.{slice_get}
 use Rattle.std.specs.List.{AllByRecursion}
 use Rattle.std.proofs.lemmas.Bool.{cases_eq, cases_lt, cond-false}
@@ -10,9 +10,9 @@ use Rattle.tcp_waiting.specs.declared.arrival.Arrival as origin
 use Rattle.tcp_waiting.specs.Payload.{Payload, payload}
 use Rattle.tcp_flow.specs.declared.hearing.Heard.{Heard}
 use Rattle.tcp_flow.specs.declared.flow.CloseCause.{CloseCause}
-use Rattle.tcp_flow.specs.declared.flow.CloseCause.TheVariants.{Reset, Room}
+use Rattle.tcp_flow.specs.declared.flow.CloseCause.TheVariants.{Room}
 use Rattle.tcp_flow.specs.declared.flow.FlowState.{FlowState}
-use Rattle.tcp_flow.specs.Flow.{Flow, Event, CaptureEvent, Opens, OfCapture, Passes, lives as has_stream, Reader, Setting, Arrival, Octets, End, Hears, setting, payload_came, closed, step as flow_step, held_by_others}
+use Rattle.tcp_flow.specs.Flow.{Flow, Event, CaptureEvent, Opens, OfCapture, lives as has_stream, Reader, Setting, Arrival, Octets, End, Hears, setting, payload_came, closed, step as flow_step, held_by_others}
 use Rattle.tcp_flow.specs.Laws.{AllFollow, OwnMayFollow, AllArePartsOf, IsGapless, due_of}
 use Rattle.tcp_flow.specs.State.{state}
 use Rattle.tcp_flow.proofs.Truth.{runs_more, closed_idle, came_true, fin_true, heard_true, true_keeps}
@@ -22,7 +22,7 @@ use Rattle.tcp_streams.specs.declared.pair.Side.{Side}
 use Rattle.tcp_streams.specs.declared.pair.Side.TheVariants.{FromLesser, FromGreater}
 use Rattle.tcp_streams.specs.Lives.{lives, elder_side}
 use Rattle.tcp_streams.specs.Pairs.{opposite, flow_id, flow_from}
-use Rattle.tcp_connections.specs.Connections.{State, flow_at, arrived, began, flow_forgotten, place_of, room_at, gapped, shown, forgotten, shown_by_age, ended_by, eldest, with_room, next_room, rest_of_rooms, made_known, first_number, number_behind, is_first, is_looked_through, looked_through, with_capture_event, fin_taken, heard, payload_taken, is_reset, flow_of_side, reset_taken}
+use Rattle.tcp_connections.specs.Connections.{State, flow_at, arrived, began, flow_forgotten, place_of, room_at, gapped, shown, forgotten, shown_by_age, eldest, with_room, next_room, rest_of_rooms, made_known, first_number, number_behind, looked_through, with_capture_event, fin_taken, heard, payload_taken, reset_taken}
 use Rattle.tcp_connections.specs.Gapless.{IsOfSegment}
 use Rattle.tcp_connections.specs.Owned.{IsPartOf}
 use Rattle.tcp_connections.specs.State.{IsSound, times}
@@ -61,29 +61,7 @@ own_part : (segments : List Segment) (w : State) (id : ℕ) (s : Segment) → Is
     Octets (first_number s) s.payload w.arrival ≡ Octets n octets arrival →
     IsPartOf segments o n octets
 unfolding IsIn
-own_part segments w id s among own o is n octets arrival e =
-    subst (λ (x : Endpoints). IsPartOf segments x n octets)
-    (ap (λ (x : Option Endpoints). unwrap_or x s.flow) (sym own ∙ is))
-    (subst (λ (k : ℕ). IsPartOf segments s.flow k octets) (ap number_of e)
-    (subst (IsPartOf segments s.flow (first_number s)) (ap octets_of e) (record {
-      index = among.0;
-      segment = s;
-      among = among.1;
-      flow_is = refl;
-      skipped = 0;
-      number_is = omega arith;
-      octets_are = refl;
-    })))
-  where
-    number_of : Arrival → ℕ
-    number_of (Octets k xs arrival) = k
-    number_of (End k) = k
-    number_of (Hears h) = 0
-
-    octets_of : Arrival → List ℕ
-    octets_of (Octets k xs arrival) = xs
-    octets_of (End k) = []
-    octets_of (Hears h) = []
+own_part segments w id s among own o is n octets arrival e = search (arith, unwrap_or)
 
 pub fin_at : (segments : List Segment) (F : Reader) (w : State) (id : ℕ) (s : Segment) →
     At segments w → At segments (fin_taken F w id s)
@@ -128,9 +106,7 @@ payload_came_of : (segments : List Segment) (payloads : List Payload) (id : ℕ)
     (arrival : origin.Arrival) → IsIn segments s → AllByRecursion (IsOfSegment segments) payloads
     → AllByRecursion (IsOfSegment segments) (with_payload payloads id s arrival)
 unfolding IsIn with_payload
-payload_came_of segments payloads id s arrival among came =
-    all_push (IsOfSegment segments) payloads (payload id (first_number s) s.payload arrival) came
-    (record { index = among.0; segment = s; among = among.1; number_is = refl; octets_are = refl })
+payload_came_of segments payloads id s arrival among came = search (arith, all_push)
 
 pub first_at : (segments : List Segment) (F : Reader) (w : State) (id : ℕ) (s : Segment) →
     IsIn segments s → owner_of w.events id ≡ Some s.flow → At segments w → flow_at w id ≡ None →
@@ -206,26 +182,20 @@ capture_at segments w event h =
 pub looked_at : (segments : List Segment) (w : State) (s : Segment) → At segments w →
     At segments (looked_through w s)
 unfolding looked_through
-looked_at segments w s h = either (At segments) (is_looked_through w.ports s)
-    (with_capture_event w (Passes s.payload)) w (capture_at segments w (Passes s.payload) h) h
+looked_at segments w s h = search (arith, either, capture_at)
 
 pub payload_at : (segments : List Segment) (F : Reader) (w : State) (id : ℕ) (s : Segment) →
     IsIn segments s → owner_of w.events id ≡ Some s.flow → At segments w → id < length w.flows →
     IsApart w id → At segments (payload_taken F w id s)
 unfolding payload_taken
-payload_at segments F w id s among own h within apart =
-    elim (flow_at w id) as (λ (o : Option FlowState). flow_at w id ≡ o → At segments (elim o [
-      | None ↦
-          cond (is_first w.ports s) (began F w id (first_number s) s.payload) (looked_through w s)
-      | Some f ↦ cond s.reset w (arrived F w id (Octets (first_number s) s.payload w.arrival))
-    ])) [
-      | None ↦ (λ e. either (At segments) (is_first w.ports s)
-          (began F w id (first_number s) s.payload) (looked_through w s)
-          (first_at segments F w id s among own h e within apart) (looked_at segments w s h))
-      | Some f ↦ (λ e. either (At segments) s.reset w
-          (arrived F w id (Octets (first_number s) s.payload w.arrival)) h
-          (later_at segments F w id s among own h))
-    ] refl
+payload_at segments F w id s among own h within apart = search (
+  arith,
+  cond,
+  either,
+  first_at,
+  looked_at,
+  later_at,
+)
 
 -- ---- A connection is forgotten.
 
@@ -233,10 +203,7 @@ all_others : (payloads : List Payload) (id : ℕ) (ps : List Payload) → AllAre
     AllArePartsOf payloads (held_by_others id ps)
 unfolding AllArePartsOf held_by_others
 all_others payloads id [] h = tt
-all_others payloads id (p ∷ ps) h =
-    either (AllArePartsOf payloads) (nat_eq p.flow id) (held_by_others id ps)
-    (p ∷ held_by_others id ps) (all_others payloads id ps h.1)
-    (h.0, all_others payloads id ps h.1)
+all_others payloads id (p ∷ ps) h = search (arith, either, nat_eq, all_others payloads id ps h.1)
 
 flow_forgotten_at : (segments : List Segment) (w : State) (id : ℕ) (cause : CloseCause) →
     At segments w → At segments (flow_forgotten w id cause)
@@ -302,8 +269,7 @@ flow_forgotten_at segments w id cause h =
   where
     gone : (w : State) (id j : ℕ) → id < length w.flows → j ≡ id →
         get_or (set w.flows id None) j None ≡ None
-    gone w id j l y = ap (λ (k : ℕ). get_or (set w.flows id None) k None) y
-        ∙ get_or-set_same w.flows id None None l
+    gone w id j l y = search (arith, get_or, set, get_or-set_same)
 
 pub id_within : (w : State) (room : ℕ) (side : Side) → IsSound w → room < length w.lasts →
     flow_id room side < length w.flows
@@ -366,9 +332,7 @@ pub reset_at : (segments : List Segment) (F : Reader) (w : State) (place : ℕ) 
     (s : Segment) → place < length w.known → At segments w →
     At segments (reset_taken F w place side s)
 unfolding reset_taken
-reset_at segments F w place side s l h =
-    either (At segments) (is_reset (flow_of_side w place side) s) (ended_by F w place side Reset) w
-    (shown_at segments F w place (room_at w place) side side Reset l h) h
+reset_at segments F w place side s l h = search (arith, either, shown_at)
 
 pub with_room_at : (segments : List Segment) (F : Reader) (w : State) → At segments w →
     At segments (with_room F w)
@@ -391,28 +355,25 @@ last_of [] n e = absurd (omega (arith, e))
 last_of (x ∷ []) zero e = refl
 last_of (x ∷ []) (suc n) e = absurd (omega (arith, e))
 last_of (x ∷ y ∷ ys) zero e = absurd (omega (arith, e))
-last_of (x ∷ y ∷ ys) (suc n) e = ap (λ (zs : List ℕ). x ∷ zs)
-    (last_of (y ∷ ys) n (omega (arith, e)))
+last_of (x ∷ y ∷ ys) (suc n) e = search (arith, last_of (y ∷ ys) n (omega (arith, e)))
 
 rooms_parted : (free : List ℕ) → 0 < length free → free ≡ rest_of_rooms free ++ next_room free ∷ []
 unfolding rest_of_rooms next_room
-rooms_parted free l = last_of free (length free - 1) (omega (arith, l))
+rooms_parted free l = search (arith, last_of)
 
 opens_more : (payloads : List Payload) (w : State) (es : List Event) (id other : ℕ)
     (endpoints : Endpoints) → flow_at w id ≡ None
     → AllFollow payloads other None es (due_in (flow_at w other)) →
     AllFollow payloads other None (es ++ Opens id endpoints ∷ []) (due_in (flow_at w other))
 unfolding OwnMayFollow
-opens_more payloads w es id other endpoints none t =
-    elim (cases_eq other id) [
-      | inl y ↦
-          (let e : due_in (flow_at w other) ≡ None = ap due_in (ap (flow_at w) y ∙ none) in
-          subst (AllFollow payloads other None (es ++ Opens id endpoints ∷ [])) (sym e)
-          (runs_more payloads other None None None es (Opens id endpoints)
-          (subst (AllFollow payloads other None es) e t) (inl (ap Some (sym y), tt))))
-      | inr n ↦ others_kept payloads id other (due_in (flow_at w other)) n es (Opens id endpoints)
-          (same_flow id id refl) t
-    ]
+opens_more payloads w es id other endpoints none t = search (
+  arith,
+  cases_eq,
+  due_in,
+  runs_more,
+  others_kept,
+  same_flow,
+)
 
 pub made_owner : (segments : List Segment) (w : State) (p : EndpointPair) →
     length w.known < length w.lasts → IsSound w → Owns segments w →

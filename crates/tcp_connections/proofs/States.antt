@@ -1,5 +1,5 @@
 -- The code has a state: what a step of one flow, and each other change, leaves.
-use Rattle.std.proofs.Common.{◌≡◌, ℕ, zero, suc, Bool, true, false, cond, ◌+◌, ◌*◌, ◌<◌, ◌≤◌, List, [], ◌∷◌, ◌++◌, length, set, get_or, Option, Some, None, is_some, refl, sym, ◌∙◌, ap, subst, arith, inl, inr, true≢false, get_or-set_same, get_or-set_other}
+use Rattle.std.proofs.Common.{◌≡◌, ℕ, zero, suc, true, cond, ◌+◌, ◌*◌, ◌<◌, ◌≤◌, List, [], ◌∷◌, ◌++◌, length, set, get_or, Option, Some, None, is_some, refl, sym, ◌∙◌, ap, subst, arith, true≢false, get_or-set_same, get_or-set_other}
 use Rattle.std.proofs.lemmas.Bool.{cases_eq}
 use Rattle.std.proofs.lemmas.List.{length-replicate}
 use Rattle.std.specs.List.{remove}
@@ -15,7 +15,7 @@ use Rattle.tcp_connections.specs.declared.connections.Connections.{Connections}
 use Rattle.tcp_streams.specs.declared.pair.Side.{Side}
 use Rattle.tcp_streams.specs.Lives.{lives, behind, most_ids}
 use Rattle.tcp_streams.proofs.Order.{lives_more}
-use Rattle.tcp_connections.specs.Connections.{State, none_known, flow_at, live_at, live_of, with_flow, with_packet, with_capture_event, room_at, flow_forgotten, forgotten, goes_before, eldest}
+use Rattle.tcp_connections.specs.Connections.{State, none_known, flow_at, live_at, live_of, with_flow, with_packet, with_capture_event, room_at, flow_forgotten, forgotten, eldest}
 use Rattle.tcp_connections.specs.State.{IsSound, IsState, IsAt, state_of, times}
 use Rattle.tcp_connections.proofs.Living.{IsTold, IsTurn, no_turn}
 use Rattle.tcp_connections.proofs.Forgotten.{both_forgotten, forgotten_sound}
@@ -26,35 +26,24 @@ use Rattle.tcp_connections.proofs.Sound.{IsApart, room_below, some_within, apart
 pub by_state : (P : State → Type 0) (O : List Event → Type 0) (live : List ℕ) (c : Connections)
     (w : State) → IsState O live c w
     → ((es : List Event) → IsState O live c (state_of c es) → P (state_of c es)) → P w
-by_state P O live c w h k =
-    subst P h.same (k w.events (record {
-      observed = h.observed;
-      live = h.live;
-      same = refl;
-      told = subst (λ (v : State). (id : ℕ) → is_some (live_at v id) ≡ true →
-          0 < times id (lives v.events)) (sym h.same) h.told;
-      sound = subst IsSound (sym h.same) h.sound;
-      free = h.free ∙ sym (ap (λ (v : State). length v.lasts) h.same);
-      room = h.room ∙ sym (ap (λ (v : State). length v.lasts) h.same);
-    }))
+by_state P O live c w h k = search (arith, is_some)
 
 pub moved_ok : {X : Type 0} (r : Result X ListenerFault) (O : List Event → Type 0) (live : List ℕ)
     (c : Connections) (v w : State) → v ≡ w → OnOk r (IsState O live c w) →
     OnOk r (IsState O live c v)
-moved_ok r O live c v w e h = subst (λ (u : State). OnOk r (IsState O live c u)) (sym e) h
+moved_ok r O live c v w e h = search (arith)
 
 -- how many segments came, by the state that the code has
 pub segments_of : {X : Type 0} (r : Result X ListenerFault) (O : List Event → Type 0)
     (live : List ℕ) (c : Connections) (w : State) (n : ℕ) → w.segments ≡ n →
     OnOk r (IsState O live c w) → OnOk r (c.segments ≡ n)
-segments_of (Ok x) O live c w n e h = ap (λ (u : State). u.segments) h.same ∙ e
+segments_of (Ok x) O live c w n e h = search (arith)
 segments_of (Err x) O live c w n e h = tt
 
 -- no event is part of what is so of a state
 pub sound_any : (c : Connections) (es fs : List Event) → IsSound (state_of c es) →
     IsSound (state_of c fs)
-sound_any c es fs h = sound_seen (state_of c es) (state_of c es).lasts (state_of c es).syns
-    (state_of c es).segments fs (state_of c es).arrival refl h
+sound_any c es fs h = search (arith, sound_seen)
 
 -- what is no flow's
 abbrev pub rest_of : Connections → List Event → State
@@ -84,18 +73,16 @@ pub makes_by : (O O' : List Event → Type 0) (live live' : List ℕ) (c c' : Co
     → ((es : List Event) → IsState O live c (state_of c es) →
     IsState O' live' c' (f (state_of c es))) → (w : State) → IsState O live c w →
     IsState O' live' c' (f w)
-makes_by O O' live live' c c' f k w h = by_state (λ (v : State). IsState O' live' c' (f v)) O live c
-    w h k
+makes_by O O' live live' c c' f k w h = search (arith, by_state)
 
 pub moved : (O : List Event → Type 0) (live : List ℕ) (c : Connections) (v w : State) → v ≡ w →
     IsState O live c w → IsState O live c v
-moved O live c v w e h = subst (IsState O live c) (sym e) h
+moved O live c v w e h = search (arith)
 
 pub beside_own : (id own : ℕ) (held held' : List Payload) → own ≡ id →
     held_by_others own held' ≡ held_by_others own held →
     held_by_others id held' ≡ held_by_others id held
-beside_own id own held held' e h = subst (λ (n : ℕ). held_by_others n held' ≡ held_by_others n held)
-    e h
+beside_own id own held held' e h = search (arith)
 
 -- the streams that live are told, where a flow is another, and so is what has happened
 pub told_flow : (w : State) (id : ℕ) (o : Option FlowState) (events : List Event) →
@@ -104,23 +91,15 @@ pub told_flow : (w : State) (id : ℕ) (o : Option FlowState) (events : List Eve
     ((j : ℕ) → (j ≡ id → ⊥) → times j (lives events) ≡ times j (lives w.events))
     → (j : ℕ) → IsTold (is_some (live_of (get_or (set w.flows id o) j None)))
     (times j (lives events))
-told_flow w id o events told l own beside j =
-    elim (cases_eq j id) [
-      | inl y ↦
-          (let at : get_or (set w.flows id o) j None ≡ o =
-          ap (λ (k : ℕ). get_or (set w.flows id o) k None) y
-          ∙ get_or-set_same w.flows id o None l in
-          subst (λ (p : Option FlowState). IsTold (is_some (live_of p))
-          (times j (lives events))) (sym at)
-          (subst (λ (k : ℕ). IsTold (is_some (live_of o)) (times k (lives events))) (sym y)
-          own))
-      | inr n ↦
-          (let at : get_or (set w.flows id o) j None ≡ flow_at w j =
-          get_or-set_other w.flows id j o None n in
-          subst (λ (p : Option FlowState). IsTold (is_some (live_of p))
-          (times j (lives events))) (sym at)
-          (subst (λ (n : ℕ). IsTold (is_some (live_at w j)) n) (sym (beside j n)) (told j)))
-    ]
+told_flow w id o events told l own beside j = search (
+  arith,
+  cases_eq,
+  get_or,
+  set,
+  get_or-set_same,
+  is_some,
+  get_or-set_other,
+)
 
 -- a flow that the code has, before it does anything
 pub turn_start : (O : List Event → Type 0) (live : List ℕ) (c : Connections) (es : List Event)
@@ -128,11 +107,10 @@ pub turn_start : (O : List Event → Type 0) (live : List ℕ) (c : Connections)
     flow_at (state_of c es) id ≡ Some s
     → IsTurn id es (state s c.pool.held es)
 unfolding live_of
-turn_start O live c es id s h e = no_turn id (state s c.pool.held es) (h.sound.ids id s e)
-    (λ l. h.told id (ap (λ (o : Option FlowState). is_some (live_of o)) e ∙ l))
+turn_start O live c es id s h e = search (arith, no_turn, is_some)
 
 pub small_id : (w : State) (id : ℕ) → IsSound w → id < length w.flows → id < most_ids
-small_id w id h l = omega (arith, h.flows, h.most, l)
+small_id w id h l = search (arith)
 
 -- a flow's step, beside all others
 pub flow_done : (O O' : List Event → Type 0) (live live' : List ℕ) (c c' : Connections)
@@ -167,7 +145,7 @@ flow_done O O' live live' c c' es id s' f h l n own beside blocks settled apart 
 pub flow_start : (O : List Event → Type 0) (live : List ℕ) (c : Connections) (es : List Event)
     (s : FlowState) → IsState O live c (state_of c es) →
     IsFlow (λ e. O e × (live ≡ lives e)) s c.pool.held (state s c.pool.held es)
-flow_start O live c es s h = record { observed = (h.observed, h.live); same = refl }
+flow_start O live c es s h = search (arith)
 
 -- a step of a flow that the code has, by what it leaves
 pub flow_turned : (O O' : List Event → Type 0) (live live' : List ℕ) (c c' : Connections)
@@ -220,28 +198,26 @@ forgot_done O O' live live' c c' es id s' f h l n turn rest flows pool held free
 
 pub sound_of : (O : List Event → Type 0) (live : List ℕ) (c : Connections) (w : State) →
     IsState O live c w → IsSound (state_of c [])
-sound_of O live c w h = sound_any c w.events [] (subst IsSound (sym h.same) h.sound)
+sound_of O live c w h = search (arith, sound_any)
 
 -- the room of a place is one of at most 65,536
 pub small_room : (O : List Event → Type 0) (live : List ℕ) (c : Connections) (w : State)
     (place : ℕ) → IsState O live c w → place < length c.table.keys.items →
     get_or c.table.rooms.items place 0 < 65536
-small_room O live c w place h l = let sound = sound_of O live c w h in
-    omega (arith, room_below (state_of c []) place sound l, sound.most)
+small_room O live c w place h l = search (arith, sound_of, room_below)
 
 -- nor of which connection makes room
 pub eldest_any : (c : Connections) (es fs : List Event) (n : ℕ) →
     eldest (state_of c es) n ≡ eldest (state_of c fs) n
 unfolding eldest
 eldest_any c es fs zero = refl
-eldest_any c es fs (suc n) = ap (λ (b : ℕ). cond (goes_before (state_of c fs) n b) n b)
-    (eldest_any c es fs n)
+eldest_any c es fs (suc n) = search (arith, cond, eldest_any c es fs n)
 
 -- ---- A connection is forgotten.
 
 pub known_of : (O : List Event → Type 0) (live : List ℕ) (c : Connections) (w : State) →
     IsState O live c w → c.table.keys.items ≡ w.known
-known_of O live c w h = ap (λ (u : State). u.known) h.same
+known_of O live c w h = search (arith)
 
 pub connection_forgotten : (O' : List Event → Type 0) (live' : List ℕ) (c c' : Connections)
     (w : State) (place : ℕ) (side : Side) (cause : CloseCause) → IsSound w
@@ -279,19 +255,12 @@ connection_forgotten O' live' c c' w place side cause sound h l m same free room
 pub some_known : (O : List Event → Type 0) (live : List ℕ) (c : Connections) (w : State)
     (place : ℕ) → IsState O live c w → place < length w.known →
     length c.free.free.items < c.free.most
-some_known O live c w place h l = omega (
-  arith,
-  h.sound.all,
-  l,
-  h.free,
-  ap (λ (u : State). length u.free) h.same,
-)
+some_known O live c w place h l = search (arith)
 
 pub forgot_at : (O : List Event → Type 0) (live : List ℕ) (c : Connections) (w : State) (a b : ℕ)
     (cause : CloseCause) → a ≡ b → IsState O live c (flow_forgotten w a cause) →
     IsState O live c (flow_forgotten w b cause)
-forgot_at O live c w a b cause e h = subst (λ (n : ℕ). IsState O live c (flow_forgotten w n cause))
-    e h
+forgot_at O live c w a b cause e h = search (arith)
 
 -- ---- The capture ends.
 
@@ -299,17 +268,15 @@ pub ends_by : (O O' : List Event → Type 0) (live live' : List ℕ) (c c' : Con
     (f : State → State)
     → ((es : List Event) → IsAt O live c (state_of c es) → IsAt O' live' c' (f (state_of c es))) →
     (w : State) → IsAt O live c w → IsAt O' live' c' (f w)
-ends_by O O' live live' c c' f k w h =
-    subst (λ (v : State). IsAt O' live' c' (f v)) h.same
-    (k w.events (record { observed = h.observed; live = h.live; same = refl }))
+ends_by O O' live live' c c' f k w h = search (arith)
 
 pub moved_end : (O : List Event → Type 0) (live : List ℕ) (c : Connections) (v w : State) → v ≡ w →
     IsAt O live c w → IsAt O live c v
-moved_end O live c v w e h = subst (IsAt O live c) (sym e) h
+moved_end O live c v w e h = search (arith)
 
 pub before_end : (O : List Event → Type 0) (live : List ℕ) (c : Connections) (w : State) →
     IsState O live c w → IsAt O live c w
-before_end O live c w h = record { observed = h.observed; live = h.live; same = h.same }
+before_end O live c w h = search (arith)
 
 pub close_done : (O' : List Event → Type 0) (live' : List ℕ) (c c' : Connections) (es : List Event)
     (id : ℕ) (s' : FlowState) (f : Flow)
@@ -333,9 +300,7 @@ close_done O' live' c c' es id s' f n rest flows pool held =
 none_live : (ports : List ℕ) (blocks most : ℕ) (events : List Event) (id : ℕ) →
     is_some (live_at (none_known ports blocks most events) id) ≡ true → 0 < times id (lives events)
 unfolding live_of
-none_live ports blocks most events id e =
-    absurd (true≢false (sym e ∙ ap (λ (o : Option FlowState). is_some (live_of o))
-    (none_there (2 * most) id)))
+none_live ports blocks most events id e = search (arith, true≢false, is_some, none_there)
 
 -- what `new` makes, beside a listener that has observed these events
 pub starts : (O : List Event → Type 0) (live : List ℕ) (c : Connections) (ports : List ℕ)
@@ -380,17 +345,4 @@ pub told_capture : (O O' : List Event → Type 0) (live : List ℕ) (c : Connect
     (event : CaptureEvent) → IsState O live c w → O' (w.events ++ OfCapture event ∷ [])
     → IsState O' live c (with_capture_event w event)
 unfolding behind
-told_capture O O' live c w event h o =
-    let events : List Event = w.events ++ OfCapture event ∷ [] in
-    let same : state_of c events ≡ record w { events = events } =
-    ap (λ (u : State). record u { events = events }) h.same in
-    record {
-      observed = o;
-      live = h.live ∙ sym (lives_more [] w.events (OfCapture event));
-      same = same;
-      told = λ id e. subst (λ (xs : List ℕ). 0 < times id xs)
-          (sym (lives_more [] w.events (OfCapture event))) (h.told id e);
-      sound = subst IsSound same (sound_any c w.events events (subst IsSound (sym h.same) h.sound));
-      free = h.free;
-      room = h.room;
-    }
+told_capture O O' live c w event h o = search (arith, lives_more, sound_any)

@@ -1,5 +1,5 @@
 -- The code's connections, with what has happened, and what is so of each.
-use Rattle.std.specs.Prelude.{◌≡◌, ℕ, cond, nat_eq, nat_lt, ◌+◌, ◌*◌, ◌<◌, ◌≤◌, true, List, [], ◌∷◌, length, Some, None, is_some, OnOk, Result}
+use Rattle.std.specs.Prelude.{◌≡◌, ℕ, cond, nat_eq, ◌+◌, ◌*◌, ◌<◌, ◌≤◌, true, List, [], ◌∷◌, length, Some, None, is_some, OnOk, Result}
 use Rattle.std.specs.List.Sorted.{IsStrictlySortedBy}
 use Rattle.tcp_waiting.specs.Payload.{count_of, blocks_of}
 use Rattle.tcp_flow.specs.declared.flow.FlowState.{FlowState}

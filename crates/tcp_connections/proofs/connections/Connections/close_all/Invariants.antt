@@ -1,4 +1,4 @@
-use Rattle.std.proofs.Common.{◌≡◌, ◌-◌, length, drop}
+use Rattle.std.proofs.Common.{◌≡◌, ◌-◌, drop}
 use Rattle.tcp_streams.specs.Lives.{lives}
 use Rattle.tcp_connections.specs.Connections.{State, all_closed}
 use Rattle.tcp_connections.specs.State.{IsAt}
