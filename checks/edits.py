@@ -1,5 +1,5 @@
 #!/usr/bin/env python3
-"""Tries wrong bodies: all those of a crate in one check of it, each refused by a goal of the function that it changes.
+"""Tries wrong bodies: those of a crate in one check of it or two, each refused by a goal of the function that it changes.
 
     edits.py [--plan] [--strict] [--anew] [--lanes N] [CRATE ..]
 
@@ -9,12 +9,13 @@ part of one line; `old:` stands in the file once, as the pairs before it have le
 names that proofs cite. An edit of a constant has a line `in: MODULE::FUNCTION` that names the function that refuses it.
 
 A function is proved from the contracts of what it calls and not from their bodies, so wrong bodies of different functions
-don't touch each other. All edits of a crate are made in one copy, and one check of the copy tells of each function which
-goals of its own fail; to call a function that isn't proved is no goal of its own. So a function has one edit at most. The
-status is 0 where each edited function has a failed goal of its own and no other function has one. Else it is 1, and each
-fault is told by name: an edit that isn't refused, one whose text is missing or stands there twice, one in no function, two
-of one function, and a function that has no edit and fails. An edit after which a proof names what is gone, and no goal fails
-by what it says, shows nothing: it is told, and with --strict it is a fault.
+don't touch each other. The edits of different functions of a crate are made in one copy, and one check of the copy tells of
+each function which goals of its own fail; to call a function that isn't proved is no goal of its own. A second edit of a
+function, or of a line, waits for a second round: another copy, of which the edited functions alone are checked. There is no
+third. The status is 0 where each edited function has a failed goal of its own and no other function has one. Else it is 1,
+and each fault is told by name: an edit that isn't refused, one whose text is missing or stands there twice, one in no
+function, a third of one function, and a function that has no edit and fails. An edit after which a proof names what is gone,
+and no goal fails by what it says, shows nothing: it is told, and with --strict it is a fault.
 
 The libraries below a crate are used as `rt ci` leaves them in out/; `rt check` would prove them once more, since it takes
 only what checks have kept. At its end `rt ci` puts back what stood in out/rlib before, so an old library there is used, and
@@ -39,6 +40,9 @@ from pathlib import Path
 
 # What one check takes of memory, with room to spare.
 LANE_BYTES = 3 << 30
+
+# How many copies of a crate are checked at most, and so how many edits a function may have.
+MOST_ROUNDS = 2
 
 # Of how many checks of a crate it is kept what they said.
 MOST_KEPT = 8
@@ -139,23 +143,27 @@ def read(file: Path, crate: Path) -> Edit:
     return Edit(file.stem, lines, str(functions.pop()))
 
 
-def edits_of(crate: Path) -> tuple[list[Edit], list[str]]:
-    """The edits of a crate that can be tried together, and what is wrong with the others."""
-    edits: list[Edit] = []
+def touches(edit: Edit, others: list[Edit]) -> bool:
+    """Whether an edit is of a function or of a line of which one of the others is."""
+    return any(it.function == edit.function or it.lines.keys() & edit.lines.keys() for it in others)
+
+
+def rounds_of(crate: Path) -> tuple[list[list[Edit]], list[str]]:
+    """The edits of a crate, by the rounds in which they are tried together, and what is wrong with those that can't be."""
+    rounds: list[list[Edit]] = [[] for _ in range(MOST_ROUNDS)]
     faults = []
     for file in sorted((crate / "wrong").iterdir()):
         try:
             if file.suffix != ".edit":
                 raise Fault("it is no edit: its name doesn't end in .edit")
             edit = read(file, crate)
-            if other := next((it for it in edits if it.function == edit.function), None):
-                raise Fault(f"{edit.function} has an edit already: {other.name}")
-            if other := next((it for it in edits if it.lines.keys() & edit.lines.keys()), None):
-                raise Fault(f"it changes a line that {other.name} changes")
-            edits.append(edit)
+            room = next((it for it in rounds if not touches(edit, it)), None)
+            if room is None:
+                raise Fault(f"{edit.function} or a line of it has an edit in each of {MOST_ROUNDS} rounds")
+            room.append(edit)
         except (Fault, OSError) as why:
             faults.append(f"{crate.name}/{file.stem}: {why}")
-    return edits, faults
+    return [it for it in rounds if it], faults
 
 
 def apply(edits: list[Edit], crate: Path) -> None:
@@ -247,8 +255,9 @@ def below(name: str, top: Path) -> list[str]:
     return found
 
 
-def words_of(name: str, top: Path) -> list[str]:
-    """The words by which `rt check` has the crate checked, over the libraries that stand in the repository."""
+def words_of(name: str, only: list[str], top: Path) -> list[str]:
+    """The words by which `rt check` has a crate checked, or only some functions of it and what they call, over the libraries
+    that stand in the repository."""
     kit = kit_of()
     uses = uses_of(top)
     ours = [it for it in uses[name] if it in uses]
@@ -259,16 +268,17 @@ def words_of(name: str, top: Path) -> list[str]:
     words += [word for it in ours for word in ("--extern", f"{it}={library(it, top)}/{it}.rlib")]
     words += [word for it in below(name, top) for word in ("-L", f"dependency={library(it, top)}")]
     words += ["--antt-project", f"{kit}/rattle/logic/antt-project.json", "--logic-built", f"{kit}/logic_built"]
-    return words + ["--links", f"{name}=", "--jobs", "1", "--incremental", "out/incremental"]
+    words += ["--links", f"{name}=", "--jobs", "1", "--incremental", "out/incremental"]
+    return words + [word for it in only for word in ("--only", it)]
 
 
-def checksum(name: str, crate: Path, top: Path) -> str:
+def checksum(name: str, only: list[str], crate: Path, top: Path) -> str:
     """The sum of all that the check of a copy of a crate reads, and of this script's own text."""
     kit = kit_of()
     # A library's `format` has the sums of its other files.
     files = [kit / "KIT-ID", Path(__file__)]
     files += [library(it, top) / f"{it}.rlib" / "format" for it in sorted(below(name, top))]
-    found = hashlib.sha256(repr((name, uses_of(top)[name])).encode())
+    found = hashlib.sha256(repr((name, only, uses_of(top)[name])).encode())
     for file in files:
         found.update(repr((file.name, file.read_bytes())).encode())
     for file in sorted(it for it in crate.rglob("*") if it.is_file()):
@@ -283,21 +293,21 @@ def cache() -> Path:
 
 def is_ended(said: str) -> bool:
     """Whether a check came to its end."""
-    return re.search(r"(?m)^logic=(?:not-)?proved", said) is not None
+    return re.search(r"(?m)^(?:logic=(?:not-)?proved|only=\d)", said) is not None
 
 
-def checked(name: str, edits: list[Edit], top: Path, anew: bool) -> str:
-    """What one check says of a copy of the crate with all its edits, now or when it was made of the same."""
+def checked(name: str, edits: list[Edit], only: list[str], top: Path, anew: bool) -> str:
+    """What one check says of a copy of the crate with some edits, now or when it was made of the same."""
     with tempfile.TemporaryDirectory(prefix=f"edits-{name}-") as made:
         crate = Path(made) / name
         shutil.copytree(top / "crates" / name, crate, ignore=shutil.ignore_patterns("out", "wrong", "must-fail"))
         apply(edits, crate)
-        kept = cache() / f"{name}-{checksum(name, crate, top)}"
+        kept = cache() / f"{name}-{checksum(name, only, crate, top)}"
         if kept.is_file() and not anew:
             return kept.read_text(encoding="utf-8")
         (crate / "out").mkdir()
         ran = subprocess.run(
-            words_of(name, top),
+            words_of(name, only, top),
             cwd=crate,
             check=False,
             stdin=subprocess.DEVNULL,
@@ -323,10 +333,14 @@ def keep(file: Path, text: str) -> None:
             old.unlink()
 
 
-def tried(name: str, edits: list[Edit], top: Path, anew: bool) -> tuple[list[str], list[str], list[str]]:
-    """What refuses each edit of a crate, a line each; those that only take a name away; and what is wrong."""
+def tried(
+    name: str, edits: list[Edit], is_first: bool, top: Path, anew: bool
+) -> tuple[list[str], list[str], list[str]]:
+    """What refuses each edit of a round, a line each; those that only take a name away; and what is wrong. The first round
+    shows too that no other function of the crate fails."""
+    only = [] if is_first else [edit.function for edit in edits]
     try:
-        said = checked(name, edits, top, anew)
+        said = checked(name, edits, only, top, anew)
     except Fault as why:
         return [], [], [f"{name}: {why}"]
     if not is_ended(said):
@@ -372,14 +386,18 @@ def main() -> int:
     names.sort(key=lambda it: -size_of(top / "crates" / it))
     plans, nameless, faults = {}, [], []
     for name in names:
-        plans[name], wrong = edits_of(top / "crates" / name)
+        plans[name], wrong = rounds_of(top / "crates" / name)
         faults += wrong
     if asked.plan:
-        for name, edits in sorted(plans.items()):
-            print(f"{name}: {len(edits)} edits")
+        for name, rounds in sorted(plans.items()):
+            print(f"{name}: {' and '.join(str(len(it)) for it in rounds)} edits")
     else:
         with ThreadPoolExecutor(asked.lanes) as lanes:
-            runs = [lanes.submit(tried, name, edits, top, asked.anew) for name, edits in plans.items() if edits]
+            runs = [
+                lanes.submit(tried, name, edits, at == 0, top, asked.anew)
+                for name, rounds in plans.items()
+                for at, edits in enumerate(rounds)
+            ]
             for run in as_completed(runs):
                 told, without, wrong = run.result()
                 print("\n".join(told), flush=True)
@@ -390,7 +408,8 @@ def main() -> int:
     for line in nameless + faults:
         print(line)
     counts = f"{len(nameless)} of which take a name away alone, {len(faults)} faults"
-    print(f"edits: {sum(map(len, plans.values()))} tried of {len(plans)} crates, {counts}")
+    tries = sum(len(edits) for rounds in plans.values() for edits in rounds)
+    print(f"edits: {tries} tried of {len(plans)} crates, {counts}")
     return 1 if faults else 0
 
 
