@@ -4,17 +4,18 @@ use Rattle.giop_decode.specs.declared.leaf.Transition.{Transition}
 use Rattle.giop_decode.specs.declared.leaf.Transition.TheVariants as transitions
 use Rattle.giop_decode.specs.declared.progress.Progress.{Progress}
 use Rattle.giop_decode.specs.declared.progress.Progress.TheVariants as progress
-use Rattle.giop_decode.specs.ReadResult.{Coding, PathSegment, Line, OpenPart, Read, Done, Short, Fault, lines_of, Leaf, with_front}
+use Rattle.giop_decode.specs.ReadResult.{Coding, PathSegment, Line, OpenPart, Read, Done, Short, Fault, lines_of, Leaf, coded, with_front}
 use Rattle.giop_decode.specs.Reading.{cut_off}
-use Rattle.giop_decode.specs.ReadingSteps.{around, IsRule}
-use Rattle.giop_decode.proofs.OctetResults.{around_mute, mute_lines}
-use Rattle.giop_decode.proofs.Surrounding.{around_unless_ended, known_ticked, lines_shut, places_ticked, surrounds, heard_open}
+use Rattle.giop_decode.specs.ReadingSteps.{around, heard_parts, IsRule}
+use Rattle.giop_decode.proofs.OctetResults.{Mute, around_mute, mute_enclosed, mute_lines}
+use Rattle.giop_decode.proofs.Surrounding.{front_shut, surrounds}
 use Rattle.std.specs.Prelude.{cond}
 use Rattle.giop_decode.specs.declared.progress.Kind.{Kind}
 use Rattle.giop_decode.specs.declared.progress.Kind.TheVariants as kinds
 use Rattle.giop_decode.proofs.Resuming.{lines_front}
-use Rattle.giop_decode.proofs.TransitionsInFrames.{around_done}
-use Rattle.giop_sig.specs.Types.{Ty}
+use Rattle.giop_decode.proofs.Enclosing.{with_front-enclosed}
+use Rattle.giop_decode.specs.Begins.{start_leaf, start_outer}
+use Rattle.giop_sig.specs.Types.{Ty, part_of}
 use Rattle.giop_decode.specs.declared.decoder.Decoder.{Decoder}
 use Rattle.giop_decode.specs.declared.leaf.Leaf.{Leaf as Innermost}
 use Rattle.giop_decode.specs.declared.leaf.Leaf.TheVariants as innermost
@@ -25,11 +26,11 @@ use Rattle.giop_decode.specs.NameBuffer.{FitsName, string_offset}
 use Rattle.giop_decode.specs.Noted.{is_header_root, names_operation}
 use Rattle.giop_decode.specs.DecoderState.{Fits, GoesOn, CanStandAt, read_by_fields}
 use Rattle.giop_decode.specs.DecoderSteps.{transition_result, decoder_step, stopped, Comes, IsGoing, IsProgress, IsNotRefused}
-use Rattle.giop_decode.proofs.Around.{fit_room, around-fault}
+use Rattle.giop_decode.proofs.Around.{fit_room, around-fault, around-front}
 use Rattle.giop_decode.proofs.Going.{length_places}
 use Rattle.giop_decode.proofs.Leaving.{leaf_at}
 use Rattle.giop_decode.proofs.Rooted.{rooted_lines, whole_step_keeps}
-use Rattle.giop_decode.specs.Reading.{none_left, rooted}
+use Rattle.giop_decode.specs.Reading.{enclosed, none_left, rooted}
 use Rattle.giop_decode.specs.Transitions.{gone_to}
 use Rattle.giop_decode.specs.DecoderSteps.{stopped_with}
 use Rattle.giop_sig.specs.Fits.{IsFit}
@@ -138,47 +139,70 @@ pub fits_allowed : (T : Ty) (of : ℕ) (transition : Transition) (carry piece : 
 fits_allowed T of (transitions.Refused kind) carry piece fits = fits
 fits_allowed T of transition carry piece fits = tt
 
-lines_entered : (C : Table) (coding : Coding) (path : List PathSegment) (frames : List Frame)
-    (test : Bool) (inner : List OpenPart) (leaf : Leaf) (lines : List Line) (at : ℕ) →
-    AreKnown C frames →
-    lines_of (around coding path (open_parts C at frames)
-    (cond test (Short lines at inner leaf) (Fault lines at kinds.EncapShort (cut_off leaf))))
-    ≡ lines
-lines_entered C coding path frames true inner leaf lines at k = search (
-  arith,
-  around_unless_ended,
-  lines_shut,
-)
-lines_entered C coding path frames false inner leaf lines at k = search (arith, around-fault)
+-- the lines of a transition stand in front of what it makes
+pub transition_front : (T : Ty) (transition : Transition) (carry piece : List ℕ) (lines : List Line)
+    (at : ℕ) → after_transition T transition carry piece lines at
+    ≡ with_front lines (after_transition T transition carry piece [] at)
+transition_front T (transitions.More leaf) carry piece lines at = rw append-nil refl
+transition_front T transitions.Ended carry piece lines at = rw append-nil refl
+transition_front T (transitions.Opened count) carry piece lines at = rw append-nil refl
+transition_front T (transitions.Selected i) carry piece lines at = rw append-nil refl
+transition_front T (transitions.Refused kind) carry piece lines at = rw append-nil refl
+transition_front T (transitions.Entered order count) carry piece lines at =
+    let inner = Short [] at (start_outer (part_of T 0)) (start_leaf (part_of T 0)) in
+    ap (λ ls. enclosed [] T (coded order (at - 1)) (at + (count - 1)) none_left
+    (Short ls at (start_outer (part_of T 0)) (start_leaf (part_of T 0))) [])
+    (sym (append-nil lines))
+    ∙ with_front-enclosed lines [] T (coded order (at - 1)) (at + (count - 1)) none_left inner []
 
-lines_turned_at : (C : Table) (coding : Coding) (path : List PathSegment) (frames : List Frame)
+lines_mute : (coding : Coding) (path : List PathSegment) (ps : List OpenPart) (lines : List Line)
+    (at : ℕ) (r : Read) → Mute at r → lines_of (around coding path ps (with_front lines r)) ≡ lines
+lines_mute coding path ps lines at r mute =
+    let inner = around coding path (heard_parts lines ps) r in
+    ap lines_of (around-front coding path ps lines r)
+    ∙ (lines_front lines inner
+    ∙ (ap (λ ls. lines ++ ls) (mute_lines at inner
+    (around_mute at coding path (heard_parts lines ps) r mute)) ∙ append-nil lines))
+
+lines_turned : (coding : Coding) (path : List PathSegment) (ps : List OpenPart)
     (T : Ty) (transition : Transition) (carry piece : List ℕ) (lines : List Line) (at : ℕ) →
-    AreKnown C frames → IsAllowed transition →
-    lines_of (around coding path (open_parts C at frames)
-    (after_transition T transition carry piece lines at)) ≡ lines
-lines_turned_at C coding path frames T (transitions.Refused kind) carry piece lines at k rule =
-    search (arith, around-fault)
-lines_turned_at C coding path frames T (transitions.More leaf) carry piece lines at k rule =
-    search (arith, around_unless_ended, lines_shut)
-lines_turned_at C coding path frames T (transitions.Opened count) carry piece lines at k rule =
-    search (arith, around_unless_ended, lines_shut)
-lines_turned_at C coding path frames T (transitions.Selected i) carry piece lines at k rule =
-    search (arith, around_unless_ended, lines_shut)
-lines_turned_at C coding path frames T (transitions.Entered order count) carry piece lines at k rule
-    =
-    search (arith, lines_entered)
-lines_turned_at C coding path frames T transitions.Ended carry piece lines at k rule =
-    let ps = open_parts C at frames in
-    let inner = around coding path ps (Done [] at []) in
-    let none : lines_of inner ≡ [] = mute_lines at inner
-    (around_mute at coding path ps (Done [] at []) (refl, refl, refl)) in
-    ap lines_of (around_done coding path ps lines at
-    ∙ ap (λ qs. with_front lines (around coding path qs (Done [] at [])))
-    (heard_open C 24 at lines frames))
-    ∙ (lines_front lines inner ∙ (ap (λ ls. lines ++ ls) none ∙ append-nil lines))
+    IsAllowed transition →
+    lines_of (around coding path ps (after_transition T transition carry piece lines at)) ≡ lines
+lines_turned coding path ps T (transitions.Refused kind) carry piece lines at rule =
+    ap lines_of (around-fault coding path ps lines at kind T rule)
+lines_turned coding path ps T (transitions.Entered order count) carry piece lines at rule =
+    ap (λ r. lines_of (around coding path ps r))
+    (transition_front T (transitions.Entered order count) carry piece lines at)
+    ∙ lines_mute coding path ps lines at
+    (after_transition T (transitions.Entered order count) carry piece [] at) (mute_enclosed at [] T
+    (coded order (at - 1))
+    (at + (count - 1)) (Short [] at (start_outer (part_of T 0)) (start_leaf (part_of T 0)))
+    (refl, refl))
+lines_turned coding path ps T (transitions.More leaf) carry piece lines at rule =
+    ap (λ r. lines_of (around coding path ps r))
+    (transition_front T (transitions.More leaf) carry piece lines at)
+    ∙ lines_mute coding path ps lines at (after_transition T (transitions.More leaf) carry piece []
+    at)
+    (refl, refl)
+lines_turned coding path ps T (transitions.Opened count) carry piece lines at rule =
+    ap (λ r. lines_of (around coding path ps r))
+    (transition_front T (transitions.Opened count) carry piece lines at)
+    ∙ lines_mute coding path ps lines at (after_transition T (transitions.Opened count) carry piece
+    [] at)
+    (refl, refl)
+lines_turned coding path ps T (transitions.Selected i) carry piece lines at rule =
+    ap (λ r. lines_of (around coding path ps r))
+    (transition_front T (transitions.Selected i) carry piece lines at)
+    ∙ lines_mute coding path ps lines at (after_transition T (transitions.Selected i) carry piece []
+    at)
+    (refl, refl)
+lines_turned coding path ps T transitions.Ended carry piece lines at rule =
+    ap (λ r. lines_of (around coding path ps r))
+    (transition_front T transitions.Ended carry piece lines at)
+    ∙ lines_mute coding path ps lines at (Done [] at []) (refl, refl, refl)
 
 -- where octets of no type are none of its ends, a whole is what it was
-rooted_to : (ended : Bool) (lines : List Line) (at : ℕ) (outer : List OpenPart) (leaf : Leaf) →
+pub rooted_to : (ended : Bool) (lines : List Line) (at : ℕ) (outer : List OpenPart) (leaf : Leaf) →
     rooted none_left (cond ended (Fault lines at kinds.EncapShort (cut_off leaf))
     (Short lines at outer leaf)) ≡ cond ended (Fault lines at kinds.EncapShort (cut_off leaf))
     (Short lines at outer leaf)
@@ -194,7 +218,7 @@ rooted_stopped C frames carry piece (Some leaf) lines at =
     rooted_to (has_ended frames) lines at (open_parts C at frames) (leaf_of C frames leaf carry
     piece)
 
-rooted_fault : (lines : List Line) (at : ℕ) (kind : Kind) (T : Ty) → IsRule kind →
+pub rooted_fault : (lines : List Line) (at : ℕ) (kind : Kind) (T : Ty) → IsRule kind →
     rooted none_left (Fault lines at kind T) ≡ Fault lines at kind T
 rooted_fault lines at kinds.Untyped T rule = absurd rule
 rooted_fault lines at kind T rule = refl
@@ -214,8 +238,32 @@ rooted_result C T d transition lines at rule = search (arith, rooted_stopped)
 -- no lines but those of the innermost part
 pub lines_after_transition : (C : Table) (here : ℕ) (coding : Coding) (path : List PathSegment)
     (frames : List Frame) (T : Ty) (transition : Transition) (carry piece : List ℕ)
-    (lines : List Line) → HaveOctetsLeft frames → AreKnown C frames → IsAllowed transition →
+    (lines : List Line) → IsAllowed transition →
     lines_of (rooted none_left (around coding path (open_parts C here frames)
     (after_transition T transition carry piece lines (here + 1)))) ≡ lines
-lines_after_transition C here coding path frames T transition carry piece lines ahead known rule =
-    search (arith, rooted_lines, places_ticked, lines_turned_at, known_ticked)
+lines_after_transition C here coding path frames T transition carry piece lines rule =
+    search (arith, rooted_lines, lines_turned)
+
+-- ---- lines in front of a whole
+
+pub rooted_front : (lines : List Line) (r : Read) →
+    rooted none_left (with_front lines r) ≡ with_front lines (rooted none_left r)
+rooted_front lines (Fault ls at kinds.Untyped S) = refl
+rooted_front lines (Fault ls at kind S) = refl
+rooted_front lines (Done ls at rest) = refl
+rooted_front lines (Short ls at outer leaf) = refl
+
+front_stopped : (C : Table) (frames : List Frame) (carry piece : List ℕ) (leaf : Option Innermost)
+    (lines : List Line) (at : ℕ) → with_front lines (stopped_with C frames carry piece leaf [] at)
+    ≡ stopped_with C frames carry piece leaf lines at
+front_stopped C frames carry piece None lines at = rw append-nil refl
+front_stopped C frames carry piece (Some leaf) lines at =
+    front_shut (has_ended frames) lines at (open_parts C at frames) (leaf_of C frames leaf carry
+    piece)
+
+pub front_result : (C : Table) (T : Ty) (d : Decoder) (transition : Transition) (lines : List Line)
+    (at : ℕ) → with_front lines (transition_result C T d transition [] at)
+    ≡ transition_result C T d transition lines at
+front_result C T d (transitions.Refused kind) lines at = rw append-nil refl
+front_result C T d (transitions.More leaf) lines at = search (arith, front_stopped)
+front_result C T d transition lines at = search (arith, front_stopped)

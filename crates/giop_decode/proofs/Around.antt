@@ -6,7 +6,8 @@ use Rattle.giop_decode.specs.Fits.{HasParts, Surrounds}
 use Rattle.giop_decode.specs.Pieces.{Partial, block}
 use Rattle.giop_decode.specs.Reading.{enclosed, led_segment, none_left, parts_from, read}
 use Rattle.giop_decode.specs.ReadResult.{Coding, Done, Fault, Index, Leaf, Line, Member, Name, Part, OpenPart, Read, PathSegment, Short, with_front, within, Held, Inside, Telling}
-use Rattle.giop_decode.specs.ReadingSteps.{inner_path, around, part_at, path_in, resumed, segment_in, segment_of, coding_at, coding_in, after_told, hearing_in, heard_parts, IsRule}
+use Rattle.giop_decode.specs.ReadingSteps.{inner_path, around, part_at, path_in, resumed, segment_in, segment_of, coding_at, coding_in, after_told, heard_parts, IsRule}
+use Rattle.giop_sig.specs.Hearings.{hearing_in}
 use Rattle.giop_decode.specs.declared.progress.Kind.{Kind}
 use Rattle.giop_decode.specs.declared.progress.Kind.TheVariants as kinds
 use Rattle.giop_sig.specs.Fits.{IsFit}

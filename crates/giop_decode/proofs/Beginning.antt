@@ -1,33 +1,54 @@
 -- The frames and the leaf with which a type begins, in a decoder's fields.
-use Rattle.std.proofs.Common.{◌≡◌, ℕ, zero, suc, pred, ◌-◌, ◌<◌, List, [], ◌∷◌, ◌++◌, length, None, ap, subst, ◌∙◌, arith, append_assoc}
+use Rattle.std.proofs.Common.{◌≡◌, ℕ, zero, suc, pred, ◌-◌, ◌<◌, List, [], ◌∷◌, ◌++◌, length, Option, Some, None, refl, sym, ap, subst, ◌∙◌, arith, append_assoc}
 use Rattle.std.specs.List.{AllByRecursion}
 use Rattle.giop_decode.specs.ReadResult.{OpenPart}
-use Rattle.giop_decode.specs.Fits.{HasParts, IsEncapsulation}
 use Rattle.giop_decode.specs.Begins.{start_outer, start_leaf}
-use Rattle.giop_decode.specs.Transitions.{IsUncounted, IsWhole, IsWithin, open_part, part_in, parts_in_room, tree_in}
+use Rattle.giop_decode.specs.Transitions.{IsWhole, IsWithinAs, open_part, part_as, parts_in_room, tree_in}
 use Rattle.giop_decode.specs.declared.frame.Frame.{Frame}
-use Rattle.giop_sig.specs.Types.{Ty, Struct, Array, part_of, shape_in, HasPlace}
+use Rattle.giop_decode.specs.declared.frame.Stage.{Stage}
+use Rattle.giop_sig.specs.Types.{Ty, Struct, Array, Led, part_of, shape_in, HasPlace}
 use Rattle.giop_sig.specs.Fits.{IsFit}
 use Rattle.giop_sig.specs.Table.{Table}
 use Rattle.giop_sig.specs.Trees.{tree_at}
 
-pub record Begins (d : ℕ) (T : Ty) (count : ℕ) : Type 0 where
+pub record Begins (d : ℕ) (T : Ty) (count : ℕ) (told : Option Stage) : Type 0 where
   pub room : 0 < d
-  pub some : 0 < count
-  pub parts : HasParts T count
-  pub outer : start_outer T ≡ part_in T 0 count ∷ start_outer (part_of T 0)
+  pub outer : (here : ℕ) → start_outer T ≡ part_as told here None T 0 count ∷ start_outer (part_of T
+      0)
   pub leaf : start_leaf T ≡ start_leaf (part_of T 0)
   pub fit : IsFit (pred d) (part_of T 0)
   pub placed : HasPlace (shape_in T) 0
-  pub uncounted : IsUncounted (shape_in T) → count ≡ 0
-  pub bare : IsEncapsulation T → ⊥
+  pub some : told ≡ None → 0 < count
 
-pub begins : (d : ℕ) (T : Ty) (count : ℕ) → IsFit d T → IsWhole T count → Begins d T count
+pub begins : (d : ℕ) (T : Ty) (count : ℕ) (told : Option Stage) → IsFit d T →
+    IsWhole T count told → Begins d T count told
 unfolding IsFit
-begins zero T count fit is = absurd fit
-begins (suc d) (Struct n names parts) count fit is = search (arith)
-begins (suc d) (Array n E) count fit is = search (arith)
-begins (suc d) T count fit is = absurd is
+begins zero T count told fit is = absurd fit
+begins (suc d) (Struct n names parts) count told fit is = rw (is.0, is.1) (record {
+  room = omega arith;
+  outer = λ here. refl;
+  leaf = refl;
+  fit = fit.1 0 fit.0;
+  placed = fit.0;
+  some = λ none. fit.0;
+})
+begins (suc d) (Array n E) count told fit is = rw (is.0, is.1) (record {
+  room = omega arith;
+  outer = λ here. refl;
+  leaf = refl;
+  fit = fit.1;
+  placed = tt;
+  some = λ none. fit.0;
+})
+begins (suc d) (Led h F parts) count told fit is = rw (is.0, is.1) (record {
+  room = omega arith;
+  outer = λ here. refl;
+  leaf = refl;
+  fit = fit.0;
+  placed = tt;
+  some = λ none. absurd cc;
+})
+begins (suc d) T count told fit is = absurd is
 
 pub all_push : {X : Type 0} (P : X → Type 0) (xs : List X) (x : X) → AllByRecursion P xs → P x →
     AllByRecursion P (xs ++ x ∷ [])
@@ -57,11 +78,27 @@ part_in_frames C old new of part i more few parts =
     (parts (24 - length new))
 
 -- a type that begins with its first part is at that one, in each room
-pub whole_within : (T : Ty) (count : ℕ) → 0 < count → IsWhole T count → IsWithin None 0 count T
-whole_within (Struct n names parts) count some is = search (arith)
-whole_within (Array n E) count some is = search (arith)
-whole_within T count some is = absurd is
+pub whole_within : (T : Ty) (count : ℕ) (told : Option Stage) → (told ≡ None → 0 < count) →
+    IsWhole T count told → IsWithinAs told None 0 count T
+whole_within (Struct n names parts) count None some is =
+    (rw is.0 at (some refl), λ kind. kind, λ is. absurd is)
+whole_within (Struct n names parts) count (Some stage) some is = let e = is.1 in absurd cc
+whole_within (Array n E) count None some is = (tt, λ kind. kind, λ is. absurd is)
+whole_within (Array n E) count (Some stage) some is = let e = is.1 in absurd cc
+whole_within (Led h F parts) count (Some stage) some is = (tt, refl, is.0)
+whole_within (Led h F parts) count None some is = let e = is.1 in absurd cc
+whole_within T count told some is = absurd is
 
-pub begins_places : (d : ℕ) (ps : List OpenPart) (T : Ty) (count : ℕ) → Begins d T count →
-    (ps ++ part_in T 0 count ∷ []) ++ start_outer (part_of T 0) ≡ ps ++ start_outer T
-begins_places d ps T count b = search (arith, append_assoc)
+pub whole_placed : (T : Ty) (count : ℕ) (told : Option Stage) → (told ≡ None → 0 < count) →
+    IsWhole T count told → HasPlace (shape_in T) 0
+whole_placed (Struct n names parts) count told some is = rw is.0 at (some is.1)
+whole_placed (Array n E) count told some is = tt
+whole_placed (Led h F parts) count told some is = tt
+whole_placed T count told some is = absurd is
+
+pub begins_places : (d here : ℕ) (ps : List OpenPart) (T : Ty) (count : ℕ) (told : Option Stage) →
+    Begins d T count told →
+    (ps ++ part_as told here None T 0 count ∷ []) ++ start_outer (part_of T 0) ≡ ps ++ start_outer T
+begins_places d here ps T count told b =
+    append_assoc ps (part_as told here None T 0 count ∷ []) (start_outer (part_of T 0))
+    ∙ ap (λ qs. ps ++ qs) (sym (b.outer here))

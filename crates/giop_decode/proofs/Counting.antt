@@ -1,8 +1,9 @@
 -- Octets counted together in the encapsulations among a decoder's frames.
-use Rattle.std.proofs.Common.{◌≡◌, ℕ, suc, ◌+◌, ◌%◌, ◌<◌, ◌≤◌, false, List, [], ◌∷◌, ◌++◌, length, take, get_or, Option, Some, None, refl, ◌∙◌, ap, arith}
+use Rattle.std.proofs.Common.{◌≡◌, ℕ, suc, ◌+◌, ◌%◌, ◌<◌, ◌≤◌, List, [], ◌∷◌, ◌++◌, length, take, get_or, Option, Some, None, refl, ◌∙◌, ap, arith}
 use Rattle.std.specs.Prelude.{IfSome}
 use Rattle.std.proofs.lemmas.List.{map-append, take_more}
 use Rattle.giop_cdr.specs.declared.order.Order.{Order}
+use Rattle.giop_decode.specs.declared.frame.Within.TheVariants as withins
 use Rattle.giop_decode.specs.declared.frame.Frame.{Frame}
 use Rattle.giop_decode.specs.Transitions.{HasOctetsLeft, HaveOctetsLeft, coding_by, coding_of, is_inside, tick_of, tick_by_of, ticked, ticked_at, ticked_by, ticked_by_at}
 use Rattle.giop_decode.proofs.Surrounding.{free_first}
@@ -78,16 +79,17 @@ ahead_first n (f ∷ frames) h = search (arith, first_at, ahead_first n frames h
 free_at : (n : ℕ) (inside : Option Order) (i : ℕ) → inside ≡ None → ticked_by_at n inside i ≡ i
 free_at n inside i h = rw h refl
 
-pub free_ticked_by : (n : ℕ) (frames : List Frame) → is_inside frames ≡ false →
+pub free_ticked_by : (n : ℕ) (frames : List Frame) → is_inside frames ≡ withins.Nothing →
     frames ≡ ticked_by n frames
 free_ticked_by n [] h = refl
 free_ticked_by n (f ∷ frames) h =
-    let k = free_first f.inside (is_inside frames) h in
+    let k = free_first f frames h in
     let one : f ≡ tick_by_of n f = rw (free_at n f.inside f.index k.0) refl in
-    ap (λ g. g ∷ frames) one ∙ ap (λ fs. tick_by_of n f ∷ fs) (free_ticked_by n frames k.1)
+    ap (λ g. g ∷ frames) one ∙ ap (λ fs. tick_by_of n f ∷ fs) (free_ticked_by n frames k.2)
 
 -- in no encapsulation
-pub ahead_free : (n : ℕ) (frames : List Frame) → is_inside frames ≡ false → HaveOctetsLeft frames →
+pub ahead_free : (n : ℕ) (frames : List Frame) → is_inside frames ≡ withins.Nothing → HaveOctetsLeft
+    frames →
     HaveOctetsLeft (ticked_by n frames)
 ahead_free n frames h ahead = search (arith, free_ticked_by)
 

@@ -1,5 +1,5 @@
 -- How many parts that are begun and not ended fit in a type, one in the other.
-use Rattle.std.proofs.Common.{ℕ, zero, suc, ◌<◌, ◌≤◌, max, List, [], ◌∷◌, length, arith, ◌⊎◌, inl, inr, Option, Some, None}
+use Rattle.std.proofs.Common.{ℕ, zero, suc, ◌<◌, ◌≤◌, max, List, [], ◌∷◌, length, arith, ◌⊎◌, inl, inr}
 use Rattle.std.proofs.lemmas.Bool.{cases_lt}
 use Rattle.giop_decode.specs.declared.decoder.Decoder.{Decoder}
 use Rattle.giop_decode.specs.Fits.{FitsIn, HasParts, HasCase, IsEncapsulation, IsLed}
@@ -7,11 +7,10 @@ use Rattle.giop_decode.specs.DecoderState.{Fits}
 use Rattle.giop_decode.specs.ReadResult.{OpenPart, Part, Member, Inside, Leaf, Telling}
 use Rattle.giop_decode.proofs.Going.{length_places}
 use Rattle.giop_sig.proofs.PartLaws.{depth_is}
-use Rattle.giop_sig.specs.Table.{Table, Node, Part as Member', node_at, part_at}
-use Rattle.giop_sig.specs.Trees.{depth_of, grow, grown_part, octet_type, tree_at, tree}
+use Rattle.giop_sig.proofs.Unled.{HasNoLed, room_none}
+use Rattle.giop_sig.specs.Table.{Table}
+use Rattle.giop_sig.specs.Trees.{depth_of}
 use Rattle.giop_sig.specs.Types.{Encapsulation, places_of, Ty, Struct, Union, Sequence, Array, part_of, depth, most, Led}
-use Rattle.giop_sig.specs.Table as nodes
-use Rattle.std.specs.Prelude.{slice_get}
 
 most_at : (n i : ℕ) (f : ℕ → ℕ) → i < n → f i ≤ most n f
 most_at zero i f lt = absurd (omega arith)
@@ -34,43 +33,6 @@ part_shallower (Struct n names parts) i count kind lt = let below : i < n = omeg
 part_shallower (Array n T) i count kind lt = omega arith
 part_shallower (Sequence bound T) i count kind lt = omega arith
 part_shallower T i count kind lt = absurd kind
-
--- a type without a part that tells what follows it
-abbrev pub HasNoLed : Ty → Type 0
-HasNoLed (Struct count names parts) = (i : ℕ) → HasNoLed (parts i)
-HasNoLed (Union choice scalar select names cases) = (i : ℕ) → HasNoLed (cases i)
-HasNoLed (Sequence bound T) = HasNoLed T
-HasNoLed (Array count T) = HasNoLed T
-HasNoLed (Encapsulation T) = HasNoLed T
-HasNoLed (Led h F parts) = ⊥
-HasNoLed T = Unit {0}
-
--- a table's trees have none yet
-
-part_none : (trees : ℕ → Ty) → ((i : ℕ) → HasNoLed (trees i)) → (p : Option Member') →
-    HasNoLed (grown_part trees p)
-part_none trees h None = tt
-part_none trees h (Some p) = h p.type
-
-grown_none : (trees : ℕ → Ty) → ((i : ℕ) → HasNoLed (trees i)) → (node : Node) →
-    HasNoLed (grow trees node)
-grown_none trees h (nodes.members parts) = λ i. part_none trees h (slice_get parts i)
-grown_none trees h (nodes.union switch cases otherwise) =
-    λ i. part_none trees h (part_at (nodes.union switch cases otherwise) i)
-grown_none trees h (nodes.sequence bound element) = h element
-grown_none trees h (nodes.array count element) = h element
-grown_none trees h (nodes.encapsulation held) = h held
-grown_none trees h (nodes.tagged special tag inner other) =
-    λ i. part_none trees h (part_at (nodes.tagged special tag inner other) i)
-grown_none trees h node = tt
-
-room_none : (C : Table) (room i : ℕ) → HasNoLed (tree_at C room i)
-unfolding tree_at
-room_none C zero i = grown_none (λ k. octet_type) (λ k. tt) (node_at C i)
-room_none C (suc room) i = grown_none (tree_at C room) (room_none C room) (node_at C i)
-
-pub tree_none : (C : Table) (i : ℕ) → HasNoLed (tree C i)
-tree_none C i = room_none C 24 i
 
 case_none : (T : Ty) (i : ℕ) → HasNoLed T → HasNoLed (part_of T i)
 case_none (Struct count names parts) i h = h i
@@ -116,4 +78,4 @@ fits_shallow (Inside U coding end ∷ ps) T leaf none fits = search
 
 -- They are fewer than the types of a table are deep.
 pub fits_depth : (C : Table) (d : Decoder) → Fits C d → length d.outer.items < depth_of C.types
-fits_depth C d h = search (arith, length_places, fits_shallow, depth_is, tree_none)
+fits_depth C d h = search (arith, length_places, fits_shallow, depth_is, room_none)

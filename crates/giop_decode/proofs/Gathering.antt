@@ -169,7 +169,7 @@ number_counted C of d new (b ∷ bs) on piece f e held =
     let one = one_gathered C d mid leaf b (ahead_first (length bs) d.outer.items on.1)
     (next_on d held.0 d.piece.items) f e clean (λ here h path.
     let c = coding_in (plain d.order) (open_parts C here d.outer.items) in
-    let k = coded_in C 24 here (plain d.order) d.order d.at d.outer.items h.1
+    let k = coded_in C 24 here (plain d.order) d.order d.at d.outer.items f.known_outer h.1
     (record { order = refl; at = omega (arith, h.0) }) in
     let T = tree_in C d.outer.items of.0 in
     ap (after_leading_number T (λ xs at rest. after c path T (num c.order xs) at rest))

@@ -1,13 +1,14 @@
 -- What comes next after a part that has ended: the next of several parts, or the rest of an
 -- encapsulation.
-use Rattle.std.proofs.Common.{◌≡◌, ℕ, zero, suc, pred, ◌+◌, ◌-◌, ◌<◌, ◌≤◌, List, [], ◌∷◌, ◌++◌, length, Some, None, refl, ap, subst, ◌∙◌, arith}
+use Rattle.std.proofs.Common.{◌≡◌, ℕ, zero, suc, pred, ◌+◌, ◌-◌, ◌<◌, ◌≤◌, List, [], ◌∷◌, ◌++◌, length, Option, Some, None, refl, ap, subst, ◌∙◌, arith}
 use Rattle.std.specs.List.{AllByRecursion}
 use Rattle.giop_decode.specs.ReadResult.{Coding, PathSegment, OpenPart, Part, Member, Done, Short, coded, Inside, Content}
 use Rattle.giop_decode.specs.ReadingSteps.{around}
 use Rattle.giop_decode.specs.Fits.{HasParts, HasCase, IsOpen, OpenFrom, IsEncapsulation}
 use Rattle.giop_decode.specs.Begins.{start_outer, start_leaf}
-use Rattle.giop_decode.specs.Transitions.{IsUncounted, IsWithin, part_in, open_part, open_parts, parts_in_room, tree_in, IsKnown, AreKnown}
+use Rattle.giop_decode.specs.Transitions.{IsUncounted, IsWithin, IsWithinAs, part_as, part_in, open_part, open_parts, parts_in_room, tree_in, IsKnown, AreKnown}
 use Rattle.giop_decode.specs.declared.frame.Frame.{Frame}
+use Rattle.giop_decode.specs.declared.frame.Stage.{Stage}
 use Rattle.giop_decode.specs.NextParts.{frames_above}
 use Rattle.giop_decode.proofs.TransitionLaws.{content_none}
 use Rattle.giop_decode.proofs.Beginning.{places_push}
@@ -75,14 +76,36 @@ goes_rest coding path ps T inner end at (suc left) some e = search (
   content_none,
 )
 
-pub part_is : (C : Table) (room at : ℕ) (f : Frame) → f.inside ≡ None →
+pub part_is : (C : Table) (room at : ℕ) (f : Frame) → f.inside ≡ None → f.told ≡ None →
     open_part C room at f ≡ part_in (tree_at C room f.of.0) f.index f.count
-part_is C room at f none = search (arith)
+part_is C room at f none quiet = rw (quiet, none) refl
 
-pub held_is : (C : Table) (room at : ℕ) (f : Frame) (order : Order) → f.inside ≡ Some order →
+-- an encapsulation tells nothing,
+quiet_held : (told : Option Stage) (inside : Option Order) (order : Order) (T : Ty) (i count : ℕ) →
+    IsWithinAs told inside i count T → inside ≡ Some order → told ≡ None
+quiet_held None inside order T i count k is = refl
+quiet_held (Some stage) inside order T i count k is = let none = k.1 in absurd cc
+
+pub held_is : (C : Table) (room at : ℕ) (f : Frame) (order : Order) → IsKnown C f →
+    f.inside ≡ Some order →
     open_part C room at f ≡ Inside (tree_at C room f.of.0) (coded order (at - f.index))
     (at + (f.count - f.index))
-held_is C room at f order some = search (arith)
+held_is C room at f order k some =
+    rw (
+      quiet_held f.told f.inside order (tree_at C room f.of.0) f.index f.count (k.within room)
+          some,
+      some,
+    ) refl
+
+-- nor does a part that another follows
+quiet_next : (told : Option Stage) (inside : Option Order) (T : Ty) (i count : ℕ) →
+    IsWithinAs told inside i count T → i < count - 1 → told ≡ None
+quiet_next None inside T i count k below = refl
+quiet_next (Some stage) inside T i count k below = absurd (omega (arith, k.2))
+
+pub next_quiet : (C : Table) (f : Frame) → IsKnown C f → f.index < f.count - 1 → f.told ≡ None
+next_quiet C f k below =
+    quiet_next f.told f.inside (tree_at C 24 f.of.0) f.index f.count (k.within 24) below
 
 module _ (coding : Coding) (path : List PathSegment) (ps : List OpenPart) where
   pub goes_past : (T : Ty) (inner : Coding) (end at : ℕ) → end - at ≡ 0 →
@@ -128,7 +151,7 @@ popped C at items rest f known are_open e =
           (subst (OpenFrom 24) (ap (open_parts C at) e ∙ places_push C 24 at rest f) are_open);
     }
 
--- what holds where a frame is removed that is no encapsulation's
+-- what holds where a frame is removed that is no encapsulation's, and tells nothing
 pub record PartPopped (C : Table) (at : ℕ) (rest : List Frame) (f : Frame) : Type 0 where
   pub known_rest : AreKnown C rest
   pub known : f.of.0 < length C.types
@@ -141,8 +164,8 @@ pub record PartPopped (C : Table) (at : ℕ) (rest : List Frame) (f : Frame) : T
 
 pub part_popped : (C : Table) (at : ℕ) (items rest : List Frame) (f : Frame) → AreKnown C items →
     OpenFrom 24 (open_parts C at items) → items ≡ rest ++ f ∷ [] → f.inside ≡ None →
-    PartPopped C at rest f
-part_popped C at items rest f known are_open e none =
+    f.told ≡ None → PartPopped C at rest f
+part_popped C at items rest f known are_open e none quiet =
     let p = popped C at items rest f known are_open e in
     let size = length_places C 24 at rest in
     let deep = p.inner.depth in
@@ -150,20 +173,55 @@ part_popped C at items rest f known are_open e none =
       known_rest = p.known_rest;
       known = p.known.known;
       within = λ room. subst (λ x. IsWithin x f.index f.count (tree_at C room f.of.0)) none
-          (p.known.within room);
+          (subst (λ x. IsWithinAs x f.inside f.index f.count (tree_at C room f.of.0)) quiet
+          (p.known.within room));
       front = p.inner.front;
       left = p.inner.left;
       depth = omega (arith, deep, size);
       few = omega (arith, deep, size);
-      «open» = subst (IsOpen (suc p.inner.left)) (part_is C (24 - length rest) at f none)
+      «open» = subst (IsOpen (suc p.inner.left)) (part_is C (24 - length rest) at f none quiet)
           p.inner.«open»;
+    }
+
+-- where one is removed that tells what follows
+pub record TellPopped (C : Table) (at : ℕ) (rest : List Frame) (f : Frame) (stage : Stage) : Type 0
+  where
+    pub known_rest : AreKnown C rest
+    pub known : f.of.0 < length C.types
+    pub within : (room : ℕ) → IsWithinAs (Some stage) f.inside f.index f.count
+        (tree_at C room f.of.0)
+    pub front : OpenFrom 24 (open_parts C at rest)
+    pub left : ℕ
+    pub depth : 24 - length rest ≡ suc left
+    pub few : length rest < 24
+    pub fit : IsFit (suc left) (tree_in C rest f.of.0)
+
+pub tell_popped : (C : Table) (at : ℕ) (items rest : List Frame) (f : Frame) (stage : Stage) →
+    AreKnown C items → OpenFrom 24 (open_parts C at items) → items ≡ rest ++ f ∷ [] →
+    f.told ≡ Some stage → TellPopped C at rest f stage
+tell_popped C at items rest f stage known are_open e tells =
+    let p = popped C at items rest f known are_open e in
+    let size = length_places C 24 at rest in
+    let deep = p.inner.depth in
+    let T = tree_in C rest f.of.0 in
+    record {
+      known_rest = p.known_rest;
+      known = p.known.known;
+      within = λ room. subst (λ x. IsWithinAs x f.inside f.index f.count (tree_at C room f.of.0))
+          tells (p.known.within room);
+      front = p.inner.front;
+      left = p.inner.left;
+      depth = omega (arith, deep, size);
+      few = omega (arith, deep, size);
+      fit = (subst (λ x. IsOpen (suc p.inner.left) (part_as x at f.inside T f.index f.count)) tells
+          p.inner.«open»).1;
     }
 
 -- and where one of an encapsulation is removed
 pub record HeldPopped (C : Table) (at : ℕ) (rest : List Frame) (f : Frame) (order : Order) : Type 0
   where
     pub known_rest : AreKnown C rest
-    pub known : f.of.0 < length C.types
+    pub known : IsKnown C f
     pub kind : IsEncapsulation (tree_in C rest f.of.0)
     pub within : f.index ≤ f.count
     pub front : OpenFrom 24 (open_parts C at rest)
@@ -173,12 +231,15 @@ pub held_popped : (C : Table) (at : ℕ) (items rest : List Frame) (f : Frame) (
     f.inside ≡ Some order → HeldPopped C at rest f order
 held_popped C at items rest f order known are_open e some =
     let p = popped C at items rest f known are_open e in
-    let w : IsWithin (Some order) f.index f.count (tree_in C rest f.of.0) =
-    subst (λ x. IsWithin x f.index f.count (tree_in C rest f.of.0)) some
-    (p.known.within (24 - length rest)) in
+    let T = tree_in C rest f.of.0 in
+    let within = p.known.within (24 - length rest) in
+    let quiet = quiet_held f.told f.inside order T f.index f.count within some in
+    let w : IsWithin (Some order) f.index f.count T =
+    subst (λ x. IsWithin x f.index f.count T) some
+    (subst (λ x. IsWithinAs x f.inside f.index f.count T) quiet within) in
     record {
       known_rest = p.known_rest;
-      known = p.known.known;
+      known = p.known;
       kind = w.0;
       within = w.2;
       front = p.inner.front;

@@ -12,7 +12,8 @@ use Rattle.giop_cdr.specs.declared.prim.Primitive.{Primitive}
 use Rattle.giop_decode.specs.Pieces.{Complete, Block, Partial, block, content, full_piece, full_pieces, last_piece, number, octets, tail, text, unless}
 use Rattle.giop_decode.specs.Reading.{after_leading_number, member, parts_from, read, single, following, heard, led, sign_of, told_after}
 use Rattle.giop_decode.specs.ReadResult.{Coding, Done, Fault, Line, Member, Name, Part, OpenPart, Read, PathSegment, Short, followed, with_front, within}
-use Rattle.giop_decode.specs.ReadingSteps.{advance, after, block_step, leading_width, inner_path, number_step, part_at, after_told, hearing_in}
+use Rattle.giop_decode.specs.ReadingSteps.{advance, after, block_step, leading_width, inner_path, number_step, part_at, after_told}
+use Rattle.giop_sig.specs.Hearings.{hearing_in}
 use Rattle.giop_decode.specs.declared.progress.Kind.{Kind}
 use Rattle.giop_sig.specs.Types.{Choice, Enum, Plain, Scalar, Sequence, Ty, Union, part_of, width, Hearing, Told, Sequel, Then, Marked}
 use Rattle.giop_sig.specs.declared.types.Selected.{Selected}

@@ -21,12 +21,14 @@ mod Surrounding
 mod Counting
 mod TransitionLaws
 mod Rooms
+mod HeardFrames
 mod StepLaws
 mod PieceLaws
 mod Segments
 mod FieldsRead
 mod TransitionsInFrames
 mod Advancing
+mod Telling
 mod PartialBlocks
 mod Starting
 mod Noting

@@ -5,6 +5,7 @@ use Rattle.std.proofs.lemmas.List.{take_all, take_more}
 use Rattle.giop_cdr.specs.Numbers.{interpreted_as}
 use Rattle.giop_cdr.specs.Primitives.{size_of}
 use Rattle.giop_cdr.specs.declared.number.Number.{Number as Taken}
+use Rattle.giop_decode.specs.declared.frame.Within.TheVariants as withins
 use Rattle.giop_decode.specs.Begins.{start_outer, start_leaf}
 use Rattle.giop_decode.specs.Segments.{frame_text, frames_text}
 use Rattle.giop_decode.specs.Spelling.{lines_text, path_text, value_text}
@@ -38,7 +39,8 @@ use Rattle.giop_decode.proofs.Advancing.{rooted_result, comes_by, same_some, sta
 use Rattle.giop_decode.proofs.Beginning.{all_push, places_push}
 use Rattle.giop_decode.proofs.Counting.{ahead_free, free_ticked_by}
 use Rattle.giop_decode.proofs.Going.{PartPopped, Next, part_popped, next_in, goes_next, part_is}
-use Rattle.giop_decode.proofs.Surrounding.{heard_open, ahead_by, around_unless_ended, behind_stopped, free_coding_by, free_ended, free_first, free_ticked, front_gone, inside_push, outside_pop, places_ticked}
+use Rattle.giop_decode.proofs.HeardFrames.{heard_free}
+use Rattle.giop_decode.proofs.Surrounding.{unheard, ahead_by, around_unless_ended, behind_stopped, free_coding_by, free_ended, free_first, free_ticked, front_gone, push_more, untelling, outside_pop, places_ticked}
 use Rattle.giop_decode.proofs.TransitionsInFrames.{around_done}
 use Rattle.giop_decode.proofs.FieldsRead.{headed_is, path_spelled}
 use Rattle.giop_decode.proofs.Linking.{link_pop, link_push}
@@ -82,26 +84,30 @@ pub front_kept : (C : Table) (d new : Decoder) (part : PartAhead) (next : TypeId
     IsAtNext C d new part next → front_text C new ≡ front_text C d
 front_kept C d new part next n = search (arith, above_push)
 
-last_free : (frames : List Frame) (f : Frame) → is_inside (frames ++ f ∷ []) ≡ false →
-    f.inside ≡ None
-last_free [] f h = search (arith, free_first)
+last_free : (frames : List Frame) (f : Frame) → is_inside (frames ++ f ∷ []) ≡ withins.Nothing →
+    (f.inside ≡ None) × (f.told ≡ None)
+last_free [] f h = let n = free_first f [] h in (n.0, n.1)
 last_free (g ∷ frames) f h = last_free frames f
-    (free_first g.inside (is_inside (frames ++ f ∷ [])) h).1
+    (free_first g (frames ++ f ∷ []) h).2
 
-push_free : (frames : List Frame) (f : Frame) → is_inside frames ≡ false → f.inside ≡ None →
-    is_inside (frames ++ f ∷ []) ≡ false
-push_free frames f h none = search (arith, inside_push)
+push_free : (frames : List Frame) (f : Frame) → is_inside frames ≡ withins.Nothing → f.inside ≡ None
+    →
+    f.told ≡ None → is_inside (frames ++ f ∷ []) ≡ withins.Nothing
+push_free frames f h none quiet = push_more frames f none ∙ rw (quiet, h) refl
 
-pub stand_free : (at : ℕ) (frames : List Frame) → is_inside frames ≡ false → StandAt at frames
+pub stand_free : (at : ℕ) (frames : List Frame) → is_inside frames ≡ withins.Nothing → StandAt at
+    frames
 stand_free at [] h = tt
 stand_free at (f ∷ frames) h =
-    let n = free_first f.inside (is_inside frames) h in
-    (rw n.0 tt, stand_free at frames n.1)
+    let n = free_first f frames h in
+    (rw n.0 tt, stand_free at frames n.2)
 
-pub places_free : (C : Table) (here : ℕ) (frames : List Frame) → is_inside frames ≡ false →
-    HaveOctetsLeft frames → open_parts C here frames ≡ open_parts C (here + 1) frames
-places_free C here frames h ahead =
-    sym (places_ticked C 24 here frames ahead)
+pub places_free : (C : Table) (here : ℕ) (frames : List Frame) → is_inside frames ≡ withins.Nothing
+    →
+    HaveOctetsLeft frames → AreKnown C frames →
+    open_parts C here frames ≡ open_parts C (here + 1) frames
+places_free C here frames h ahead known =
+    sym (places_ticked C 24 here frames ahead known)
     ∙ ap (open_parts C (here + 1)) (sym (free_ticked frames h))
 
 frames_text-push : (C : Table) (frames : List Frame) (f : Frame) →
@@ -131,15 +137,16 @@ line_is message place segment kind text = search (arith, codes, headed_is, decim
 -- the innermost frame, in no encapsulation
 module _ (C : Table) (d : Decoder) (of : TypeId) (frame : Frame) (f : Fits C d)
     (leaf : d.leaf ≡ Some (innermost.Number of))
-    (outside : d.inside ≡ false) (outer : d.outer.items ≡ frames_above d.outer.items ++ frame ∷ [])
+    (outside : d.inside ≡ withins.Nothing) (outer : d.outer.items ≡ frames_above d.outer.items ++
+    frame ∷ [])
   where
-    free_outer : is_inside d.outer.items ≡ false
+    free_outer : is_inside d.outer.items ≡ withins.Nothing
     free_outer = sym f.inside ∙ outside
 
-    free_above : is_inside (frames_above d.outer.items) ≡ false
+    free_above : is_inside (frames_above d.outer.items) ≡ withins.Nothing
     free_above = search (arith, outside_pop, free_outer)
 
-    free_frame : frame.inside ≡ None
+    free_frame : (frame.inside ≡ None) × (frame.told ≡ None)
     free_frame = search (arith, last_free, free_outer)
 
     abbrev popped_frame : PartPopped C (stands_at C d f (innermost.Number of) leaf).are_open.0
@@ -147,7 +154,7 @@ module _ (C : Table) (d : Decoder) (of : TypeId) (frame : Frame) (f : Fits C d)
     popped_frame =
         let s = stands_at C d f (innermost.Number of) leaf in
         part_popped C s.are_open.0 d.outer.items (frames_above d.outer.items) frame f.known_outer
-        s.are_open.1 outer free_frame
+        s.are_open.1 outer free_frame.0 free_frame.1
 
     follows : frame.index + 1 < frame.count →
         Next (suc popped_frame.left) (tree_in C (frames_above d.outer.items) frame.of.0)
@@ -174,7 +181,7 @@ module _ (C : Table) (d : Decoder) (part : PartAhead) (f : Fits C d)
   abbrev above : List Frame
   above = frames_above d.outer.items
 
-  free : is_inside d.outer.items ≡ false
+  free : is_inside d.outer.items ≡ withins.Nothing
   free = search (arith)
 
   whole_here : IsWholeNumber (tree_in C d.outer.items part.of.0) d.order d.at octets part.count
@@ -201,11 +208,12 @@ module _ (C : Table) (d : Decoder) (part : PartAhead) (f : Fits C d)
 
   -- and after them
   pub part_behind : (at : ℕ) → at ≡ (d.at + part.count) % 8 →
-      IsBehind C there (at_last d at d.outer) part.of.0
+      IsBehind C there (at_last d at d.outer) part.of.0 ended []
   part_behind at e =
       behind_last C d octets part.of part.count ended [] f there taken_together on
       (at_last d at d.outer) refl refl (omega (arith, e, taken_together.some))
-      (free_ticked d.outer.items free) refl refl refl refl
+      (heard_free C d.outer.items part.of.0 (outputs.Number part.number) (d.piece.items ++ []) free
+      f.known_outer) refl refl refl refl
 
   -- its path, and its line
   abbrev place : List ℕ
@@ -238,11 +246,14 @@ module _ (C : Table) (d : Decoder) (part : PartAhead) (f : Fits C d)
           place ≡ path_text d.head.root (path_in [] (open_parts C here d.outer.items))
       path_is here = search (arith, append_assoc, frames_text-push, path_spelled)
 
-  above_free : is_inside above ≡ false
+  above_free : is_inside above ≡ withins.Nothing
   above_free = free_above C d part.of part.frame f h.leaf h.outside h.outer
 
   none : part.frame.inside ≡ None
-  none = free_frame C d part.of part.frame f h.leaf h.outside h.outer
+  none = (free_frame C d part.of part.frame f h.leaf h.outside h.outer).0
+
+  quiet : part.frame.told ≡ None
+  quiet = (free_frame C d part.of part.frame f h.leaf h.outside h.outer).1
 
   abbrev popped_part : PartPopped C (stands_at C d f (innermost.Number part.of) h.leaf).are_open.0
       above part.frame
@@ -251,14 +262,14 @@ module _ (C : Table) (d : Decoder) (part : PartAhead) (f : Fits C d)
   module _ (new : Decoder) (next : TypeId) (follower : IsNextNumber C part.frame next)
       (n : IsAtNext C d new part next)
       (body : is_header_root d.head.root ≡ false) where
-    new_free : is_inside new.outer.items ≡ false
-    new_free = search (arith, push_free, above_free, none)
+    new_free : is_inside new.outer.items ≡ withins.Nothing
+    new_free = search (arith, push_free, above_free, none, quiet)
 
     known_new : AreKnown C new.outer.items
     known_new = rw n.outer (all_push (IsKnown C) above (next_of part.frame) popped_part.known_rest
         (record {
           known = popped_part.known;
-          within = λ room. rw none (
+          within = λ room. rw (none, quiet) (
             place_next C d part.of part.frame f h.leaf h.outside h.outer room follower.below,
             (popped_part.within room).1,
             (popped_part.within room).2,
@@ -284,7 +295,8 @@ module _ (C : Table) (d : Decoder) (part : PartAhead) (f : Fits C d)
         let outer : open_parts C at new.outer.items ≡ open_parts C at above ++ then ∷ [] =
         ap (open_parts C at) n.outer ∙ (places_push C 24 at above (next_of part.frame)
         ∙ ap (λ q. open_parts C at above ++ q ∷ [])
-        (part_is C (24 - length above) at (next_of part.frame) none ∙ ap (λ k. part_in T k count)
+        (part_is C (24 - length above) at (next_of part.frame) none quiet ∙ ap (λ k. part_in T k
+        count)
         (add-one i))) in
         let right : gone_on C at new.outer.items (Some (innermost.Number next))
         ≡ Short [] at (open_parts C at above ++ then ∷ []) (LeadingNumber N []) =
@@ -293,13 +305,13 @@ module _ (C : Table) (d : Decoder) (part : PartAhead) (f : Fits C d)
         let left : around coding path (open_parts C at above)
         (Short [] at (then ∷ start_outer P) (start_leaf P))
         ≡ Short [] at (open_parts C at above ++ then ∷ []) (LeadingNumber N []) =
-        rw (first, leaf) (around_unless_ended C 24 coding path at above [] (then ∷ [])
+        rw (first, leaf) (around_unless_ended C 24 coding path at above (then ∷ [])
         (LeadingNumber N []) popped_part.known_rest
         ∙ rw (free_ended above above_free) refl) in
         ap (λ ps. around coding path ps (Done [] at []))
         (ap (open_parts C at) h.outer ∙ places_push C 24 at above part.frame)
         ∙ (ap (λ q. around coding path (open_parts C at above ++ q ∷ []) (Done [] at []))
-        (part_is C (24 - length above) at part.frame none)
+        (part_is C (24 - length above) at part.frame none quiet)
         ∙ (goes_next coding path (open_parts C at above) T i count at popped_part.left
         (follows C d part.of part.frame f h.leaf h.outside h.outer follower.below)
         (rw add-one at follower.below)
@@ -313,10 +325,10 @@ module _ (C : Table) (d : Decoder) (part : PartAhead) (f : Fits C d)
         let ps = open_parts C (here + 1) d.outer.items in
         let leaf = innermost.Number next in
         ap (rooted none_left) (ap (λ qs. around (plain d.order) [] qs (Done lines (here + 1) []))
-        (places_free C here d.outer.items free f.ahead)
+        (places_free C here d.outer.items free f.ahead f.known_outer)
         ∙ ((around_done (plain d.order) [] ps lines (here + 1)
         ∙ ap (λ qs. with_front lines (around (plain d.order) [] qs (Done [] (here + 1) [])))
-        (heard_open C 24 (here + 1) lines d.outer.items))
+        (unheard C 24 (here + 1) lines d.outer.items (untelling d.outer.items free)))
         ∙ (ap (with_front lines) (gone (plain d.order) [] (here + 1))
         ∙ (front_gone C lines (here + 1) new.outer.items (Some leaf)
         ∙ (behind_stopped C new.outer.items new.carry new.piece.items (Some leaf) lines (here + 1)
@@ -362,7 +374,7 @@ module _ (C : Table) (d : Decoder) (part : PartAhead) (f : Fits C d)
             link = λ root leaf link is. subst (λ l. Link C root new.outer.items (leaf_type l))
                 (at_next leaf is)
                 (link_push C root above new.outer.items part.frame.of.0 next.0 (next_of part.frame)
-                refl n.outer (rw none follower.number)
+                refl n.outer (rw (none, quiet) follower.number)
                 (link_pop C root d.outer.items above part.frame part.of.0 h.outer link));
             going = tt;
             offset = λ leaf is.
@@ -376,7 +388,7 @@ module _ (C : Table) (d : Decoder) (part : PartAhead) (f : Fits C d)
               (here + 1) progress.More _
               (rw (k.4, body_new) refl) (sym (free_ended new.outer.items new_free))
               (come here lines) (rw n.leaf refl);
-          inside = λ here lines. ap ends_in_string (come here lines)
+          inside = λ here lines says. ap ends_in_string (come here lines)
               ∙ stopped_silent C new.outer.items new.carry new.piece.items new.leaf lines (here + 1)
               (rw n.leaf refl);
           id = λ no. ap (λ m. m.request_id) n.notes;

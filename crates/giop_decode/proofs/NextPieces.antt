@@ -1,6 +1,7 @@
 -- Full pieces of an octet sequence, after each of which more comes: what one of them does.
 use Rattle.std.proofs.Common.{◌≡◌, Result, Ok, IsErr, ℕ, ◌+◌, ◌-◌, ◌%◌, ◌<◌, true, false, List, [], ◌∷◌, ◌++◌, length, take, Some, refl, sym, ◌∙◌, ap, subst, arith, append-nil, codes, decimal}
 use Rattle.std.proofs.Math.Bool.{and-false}
+use Rattle.giop_decode.specs.declared.frame.Within.TheVariants as withins
 use Rattle.giop_decode.specs.declared.decoder.Decoder.{Decoder}
 use Rattle.giop_decode.specs.declared.leaf.Leaf.{Leaf as Innermost}
 use Rattle.giop_decode.specs.declared.leaf.Leaf.TheVariants as innermost
@@ -32,7 +33,7 @@ use Rattle.giop_decode.proofs.Noting.{stopped_silent}
 use Rattle.giop_decode.proofs.Passing.{last_says, passed_broken, passed_some}
 use Rattle.giop_decode.proofs.Segments.{said_one}
 use Rattle.giop_decode.proofs.SoFar.{AllSay}
-use Rattle.giop_decode.proofs.Surrounding.{around_gone, free_ended}
+use Rattle.giop_decode.proofs.Surrounding.{around_free, free_ended}
 use Rattle.giop_decode.proofs.Whole.{IsAtLast, at_last, comes_full, is_at_last, no_carry}
 use Rattle.giop_print.specs.Line.{headed}
 use Rattle.giop_print.specs.Lines.{content_line, more_word, spaced_hex}
@@ -58,7 +59,7 @@ unfolding content_line
 piece_text_is message offset place octets bound = refl
 
 module _ (C : Table) (d : Decoder) (ahead : PieceAhead) (f : Fits C d)
-    (h : IsPieceAhead C d ahead) (outside : d.inside ≡ false) where
+    (h : IsPieceAhead C d ahead) (outside : d.inside ≡ withins.Nothing) where
   abbrev octets : List ℕ
   octets = ahead.octets.now
 
@@ -74,7 +75,7 @@ module _ (C : Table) (d : Decoder) (ahead : PieceAhead) (f : Fits C d)
     output = outputs.Piece ahead.offset true;
   }
 
-  free : is_inside d.outer.items ≡ false
+  free : is_inside d.outer.items ≡ withins.Nothing
   free = sym f.inside ∙ outside
 
   taken_together : TakenTogether C d octets ahead.of 32 step rest d.carry d.piece.items
@@ -122,7 +123,7 @@ module _ (C : Table) (d : Decoder) (ahead : PieceAhead) (f : Fits C d)
       emitted C there ahead.of.0 step.transition step.output lines here
       ≡ transition_result C (tree_in C d.outer.items ahead.of.0) new step.transition lines (here +
       1)
-  come here lines = search (arith, rooted_gone, places_free, free, around_gone)
+  come here lines = search (arith, rooted_gone, places_free, free, around_free)
 
   -- a piece that isn't the last names no operation
   unnamed : (here at : ℕ) (lines : List Line) → Gives C there ahead.of.0 step rest here at lines →
@@ -170,7 +171,7 @@ module _ (C : Table) (d : Decoder) (ahead : PieceAhead) (f : Fits C d)
             (here + 1) progress.More _
             (unnamed here (here + 1) lines says) (sym (free_ended d.outer.items free))
             (come here lines) refl;
-        inside = silent;
+        inside = λ here lines says. silent here lines;
         id = λ no. refl;
         notes = λ o here at lines held says. kept o here at lines held says;
       }

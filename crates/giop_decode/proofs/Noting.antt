@@ -14,12 +14,13 @@ use Rattle.giop_decode.specs.NotingSteps.{OutputFitsString, clears_name, leaf_in
 use Rattle.giop_decode.specs.ReadResult.{Number, Leaf, Held, PathSegment, Name, Index, Switch, Line, line, Value, Piece, OpenPart, Content, Read, Done, lines_of, with_front}
 use Rattle.giop_decode.specs.declared.frame.Frame.{Frame}
 use Rattle.giop_decode.specs.ReadingSteps.{path_in, segment_in}
-use Rattle.giop_decode.specs.Transitions.{leaf_of, leaf_type, open_part, part_in, open_parts, tree_in, IsOutput}
+use Rattle.giop_decode.specs.Transitions.{AreKnown, IsKnown, leaf_of, leaf_type, open_part, part_in, open_parts, tree_in, IsOutput}
 use Rattle.giop_decode.proofs.Resuming.{noted-append, lines_front}
 use Rattle.std.specs.Prelude.{IfSome}
 use Rattle.giop_decode.specs.Fits.{IsEncapsulation}
 use Rattle.giop_decode.specs.DecoderSteps.{stopped_with}
 use Rattle.giop_decode.specs.Reading.{cut_off}
+use Rattle.giop_decode.proofs.Segments.{quiet}
 use Rattle.giop_decode.proofs.Surrounding.{unless_ended}
 use Rattle.giop_sig.specs.Table.{Table}
 use Rattle.giop_sig.specs.declared.types.Shape.TheVariants as shapes
@@ -194,6 +195,11 @@ only : (C : Table) (here : ℕ) (outer : List Frame) (d : Frame) → length oute
 only C here (f ∷ []) d h = refl
 only C here _ d h = absurd (omega arith)
 
+only_known : (C : Table) (outer : List Frame) (d : Frame) → length outer ≡ 1 → AreKnown C outer →
+    IsKnown C (slice_index_or outer 0 d)
+only_known C (f ∷ []) d h k = k.0
+only_known C _ d h k = absurd (omega arith)
+
 named_by : (name : List ℕ) (T : Ty) (i count : ℕ) → HasMember (shape_in T) i →
     is_member name (segment_in (part_in T i count) ∷ []) ≡ bytes_eq name (name_in T i)
 named_by name (Struct n names parts) i count h = refl
@@ -210,19 +216,32 @@ named_by name (Array n T) i count h = absurd h
 named_by name (Encapsulation T) i count h = absurd h
 
 pub member_by : (name text : List ℕ) (C : Table) (here : ℕ) (outer : List Frame) (d : Frame)
-    (b : Bool) → length outer ≡ 1 → (slice_index_or outer 0 d).inside ≡ None →
+    (b : Bool) → length outer ≡ 1 → AreKnown C outer → (slice_index_or outer 0 d).inside ≡ None →
     HasMember (shape_in (tree C (slice_index_or outer 0 d).of.0)) (slice_index_or outer 0 d).index →
     text ≡ name_in (tree C (slice_index_or outer 0 d).of.0) (slice_index_or outer 0 d).index →
     b ≡ bytes_eq name text → b ≡ is_member name (path_in [] (open_parts C here outer))
-member_by name text C here outer d b one part h is e =
+member_by name text C here outer d b one known part h is e =
     let f = slice_index_or outer 0 d in
-    rw (only C here outer d one, part, named_by name (tree C f.of.0) f.index f.count h, ← is) e
+    rw (
+      only C here outer d one,
+      quiet C f (only_known C outer d one known),
+      part,
+      named_by name
+          (tree C f.of.0) f.index f.count h,
+      ← is,
+    ) e
 
 -- what an encapsulation holds is no member
 pub held_member : (name : List ℕ) (C : Table) (here : ℕ) (outer : List Frame) (d : Frame)
-    (order : Order) → length outer ≡ 1 → (slice_index_or outer 0 d).inside ≡ Some order →
+    (order : Order) → length outer ≡ 1 → AreKnown C outer →
+    (slice_index_or outer 0 d).inside ≡ Some order →
     false ≡ is_member name (path_in [] (open_parts C here outer))
-held_member name C here outer d order one inside = rw (only C here outer d one, inside) refl
+held_member name C here outer d order one known inside =
+    rw (
+      only C here outer d one,
+      quiet C (slice_index_or outer 0 d) (only_known C outer d one known),
+      inside,
+    ) refl
 
 -- a discriminator is no member
 pub switch_member : (name : List ℕ) (path : List PathSegment) (tag : Option (List ℕ)) →

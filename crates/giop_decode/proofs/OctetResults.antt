@@ -7,7 +7,8 @@ use Rattle.std.proofs.lemmas.Bool.{cases_lt, lt-ltb, le-ltb}
 use Rattle.giop_decode.specs.Pieces.{Complete, Block, Partial, block, content, full_piece, last_piece, number, unless}
 use Rattle.giop_decode.specs.Reading.{member, parts_from, read, refused, single, wrong, enclosed, opening, ordered, rest_of, sized, following, led, none_left, told_after, cut_off}
 use Rattle.giop_decode.specs.ReadResult.{Coding, Content, Done, Fault, LeadingNumber, Index, Leaf, Line, Member, Name, Part, OpenPart, Read, PathSegment, Short, Switch, followed, line, with_front, within, lines_of, Held, Inside, Opening, Size, Telling}
-use Rattle.giop_decode.specs.ReadingSteps.{OneAt, IsOctetResult, IsEmptyResult, inner_path, after, around, block_step, leaf_step, number_step, part_at, segment_of, step, Faulted, held, after_told, hearing_in}
+use Rattle.giop_decode.specs.ReadingSteps.{OneAt, IsOctetResult, IsEmptyResult, inner_path, after, around, block_step, leaf_step, number_step, part_at, segment_of, step, Faulted, held, after_told}
+use Rattle.giop_sig.specs.Hearings.{hearing_in}
 use Rattle.giop_decode.specs.declared.progress.Kind.{Kind}
 use Rattle.giop_decode.specs.declared.progress.Kind.TheVariants as kinds
 use Rattle.giop_cdr.specs.declared.order.Order.{Order}
@@ -245,7 +246,8 @@ mute_within : (n : ℕ) (place : OpenPart) (r : Read) → Mute n r → Mute n (w
 mute_within n place (Done lines at rest) h = h
 mute_within n place r h = h
 
-mute_enclosed : (n : ℕ) (path : List PathSegment) (T : Ty) (inner : Coding) (end : ℕ) (r : Read) →
+pub mute_enclosed : (n : ℕ) (path : List PathSegment) (T : Ty) (inner : Coding) (end : ℕ) (r : Read)
+    →
     Mute n r → Mute n (enclosed path T inner end none_left r [])
 mute_enclosed n path T inner end (Done lines at rest) h = search (
   arith,

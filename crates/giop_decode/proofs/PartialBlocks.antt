@@ -57,7 +57,7 @@ module _ (C : Table) (d new : Decoder) (leaf : Innermost) (octet : ℕ)
       ap (λ l. root_step (plain d.order) [] ps (leaf_in C d l) here octet) e
       ∙ ap (rooted none_left) (ap (around (plain d.order) [] ps) (holds (path_in [] ps))
       ∙ (ap (λ zs. around (plain d.order) [] zs (Short [] (here + 1) [] held))
-      (sym (places_ticked C 24 here d.outer.items f.ahead))
+      (sym (places_ticked C 24 here d.outer.items f.ahead f.known_outer))
       ∙ (around-short (plain d.order) [] qs [] (here + 1) [] held stands
       ∙ (ap (λ zs. Short [] (here + 1) zs held) (append-nil (heard_parts [] qs) ∙ heard_none qs)
       ∙ ap (λ fs. Short [] (here + 1) (open_parts C (here + 1) fs) held) (sym counts)))))

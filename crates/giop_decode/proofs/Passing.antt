@@ -79,7 +79,7 @@ module _ (C : Table) (d : Decoder) (octets : List ℕ) (of : TypeId) (count : �
         (e.steps here (lines here) (says here)))
         (λ here front stands old.
         keeps_noted_whole C d octets of count step rest f m h on new here front stands
-        (e.inside here (lines here))
+        (e.inside here (lines here) (says here))
         (λ o held. e.notes o here (here + 1) (lines here) held (says here)) old)
         (reads_before T order at message root s r)
 

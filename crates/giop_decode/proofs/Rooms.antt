@@ -1,16 +1,17 @@
 -- What holds of a type in one room holds in each.
 use Rattle.std.proofs.Common.{◌≡◌, ℕ, suc, ◌-◌, ◌<◌, List, length, Option, Some, None, refl, subst, arith, ◌∙◌}
 use Rattle.giop_decode.specs.declared.frame.Frame.{Frame}
+use Rattle.giop_decode.specs.declared.frame.Stage.{Stage}
 use Rattle.giop_cdr.specs.declared.number.Number.{Number as Taken}
-use Rattle.giop_decode.specs.Fits.{HasLeadingNumber, IsEncapsulation}
-use Rattle.giop_decode.specs.Transitions.{IsNumberOf, IsUncounted, IsWithin}
+use Rattle.giop_decode.specs.Fits.{HasLeadingNumber, IsEncapsulation, IsLed}
+use Rattle.giop_decode.specs.Transitions.{IsNumberOf, IsUncounted, IsWithin, IsWithinAs}
 use Rattle.giop_cdr.specs.declared.order.Order.{Order}
 use Rattle.giop_sig.proofs.PartLaws.{fit_room, has_shape_room, shape_room, switch_same}
 use Rattle.giop_sig.specs.Fits.{IsFit}
 use Rattle.giop_sig.specs.HeaderTypes.{IsTable}
 use Rattle.giop_sig.specs.Table.{Table}
 use Rattle.giop_sig.specs.Trees.{tree, tree_at}
-use Rattle.giop_sig.specs.Types.{Cases, Encapsulation, Enum, HasMember, HasPlace, HasShape, IsUnion, Marked, Plain, Single, Tag, Ty, Union, shape_in, switch_of}
+use Rattle.giop_sig.specs.Types.{Cases, Encapsulation, Enum, HasMember, HasPlace, HasShape, IsUnion, Led, Marked, Plain, Single, Tag, Ty, Union, shape_in, switch_of}
 use Rattle.giop_sig.specs.declared.types.Shape.{Shape}
 use Rattle.giop_sig.specs.declared.types.Shape.TheVariants as shapes
 
@@ -94,6 +95,25 @@ within_in_room C a b of None i count h = (
   λ is. h.2 (subst IsUncounted (shape_room C b a of) is),
 )
 within_in_room C a b of (Some order) i count h = (held_in_room C a b of h.0, h.1, h.2)
+
+-- or of one that begins with a part that tells what follows
+
+led_has : (T : Ty) → IsLed T → HasShape T shapes.Led
+led_has (Led h F parts) kind = (h, F, parts, refl)
+led_has T kind = absurd kind
+
+has_led : (T : Ty) → HasShape T shapes.Led → IsLed T
+has_led T has = rw has.3 tt
+
+pub led_in_room : (C : Table) (a b of : ℕ) → IsLed (tree_at C a of) → IsLed (tree_at C b of)
+led_in_room C a b of kind = has_led (tree_at C b of)
+    (has_shape_room C a b of shapes.Led (led_has (tree_at C a of) kind))
+
+pub within_as_in_room : (C : Table) (a b of : ℕ) (told : Option Stage) (inside : Option Order)
+    (i count : ℕ) → IsWithinAs told inside i count (tree_at C a of) →
+    IsWithinAs told inside i count (tree_at C b of)
+within_as_in_room C a b of None inside i count h = within_in_room C a b of inside i count h
+within_as_in_room C a b of (Some stage) inside i count h = (led_in_room C a b of h.0, h.1, h.2)
 
 module _ (C : Table) (of room : ℕ) where
   abbrev T : Ty

@@ -1,5 +1,5 @@
 -- What follows for a type from its shape.
-use Rattle.std.proofs.Common.{◌≡◌, ℕ, zero, Option, refl, inl, inr}
+use Rattle.std.proofs.Common.{◌≡◌, ℕ, zero, Option, Some, None, refl, inl, inr}
 use Rattle.giop_cdr.specs.Alignment.{IsAlignment}
 use Rattle.giop_cdr.specs.Primitives.{size_of}
 use Rattle.giop_cdr.specs.declared.prim.Primitive.{Primitive}
@@ -9,12 +9,16 @@ use Rattle.giop_decode.specs.Transitions.{IsWhole}
 use Rattle.giop_sig.specs.Fits.{IsEmptyStruct}
 use Rattle.giop_sig.specs.Types.{Ty, Struct, HasShape}
 use Rattle.giop_sig.specs.declared.types.Shape.TheVariants as shapes
+use Rattle.giop_decode.specs.declared.frame.Stage.TheVariants as stages
 
-pub whole_members : (T : Ty) (n : ℕ) → HasShape T (shapes.Members n) → IsWhole T n
-whole_members T n h = rw h.2 refl
+pub whole_members : (T : Ty) (n : ℕ) → HasShape T (shapes.Members n) → IsWhole T n None
+whole_members T n h = rw h.2 (refl, refl)
 
-pub whole_array : (T : Ty) (n : ℕ) → HasShape T (shapes.Array n) → IsWhole T n
-whole_array T n h = rw h.1 refl
+pub whole_array : (T : Ty) (n : ℕ) → HasShape T (shapes.Array n) → IsWhole T n None
+whole_array T n h = rw h.1 (refl, refl)
+
+pub whole_led : (T : Ty) → HasShape T shapes.Led → IsWhole T 0 (Some stages.Untold)
+whole_led T h = rw h.3 (refl, refl)
 
 pub head_prim : (T : Ty) (p : Primitive) → HasShape T (shapes.Prim p) → HasLeadingNumber T
 head_prim T p h = rw h tt
@@ -34,6 +38,7 @@ head_encapsulation T h = rw h.1 tt
 pub ruleset shape_laws = (
   whole_members,
   whole_array,
+  whole_led,
   head_prim,
   head_enum,
   head_union,

@@ -7,7 +7,8 @@ use Rattle.giop_decode.specs.Fits.{Sound, HasCase, HasContent, HasLeadingNumber,
 use Rattle.giop_decode.specs.Pieces.{Complete, Block, Partial, block, content, full_piece, full_pieces, last_piece, number, octets, tail, text, unless}
 use Rattle.giop_decode.specs.Reading.{enclosed, inside, member, order_of, ordered, parts_from, read, rest_of, single, sized, following, left_after, led, led_segment, none_left, told_after}
 use Rattle.giop_decode.specs.ReadResult.{Coding, Done, Fault, Index, Line, Member, Name, Part, Read, PathSegment, Short, followed, with_front, within, Held}
-use Rattle.giop_decode.specs.ReadingSteps.{inner_path, after, leading_width, part_at, held, IsOctetResult, after_told, hearing_in}
+use Rattle.giop_decode.specs.ReadingSteps.{inner_path, after, leading_width, part_at, held, IsOctetResult, after_told}
+use Rattle.giop_sig.specs.Hearings.{hearing_in}
 use Rattle.giop_decode.specs.declared.progress.Kind.{Kind}
 use Rattle.giop_decode.specs.declared.progress.Kind.TheVariants as kinds
 use Rattle.giop_sig.specs.Fits.{IsFit, SelectsBelow}

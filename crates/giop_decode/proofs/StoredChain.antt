@@ -1,16 +1,17 @@
 -- The test of a restored decoder is exact: it passes exactly if the decoder fits the table; how
 -- many parts that are begun fit in a type.
-use Rattle.std.proofs.Common.{◌≡◌, ℕ, zero, suc, pred, ◌+◌, ◌-◌, ◌*◌, ◌<◌, ◌≤◌, List, [], ◌∷◌, length, Option, Some, None, sym, subst, arith}
+use Rattle.std.proofs.Common.{◌≡◌, ℕ, zero, suc, pred, ◌+◌, ◌-◌, ◌*◌, ◌<◌, ◌≤◌, List, [], ◌∷◌, length, Option, Some, None, refl, sym, subst, arith}
 use Rattle.std.specs.Prelude.{IfSome}
 use Rattle.giop_cdr.specs.declared.order.Order.{Order}
 use Rattle.giop_decode.specs.declared.decoder.Decoder.{Decoder}
 use Rattle.giop_decode.specs.declared.frame.Frame.{Frame}
+use Rattle.giop_decode.specs.declared.frame.Stage.{Stage}
 use Rattle.giop_decode.specs.declared.leaf.Leaf.{Leaf as Innermost}
-use Rattle.giop_decode.specs.FrameChain.{HasFrame, HasPart, LeafFits, Chained, Chains, root_of}
+use Rattle.giop_decode.specs.FrameChain.{HasFrame, HasFrameAs, HasPart, LeafFits, Chained, Chains, root_of}
 use Rattle.giop_decode.specs.Fits.{FitsIn, IsEncapsulation}
 use Rattle.giop_decode.specs.DecoderState.{Fits}
 use Rattle.giop_decode.specs.ReadResult.{OpenPart, Leaf}
-use Rattle.giop_decode.specs.Transitions.{IsUncounted, parts_in_room, part_in, part_index, open_part_in, HaveOctetsLeft, AreKnown, IsWithin, Link, StandAt, leaf_by, leaf_type}
+use Rattle.giop_decode.specs.Transitions.{IsUncounted, parts_in_room, part_as, part_in, part_index, open_part_in, HaveOctetsLeft, AreKnown, IsWithin, IsWithinAs, Link, StandAt, leaf_by, leaf_type}
 use Rattle.giop_decode.proofs.Around.{fit_room}
 use Rattle.giop_decode.proofs.Going.{length_places}
 use Rattle.giop_decode.proofs.Starting.{fit_some}
@@ -19,7 +20,7 @@ use Rattle.giop_sig.specs.Fits.{IsFit, IsEmptyStruct}
 use Rattle.giop_sig.specs.HeaderTypes.{IsTable}
 use Rattle.giop_sig.specs.Table.{Table, part_number}
 use Rattle.giop_sig.specs.Trees.{tree, tree_at}
-use Rattle.giop_decode.proofs.Rooms.{place_in_room, within_in_room}
+use Rattle.giop_decode.proofs.Rooms.{place_in_room, within_as_in_room}
 use Rattle.giop_sig.specs.Types.{Cases, Tag, Encapsulation, Ty, Single, Text, Octets, Struct, Union, Sequence, Array, HasPlace, part_of, shape_in, Led}
 use Rattle.giop_sig.proofs.PartLaws.{PartIs, part_is, root_is}
 
@@ -75,7 +76,7 @@ inside_place T i is = absurd is
 -- ---- one frame
 
 pub frame_place : (inside : Option Order) (T : Ty) (i count : ℕ) → HasFrame inside T i count →
-    HasPlace (shape_in T) (part_index inside i)
+    HasPlace (shape_in T) (part_index None inside i)
 frame_place None T i count has = part_place T i count has
 frame_place (Some order) T i count has = inside_place T 0 has.0
 
@@ -84,28 +85,58 @@ frame_within : (inside : Option Order) (T : Ty) (i count : ℕ) → HasFrame ins
 frame_within None T i count has = search (arith, part_place, part_bare, part_uncounted)
 frame_within (Some order) T i count has = search (arith)
 
+frame_place_as : (told : Option Stage) (inside : Option Order) (T : Ty) (i count : ℕ) →
+    HasFrameAs told inside T i count → HasPlace (shape_in T) (part_index told inside i)
+frame_place_as None None T i count has = frame_place None T i count has
+frame_place_as None (Some order) T i count has = frame_place (Some order) T i count has
+frame_place_as (Some stage) inside (Led h F parts) i count has = tt
+frame_place_as (Some stage) inside T i count has = absurd has.0
+
+frame_within_as : (told : Option Stage) (inside : Option Order) (T : Ty) (i count : ℕ) →
+    HasFrameAs told inside T i count → IsWithinAs told inside i count T
+frame_within_as None inside T i count has = frame_within inside T i count has
+frame_within_as (Some stage) inside T i count has = has
+
 frame_ahead : (inside : Option Order) (T : Ty) (i count : ℕ) → HasFrame inside T i count →
     IfSome inside (λ order. i < count)
 frame_ahead None T i count has = tt
 frame_ahead (Some order) T i count has = has.2
 
+frame_ahead_as : (told : Option Stage) (inside : Option Order) (T : Ty) (i count : ℕ) →
+    HasFrameAs told inside T i count → IfSome inside (λ order. i < count)
+frame_ahead_as None inside T i count has = frame_ahead inside T i count has
+frame_ahead_as (Some stage) inside T i count has = rw has.1 tt
+
 frame_fits : (here : ℕ) (inside : Option Order) (T : Ty) (i count : ℕ) (outer : List OpenPart)
     (leaf : Leaf) → HasFrame inside T i count →
-    FitsIn (part_of T (part_index inside i)) outer leaf →
+    FitsIn (part_of T (part_index None inside i)) outer leaf →
     FitsIn T (open_part_in here inside T i count ∷ outer) leaf
 frame_fits here None T i count outer leaf has fits = search (arith, fits_one_more)
 frame_fits here (Some order) T i count outer leaf has fits = search (arith)
 
-record FrameIs (inside : Option Order) (T : Ty) (i count : ℕ) (outer : List OpenPart)
-    (leaf : Leaf) : Type 0 where
-  has : HasFrame inside T i count
-  fits : FitsIn (part_of T (part_index inside i)) outer leaf
+frame_fits_as : (told : Option Stage) (here : ℕ) (inside : Option Order) (T : Ty) (i count : ℕ)
+    (outer : List OpenPart) (leaf : Leaf) → HasFrameAs told inside T i count →
+    FitsIn (part_of T (part_index told inside i)) outer leaf →
+    FitsIn T (part_as told here inside T i count ∷ outer) leaf
+frame_fits_as None here inside T i count outer leaf has fits =
+    frame_fits here inside T i count outer leaf has fits
+frame_fits_as (Some stage) here inside T i count outer leaf has fits =
+    (record { same = refl; kind = has.0 }, fits)
 
-frame_is : (here : ℕ) (inside : Option Order) (T : Ty) (i count : ℕ) (outer : List OpenPart)
-    (leaf : Leaf) → IsWithin inside i count T → IfSome inside (λ order. i < count) →
-    FitsIn T (open_part_in here inside T i count ∷ outer) leaf → FrameIs inside T i count outer leaf
-frame_is here None T i count outer leaf within ahead fits = search (arith, fits_part)
-frame_is here (Some order) T i count outer leaf within ahead fits = search (arith)
+record FrameIs (told : Option Stage) (inside : Option Order) (T : Ty) (i count : ℕ)
+    (outer : List OpenPart) (leaf : Leaf) : Type 0 where
+  has : HasFrameAs told inside T i count
+  fits : FitsIn (part_of T (part_index told inside i)) outer leaf
+
+frame_is : (told : Option Stage) (here : ℕ) (inside : Option Order) (T : Ty) (i count : ℕ)
+    (outer : List OpenPart) (leaf : Leaf) → IsWithinAs told inside i count T →
+    IfSome inside (λ order. i < count) →
+    FitsIn T (part_as told here inside T i count ∷ outer) leaf →
+    FrameIs told inside T i count outer leaf
+frame_is None here None T i count outer leaf within ahead fits = search (arith, fits_part)
+frame_is None here (Some order) T i count outer leaf within ahead fits = search (arith)
+frame_is (Some stage) here inside T i count outer leaf within ahead fits =
+    record { has = within; fits = fits.1 }
 
 -- ---- a chain
 
@@ -145,29 +176,30 @@ chain_fits C room left here id [] leaf carry piece laws known rooms h inner = re
 }
 chain_fits C room left here id (f ∷ frames) leaf carry piece laws known rooms h inner =
     let has = h.1 in
-    let i = part_index f.inside f.index in
+    let i = part_index f.told f.inside f.index in
     let T = tree_at C room id in
     let some : 0 < room = omega (arith, rooms) in
-    let place = frame_place f.inside T f.index f.count has in
+    let place = frame_place_as f.told f.inside T f.index f.count has in
     let next = part_number C id i in
     let rest = chain_fits C (pred room) left here next frames leaf carry piece laws
     (below_there C room id i laws known some place) (omega (arith, rooms)) h.2 inner in
     let ps = parts_in_room C (pred room) here frames in
     let inmost = leaf_by (tree_at C left (leaf_type leaf)) leaf carry piece in
-    let fits = frame_fits here f.inside T f.index f.count ps inmost has
+    let fits = frame_fits_as f.told here f.inside T f.index f.count ps inmost has
     (subst (λ (P : Ty). FitsIn P ps inmost) (same_there C room id i laws known some place)
     rest.fits) in
     let is : id ≡ f.of.0 = sym h.0 in
     record {
       fits = subst (λ (n : ℕ). FitsIn T
-          (open_part_in here f.inside (tree_at C room n) f.index f.count ∷ ps) inmost) is fits;
-      ahead = (frame_ahead f.inside T f.index f.count has, rest.ahead);
+          (part_as f.told here f.inside (tree_at C room n) f.index f.count ∷ ps) inmost) is fits;
+      ahead = (frame_ahead_as f.told f.inside T f.index f.count has, rest.ahead);
       known_outer = (
         record {
           known = subst (λ (n : ℕ). n < length C.types) is known;
-          within = λ n. subst (λ (m : ℕ). IsWithin f.inside f.index f.count (tree_at C n m)) is
-              (within_in_room C room n id f.inside f.index f.count
-              (frame_within f.inside T f.index f.count has));
+          within = λ n. subst (λ (m : ℕ). IsWithinAs f.told f.inside f.index f.count
+              (tree_at C n m)) is
+              (within_as_in_room C room n id f.told f.inside f.index f.count
+              (frame_within_as f.told f.inside T f.index f.count has));
         },
         rest.known_outer,
       );
@@ -193,14 +225,15 @@ fits_chain C room left here id (f ∷ frames) leaf carry piece laws known rooms 
     let T = tree_at C room id in
     let ps = parts_in_room C (pred room) here frames in
     let inmost = leaf_by (tree_at C left (leaf_type leaf)) leaf carry piece in
-    let i = part_index f.inside f.index in
+    let i = part_index f.told f.inside f.index in
     let some : 0 < room = omega (arith, rooms) in
     let there = subst (λ (n : ℕ). FitsIn T
-    (open_part_in here f.inside (tree_at C room n) f.index f.count ∷ ps) inmost) link.0 fits in
-    let within = subst (λ (n : ℕ). IsWithin f.inside f.index f.count (tree_at C room n)) link.0
+    (part_as f.told here f.inside (tree_at C room n) f.index f.count ∷ ps) inmost) link.0 fits in
+    let within = subst (λ (n : ℕ). IsWithinAs f.told f.inside f.index f.count (tree_at C room n))
+    link.0
     (are.0.within room) in
-    let u = frame_is here f.inside T f.index f.count ps inmost within ahead.0 there in
-    let place = frame_place f.inside T f.index f.count u.has in
+    let u = frame_is f.told here f.inside T f.index f.count ps inmost within ahead.0 there in
+    let place = frame_place_as f.told f.inside T f.index f.count u.has in
     let inner = subst (λ (P : Ty). FitsIn P ps inmost)
     (sym (same_there C room id i laws known some place)) u.fits in
     let rest = fits_chain C (pred room) left here (part_number C id i) frames leaf carry piece laws

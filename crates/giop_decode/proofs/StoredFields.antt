@@ -135,6 +135,6 @@ fields_written d leaf carry piece o0 o1 o2 o3 o4 o5 o6 o7 o8 o9 a b e0 e1 e2 e3 
     search (arith, append_assoc)
 
 -- the fields of a frame, put one after the other
-pub put_together : (o a b c z : List ℕ) (i : ℕ) →
-    ((((o ++ a) ++ b) ++ c) ++ i ∷ []) ++ z ≡ o ++ (a ++ b ++ c ++ i ∷ z)
-put_together o a b c z i = simp append_assoc
+pub put_together : (o a b c z : List ℕ) (i t : ℕ) →
+    (((((o ++ a) ++ b) ++ c) ++ i ∷ []) ++ t ∷ []) ++ z ≡ o ++ (a ++ b ++ c ++ i ∷ t ∷ z)
+put_together o a b c z i t = simp append_assoc

@@ -4,9 +4,10 @@ use Rattle.std.specs.List.{AllByRecursion}
 use Rattle.std.proofs.lemmas.List.{append-nil}
 use Rattle.giop_cdr.specs.declared.order.Order.{Order}
 use Rattle.giop_decode.specs.declared.frame.Frame.{Frame}
+use Rattle.giop_decode.specs.declared.frame.Stage.{Stage}
 use Rattle.giop_decode.specs.declared.leaf.Leaf.{Leaf as Innermost}
 use Rattle.giop_decode.specs.declared.leaf.Leaf.TheVariants as innermost
-use Rattle.giop_decode.specs.Stored.{leaf_octets, inside_octet, frame_size, frame_octets, frames_octets, FrameHasRange, LeafHasRange}
+use Rattle.giop_decode.specs.Stored.{leaf_octets, inside_octet, told_octet, frame_size, frame_octets, frames_octets, FrameHasRange, LeafHasRange}
 use Rattle.giop_decode.proofs.StoredFields.{frame_long, further, three}
 use Rattle.giop_octets.specs.Fields.{four}
 use Rattle.giop_octets.proofs.FieldLaws.{four_long, behind}
@@ -68,13 +69,16 @@ module _ (at of tag : ℕ) (octets rest : List ℕ)
 
 -- ---- frames
 
-pub frame_again : (f : Frame) (of index count : ℕ) (inside : Option Order) (octets rest : List ℕ) →
-    FrameHasRange f → octets ≡ frame_octets f ++ rest → ReadsFour 0 octets of →
+pub frame_again : (f : Frame) (of index count : ℕ) (inside : Option Order) (told : Option Stage)
+    (octets rest : List ℕ) → FrameHasRange f → octets ≡ frame_octets f ++ rest → ReadsFour 0 octets
+    of →
     ReadsFour 4 octets index → ReadsFour 8 octets count →
     ((i : Option Order) (rest : List ℕ) → drop 12 octets ≡ inside_octet i ∷ rest → inside ≡ i) →
-    record { of = type_id of; index = index; count = count; inside = inside } ≡ f
-frame_again f of index count inside octets rest range is of_is index_is count_is inside_is =
-    let last : List ℕ = inside_octet f.inside ∷ replicate 11 0 in
+    ((t : Option Stage) (rest : List ℕ) → drop 13 octets ≡ told_octet t ∷ rest → told ≡ t) →
+    record { of = type_id of; index = index; count = count; inside = inside; told = told } ≡ f
+frame_again f of index count inside told octets rest range is of_is index_is count_is inside_is
+    told_is =
+    let last : List ℕ = inside_octet f.inside ∷ told_octet f.told ∷ replicate 10 0 in
     let first : drop 0 octets ≡ four f.of.0 ++ (four f.index ++ (four f.count ++ (last ++ rest))) =
     is
     ∙ four_fields (four f.of.0) (four f.index) (four f.count) last rest in
@@ -87,7 +91,9 @@ frame_again f of index count inside octets rest range is of_is index_is count_is
     let b : index ≡ f.index = index_is f.index _ range.index second in
     let c : count ≡ f.count = count_is f.count _ range.count third in
     let d : inside ≡ f.inside = inside_is f.inside _ fourth in
-    rw (a, b, c, d) refl
+    let e : told ≡ f.told = told_is f.told _
+    (behind 12 1 octets (inside_octet f.inside ∷ []) _ fourth refl) in
+    rw (a, b, c, d, e) refl
 
 -- frames that are left to read, in front of the last
 pub record Left (all items : List Frame) (own : Frame) (octets : List ℕ) : Type 0 where

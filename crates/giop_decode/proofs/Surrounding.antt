@@ -1,19 +1,24 @@
 -- The encapsulations among a decoder's frames.
-use Rattle.std.proofs.Common.{◌≡◌, ℕ, zero, suc, pred, ◌+◌, ◌-◌, ◌%◌, ◌<◌, ◌≤◌, Bool, true, false, cond, List, [], ◌∷◌, ◌++◌, length, map, take, drop, get_or, set, Option, Some, None, refl, sym, ◌∙◌, ap, arith, add-one, append-nil, length-set, lt-ltb, le-ltb, ne_eqb}
+use Rattle.std.proofs.Common.{◌≡◌, ℕ, zero, suc, pred, ◌+◌, ◌-◌, ◌%◌, ◌<◌, ◌≤◌, Bool, true, false, cond, List, [], ◌∷◌, ◌++◌, length, map, take, drop, get_or, set, Option, Some, None, refl, sym, ◌∙◌, ap, subst, arith, add-one, append-nil, length-set, lt-ltb, le-ltb, ne_eqb}
 use Rattle.std.specs.Prelude.{◌||◌, IfSome}
 use Rattle.std.proofs.lemmas.Bool.{cases_lt, eq-eqb}
 use Rattle.std.proofs.lemmas.List.{map-append, take_more, take_more_set}
 use Rattle.giop_cdr.specs.declared.order.Order.{Order}
+use Rattle.giop_decode.specs.declared.frame.Within.TheVariants as withins
 use Rattle.giop_decode.specs.declared.frame.Frame.{Frame}
 use Rattle.giop_decode.specs.DecoderSteps.{stopped_with}
+use Rattle.giop_decode.proofs.Around.{around-front}
+use Rattle.giop_decode.specs.declared.frame.Stage.{Stage}
+use Rattle.giop_decode.specs.declared.frame.Within.{Within}
+use Rattle.std.specs.List.{list_any}
 use Rattle.giop_sig.specs.declared.types.TypeId.{TypeId}
 use Rattle.giop_decode.specs.declared.progress.Kind.TheVariants as kinds
 use Rattle.giop_decode.specs.declared.leaf.Leaf.{Leaf as Innermost}
 use Rattle.giop_decode.specs.Fits.{Surround, Surrounds}
 use Rattle.giop_decode.specs.Reading.{cut_off}
-use Rattle.giop_decode.specs.ReadResult.{Done, with_front, Coding, Fault, Leaf, Line, OpenPart, Read, PathSegment, Short, lines_of}
+use Rattle.giop_decode.specs.ReadResult.{Done, with_front, Coding, Fault, Leaf, Line, OpenPart, Read, PathSegment, Short}
 use Rattle.giop_decode.specs.ReadingSteps.{around, coding_at, coding_in, heard_in, heard_parts, resumed, segment_in}
-use Rattle.giop_decode.specs.Transitions.{HasOctetsLeft, tick_of, tick_by_of, HaveOctetsLeft, AreKnown, IsWithin, StandAt, StandsAt, coding_by, coding_of, ended_at, gone_on, gone_to, leaf_by, leaf_of, leaf_type, has_ended, is_inside, is_some_order, part_in, open_part, open_part_in, open_parts, parts_in_room, tree_in, ticked, ticked_at, ticked_by}
+use Rattle.giop_decode.specs.Transitions.{HasOctetsLeft, tick_of, tick_by_of, HaveOctetsLeft, AreKnown, IsAtMost, IsWithin, IsWithinAs, holds_one, tells_one, within_by, within_held, within_more, StandAt, StandsAt, coding_by, coding_of, ended_at, gone_on, gone_to, leaf_by, leaf_of, leaf_type, has_ended, is_inside, is_some_order, is_some_stage, part_as, part_in, open_part, open_part_in, open_parts, parts_in_room, tree_in, ticked, ticked_at, ticked_by}
 use Rattle.giop_sig.specs.Table.{Table}
 use Rattle.giop_sig.specs.Trees.{tree_at}
 use Rattle.giop_sig.specs.Types.{Led, Ty, Union}
@@ -26,11 +31,21 @@ place_ticked : (here : ℕ) (inside : Option Order) (T : Ty) (i count : ℕ) →
 place_ticked here None T i count h = refl
 place_ticked here (Some order) T i count h = search (arith)
 
+place_as_ticked : (told : Option Stage) (here : ℕ) (inside : Option Order) (T : Ty) (i count : ℕ) →
+    IfSome inside (λ order. i < count) → IsWithinAs told inside i count T →
+    part_as told (here + 1) inside T (ticked_at inside i) count ≡ part_as told here inside T i count
+place_as_ticked None here inside T i count h k = place_ticked here inside T i count h
+place_as_ticked (Some stage) here inside T i count h k = rw k.1 refl
+
 pub places_ticked : (C : Table) (room here : ℕ) (frames : List Frame) → HaveOctetsLeft frames →
-    parts_in_room C room (here + 1) (ticked frames) ≡ parts_in_room C room here frames
-places_ticked C room here [] h = refl
-places_ticked C room here (f ∷ frames) h =
-    search (arith, place_ticked, places_ticked C (pred room) here frames h.1)
+    AreKnown C frames → parts_in_room C room (here + 1) (ticked frames) ≡ parts_in_room C room here
+    frames
+places_ticked C room here [] h k = refl
+places_ticked C room here (f ∷ frames) h k =
+    ap (λ p. p ∷ parts_in_room C (pred room) (here + 1) (ticked frames))
+    (place_as_ticked f.told here f.inside (tree_at C room f.of.0) f.index f.count h.0
+    (k.0.within room))
+    ∙ ap (λ ps. open_part C room here f ∷ ps) (places_ticked C (pred room) here frames h.1 k.1)
 
 within_ticked : (inside : Option Order) (i count : ℕ) (T : Ty) →
     IfSome inside (λ order. i < count) → IsWithin inside i count T →
@@ -38,10 +53,16 @@ within_ticked : (inside : Option Order) (i count : ℕ) (T : Ty) →
 within_ticked None i count T h k = k
 within_ticked (Some order) i count T h k = search (arith)
 
+within_as_ticked : (told : Option Stage) (inside : Option Order) (i count : ℕ) (T : Ty) →
+    IfSome inside (λ order. i < count) → IsWithinAs told inside i count T →
+    IsWithinAs told inside (ticked_at inside i) count T
+within_as_ticked None inside i count T h k = within_ticked inside i count T h k
+within_as_ticked (Some stage) inside i count T h k = k
+
 pub known_ticked : (C : Table) (frames : List Frame) → HaveOctetsLeft frames → AreKnown C frames →
     AreKnown C (ticked frames)
 known_ticked C [] h k = tt
-known_ticked C (f ∷ frames) h k = search (arith, within_ticked, known_ticked C frames h.1 k.1)
+known_ticked C (f ∷ frames) h k = search (arith, within_as_ticked, known_ticked C frames h.1 k.1)
 
 stands_ticked : (here : ℕ) (inside : Option Order) (i : ℕ) → IfSome inside (λ order. i ≤ here) →
     IfSome inside (λ order. ticked_at inside i ≤ here + 1)
@@ -79,12 +100,18 @@ ahead_at : (inside : Option Order) (i count : ℕ) (T : Ty) → IsWithin inside 
 ahead_at None i count T k h = tt
 ahead_at (Some order) i count T k h = search (arith, cases_lt, eq-eqb)
 
+ahead_as : (told : Option Stage) (inside : Option Order) (i count : ℕ) (T : Ty) →
+    IsWithinAs told inside i count T → ended_at inside i count ≡ false →
+    IfSome inside (λ order. i < count)
+ahead_as None inside i count T k h = ahead_at inside i count T k h
+ahead_as (Some stage) inside i count T k h = rw k.1 tt
+
 pub ahead_by : (C : Table) (frames : List Frame) → AreKnown C frames → has_ended frames ≡ false →
     HaveOctetsLeft frames
 ahead_by C [] k h = tt
 ahead_by C (f ∷ frames) k h =
     let n = neither (ended_at f.inside f.index f.count) (has_ended frames) h in (
-      ahead_at f.inside f.index f.count (tree_at C 24 f.of.0) (k.0.within 24) n.0,
+      ahead_as f.told f.inside f.index f.count (tree_at C 24 f.of.0) (k.0.within 24) n.0,
       ahead_by C frames k.1 n.1,
     )
 
@@ -99,12 +126,19 @@ surround_at : (here : ℕ) (inside : Option Order) (T : Ty) (i count : ℕ) →
 surround_at here None T i count k a s = part_surrounds here T i count
 surround_at here (Some order) T i count k a s = search (arith)
 
+surround_as : (told : Option Stage) (here : ℕ) (inside : Option Order) (T : Ty) (i count : ℕ) →
+    IsWithinAs told inside i count T → IfSome inside (λ order. i < count) →
+    IfSome inside (λ order. i ≤ here) → Surround here (part_as told here inside T i count)
+surround_as None here inside T i count k a s = surround_at here inside T i count k a s
+surround_as (Some stage) here inside T i count k a s = tt
+
 pub surrounds : (C : Table) (room here : ℕ) (frames : List Frame) → AreKnown C frames →
     HaveOctetsLeft frames →
     StandAt here frames → Surrounds here (parts_in_room C room here frames)
 surrounds C room here [] k a s = tt
 surrounds C room here (f ∷ frames) k a s = (
-  surround_at here f.inside (tree_at C room f.of.0) f.index f.count (k.0.within room) a.0 s.0,
+  surround_as f.told here f.inside (tree_at C room f.of.0) f.index f.count (k.0.within room) a.0
+      s.0,
   surrounds C (pred room) here frames k.1 a.1 s.1,
 )
 
@@ -149,33 +183,38 @@ resumed_shut coding path (Some order) T i count ended lines at outer leaf k = se
   le-ltb,
 )
 
+shut_as : (coding : Coding) (path : List PathSegment) (told : Option Stage) (inside : Option Order)
+    (T : Ty) (i count : ℕ) (ended : Bool) (at : ℕ) (outer : List OpenPart) (leaf : Leaf) →
+    IsWithinAs told inside i count T →
+    resumed coding path (part_as told at inside T i count) (unless_ended ended [] at outer leaf)
+    ≡ unless_ended (ended_at inside i count || ended) [] at
+    (part_as told at inside T i count ∷ outer) leaf
+shut_as coding path None inside T i count ended at outer leaf k =
+    resumed_shut coding path inside T i count ended [] at outer leaf k
+shut_as coding path (Some stage) inside T i count true at outer leaf k = rw k.1 refl
+shut_as coding path (Some stage) inside T i count false at outer leaf k = rw k.1 refl
+
+-- without a line: that would be heard
 pub around_unless_ended : (C : Table) (room : ℕ) (coding : Coding) (path : List PathSegment)
-    (at : ℕ) (frames : List Frame)
-    (lines : List Line) (inner : List OpenPart) (leaf : Leaf) → AreKnown C frames →
-    around coding path (parts_in_room C room at frames) (Short lines at inner leaf)
-    ≡ unless_ended (has_ended frames) lines at (parts_in_room C room at frames ++ inner) leaf
-around_unless_ended C room coding path at [] lines inner leaf k = refl
-around_unless_ended C room coding path at (f ∷ frames) lines inner leaf k =
+    (at : ℕ) (frames : List Frame) (inner : List OpenPart) (leaf : Leaf) → AreKnown C frames →
+    around coding path (parts_in_room C room at frames) (Short [] at inner leaf)
+    ≡ unless_ended (has_ended frames) [] at (parts_in_room C room at frames ++ inner) leaf
+around_unless_ended C room coding path at [] inner leaf k = refl
+around_unless_ended C room coding path at (f ∷ frames) inner leaf k =
     let place = open_part C room at f in
     ap (resumed coding path place)
     (around_unless_ended C (pred room) (coding_at coding place) (path ++ segment_in place ∷ []) at
-    frames lines inner leaf k.1)
-    ∙ resumed_shut coding path f.inside (tree_at C room f.of.0) f.index f.count (has_ended frames)
-    lines at (parts_in_room C (pred room) at frames ++ inner) leaf (k.0.within room)
+    frames inner leaf k.1)
+    ∙ shut_as coding path f.told f.inside (tree_at C room f.of.0) f.index f.count
+    (has_ended frames) at (parts_in_room C (pred room) at frames ++ inner) leaf (k.0.within room)
 
 pub around_gone : (C : Table) (coding : Coding) (path : List PathSegment) (at : ℕ)
-    (frames : List Frame)
-    (lines : List Line) (leaf : Leaf) → AreKnown C frames →
-    around coding path (open_parts C at frames) (Short lines at [] leaf)
-    ≡ gone_to C lines at frames leaf
-around_gone C coding path at frames lines leaf k = search (arith, around_unless_ended, append-nil)
+    (frames : List Frame) (leaf : Leaf) → AreKnown C frames →
+    around coding path (open_parts C at frames) (Short [] at [] leaf)
+    ≡ gone_to C [] at frames leaf
+around_gone C coding path at frames leaf k = search (arith, around_unless_ended, append-nil)
 
-pub lines_shut : (ended : Bool) (lines : List Line) (at : ℕ) (outer : List OpenPart) (leaf : Leaf) →
-    lines_of (unless_ended ended lines at outer leaf) ≡ lines
-lines_shut true lines at outer leaf = refl
-lines_shut false lines at outer leaf = refl
-
--- in these frames nothing is heard
+-- a part that tells nothing hears nothing
 heard_in_part : (lines : List Line) (T : Ty) (i count : ℕ) →
     heard_in lines (part_in T i count) ≡ part_in T i count
 heard_in_part lines (Union choice scalar select names cases) i count = refl
@@ -187,12 +226,6 @@ pub heard_in_open : (lines : List Line) (here : ℕ) (inside : Option Order) (T 
 heard_in_open lines here None T i count = heard_in_part lines T i count
 heard_in_open lines here (Some order) T i count = refl
 
-pub heard_open : (C : Table) (room here : ℕ) (lines : List Line) (frames : List Frame) →
-    heard_parts lines (parts_in_room C room here frames) ≡ parts_in_room C room here frames
-heard_open C room here lines [] = refl
-heard_open C room here lines (f ∷ frames) = search
-    (arith, heard_in_open, heard_open C (pred room) here lines frames)
-
 -- one frame more
 pub or_false : (b : Bool) → b || false ≡ b
 or_false true = refl
@@ -202,14 +235,128 @@ pub or_true : (b : Bool) → b || true ≡ true
 or_true true = refl
 or_true false = refl
 
-pub inside_push : (frames : List Frame) (f : Frame) →
-    is_inside (frames ++ f ∷ []) ≡ is_inside frames || is_some_order f.inside
-inside_push [] f = search (arith, or_false)
-inside_push (g ∷ frames) f = search (arith, inside_push frames f)
+any_push : (p : Frame → Bool) (frames : List Frame) (f : Frame) →
+    list_any p (frames ++ f ∷ []) ≡ list_any p frames || p f
+any_push p [] f = or_false (p f)
+any_push p (g ∷ frames) f = go (p g) (list_any p (frames ++ f ∷ [])) (list_any p frames) (p f)
+    (any_push p frames f)
+  where
+    go : (b c d e : Bool) → c ≡ d || e → b || c ≡ (b || d) || e
+    go true c d e h = refl
+    go false c d e h = h
 
-pub outside_pop : (frames : List Frame) (f : Frame) → is_inside (frames ++ f ∷ []) ≡ false →
-    is_inside frames ≡ false
-outside_pop frames f h = search (arith, neither, inside_push)
+inside_push : (frames : List Frame) (f : Frame) → is_inside (frames ++ f ∷ [])
+    ≡ within_by (tells_one frames || is_some_stage f.told) (holds_one frames || is_some_order
+    f.inside)
+inside_push frames f = rw (
+  any_push (λ g. is_some_stage g.told) frames f,
+  any_push (λ g. is_some_order g.inside) frames f,
+) refl
+
+by_more : (a b t : Bool) → within_by (a || t) (b || false) ≡ within_more t (within_by a b)
+by_more true b true = refl
+by_more true b false = refl
+by_more false b true = refl
+by_more false true false = refl
+by_more false false false = refl
+
+by_held : (a b : Bool) → within_by (a || false) (b || true) ≡ within_held (within_by a b)
+by_held true b = refl
+by_held false true = refl
+by_held false false = refl
+
+-- one more that is no encapsulation, and one that is
+pub push_more : (frames : List Frame) (f : Frame) → f.inside ≡ None →
+    is_inside (frames ++ f ∷ []) ≡ within_more (is_some_stage f.told) (is_inside frames)
+push_more frames f none =
+    inside_push frames f
+    ∙ (ap (λ x. within_by (tells_one frames || is_some_stage f.told) (holds_one frames
+    || is_some_order x)) none ∙ by_more (tells_one frames) (holds_one frames)
+    (is_some_stage f.told))
+
+pub push_held : (frames : List Frame) (f : Frame) (order : Order) → f.inside ≡ Some order →
+    f.told ≡ None → is_inside (frames ++ f ∷ []) ≡ within_held (is_inside frames)
+push_held frames f order is quiet =
+    inside_push frames f
+    ∙ (ap (λ x. within_by (tells_one frames || is_some_stage f.told) (holds_one frames
+    || is_some_order x)) is ∙ (ap (λ x. within_by (tells_one frames || is_some_stage x)
+    (holds_one frames || true)) quiet ∙ by_held (tells_one frames) (holds_one frames)))
+
+pub more_more : (s t : Bool) (within : Within) →
+    within_more t (within_more s within) ≡ within_more (s || t) within
+more_more true true within = refl
+more_more true false within = refl
+more_more false t within = refl
+
+pub more_most : (t : Bool) (within most : Within) → IsAtMost within most →
+    IsAtMost (within_more t within) (within_more t most)
+more_most true within most h = tt
+more_most false within most h = h
+
+pub at_most : (within : Within) → IsAtMost within within
+at_most withins.Nothing = tt
+at_most withins.Encapsulation = tt
+at_most withins.Telling = tt
+
+less_by : (a b s t : Bool) (most : Within) → IsAtMost (within_by (a || s) (b || t)) most →
+    IsAtMost (within_by a b) most
+less_by true b s t withins.Telling h = tt
+less_by true b s t withins.Nothing h = h
+less_by true b s t withins.Encapsulation h = h
+less_by false false s t most h = tt
+less_by false true true t withins.Telling h = tt
+less_by false true true t withins.Nothing h = absurd h
+less_by false true true t withins.Encapsulation h = tt
+less_by false true false t most h = h
+
+pub most_pop : (frames : List Frame) (f : Frame) (most : Within) →
+    IsAtMost (is_inside (frames ++ f ∷ [])) most → IsAtMost (is_inside frames) most
+most_pop frames f most h = less_by (tells_one frames) (holds_one frames) (is_some_stage f.told)
+    (is_some_order f.inside) most (subst (λ w. IsAtMost w most) (inside_push frames f) h)
+
+at_none : (within : Within) → IsAtMost within withins.Nothing → within ≡ withins.Nothing
+at_none withins.Nothing h = refl
+at_none withins.Encapsulation h = absurd h
+at_none withins.Telling h = absurd h
+
+none_by : (a b : Bool) → within_by a b ≡ withins.Nothing → (a ≡ false) × (b ≡ false)
+none_by true b h = absurd cc
+none_by false true h = absurd cc
+none_by false false h = (refl, refl)
+
+most_by : (a b s t : Bool) (most : Within) → IsAtMost (within_by (a || s) (b || false)) most →
+    IsAtMost (within_by (a || false) (b || false)) most
+most_by true b s t most h = h
+most_by false true true t withins.Telling h = tt
+most_by false true true t withins.Encapsulation h = absurd h
+most_by false true true t withins.Nothing h = absurd h
+most_by false true false t most h = h
+most_by false false s t most h = tt
+
+-- a frame in the place of another, that is no encapsulation either and tells nothing
+pub most_replaced : (frames : List Frame) (f g : Frame) (most : Within) → f.inside ≡ None →
+    g.inside ≡ None → g.told ≡ None → IsAtMost (is_inside (frames ++ f ∷ [])) most →
+    IsAtMost (is_inside (frames ++ g ∷ [])) most
+most_replaced frames f g most none gone quiet h =
+    let was = rw none at (subst (λ w. IsAtMost w most) (inside_push frames f) h) in
+    subst (λ w. IsAtMost w most) (sym (inside_push frames g))
+    (rw (gone, quiet) (most_by (tells_one frames) (holds_one frames) (is_some_stage f.told) false
+    most
+    was))
+
+-- where a part begins in them
+pub most_begun : (t : Bool) (mid new was now : Within) → new ≡ within_more t mid →
+    now ≡ within_more t was → IsAtMost mid was → IsAtMost new now
+most_begun t mid new was now is e h = rw (is, e) (more_most t mid was h)
+
+pub outside_pop : (frames : List Frame) (f : Frame) →
+    is_inside (frames ++ f ∷ []) ≡ withins.Nothing → is_inside frames ≡ withins.Nothing
+outside_pop frames f h = at_none (is_inside frames)
+    (most_pop frames f withins.Nothing (rw h (at_most withins.Nothing)))
+
+pub untelling : (frames : List Frame) → is_inside frames ≡ withins.Nothing → tells_one frames ≡
+    false
+untelling frames h = (none_by (tells_one frames) (holds_one frames) h).0
 
 pub ended_push : (frames : List Frame) (f : Frame) → ended_at f.inside f.index f.count ≡ false →
     has_ended (frames ++ f ∷ []) ≡ has_ended frames
@@ -234,49 +381,96 @@ coded_at : (C : Table) (here : ℕ) (c : Coding) (by : Order × ℕ) (inside : O
 coded_at C here c by None T i count s h = search (arith, part_coding)
 coded_at C here c by (Some order) T i count s h = search (arith)
 
+coded_as : (C : Table) (told : Option Stage) (here : ℕ) (c : Coding) (by : Order × ℕ)
+    (inside : Option Order) (T : Ty) (i count : ℕ) → IsWithinAs told inside i count T →
+    IfSome inside (λ order. i ≤ here) → IsCoded here c by →
+    IsCoded here (coding_at c (part_as told here inside T i count)) (coding_of by inside i)
+coded_as C None here c by inside T i count k s h = coded_at C here c by inside T i count s h
+coded_as C (Some stage) here c by inside T i count k s h = rw k.1 h
+
 pub coded_in : (C : Table) (room here : ℕ) (c : Coding) (order : Order) (at : ℕ)
-    (frames : List Frame) → StandAt here frames → IsCoded here c (order, at) →
+    (frames : List Frame) → AreKnown C frames → StandAt here frames → IsCoded here c (order, at) →
     IsCoded here (coding_in c (parts_in_room C room here frames)) (coding_by order at frames)
-coded_in C room here c order at [] s h = h
-coded_in C room here c order at (f ∷ frames) s h =
+coded_in C room here c order at [] k s h = h
+coded_in C room here c order at (f ∷ frames) k s h =
     let by = coding_of (order, at) f.inside f.index in
-    coded_in C (pred room) here (coding_at c (open_part C room here f)) by.0 by.1 frames s.1
-    (coded_at C here c (order, at) f.inside (tree_at C room f.of.0) f.index f.count s.0 h)
+    coded_in C (pred room) here (coding_at c (open_part C room here f)) by.0 by.1 frames k.1 s.1
+    (coded_as C f.told here c (order, at) f.inside (tree_at C room f.of.0) f.index f.count
+    (k.0.within room) s.0 h)
 
 -- ---- where there is none
 
-pub free_first : (inside : Option Order) (rest : Bool) → is_some_order inside || rest ≡ false →
-    (inside ≡ None) × (rest ≡ false)
-free_first None rest h = (refl, h)
-free_first (Some order) rest h = let e = h in absurd cc
+either_none : (told : Option Stage) (inside : Option Order) (a b : Bool) →
+    is_some_stage told || a ≡ false → is_some_order inside || b ≡ false →
+    (inside ≡ None) × (told ≡ None) × (a ≡ false) × (b ≡ false)
+either_none None None a b s t = (refl, refl, s, t)
+either_none (Some stage) inside a b s t = absurd cc
+either_none None (Some order) a b s t = absurd cc
+
+pub free_first : (f : Frame) (frames : List Frame) → is_inside (f ∷ frames) ≡ withins.Nothing →
+    (f.inside ≡ None) × (f.told ≡ None) × (is_inside frames ≡ withins.Nothing)
+free_first f frames h =
+    let n = none_by (tells_one (f ∷ frames)) (holds_one (f ∷ frames)) h in
+    let e = either_none f.told f.inside (tells_one frames) (holds_one frames) n.0 n.1 in
+    (e.0, e.1, rw (e.2, e.3) refl)
 
 free_index : (inside : Option Order) (i : ℕ) → inside ≡ None → ticked_at inside i ≡ i
 free_index inside i h = rw h refl
 
-pub free_ticked : (frames : List Frame) → is_inside frames ≡ false → frames ≡ ticked frames
+pub free_ticked : (frames : List Frame) → is_inside frames ≡ withins.Nothing → frames ≡ ticked
+    frames
 free_ticked [] h = refl
 free_ticked (f ∷ frames) h =
-    let n = free_first f.inside (is_inside frames) h in
+    let n = free_first f frames h in
     let one : f ≡ tick_of f = rw (free_index f.inside f.index n.0) refl in
-    ap (λ g. g ∷ frames) one ∙ ap (λ fs. tick_of f ∷ fs) (free_ticked frames n.1)
+    ap (λ g. g ∷ frames) one ∙ ap (λ fs. tick_of f ∷ fs) (free_ticked frames n.2)
 
-pub free_ended : (frames : List Frame) → is_inside frames ≡ false → has_ended frames ≡ false
+pub free_ended : (frames : List Frame) → is_inside frames ≡ withins.Nothing → has_ended frames ≡
+    false
 free_ended [] h = refl
 free_ended (f ∷ frames) h =
-    let n = free_first f.inside (is_inside frames) h in
-    rw n.0 (free_ended frames n.1)
+    let n = free_first f frames h in
+    rw n.0 (free_ended frames n.2)
 
-pub free_coding_by : (order : Order) (at : ℕ) (frames : List Frame) → is_inside frames ≡ false →
+pub free_coding_by : (order : Order) (at : ℕ) (frames : List Frame) → is_inside frames ≡
+    withins.Nothing →
     coding_by order at frames ≡ (order, at)
 free_coding_by order at [] h = refl
 free_coding_by order at (f ∷ frames) h =
-    let n = free_first f.inside (is_inside frames) h in
-    rw n.0 (free_coding_by order at frames n.1)
+    let n = free_first f frames h in
+    rw n.0 (free_coding_by order at frames n.2)
+
+unheard_as : (told : Option Stage) (lines : List Line) (here : ℕ) (inside : Option Order) (T : Ty)
+    (i count : ℕ) → told ≡ None →
+    heard_in lines (part_as told here inside T i count) ≡ part_as told here inside T i count
+unheard_as told lines here inside T i count none = rw none (heard_in_open lines here inside T i
+    count)
+
+quiet_first : (told : Option Stage) (rest : Bool) → is_some_stage told || rest ≡ false →
+    (told ≡ None) × (rest ≡ false)
+quiet_first None rest h = (refl, h)
+quiet_first (Some stage) rest h = absurd cc
+
+-- where no frame tells what follows, nothing is heard
+pub unheard : (C : Table) (room here : ℕ) (lines : List Line) (frames : List Frame) →
+    tells_one frames ≡ false →
+    heard_parts lines (parts_in_room C room here frames) ≡ parts_in_room C room here frames
+unheard C room here lines [] h = refl
+unheard C room here lines (f ∷ frames) h =
+    let n = quiet_first f.told (tells_one frames) h in
+    search (arith, unheard_as, unheard C (pred room) here lines frames n.1)
 
 -- counting an octet doesn't change what frames are
+tells_ticked : (frames : List Frame) → tells_one (ticked frames) ≡ tells_one frames
+tells_ticked [] = refl
+tells_ticked (f ∷ frames) = ap (λ b. is_some_stage f.told || b) (tells_ticked frames)
+
+holds_ticked : (frames : List Frame) → holds_one (ticked frames) ≡ holds_one frames
+holds_ticked [] = refl
+holds_ticked (f ∷ frames) = ap (λ b. is_some_order f.inside || b) (holds_ticked frames)
+
 pub inside_ticked : (frames : List Frame) → is_inside (ticked frames) ≡ is_inside frames
-inside_ticked [] = refl
-inside_ticked (f ∷ frames) = search (arith, inside_ticked frames)
+inside_ticked frames = rw (tells_ticked frames, holds_ticked frames) refl
 
 pub stand_push : (at : ℕ) (frames : List Frame) (f : Frame) → StandAt at frames → StandsAt at f →
     StandAt at (frames ++ f ∷ [])
@@ -300,7 +494,7 @@ pub record IsCounted (tick : Frame → Frame) (i : ℕ) (now old : List Frame) :
   pub back : drop i now ≡ drop i old
   pub same : length now ≡ length old
 
-get_at : (i : ℕ) (now old : List Frame) (d : Frame) → drop i now ≡ drop i old →
+pub get_at : (i : ℕ) (now old : List Frame) (d : Frame) → drop i now ≡ drop i old →
     get_or now i d ≡ get_or old i d
 get_at i now old d e = sym (get_or-drop-zero i now d)
     ∙ (ap (λ xs. get_or xs 0 d) e ∙ get_or-drop-zero i old d)
@@ -373,7 +567,7 @@ abbrev pub gone_behind : Table → List Line → ℕ → List Frame → Option I
 gone_behind C lines at frames None = Done lines at []
 gone_behind C lines at frames (Some leaf) = gone_to C lines at frames (leaf_of C frames leaf [] [])
 
-front_shut : (ended : Bool) (front : List Line) (at : ℕ) (outer : List OpenPart) (leaf : Leaf) →
+pub front_shut : (ended : Bool) (front : List Line) (at : ℕ) (outer : List OpenPart) (leaf : Leaf) →
     with_front front (unless_ended ended [] at outer leaf) ≡ unless_ended ended front at outer leaf
 front_shut true front at outer leaf = search (arith, append-nil)
 front_shut false front at outer leaf = search (arith, append-nil)
@@ -391,6 +585,33 @@ behind_stopped C frames carry piece None lines at no_carry no_piece = refl
 behind_stopped C frames carry piece (Some leaf) lines at no_carry no_piece =
     rw (no_carry, no_piece) refl
 
+pub gone_stopped : (C : Table) (frames : List Frame) (carry piece : List ℕ)
+    (leaf : Option Innermost) (at : ℕ) → carry ≡ [] → piece ≡ [] →
+    gone_on C at frames leaf ≡ stopped_with C frames carry piece leaf [] at
+gone_stopped C frames carry piece None at no_carry no_piece = refl
+gone_stopped C frames carry piece (Some leaf) at no_carry no_piece = rw (no_carry, no_piece) refl
+
+-- with lines, where no frame hears them
+pub around_free : (C : Table) (coding : Coding) (path : List PathSegment) (at : ℕ)
+    (frames : List Frame) (lines : List Line) (leaf : Leaf) → is_inside frames ≡ withins.Nothing →
+    AreKnown C frames → around coding path (open_parts C at frames) (Short lines at [] leaf)
+    ≡ gone_to C lines at frames leaf
+around_free C coding path at frames lines leaf free k =
+    let ps = open_parts C at frames in
+    let r = Short [] at [] leaf in
+    ap (λ ls. around coding path ps (Short ls at [] leaf)) (sym (append-nil lines))
+    ∙ (around-front coding path ps lines r
+    ∙ (ap (λ qs. with_front lines (around coding path qs r))
+    (unheard C 24 at lines frames (untelling frames free))
+    ∙ (ap (with_front lines) (around_gone C coding path at frames leaf k)
+    ∙ front_shut (has_ended frames) lines at ps leaf)))
+
 -- the frame of an encapsulation whose byte order was read
 abbrev pub inside_frame : TypeId → Order → ℕ → Frame
-inside_frame of order count = record { of = of; index = 1; count = count; inside = Some order }
+inside_frame of order count = record {
+  of = of;
+  index = 1;
+  count = count;
+  inside = Some order;
+  told = None;
+}

@@ -33,7 +33,7 @@ use Rattle.giop_decode.specs.NotingSteps.{transition_offset, StringGoesOn, Outpu
 use Rattle.giop_decode.specs.Runs.{Adds, AllGathered, IsHeldOf, IsParted, IsStep, IsStepBy, IsStepOf, TakenTogether}
 use Rattle.giop_decode.specs.ReadResult.{plain, line, Coding, Done, Line, Opening, PathSegment, Piece, lines_of, with_front}
 use Rattle.giop_decode.specs.ReadingSteps.{after, coding_in, content_step, leading_width, leaf_step, path_in, IsRule}
-use Rattle.giop_decode.specs.Transitions.{HasOutput, HaveOctetsLeft, IsOutput, IsWholeLong, IsWholeNumber, NumberStands, TransitionGives, TransitionFits, after_transition, block_of, coding_by, leaf_by, leaf_of, leaf_type, open_parts, still_held, ticked, ticked_by, tree_in, IsClean}
+use Rattle.giop_decode.specs.Transitions.{AreKnown, HasOutput, HaveOctetsLeft, IsOutput, IsWholeLong, IsWholeNumber, NumberStands, TransitionGives, TransitionFits, after_transition, block_of, coding_by, leaf_by, leaf_of, leaf_type, open_parts, still_held, ticked, ticked_by, tree_in, IsClean}
 use Rattle.giop_decode.proofs.Advancing.{lines_after_transition, same_some, stands_at, fits_allowed}
 use Rattle.arrayvec.specs.ArrayVec.{ArrayVec}
 use Rattle.giop_decode.specs.declared.frame.Frame.{Frame}
@@ -41,7 +41,9 @@ use Rattle.giop_decode.proofs.Counting.{ahead_fewer, coding_ticked_by, length_ti
 use Rattle.giop_decode.proofs.Gathering.{IsCountedBy, IsFurther, none_counted, number_counted, waits_gathered}
 use Rattle.giop_decode.proofs.Noting.{noted_on, leaf_inside}
 use Rattle.giop_decode.proofs.PieceLaws.{content_held, full_whole, last_whole}
-use Rattle.giop_decode.proofs.Surrounding.{coded_in, places_ticked, tree_ticked}
+use Rattle.giop_decode.proofs.HeardFrames.{path_heard}
+use Rattle.giop_decode.specs.Heard.{AreHeard}
+use Rattle.giop_decode.proofs.Surrounding.{coded_in, known_ticked, places_ticked, tree_ticked}
 use Rattle.giop_decode.proofs.Rooms.{in_frames}
 use Rattle.giop_decode.specs.Passes.{Gives, IsBehind}
 use Rattle.giop_decode.proofs.PartialBlocks.{held_in}
@@ -654,8 +656,9 @@ module _ (C : Table) (d : Decoder) (octets : List ℕ) (of : TypeId) (count : �
 
   -- and once the last is counted
   pub behind_last : (now : Decoder) → now.order ≡ m.order → now.head ≡ m.head →
-      now.at ≡ (m.at + 1) % 8 → now.outer.items ≡ ticked m.outer.items → now.inside ≡ m.inside →
-      now.carry ≡ m.carry → now.piece ≡ m.piece → now.notes ≡ m.notes → IsBehind C m now of.0
+      now.at ≡ (m.at + 1) % 8 → AreHeard C (ticked m.outer.items) now.outer.items of.0 s.output
+      (m.piece.items ++ rest) → now.inside ≡ m.inside → now.carry ≡ m.carry →
+      now.piece ≡ m.piece → now.notes ≡ m.notes → IsBehind C m now of.0 s rest
   behind_last now order head at outer inside carry piece notes = record {
     around = around_whole;
     order = order;
@@ -721,7 +724,8 @@ module _ (C : Table) (d : Decoder) (octets : List ℕ) (of : TypeId) (count : �
       decoder_step C before_last here (get_or octets (count - 1) 0)
       ≡ emitted C m of.0 s.transition s.output
       (lines_at here) here
-  told_whole here stands = search (arith, get_or, coded_in, coded, leads, comes_at)
+  told_whole here stands = search
+      (arith, get_or, coded_in, coded, leads, comes_at, fits_then.known_outer)
 
   pub lines_whole : (here : ℕ) → CanStandAt before_last here →
       lines_of (decoder_step C before_last here (get_or octets (count - 1) 0)) ≡ lines_at here
@@ -784,24 +788,54 @@ at_its_last now count =
 
 pub held_behind : (C : Table) (d now : Decoder) (octets : List ℕ) (of : TypeId) (count at : ℕ)
     (s : Step) (rest : List ℕ) (outer : ArrayVec Frame) → IsHeldOf C d now octets of count s rest →
-    at ≡ (now.at + count) % 8 → outer.items ≡ ticked_by count now.outer.items →
-    IsBehind C (at_its_last now count) (at_last now at outer) of.0
+    at ≡ (now.at + count) % 8 → AreHeard C (ticked_by count now.outer.items) outer.items of.0
+    s.output (now.piece.items ++ rest) →
+    IsBehind C (at_its_last now count) (at_last now at outer) of.0 s rest
 held_behind C d now octets of count at s rest outer h there counted =
     let some = h.together.some in
     let all : suc (count - 1) ≡ count = omega (arith, some) in
     behind_last C d octets of count s rest h.fits (at_its_last now count) h.together
     (held_at_last C d now octets of count _ s rest _ h refl refl) (at_last now at outer) refl refl
     (omega (arith, there, some))
-    (counted ∙ (ap (λ n. ticked_by n now.outer.items) (sym all)
-    ∙ sym (ticked_last (count - 1) now.outer.items))) refl refl refl refl
+    (subst (λ fs. AreHeard C fs outer.items of.0 s.output (now.piece.items ++ rest))
+    (ap (λ n. ticked_by n now.outer.items) (sym all)
+    ∙ sym (ticked_last (count - 1) now.outer.items)) counted) refl refl refl refl
+
+module _ (C : Table) (d now : Decoder) (octets : List ℕ) (of : TypeId) (count : ℕ) (s : Step)
+    (rest : List ℕ) (h : IsHeldOf C d now octets of count s rest) where
+  pub held_around : IsAround C (at_its_last now count) of.0
+  held_around = around_whole C d octets of count s rest h.fits (at_its_last now count) h.together
+      (held_at_last C d now octets of count _ s rest _ h refl refl)
+
+  -- the frames once they are counted
+  pub held_known : AreKnown C (ticked_by count now.outer.items)
+  held_known =
+      let some = h.together.some in
+      let all : suc (count - 1) ≡ count = omega (arith, some) in
+      subst (AreKnown C) (ticked_last (count - 1) now.outer.items
+      ∙ ap (λ n. ticked_by n now.outer.items) all)
+      (known_ticked C (ticked_by (count - 1) now.outer.items) held_around.ahead
+      held_around.known_outer)
+
+  pub held_room : length d.outer.items < 24
+  held_room =
+      let few = held_around.room in
+      let same = length_ticked_by (count - 1) now.outer.items in
+      let outer = ap length h.outer in
+      omega (arith, few, same, outer)
 
 pub behind_gives : (C : Table) (d now : Decoder) (of : ℕ) (s : Step) (rest : List ℕ) (here at : ℕ)
-    (lines : List Line) → IsBehind C d now of → Gives C d of s rest here at lines →
+    (lines : List Line) → IsBehind C d now of s rest → Gives C d of s rest here at lines →
     Gives C now of s rest (here + 1) at lines
 behind_gives C d now of s rest here at lines b says =
-    rw (
-      b.outer,
-      tree_ticked C d.outer.items of,
-      places_ticked C 24 here d.outer.items b.around.ahead,
-      b.piece,
-    ) says
+    let frames = ticked d.outer.items in
+    let piece = d.piece.items ++ rest in
+    let path = path_in [] (open_parts C here d.outer.items) in
+    let counted = places_ticked C 24 here d.outer.items b.around.ahead b.around.known_outer in
+    let tree = tree_ticked C d.outer.items of in
+    let said : IsOutput (tree_in C frames of) path at s.output piece lines = rw tree says in
+    let heard = b.outer.parts (here + 1) at path lines said in
+    let same : path_in [] (open_parts C (here + 1) now.outer.items) ≡ path =
+    ap (path_in []) heard ∙ (path_heard lines [] (open_parts C (here + 1) frames)
+    ∙ ap (path_in []) counted) in
+    rw (same, ap (λ n. tree_at C (24 - n) of) b.outer.same, b.piece) said

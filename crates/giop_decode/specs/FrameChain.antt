@@ -8,7 +8,8 @@ use Rattle.giop_decode.specs.declared.leaf.Leaf.{Leaf as Innermost}
 use Rattle.giop_decode.specs.Fits.{CanFollow, HasParts, FitsIn, IsEncapsulation}
 use Rattle.giop_decode.specs.NameBuffer.{FitsName, string_offset}
 use Rattle.giop_decode.specs.Noted.{is_header_root}
-use Rattle.giop_decode.specs.Transitions.{leaf_by, leaf_type, tree_in, is_inside, part_index, IsClean}
+use Rattle.giop_decode.specs.Transitions.{leaf_by, leaf_type, tree_in, is_inside, part_index, IsClean, IsWithinAs}
+use Rattle.giop_decode.specs.declared.frame.Stage.{Stage}
 use Rattle.giop_sig.specs.Fits.{IsEmptyStruct}
 use Rattle.giop_sig.specs.Table.{Table, part_number}
 use Rattle.giop_sig.specs.Trees.{tree, tree_at}
@@ -26,6 +27,11 @@ abbrev pub HasFrame : Option Order → Ty → ℕ → ℕ → Type 0
 HasFrame None T i count = HasPart T i count
 HasFrame (Some order) T i count = IsEncapsulation T × (0 < i) × (i < count)
 
+-- or of a type whose first part tells what follows
+abbrev pub HasFrameAs : Option Stage → Option Order → Ty → ℕ → ℕ → Type 0
+HasFrameAs None inside T i count = HasFrame inside T i count
+HasFrameAs (Some stage) inside T i count = IsWithinAs (Some stage) inside i count T
+
 -- an innermost part of this type in so much room, with what is held of it
 abbrev pub LeafFits : Table → ℕ → Innermost → List ℕ → List ℕ → Type 0
 LeafFits C room leaf carry piece = (let T = tree_at C room (leaf_type leaf) in
@@ -36,8 +42,8 @@ LeafFits C room leaf carry piece = (let T = tree_at C room (leaf_type leaf) in
 abbrev pub Chained : Table → ℕ → ℕ → List Frame → Innermost → Type 0
 Chained C room id [] leaf = leaf_type leaf ≡ id
 Chained C room id (f ∷ frames) leaf =
-    (f.of.0 ≡ id) × HasFrame f.inside (tree_at C room id) f.index f.count
-    × Chained C (pred room) (part_number C id (part_index f.inside f.index)) frames leaf
+    (f.of.0 ≡ id) × HasFrameAs f.told f.inside (tree_at C room id) f.index f.count
+    × Chained C (pred room) (part_number C id (part_index f.told f.inside f.index)) frames leaf
 
 abbrev pub root_of : List Frame → Innermost → ℕ
 root_of [] leaf = leaf_type leaf

@@ -1,8 +1,9 @@
 -- Numbers that are parts of one part, each of which another follows (steps).
-use Rattle.std.specs.Prelude.{◌≡◌, ℕ, suc, ◌+◌, ◌-◌, ◌%◌, ◌<◌, false, List, [], ◌∷◌, ◌++◌, length, take, Some}
+use Rattle.std.specs.Prelude.{◌≡◌, ℕ, suc, ◌+◌, ◌-◌, ◌%◌, ◌<◌, List, [], ◌∷◌, ◌++◌, length, take, Some}
 use Rattle.giop_cdr.specs.declared.prim.Primitive.{Primitive}
 use Rattle.giop_decode.specs.declared.decoder.Decoder.{Decoder}
 use Rattle.giop_decode.specs.declared.frame.Frame.{Frame}
+use Rattle.giop_decode.specs.declared.frame.Within.TheVariants as withins
 use Rattle.giop_decode.specs.declared.leaf.Leaf.TheVariants as innermost
 use Rattle.giop_decode.specs.declared.parts.PartAhead.{PartAhead}
 use Rattle.giop_decode.specs.Segments.{frames_text}
@@ -16,7 +17,13 @@ use Rattle.giop_sig.specs.declared.types.TypeId.{TypeId}
 
 -- a part that is begun, at its next part
 abbrev pub next_of : Frame → Frame
-next_of f = record { of = f.of; index = f.index + 1; count = f.count; inside = f.inside }
+next_of f = record {
+  of = f.of;
+  index = f.index + 1;
+  count = f.count;
+  inside = f.inside;
+  told = f.told;
+}
 
 -- the frames around the innermost one
 abbrev pub frames_above : List Frame → List Frame
@@ -36,7 +43,7 @@ pub record IsPartAhead (C : Table) (d : Decoder) (part : PartAhead) : Type 0 whe
   pub prim : (room : ℕ) → tree_at C room part.of.0 ≡ Single (Plain part.prim)
   pub whole : (room : ℕ) →
       IsWholeNumber (tree_at C room part.of.0) d.order d.at part.octets.now part.count part.number
-  pub outside : d.inside ≡ false
+  pub outside : d.inside ≡ withins.Nothing
   pub empty : d.carry ≡ []
   pub outer : d.outer.items ≡ frames_above d.outer.items ++ part.frame ∷ []
 

@@ -5,6 +5,7 @@ use Rattle.giop_decode.specs.declared.frame.Frame.{Frame}
 use Rattle.giop_decode.specs.declared.leaf.Finished.{Finished}
 use Rattle.giop_decode.specs.declared.leaf.Step.{Step}
 use Rattle.giop_decode.specs.declared.progress.Progress.{Progress}
+use Rattle.giop_decode.specs.Heard.{AreHeard}
 use Rattle.giop_decode.specs.ReadResult.{Line}
 use Rattle.giop_decode.specs.ReadingSteps.{path_in}
 use Rattle.giop_decode.specs.DecoderState.{CanStandAt, GoesOn, HoldsNoted}
@@ -29,17 +30,20 @@ Gives C d of step rest here at lines =
     step.output
     (d.piece.items ++ rest) lines
 
--- a decoder at an octet of a part of this type, which is counted since
-pub record IsBehind (C : Table) (d now : Decoder) (of : ℕ) : Type 0 where
-  pub around : IsAround C d of
-  pub order : now.order ≡ d.order
-  pub head : now.head ≡ d.head
-  pub at : now.at ≡ (d.at + 1) % 8
-  pub outer : now.outer.items ≡ ticked d.outer.items
-  pub inside : now.inside ≡ d.inside
-  pub carry : now.carry ≡ d.carry
-  pub piece : now.piece ≡ d.piece
-  pub notes : now.notes ≡ d.notes
+-- a decoder at an octet of a part of this type, which is counted since, and whose line was heard in
+-- the parts around
+pub record IsBehind (C : Table) (d now : Decoder) (of : ℕ) (step : Step) (rest : List ℕ) : Type 0
+  where
+    pub around : IsAround C d of
+    pub order : now.order ≡ d.order
+    pub head : now.head ≡ d.head
+    pub at : now.at ≡ (d.at + 1) % 8
+    pub outer : AreHeard C (ticked d.outer.items) now.outer.items of step.output
+        (d.piece.items ++ rest)
+    pub inside : now.inside ≡ d.inside
+    pub carry : now.carry ≡ d.carry
+    pub piece : now.piece ≡ d.piece
+    pub notes : now.notes ≡ d.notes
 
 -- The octet's output is noted, and its transition done, with this answer.
 pub record Passes (C : Table) (d new : Decoder) (of : ℕ) (step : Step) (rest : List ℕ)
@@ -51,7 +55,7 @@ pub record Passes (C : Table) (d new : Decoder) (of : ℕ) (step : Step) (rest :
   pub next : GoesOn p → IsNext C d new of step.transition
   pub steps : (here : ℕ) (lines : List Line) → Gives C d of step rest here (here + 1) lines →
       Comes C new p (here + 1) (emitted C d of step.transition step.output lines here)
-  pub inside : (here : ℕ) (lines : List Line) →
+  pub inside : (here : ℕ) (lines : List Line) → Gives C d of step rest here (here + 1) lines →
       ends_in_string (emitted C d of step.transition step.output lines here)
       ≡ transition_in_string (tree_in C d.outer.items of) step.transition
   pub id : is_header_root d.head.root ≡ false → new.notes.request_id ≡ d.notes.request_id

@@ -1,5 +1,5 @@
 -- One octet more, on the parts that a reading has begun and not ended (steps).
-use Rattle.std.specs.Prelude.{◌≡◌, ℕ, suc, ◌+◌, ◌-◌, ◌%◌, cond, ltb, List, [], ◌∷◌, ◌++◌, length, map, None}
+use Rattle.std.specs.Prelude.{◌≡◌, ℕ, suc, ◌+◌, ◌-◌, ◌%◌, cond, ltb, List, [], ◌∷◌, ◌++◌, length, map}
 use Rattle.giop_cdr.specs.Alignment.{padding}
 use Rattle.giop_cdr.specs.Numbers.{num}
 use Rattle.giop_decode.specs.declared.progress.Kind.{Kind}
@@ -7,7 +7,8 @@ use Rattle.giop_decode.specs.declared.progress.Kind.TheVariants as kinds
 use Rattle.giop_decode.specs.Pieces.{Complete, Block, Partial, content, full_piece, full_pieces, last_piece, octets, over, tail, text, unless}
 use Rattle.giop_decode.specs.Reading.{chosen, after_leading_number, parts_from, read, single, enclosed, opening, sized, none_left, led, led_segment, rooted, told_after}
 use Rattle.giop_decode.specs.ReadResult.{Coding, Line, Content, Count, Done, Fault, LeadingNumber, Index, Leaf, Member, Name, Part, OpenPart, Read, PathSegment, Short, followed, line, with_front, within, Held, Inside, Opening, Size, Telling}
-use Rattle.giop_sig.specs.Types.{part_of, Octets, Sequence, Single, Struct, Text, Ty, Union, width, tag_of, Encapsulation, Led, Hearing, Ends}
+use Rattle.giop_sig.specs.Hearings.{hearing_in}
+use Rattle.giop_sig.specs.Types.{part_of, Octets, Sequence, Single, Struct, Text, Ty, Union, width, tag_of, Encapsulation, Led}
 
 -- one octet more of n that are taken together, of which some are held
 unfoldable pub block_step : ℕ → ℕ → List ℕ → ℕ → Block
@@ -61,20 +62,6 @@ held path T coding = read coding (path ++ Held ∷ []) (part_of T 0)
 abbrev pub after_told : Coding → List PathSegment → Ty → ℕ → ℕ → List ℕ → Read
 after_told coding path T i at s = within (Member T (suc i))
     (read coding (path ++ segment_of T (suc i) ∷ []) (part_of T (suc i)) at s)
-
--- of a type that doesn't begin with such a part nothing is heard
-abbrev pub deaf : Hearing
-deaf = record {
-  hears = λ told sign. told;
-  selects = λ told. Ends;
-  first = None;
-  second = None;
-}
-
--- how a type's part that tells what follows is heard
-abbrev pub hearing_in : Ty → Hearing
-hearing_in (Led h F parts) = h
-hearing_in T = deaf
 
 -- what follows the number that begins a type
 abbrev pub after : Coding → List PathSegment → Ty → ℕ → ℕ → List ℕ → Read

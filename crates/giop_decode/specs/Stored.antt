@@ -23,9 +23,10 @@
 -- and a frame of 24 octets for each part that is begun and not ended, the outermost first: its
 -- type, the index of its own part that is being read, how many it has (0 in a union), and 12 zeros.
 -- Of an encapsulation whose byte order was read the index is how many of its octets were taken and
--- the count how many it has, and the first of the zeros is 1 for big or 2 for little. The last
--- frame is the innermost part's: its type and zeros. Numbers are big-endian; held octets are
--- followed by zeros.
+-- the count how many it has, and the first of the zeros is 1 for big or 2 for little. Of one whose
+-- first part tells what follows it the second of the zeros is the stage of what was told, and the
+-- index the number that belongs to that. The last frame is the innermost part's: its type and zeros.
+-- Numbers are big-endian; held octets are followed by zeros.
 use Rattle.std.specs.Prelude.{◌≡◌, ℕ, ◌+◌, ◌^◌, ◌<◌, ◌≤◌, Bool, true, false, List, [], ◌∷◌, ◌++◌, length, replicate, Option, Some, None, IfSome}
 use Rattle.std.specs.List.{flat_map, AllByRecursion}
 use Rattle.giop_cdr.specs.declared.order.Order.{Order}
@@ -42,6 +43,8 @@ use Rattle.giop_decode.specs.Transitions.{leaf_type, is_inside}
 use Rattle.giop_octets.specs.Fields.{four, eight, optional, held}
 use Rattle.giop_print.specs.declared.path.Root.{Root}
 use Rattle.giop_print.specs.declared.path.Root.TheVariants as roots
+use Rattle.giop_decode.specs.declared.frame.Stage.{Stage}
+use Rattle.giop_decode.specs.declared.frame.Stage.TheVariants as stages
 use Rattle.giop_sig.specs.Table.{type_id}
 
 -- ---- the octets
@@ -99,17 +102,34 @@ abbrev pub inside_octet : Option Order → ℕ
 inside_octet None = 0
 inside_octet (Some order) = 1 + order_octet order
 
--- the octets of a frame, of which 11 have no use
+-- of what was told in a frame: none, or its stage
+abbrev pub told_octet : Option Stage → ℕ
+told_octet None = 0
+told_octet (Some stages.Untold) = 1
+told_octet (Some stages.Awaits) = 2
+told_octet (Some stages.Offers) = 3
+told_octet (Some stages.Is) = 4
+told_octet (Some stages.Empty) = 5
+told_octet (Some stages.Unknown) = 6
+
+-- the octets of a frame, of which 10 have no use
 abbrev pub frame_octets : Frame → List ℕ
 frame_octets f =
-    four f.of.0 ++ four f.index ++ four f.count ++ inside_octet f.inside ∷ replicate 11 0
+    four f.of.0 ++ four f.index ++ four f.count
+    ++ inside_octet f.inside ∷ told_octet f.told ∷ replicate 10 0
 
 abbrev pub frames_octets : List Frame → List ℕ
 frames_octets frames = flat_map frame_octets frames
 
 -- the innermost part's frame
 abbrev pub own_frame : Innermost → Frame
-own_frame leaf = record { of = type_id (leaf_type leaf); index = 0; count = 0; inside = None }
+own_frame leaf = record {
+  of = type_id (leaf_type leaf);
+  index = 0;
+  count = 0;
+  inside = None;
+  told = None;
+}
 
 -- ---- ranges
 

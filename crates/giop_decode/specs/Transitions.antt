@@ -15,14 +15,22 @@ use Rattle.giop_decode.specs.declared.leaf.Output.{Output}
 use Rattle.giop_decode.specs.declared.leaf.Output.TheVariants as outputs
 use Rattle.giop_decode.specs.declared.progress.Kind.{Kind}
 use Rattle.giop_decode.specs.declared.progress.Kind.TheVariants as kinds
-use Rattle.giop_decode.specs.ReadResult.{PathSegment, Switch, Number, Count, Size, Ordered, Piece, Line, line, coded, OpenPart, Part, Member, Inside, Leaf, LeadingNumber, Opening, Content, Read, Done, Short, Fault}
+use Rattle.giop_decode.specs.ReadResult.{PathSegment, Switch, Number, Count, Size, Ordered, Piece, Line, line, coded, OpenPart, Part, Member, Inside, Telling, Leaf, LeadingNumber, Opening, Content, Read, Done, Short, Fault}
 use Rattle.giop_decode.specs.Pieces.{Block, Partial, Complete}
 use Rattle.giop_decode.specs.Reading.{cut_off, enclosed, none_left, wrong}
 use Rattle.giop_decode.specs.Begins.{start_outer, start_leaf}
-use Rattle.giop_decode.specs.Fits.{HasParts, HasCase, HasContent, IsEncapsulation}
+use Rattle.giop_decode.specs.Fits.{HasParts, HasCase, HasContent, IsEncapsulation, IsLed}
 use Rattle.giop_sig.specs.declared.types.Shape.{Shape}
 use Rattle.giop_sig.specs.declared.types.Shape.TheVariants as shapes
 use Rattle.giop_sig.specs.Types.{tag_of, Scalar, width, interpreted_by, Ty, Single, Struct, Union, Array, Led, part_of, switch_of, shape_in, HasPlace, IsUnion}
+use Rattle.giop_decode.specs.declared.frame.Within.{Within}
+use Rattle.giop_decode.specs.declared.frame.Within.TheVariants as withins
+use Rattle.giop_decode.specs.declared.frame.Stage.{Stage}
+use Rattle.giop_decode.specs.declared.frame.Stage.TheVariants as stages
+use Rattle.giop_sig.specs.Hearings.{signal_after, told_of}
+use Rattle.giop_sig.specs.declared.types.Sign.{Sign}
+use Rattle.giop_sig.specs.declared.types.Signal.{Signal}
+use Rattle.giop_sig.specs.declared.types.Signal.TheVariants as signals
 use Rattle.giop_sig.specs.Table.{Table, part_number}
 use Rattle.giop_sig.specs.Trees.{tree_at}
 
@@ -41,9 +49,37 @@ abbrev pub open_part_in : ℕ → Option Order → Ty → ℕ → ℕ → OpenPa
 open_part_in here None T i count = part_in T i count
 open_part_in here (Some order) T i count = Inside T (coded order (here - i)) (here + (count - i))
 
+-- what was told, by its stage and the number that belongs to that
+abbrev pub signal_by : Stage → ℕ → Signal
+signal_by stages.Untold n = signals.Untold
+signal_by stages.Awaits n = signals.Awaits n
+signal_by stages.Offers n = signals.Offers n
+signal_by stages.Is n = signals.Is n
+signal_by stages.Empty n = signals.Empty
+signal_by stages.Unknown n = signals.Unknown
+
+abbrev pub stage_of : Signal → Stage
+stage_of signals.Untold = stages.Untold
+stage_of (signals.Awaits n) = stages.Awaits
+stage_of (signals.Offers n) = stages.Offers
+stage_of (signals.Is n) = stages.Is
+stage_of signals.Empty = stages.Empty
+stage_of signals.Unknown = stages.Unknown
+
+abbrev pub number_of : Signal → ℕ
+number_of (signals.Awaits n) = n
+number_of (signals.Offers n) = n
+number_of (signals.Is n) = n
+number_of signal = 0
+
+-- Where its first part tells what follows, that is being read, and has told so much.
+abbrev pub part_as : Option Stage → ℕ → Option Order → Ty → ℕ → ℕ → OpenPart
+part_as None here inside T i count = open_part_in here inside T i count
+part_as (Some stage) here inside T i count = Telling T (told_of (signal_by stage i))
+
 -- the open part that a frame of a table stands for, in so much room, at an offset
 abbrev pub open_part : Table → ℕ → ℕ → Frame → OpenPart
-open_part C room here f = open_part_in here f.inside (tree_at C room f.of.0) f.index f.count
+open_part C room here f = part_as f.told here f.inside (tree_at C room f.of.0) f.index f.count
 
 -- the open parts of frames, the outermost first: each leaves one level less room
 abbrev pub parts_in_room : Table → ℕ → ℕ → List Frame → List OpenPart
@@ -72,11 +108,16 @@ IsWithin None i count T = HasPlace (shape_in T) i × (IsEncapsulation T → ⊥)
     × (IsUncounted (shape_in T) → count ≡ 0)
 IsWithin (Some order) i count T = IsEncapsulation T × (0 < i) × (i ≤ count)
 
+-- and of a type whose first part tells what follows
+abbrev pub IsWithinAs : Option Stage → Option Order → ℕ → ℕ → Ty → Type 0
+IsWithinAs None inside i count T = IsWithin inside i count T
+IsWithinAs (Some stage) inside i count T = IsLed T × (inside ≡ None) × (count ≡ 0)
+
 -- a frame of a type of the table, which has a part of that index, in each room; a union's has no
 -- count
 pub record IsKnown (C : Table) (f : Frame) : Type 0 where
   pub known : f.of.0 < length C.types
-  pub within : (room : ℕ) → IsWithin f.inside f.index f.count (tree_at C room f.of.0)
+  pub within : (room : ℕ) → IsWithinAs f.told f.inside f.index f.count (tree_at C room f.of.0)
 
 -- frames of types of the table
 abbrev pub AreKnown : Table → List Frame → Type 0
@@ -96,22 +137,24 @@ StandsAt here f = IfSome f.inside (λ order. f.index ≤ here)
 abbrev pub StandAt : ℕ → List Frame → Type 0
 StandAt here frames = AllByRecursion (StandsAt here) frames
 
--- which part is being read: an encapsulation has one
-abbrev pub part_index : Option Order → ℕ → ℕ
-part_index None i = i
-part_index (Some order) i = 0
+-- which part is being read: an encapsulation has one, and one that tells what follows is the first
+abbrev pub part_index : Option Stage → Option Order → ℕ → ℕ
+part_index None None i = i
+part_index None (Some order) i = 0
+part_index (Some stage) inside i = 0
 
 -- each frame is of the part that the one before is at, from the root to the innermost part
 abbrev pub Link : Table → ℕ → List Frame → ℕ → Type 0
 Link C root [] inner = inner ≡ root
 Link C root (f ∷ frames) inner = (f.of.0 ≡ root)
-    × Link C (part_number C root (part_index f.inside f.index)) frames inner
+    × Link C (part_number C root (part_index f.told f.inside f.index)) frames inner
 
--- a type that begins with its first part
-abbrev pub IsWhole : Ty → ℕ → Type 0
-IsWhole (Struct n names parts) count = count ≡ n
-IsWhole (Array n T) count = count ≡ n
-IsWhole T count = ⊥
+-- a type that begins with its first part: how many it has, or that this one tells what follows
+abbrev pub IsWhole : Ty → ℕ → Option Stage → Type 0
+IsWhole (Struct n names parts) count told = (count ≡ n) × (told ≡ None)
+IsWhole (Array n T) count told = (count ≡ n) × (told ≡ None)
+IsWhole (Led h F parts) count told = (count ≡ 0) × (told ≡ Some stages.Untold)
+IsWhole T count told = ⊥
 
 -- ---- the innermost part
 
@@ -147,9 +190,41 @@ abbrev pub is_some_order : Option Order → Bool
 is_some_order None = false
 is_some_order (Some order) = true
 
--- whether some of these is an encapsulation
-abbrev pub is_inside : List Frame → Bool
-is_inside frames = list_any (λ f. is_some_order f.inside) frames
+abbrev pub is_some_stage : Option Stage → Bool
+is_some_stage None = false
+is_some_stage (Some stage) = true
+
+-- some of these is an encapsulation, and tells what follows it
+abbrev pub holds_one : List Frame → Bool
+holds_one frames = list_any (λ f. is_some_order f.inside) frames
+
+abbrev pub tells_one : List Frame → Bool
+tells_one frames = list_any (λ f. is_some_stage f.told) frames
+
+-- what they ask of each octet
+abbrev pub within_by : Bool → Bool → Within
+within_by true holds = withins.Telling
+within_by false true = withins.Encapsulation
+within_by false false = withins.Nothing
+
+abbrev pub is_inside : List Frame → Within
+is_inside frames = within_by (tells_one frames) (holds_one frames)
+
+-- and what they do when one more tells what follows, or is an encapsulation
+abbrev pub within_more : Bool → Within → Within
+within_more true within = withins.Telling
+within_more false within = within
+
+abbrev pub within_held : Within → Within
+within_held withins.Telling = withins.Telling
+within_held within = withins.Encapsulation
+
+abbrev pub IsAtMost : Within → Within → Type 0
+IsAtMost withins.Nothing most = Unit {0}
+IsAtMost withins.Encapsulation withins.Nothing = ⊥
+IsAtMost withins.Encapsulation most = Unit {0}
+IsAtMost withins.Telling withins.Telling = Unit {0}
+IsAtMost withins.Telling most = ⊥
 
 abbrev pub ticked_at : Option Order → ℕ → ℕ
 ticked_at None i = i
@@ -160,8 +235,8 @@ tick_of f = record {
   of = f.of;
   index = ticked_at f.inside f.index;
   count = f.count;
-  inside =
-      f.inside;
+  inside = f.inside;
+  told = f.told;
 }
 
 -- an octet more in each encapsulation
@@ -178,11 +253,34 @@ tick_by_of n f = record {
   index = ticked_by_at n f.inside f.index;
   count = f.count;
   inside = f.inside;
+  told = f.told;
 }
 
 -- so many octets more in each encapsulation
 abbrev pub ticked_by : ℕ → List Frame → List Frame
 ticked_by n frames = map (tick_by_of n) frames
+
+-- what a frame tells after a sign, and the number that belongs to that
+abbrev pub stage_after : Table → Sign → ℕ → Option Stage → ℕ → Option Stage
+stage_after C sign of None i = None
+stage_after C sign of (Some stage) i = Some (stage_of (signal_after C of (signal_by stage i) sign))
+
+abbrev pub number_after : Table → Sign → ℕ → Option Stage → ℕ → ℕ
+number_after C sign of None i = i
+number_after C sign of (Some stage) i = number_of (signal_after C of (signal_by stage i) sign)
+
+abbrev pub hear_of : Table → Sign → Frame → Frame
+hear_of C sign f = record {
+  of = f.of;
+  index = number_after C sign f.of.0 f.told f.index;
+  count = f.count;
+  inside = f.inside;
+  told = stage_after C sign f.of.0 f.told f.index;
+}
+
+-- a sign in each frame that tells what follows it
+abbrev pub frames_after : Table → Sign → List Frame → List Frame
+frames_after C sign frames = map (hear_of C sign) frames
 
 abbrev pub coding_of : Order × ℕ → Option Order → ℕ → Order × ℕ
 coding_of c None i = c

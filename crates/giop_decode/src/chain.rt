@@ -1,14 +1,14 @@
 //! Whether the parts of a decoder that is restored from octets fit a catalogue.
 
 ghost use Rattle.std.specs.Prelude.{◌≡◌, ◌↔◌, ℕ, suc, IsTrue, ◌+◌, ◌-◌, ◌<◌, ◌≤◌, [], length};
-ghost use Rattle.giop_decode.specs.FrameChain.{HasFrame, HasPart, LeafFits, Chained, Chains, root_of};
-ghost use Rattle.giop_decode.specs.Fits.{HasLeadingNumber, IsEncapsulation};
+ghost use Rattle.giop_decode.specs.FrameChain.{HasFrame, HasFrameAs, HasPart, LeafFits, Chained, Chains, root_of};
+ghost use Rattle.giop_decode.specs.Fits.{HasLeadingNumber, IsEncapsulation, IsLed};
 ghost use Rattle.giop_decode.specs.NameBuffer.{FitsName, IsNotedOf, string_offset};
-ghost use Rattle.giop_decode.specs.Transitions.{leaf_type, part_index};
+ghost use Rattle.giop_decode.specs.Transitions.{is_inside, leaf_type, part_index};
 ghost use Rattle.giop_sig.specs.Trees.{tree_at};
 
 use crate::decoder::Decoder;
-use crate::frame::{Frame, is_empty, is_inside, whole};
+use crate::frame::{Frame, Within, is_empty, is_inside, whole};
 use crate::leading_numbers::width;
 use crate::leaf::Leaf;
 use crate::notes::{Buffer, Notes, is_header};
@@ -30,7 +30,7 @@ impl Decoder {
             && catalogue.has(leaf.of())
             && catalogue.has(root)
             && !is_empty(catalogue, root)
-            && self.inside == is_inside(true, self.outer.as_slice())
+            && self.knows_inside()
             && self.outer.len() < 24
             && self.parts_fit(catalogue, root, leaf)
             && name_fits(
@@ -38,6 +38,13 @@ impl Decoder {
                 string_offset(catalogue, leaf),
                 &self.notes,
             )
+    }
+
+    /// Whether what the parts ask of each octet is known.
+    fn knows_inside(&self) -> bool
+        ensures { IsTrue result ↔ self.now.inside ≡ is_inside self.now.outer.items }
+    {
+        self.inside == is_inside(Within::Telling, self.outer.as_slice())
     }
 
     /// Whether the parts are each of that which the one before is at, from this type to the innermost part, and what is
@@ -85,8 +92,22 @@ fn follow(catalogue: &Catalogue, of: TypeId, frames: &[Frame], leaf: Leaf) -> bo
     }
 }
 
-/// Whether a frame can be of a type: of a part of its own, or of an encapsulation of which octets are to come.
+/// Whether a frame can be of a type: of a part of its own, of an encapsulation of which octets are to come, or of a first
+/// part that tells what follows it.
 fn has_frame(catalogue: &Catalogue, of: TypeId, frame: Frame) -> bool
+    requires { of.0 < length catalogue.now.types }
+    ensures { (n : ℕ) → IsTrue result
+        ↔ HasFrameAs frame.told frame.inside (tree_at catalogue.now n of.0) frame.index
+        frame.count }
+{
+    match frame.told {
+        Some(_) => { is_led(catalogue, of) && frame.inside.is_none() && frame.count == 0 }
+        None => has_own_frame(catalogue, of, frame),
+    }
+}
+
+/// The same of a frame that tells nothing.
+fn has_own_frame(catalogue: &Catalogue, of: TypeId, frame: Frame) -> bool
     requires { of.0 < length catalogue.now.types }
     ensures { (n : ℕ) → IsTrue result
         ↔ HasFrame frame.inside (tree_at catalogue.now n of.0) frame.index frame.count }
@@ -99,13 +120,34 @@ fn has_frame(catalogue: &Catalogue, of: TypeId, frame: Frame) -> bool
     }
 }
 
-/// Which part of a frame's type is being read: an encapsulation has one.
+/// Which part of a frame's type is being read: an encapsulation has one, and one that tells what follows is the first.
 fn part_index(frame: Frame) -> u32
-    ensures { result ≡ part_index frame.inside frame.index }
+    ensures { result ≡ part_index frame.told frame.inside frame.index }
 {
-    match frame.inside {
-        Some(_) => 0,
-        None => frame.index,
+    match (frame.told, frame.inside) {
+        (None, None) => frame.index,
+        _ => 0,
+    }
+}
+
+/// Whether a type begins with a part that tells what follows it.
+fn is_led(catalogue: &Catalogue, of: TypeId) -> bool
+    requires { of.0 < length catalogue.now.types }
+    ensures { (n : ℕ) → IsTrue result ↔ IsLed (tree_at catalogue.now n of.0) }
+{
+    match catalogue.shape(of) {
+        Shape::Led => true,
+        Shape::Encapsulation => false,
+        Shape::Members(_) => false,
+        Shape::Array(_) => false,
+        Shape::Sequence(_) => false,
+        Shape::Union(_) => false,
+        Shape::Tagged => false,
+        Shape::Prim(_) => false,
+        Shape::Enumeration(_) => false,
+        Shape::Text(_) => false,
+        Shape::Octets(_) => false,
+        Shape::Marked(_) => false,
     }
 }
 

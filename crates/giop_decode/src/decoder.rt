@@ -9,6 +9,7 @@ ghost use Rattle.giop_decode.specs.ReadResult.{Coding, PathSegment, Line, Read, 
 ghost use Rattle.giop_decode.specs.Spelling.{lines_text};
 ghost use Rattle.giop_print.specs.Output.{Writes};
 ghost use Rattle.giop_print.specs.declared.path.Root.{Root as PathRoot};
+ghost use Rattle.giop_decode.specs.Reading.{none_left, rooted};
 ghost use Rattle.giop_decode.specs.ReadingSteps.{around};
 ghost use Rattle.giop_decode.specs.Fits.{OpenFrom};
 ghost use Rattle.giop_decode.specs.Transitions.{open_parts, AreKnown, Link, TransitionFits, HasOutput, after_transition, still_held, leaf_type, IsClean, StandAt, is_inside, tree_in};
@@ -23,7 +24,9 @@ ghost use Rattle.giop_sig.specs.Fits.{IsFit, IsEmptyStruct};
 ghost use Rattle.giop_sig.specs.Trees.{tree};
 
 use crate::contents::let_go;
-use crate::frame::{Frame, begin, go_on, has_ended, is_empty, is_inside};
+use crate::frame::{
+    Frame, Within, begin, go_on, has_ended, is_empty, is_inside, within_encapsulation,
+};
 use crate::leaf::{Finished, Leaf, Transition};
 use crate::line::write_line;
 use crate::lookahead::Lookahead;
@@ -43,8 +46,8 @@ pub struct Decoder {
     // The offset of the next octet, modulo 8.
     pub(crate) at: u8,
     pub(crate) outer: ArrayVec<Frame, 24>,
-    // Whether one of these is an encapsulation.
-    pub(crate) inside: bool,
+    // What these ask of each octet.
+    pub(crate) inside: Within,
     // None once the value has ended.
     pub(crate) leaf: Option<Leaf>,
     pub(crate) carry: Carry,
@@ -73,7 +76,7 @@ impl Decoder {
             head: Head::new(message, root),
             at: 0,
             outer: ArrayVec::new(),
-            inside: false,
+            inside: Within::Nothing,
             leaf: None,
             carry: Carry::new(),
             piece: ArrayVec::new(),
@@ -117,7 +120,7 @@ impl Decoder {
     {
         self.at = (offset % 8) as u8;
         self.outer.clear();
-        self.inside = false;
+        self.inside = Within::Nothing;
         self.leaf = None;
         self.carry = Carry::new();
         self.piece.clear();
@@ -125,7 +128,7 @@ impl Decoder {
         if is_empty(catalogue, of) {
             return;
         }
-        let first = begin(catalogue, &mut self.outer, of);
+        let first = begin(catalogue, &mut self.outer, &mut self.inside, of);
         self.leaf = Some(Leaf::Number(first));
     }
 
@@ -197,7 +200,8 @@ impl Decoder {
         }
     }
 
-    /// Does a transition of the innermost part, of this type, and goes on in the parts around it.
+    /// Does a transition of the innermost part, of this type, and goes on in the parts around it, where these have heard what
+    /// its octet finishes.
     #[inline(always)]
     fn advance_frames(&mut self, catalogue: &Catalogue, of: TypeId, transition: Transition)
         requires known { of.0 < length catalogue.now.types }
@@ -232,13 +236,12 @@ impl Decoder {
             ≡ transition_in_string (tree_in catalogue.now self.old.outer.items of.0) transition }
         ensures stand { (at : ℕ) → 0 < at → StandAt at self.old.outer.items →
             StandAt at self.new.outer.items }
-        ensures advances { (coding : Coding) (path : List PathSegment) (at : ℕ)
-            (lines : List Line) →
-            around coding path (open_parts catalogue.now at self.old.outer.items)
+        ensures advances { (coding : Coding) (path : List PathSegment) (at : ℕ) →
+            rooted none_left (around coding path (open_parts catalogue.now at self.old.outer.items)
             (after_transition (tree_in catalogue.now self.old.outer.items of.0) transition
-            self.old.carry self.old.piece.items lines at)
+            self.old.carry self.old.piece.items [] at))
             ≡ transition_result catalogue.now (tree_in catalogue.now self.old.outer.items of.0)
-            self.new transition lines at }
+            self.new transition [] at }
     {
         match transition {
             Transition::More(leaf) => self.leaf = Some(leaf),
@@ -251,9 +254,15 @@ impl Decoder {
                     index: 0,
                     count,
                     inside: None,
+                    told: None,
                 });
                 let part = catalogue.part(of, 0);
-                self.leaf = Some(Leaf::Number(begin(catalogue, &mut self.outer, part)));
+                self.leaf = Some(Leaf::Number(begin(
+                    catalogue,
+                    &mut self.outer,
+                    &mut self.inside,
+                    part,
+                )));
             }
             Transition::Selected(index) => {
                 self.carry.clear();
@@ -263,9 +272,15 @@ impl Decoder {
                     index,
                     count: 0,
                     inside: None,
+                    told: None,
                 });
                 let part = catalogue.part(of, index);
-                self.leaf = Some(Leaf::Number(begin(catalogue, &mut self.outer, part)));
+                self.leaf = Some(Leaf::Number(begin(
+                    catalogue,
+                    &mut self.outer,
+                    &mut self.inside,
+                    part,
+                )));
             }
             Transition::Entered(order, count) => {
                 self.carry.clear();
@@ -275,15 +290,21 @@ impl Decoder {
                     index: 1,
                     count,
                     inside: Some(order),
+                    told: None,
                 });
-                self.inside = true;
+                self.inside = within_encapsulation(self.inside);
                 let part = catalogue.part(of, 0);
-                self.leaf = Some(Leaf::Number(begin(catalogue, &mut self.outer, part)));
+                self.leaf = Some(Leaf::Number(begin(
+                    catalogue,
+                    &mut self.outer,
+                    &mut self.inside,
+                    part,
+                )));
             }
             Transition::Ended => {
                 self.carry.clear();
                 self.piece.clear();
-                self.leaf = go_on(catalogue, &mut self.outer);
+                self.leaf = go_on(catalogue, &mut self.outer, &mut self.inside);
                 self.inside = is_inside(self.inside, self.outer.as_slice());
             }
         }
@@ -298,7 +319,8 @@ impl Decoder {
         ahead: Lookahead<'_>,
         out: &mut O,
     ) -> Result<Progress, OutFault>
-        requires counted { (d : Before) × IsBehind catalogue.now d self.old ahead.of.0 }
+        requires counted { (d : Before) × IsBehind catalogue.now d self.old ahead.of.0
+            ahead.step ahead.rest.now }
         requires transition_fits { TransitionFits
             (tree_in catalogue.now self.old.outer.items ahead.of.0) ahead.of.0
             ahead.step.transition self.old.carry
@@ -308,9 +330,11 @@ impl Decoder {
         requires short { 0 < length ahead.rest.now →
             length self.old.piece.items + length ahead.rest.now ≤ 32 }
         ensures passes { IfOk result (λ p. (d : Before) →
-            IsBehind catalogue.now d self.old ahead.entry.of.0 → Passes catalogue.now d self.new
+            IsBehind catalogue.now d self.old ahead.entry.of.0
+            ahead.entry.step ahead.entry.rest.now → Passes catalogue.now d self.new
             ahead.entry.of.0 ahead.entry.step ahead.entry.rest.now p) }
-        ensures writes { (d : Before) → IsBehind catalogue.now d self.old ahead.entry.of.0 →
+        ensures writes { (d : Before) → IsBehind catalogue.now d self.old ahead.entry.of.0
+            ahead.entry.step ahead.entry.rest.now →
             (here at : ℕ) (lines : List Line) →
             Gives catalogue.now d ahead.entry.of.0 ahead.entry.step ahead.entry.rest.now
             here at lines →
@@ -335,14 +359,16 @@ impl Decoder {
     /// What `emit` does but for the line.
     #[inline(always)]
     pub(crate) fn pass(&mut self, catalogue: &Catalogue, ahead: Lookahead<'_>) -> Progress
-        requires counted { (d : Before) × IsBehind catalogue.now d self.old ahead.of.0 }
+        requires counted { (d : Before) × IsBehind catalogue.now d self.old ahead.of.0
+            ahead.step ahead.rest.now }
         requires transition_fits { TransitionFits
             (tree_in catalogue.now self.old.outer.items ahead.of.0) ahead.of.0
             ahead.step.transition self.old.carry
             (still_held ahead.step.output self.old.piece.items) }
         requires has_output { HasOutput
             (tree_in catalogue.now self.old.outer.items ahead.of.0) ahead.step.output }
-        ensures { (d : Before) → IsBehind catalogue.now d self.old ahead.entry.of.0 →
+        ensures { (d : Before) → IsBehind catalogue.now d self.old ahead.entry.of.0
+            ahead.entry.step ahead.entry.rest.now →
             Passes catalogue.now d self.new
             ahead.entry.of.0 ahead.entry.step ahead.entry.rest.now result }
     {

@@ -1,21 +1,55 @@
 //! The parts that are begun and not ended, and have parts of their own.
 
-ghost use Rattle.std.specs.Prelude.{◌≡◌, ℕ, ◌+◌, ◌-◌, ◌^◌, ◌<◌, ◌≤◌, List, [], ◌∷◌, ◌++◌, length, take, ◌↔◌, IsTrue, IfSome, IfNone, false};
+ghost use Rattle.std.specs.Prelude.{◌≡◌, ℕ, ◌+◌, ◌-◌, ◌^◌, ◌<◌, ◌≤◌, List, [], ◌∷◌, ◌++◌, length, take, Bool, Some, ◌↔◌, ◌||◌, IsTrue, IfSome, IfNone, false};
 ghost use Rattle.arrayvec.specs.ArrayVec.{array_vec_len};
-ghost use Rattle.giop_decode.specs.ReadResult.{Coding, PathSegment, LeadingNumber, Done};
+ghost use Rattle.giop_decode.specs.ReadResult.{Coding, PathSegment, LeadingNumber, Done, Fault};
+ghost use Rattle.giop_decode.specs.declared.progress.Kind.TheVariants as kinds;
+ghost use Rattle.giop_decode.specs.Reading.{none_left, rooted};
 ghost use Rattle.giop_decode.specs.ReadingSteps.{around};
 ghost use Rattle.giop_decode.specs.Fits.{HasLeadingNumber, OpenFrom};
 ghost use Rattle.giop_decode.specs.Begins.{start_outer, start_leaf};
-ghost use Rattle.giop_decode.specs.Transitions.{HasOctetsLeft, coding_of, tick_by_of, ended_at, open_parts, AreKnown, HaveOctetsLeft, StandAt, IsClean, Link, IsWhole, coding_by, gone_on, has_ended, is_inside, leaf_type, ticked_by, tree_in};
+ghost use Rattle.giop_decode.specs.Transitions.{HasOctetsLeft, coding_of, tick_by_of, ended_at, open_parts, AreKnown, HasOutput, HaveOctetsLeft, IsAtMost, StandAt, IsClean, is_some_stage, holds_one, tells_one, within_by, within_held, within_more, Link, IsWhole, coding_by, gone_on, has_ended, is_inside, leaf_type, ticked_by, tree_in};
 ghost use Rattle.giop_sig.specs.Fits.{IsFit, IsEmptyStruct, IsRoot};
+ghost use Rattle.giop_decode.specs.Heard.{AreHeard, IsPast, IsTold};
 ghost use Rattle.giop_decode.specs.NotingSteps.{leaf_in_string};
 ghost use Rattle.giop_decode.specs.NextParts.{frames_above, next_of};
+ghost use Rattle.giop_sig.specs.Table.{Table};
 ghost use Rattle.giop_sig.specs.Trees.{tree, tree_at};
+ghost use Rattle.giop_sig.specs.Types.{Ty};
 
-use crate::leaf::Leaf;
+use crate::hearing::{hear, signal};
+use crate::leaf::{Finished, Leaf};
 use arrayvec::ArrayVec;
 use giop_cdr::Order;
-use giop_sig::{Catalogue, Shape, TypeId};
+use giop_sig::{Catalogue, Following, Shape, TypeId};
+
+/// What some of the parts around ask of each octet.
+#[derive(Clone, Copy, Debug, PartialEq, Eq)]
+pub(crate) enum Within {
+    /// Nothing.
+    Nothing,
+    /// That it is counted: one is an encapsulation.
+    Encapsulation,
+    /// And that its line is heard: one tells what follows it.
+    Telling,
+}
+
+/// What a part has told so far of what follows it, but for a number.
+#[derive(Clone, Copy, Debug, PartialEq, Eq)]
+pub(crate) enum Stage {
+    /// Nothing.
+    Untold,
+    /// A kind whose repository id comes.
+    Awaits,
+    /// A type, whose count of members comes.
+    Offers,
+    /// A type.
+    Is,
+    /// That no octet follows.
+    Empty,
+    /// Octets of no type.
+    Unknown,
+}
 
 /// A part that is begun and not ended, and which of its own parts is being read.
 #[derive(Clone, Copy, Debug, PartialEq, Eq)]
@@ -23,12 +57,14 @@ pub(crate) struct Frame {
     /// The part's type.
     pub(crate) of: TypeId,
     /// The index of that part: of a member, an element or a case. Of an encapsulation, how many of its octets were
-    /// taken, so that its numbers are aligned by this.
+    /// taken, so that its numbers are aligned by this. Where it tells what follows, the number that belongs to that.
     pub(crate) index: u32,
     /// How many members or elements it has; 0 for a union. Of an encapsulation, how many octets.
     pub(crate) count: u32,
     /// The byte order of an encapsulation; None for any other part.
     pub(crate) inside: Option<Order>,
+    /// What was told so far, where it is the first part that tells what follows it; None for any other part.
+    pub(crate) told: Option<Stage>,
 }
 
 impl Default for Frame {
@@ -38,27 +74,104 @@ impl Default for Frame {
             index: 0,
             count: 0,
             inside: None,
+            told: None,
         }
     }
 }
 
-/// Whether some part is an encapsulation; `was` is whether one was before parts ended.
-pub(crate) fn is_inside(was: bool, outer: &[Frame]) -> bool
-    requires { was ≡ false → is_inside outer.now ≡ false }
+/// What these parts ask of each octet, which is at most this.
+#[inline(always)]
+pub(crate) fn is_inside(most: Within, outer: &[Frame]) -> Within
+    requires { IsAtMost (is_inside outer.now) most }
     ensures { result ≡ is_inside outer.now }
 {
-    was && outer.iter().any(|frame| frame.inside.is_some())
+    match most {
+        Within::Nothing => Within::Nothing,
+        Within::Encapsulation => asked_by(false, holds_one(outer)),
+        Within::Telling => asked_by(tells_one(outer), holds_one(outer)),
+    }
 }
 
-/// Counts so many octets in each encapsulation, where there is one.
+/// What parts ask of each octet when one more may tell what follows it.
 #[inline(always)]
-pub(crate) fn tick_by(inside: bool, outer: &mut ArrayVec<Frame, 24>, octets: usize)
+fn within_told(told: Option<Stage>, within: Within) -> Within
+    ensures { result ≡ within_more (is_some_stage told) within }
+{
+    match told {
+        Some(_) => Within::Telling,
+        None => within,
+    }
+}
+
+/// Whether some part is an encapsulation.
+#[inline(never)]
+fn holds_one(outer: &[Frame]) -> bool
+    ensures { result ≡ holds_one outer.now }
+{
+    outer.iter().any(|frame| frame.inside.is_some())
+}
+
+/// Whether some part tells what follows it.
+#[inline(never)]
+fn tells_one(outer: &[Frame]) -> bool
+    ensures { result ≡ tells_one outer.now }
+{
+    outer.iter().any(|frame| frame.told.is_some())
+}
+
+/// What parts ask of each octet of which one tells, or one is an encapsulation.
+#[inline(always)]
+fn asked_by(tells: bool, holds: bool) -> Within
+    ensures { result ≡ within_by tells holds }
+{
+    if tells {
+        Within::Telling
+    } else if holds {
+        Within::Encapsulation
+    } else {
+        Within::Nothing
+    }
+}
+
+/// What parts ask of each octet when one more is an encapsulation.
+pub(crate) fn within_encapsulation(within: Within) -> Within
+    ensures { result ≡ within_held within }
+{
+    match within {
+        Within::Telling => Within::Telling,
+        _ => Within::Encapsulation,
+    }
+}
+
+/// Counts so many octets in each encapsulation, where there is one, and tells each part around, of which the first part is
+/// read and tells what follows, what the last of them finishes.
+#[inline(always)]
+pub(crate) fn pass_by(
+    catalogue: &Catalogue,
+    inside: Within,
+    outer: &mut ArrayVec<Frame, 24>,
+    octets: usize,
+    finished: Finished<'_>,
+)
     requires inside { inside ≡ is_inside outer.old.items }
     requires ahead { HaveOctetsLeft (ticked_by (octets - 1) outer.old.items) }
-    ensures ticked { outer.new.items ≡ ticked_by octets outer.old.items }
+    requires known { finished.of.0 < length catalogue.now.types }
+    requires known_outer { AreKnown catalogue.now (ticked_by octets outer.old.items) }
+    requires room { length outer.old.items < 24 }
+    requires has_output { HasOutput
+        (tree_in catalogue.now (ticked_by octets outer.old.items) finished.of.0)
+        finished.output }
+    ensures { AreHeard catalogue.now (ticked_by octets outer.old.items) outer.new.items
+        finished.entry.of.0 finished.entry.output
+        (finished.entry.held.now ++ finished.entry.rest.now) }
 {
-    if inside {
-        tick_all(outer, octets);
+    match inside {
+        Within::Nothing => {}
+        Within::Encapsulation => tick_all(outer, octets),
+        Within::Telling => {
+            tick_all(outer, octets);
+            hear(catalogue, outer, finished);
+        }
     }
 }
 
@@ -113,7 +226,7 @@ fn before_last(frame: Frame, octets: usize) -> usize
 
 /// Those of these octets that stand up to the last one of each encapsulation: all of them where there is none.
 #[inline(always)]
-pub(crate) fn up_to_end<'a>(inside: bool, outer: &[Frame], octets: &'a [u8]) -> &'a [u8]
+pub(crate) fn up_to_end<'a>(inside: Within, outer: &[Frame], octets: &'a [u8]) -> &'a [u8]
     requires inside { inside ≡ is_inside outer.now }
     requires ahead { HaveOctetsLeft outer.now }
     ensures within { length result.now ≤ length octets.now }
@@ -121,7 +234,7 @@ pub(crate) fn up_to_end<'a>(inside: bool, outer: &[Frame], octets: &'a [u8]) -> 
     ensures head { result.now ≡ take (length result.now) octets.now }
     ensures ahead { HaveOctetsLeft (ticked_by (length result.now - 1) outer.now) }
 {
-    if !inside {
+    if let Within::Nothing = inside {
         return octets;
     }
     let before = before_ends(outer, octets.len());
@@ -130,11 +243,14 @@ pub(crate) fn up_to_end<'a>(inside: bool, outer: &[Frame], octets: &'a [u8]) -> 
 }
 
 /// Whether an encapsulation has ended, where there is one.
-pub(crate) fn has_ended(inside: bool, outer: &[Frame]) -> bool
+pub(crate) fn has_ended(inside: Within, outer: &[Frame]) -> bool
     requires { inside ≡ is_inside outer.now }
     ensures { result ≡ has_ended outer.now }
 {
-    inside && outer.iter().any(|frame| is_at_end(*frame))
+    match inside {
+        Within::Nothing => false,
+        _ => outer.iter().any(|frame| is_at_end(*frame)),
+    }
 }
 
 /// Whether all octets of an encapsulation were taken; of no other part.
@@ -149,11 +265,11 @@ fn is_at_end(frame: Frame) -> bool
 
 /// How the octets of the innermost part are taken: the byte order, and the offset, modulo 8, by which numbers are
 /// aligned.
-pub(crate) fn coding(inside: bool, order: Order, at: u8, outer: &[Frame]) -> (Order, u8)
+pub(crate) fn coding(inside: Within, order: Order, at: u8, outer: &[Frame]) -> (Order, u8)
     requires { inside ≡ is_inside outer.now }
     ensures { result ≡ coding_by order at outer.now }
 {
-    if !inside {
+    if let Within::Nothing = inside {
         return (order, at);
     }
     let mut coding = (order, at);
@@ -196,23 +312,24 @@ pub(crate) fn is_empty(catalogue: &Catalogue, t: TypeId) -> bool
     }
 }
 
-/// How many parts a type has that begins with its first part: None for one that begins with a number.
+/// How many parts a type has that begins with its first part, and what that has told where it tells what follows: None
+/// for a type that begins with a number.
 #[tactic(auto, using(crate::proofs::Shapes::shape_laws))]
-pub(crate) fn whole(catalogue: &Catalogue, t: TypeId) -> Option<u32>
+pub(crate) fn whole(catalogue: &Catalogue, t: TypeId) -> Option<(u32, Option<Stage>)>
     requires { t.0 < length catalogue.now.types }
-    ensures whole { IfSome result (λ count.
-        (n : ℕ) → IsWhole (tree_at catalogue.now n t.0) count) }
+    ensures whole { IfSome result (λ first.
+        (n : ℕ) → IsWhole (tree_at catalogue.now n t.0) first.0 first.1) }
     ensures number { IfNone result ((n : ℕ) → HasLeadingNumber (tree_at catalogue.now n t.0)) }
 {
     match catalogue.shape(t) {
-        Shape::Members(count) => Some(count),
-        Shape::Array(count) => Some(count),
+        Shape::Members(count) => Some((count, None)),
+        Shape::Array(count) => Some((count, None)),
+        Shape::Led => Some((0, Some(Stage::Untold))),
         Shape::Prim(_) => None,
         Shape::Enumeration(_) => None,
         Shape::Text(_) => None,
         Shape::Octets(_) => None,
         Shape::Marked(_) => None,
-        Shape::Led => None,
         Shape::Union(_) => None,
         Shape::Sequence(_) => None,
         Shape::Encapsulation => None,
@@ -220,9 +337,15 @@ pub(crate) fn whole(catalogue: &Catalogue, t: TypeId) -> Option<u32>
     }
 }
 
-/// Begins a type: adds the frames on the way to its first number, and answers the type that begins with it.
+/// Begins a type: adds the frames on the way to its first number, and answers the type that begins with it. `inside` is set
+/// where a frame added tells what follows.
 #[inline(always)]
-pub(crate) fn begin(catalogue: &Catalogue, outer: &mut ArrayVec<Frame, 24>, t: TypeId) -> TypeId
+pub(crate) fn begin(
+    catalogue: &Catalogue,
+    outer: &mut ArrayVec<Frame, 24>,
+    inside: &mut Within,
+    t: TypeId,
+) -> TypeId
     requires known { t.0 < length catalogue.now.types }
     requires known_outer { AreKnown catalogue.now outer.old.items }
     requires fit { IsFit (24 - array_vec_len outer.old)
@@ -233,7 +356,8 @@ pub(crate) fn begin(catalogue: &Catalogue, outer: &mut ArrayVec<Frame, 24>, t: T
         ≡ open_parts catalogue.now at outer.old.items
         ++ start_outer (tree_in catalogue.now outer.old.items t.0) }
     ensures ended { has_ended outer.new.items ≡ has_ended outer.old.items }
-    ensures inside { is_inside outer.new.items ≡ is_inside outer.old.items }
+    ensures inside { (tells : Bool) × (inside.new ≡ within_more tells inside.old)
+        × (is_inside outer.new.items ≡ within_more tells (is_inside outer.old.items)) }
     ensures stand { (at : ℕ) → StandAt at outer.old.items → StandAt at outer.new.items }
     ensures leaf { start_leaf (tree_in catalogue.now outer.old.items t.0)
         ≡ LeadingNumber (tree_in catalogue.now outer.new.items result.0) [] }
@@ -241,13 +365,15 @@ pub(crate) fn begin(catalogue: &Catalogue, outer: &mut ArrayVec<Frame, 24>, t: T
         Link catalogue.now root outer.new.items result.0 }
 {
     let mut inner = t;
-    while let Some(count) = whole(catalogue, inner) {
+    while let Some((count, told)) = whole(catalogue, inner) {
         outer.push(Frame {
             of: inner,
             index: 0,
             count,
             inside: None,
+            told,
         });
+        *inside = within_told(told, *inside);
         inner = catalogue.part(inner, 0);
     }
     inner
@@ -280,10 +406,51 @@ pub(crate) fn go_to_next(outer: &mut ArrayVec<Frame, 24>)
     outer[last].index = next;
 }
 
+/// Puts a frame in the place of the innermost one.
+fn replace(outer: &mut ArrayVec<Frame, 24>, frame: Frame)
+    requires { (above : List Frame) × (f : Frame) × (outer.old.items ≡ above ++ f ∷ []) }
+    ensures { (above : List Frame) (f : Frame) → outer.old.items ≡ above ++ f ∷ [] →
+        outer.new.items ≡ above ++ frame ∷ [] }
+{
+    let last = outer.len() - 1;
+    outer[last] = frame;
+}
+
+/// Ends each part up to an encapsulation, where octets of no type follow.
+fn leave(outer: &mut ArrayVec<Frame, 24>)
+    ensures known { (C : Table) → AreKnown C outer.old.items → AreKnown C outer.new.items }
+    ensures are_open { (C : Table) (at : ℕ) → OpenFrom 24 (open_parts C at outer.old.items) →
+        OpenFrom 24 (open_parts C at outer.new.items) }
+    ensures fewer { array_vec_len outer.new ≤ array_vec_len outer.old }
+    ensures most { (most : Within) → IsAtMost (is_inside outer.old.items) most →
+        IsAtMost (is_inside outer.new.items) most }
+    ensures stand { (at : ℕ) → StandAt at outer.old.items → StandAt at outer.new.items }
+    ensures next { (C : Table) (coding : Coding) (path : List PathSegment) (at : ℕ) (T : Ty) →
+        AreKnown C outer.old.items →
+        rooted none_left (around coding path (open_parts C at outer.old.items)
+        (Fault [] at kinds.Untyped T))
+        ≡ rooted none_left (around coding path (open_parts C at outer.new.items) (Done [] at [])) }
+    ensures linked { (C : Table) (root inner : ℕ) → Link C root outer.old.items inner →
+        (now : ℕ) × Link C root outer.new.items now }
+{
+    while let Some(frame) = innermost(outer) {
+        match frame.inside {
+            Some(_) => return,
+            None => {
+                outer.pop();
+            }
+        }
+    }
+}
+
 /// Goes on after a part that has ended, and answers the innermost part that comes next, the rest of an encapsulation or
-/// the next number, or None where the whole has ended.
+/// the next number, or None where the whole has ended. `inside` is set where a frame added tells what follows.
 #[inline(always)]
-pub(crate) fn go_on(catalogue: &Catalogue, outer: &mut ArrayVec<Frame, 24>) -> Option<Leaf>
+pub(crate) fn go_on(
+    catalogue: &Catalogue,
+    outer: &mut ArrayVec<Frame, 24>,
+    inside: &mut Within,
+) -> Option<Leaf>
     requires known { AreKnown catalogue.now outer.old.items }
     requires open { (at : ℕ) × OpenFrom 24 (open_parts catalogue.now at outer.old.items) }
     ensures known { IfSome result (λ leaf. leaf_type leaf < length catalogue.now.types) }
@@ -291,11 +458,12 @@ pub(crate) fn go_on(catalogue: &Catalogue, outer: &mut ArrayVec<Frame, 24>) -> O
     ensures plain { IfSome result (λ leaf.
         leaf_in_string (tree_in catalogue.now outer.new.items (leaf_type leaf)) leaf ≡ false) }
     ensures known_outer { AreKnown catalogue.now outer.new.items }
-    ensures outside { is_inside outer.old.items ≡ false → is_inside outer.new.items ≡ false }
+    ensures most { IsAtMost (is_inside outer.old.items) inside.old →
+        IsAtMost (is_inside outer.new.items) inside.new }
     ensures stand { (at : ℕ) → StandAt at outer.old.items → StandAt at outer.new.items }
     ensures next { (coding : Coding) (path : List PathSegment) (at : ℕ) →
-        around coding path (open_parts catalogue.now at outer.old.items) (Done [] at [])
-        ≡ gone_on catalogue.now at outer.new.items result }
+        rooted none_left (around coding path (open_parts catalogue.now at outer.old.items)
+        (Done [] at [])) ≡ gone_on catalogue.now at outer.new.items result }
     ensures linked { IfSome result (λ leaf. (root inner : ℕ) →
         Link catalogue.now root outer.old.items inner →
         Link catalogue.now root outer.new.items (leaf_type leaf)) }
@@ -318,11 +486,65 @@ pub(crate) fn go_on(catalogue: &Catalogue, outer: &mut ArrayVec<Frame, 24>) -> O
                 if frame.index < last {
                     go_to_next(outer);
                     let part = catalogue.part(frame.of, frame.index + 1);
-                    return Some(Leaf::Number(begin(catalogue, outer, part)));
+                    return Some(Leaf::Number(begin(catalogue, outer, inside, part)));
                 }
-                outer.pop();
+                match frame.told {
+                    None => {
+                        outer.pop();
+                    }
+                    Some(told) => {
+                        if let Some(part) = part_told(catalogue, outer, frame, told) {
+                            return Some(Leaf::Number(begin(catalogue, outer, inside, part)));
+                        }
+                    }
+                }
             }
         }
     }
     None
+}
+
+/// Goes on after the innermost part's first part, which has told what follows: answers the type of the part that does,
+/// or ends the part, and where octets of no type follow each part around it up to an encapsulation.
+#[inline(never)]
+fn part_told(
+    catalogue: &Catalogue,
+    outer: &mut ArrayVec<Frame, 24>,
+    frame: Frame,
+    told: Stage,
+) -> Option<TypeId>
+    requires known { AreKnown catalogue.now outer.old.items }
+    requires open { (at : ℕ) × OpenFrom 24 (open_parts catalogue.now at outer.old.items) }
+    requires innermost { outer.old.items ≡ frames_above outer.old.items ++ frame ∷ [] }
+    requires told { frame.told ≡ Some told }
+    ensures known { AreKnown catalogue.now outer.new.items }
+    ensures most { (most : Within) → IsAtMost (is_inside outer.old.items) most →
+        IsAtMost (is_inside outer.new.items) most }
+    ensures stand { (at : ℕ) → StandAt at outer.old.items → StandAt at outer.new.items }
+    ensures fewer { IfNone result (array_vec_len outer.new < array_vec_len outer.old) }
+    ensures part { IfSome result (λ part. IsTold catalogue.now outer.old.items outer.new.items
+        part.0) }
+    ensures none { IfNone result (IsPast catalogue.now outer.old.items outer.new.items) }
+{
+    let room = 24 - outer.len() as u8;
+    match catalogue.following(frame.of, signal(told, frame.index), room) {
+        Following::Then(place) => {
+            let next = Frame {
+                index: place,
+                told: None,
+                ..frame
+            };
+            replace(outer, next);
+            Some(catalogue.part(frame.of, place))
+        }
+        Following::Ends => {
+            outer.pop();
+            None
+        }
+        Following::Stops => {
+            outer.pop();
+            leave(outer);
+            None
+        }
+    }
 }

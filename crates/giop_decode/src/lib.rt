@@ -7,6 +7,7 @@ mod current_path;
 mod decoder;
 mod encapsulation;
 mod frame;
+mod hearing;
 mod laws;
 mod leading_numbers;
 mod leaf;

@@ -15,7 +15,7 @@ ghost use Rattle.giop_print.specs.Paths.{root_word};
 
 use crate::current_path::{HEAD, spell_segment, spell_segments};
 use crate::decoder::Decoder;
-use crate::frame::{Frame, go_to_next};
+use crate::frame::{Frame, Within, go_to_next};
 use crate::leaf::{Leaf, Output, Step, Transition};
 use crate::lookahead::{Lookahead, whole_number};
 use crate::notes::is_header;
@@ -84,7 +84,7 @@ impl Decoder {
         requires octets { 0 < length octets.now }
         requires some { 0 < length self.old.outer.items }
         requires body { is_header_root self.old.head.root ≡ false }
-        requires outside { self.old.inside ≡ false }
+        requires outside { self.old.inside ≡ Within.Nothing }
         ensures { TakesSome catalogue.now self.old self.new octets.now
             (O.log out.old) (O.log out.new) result }
     {
@@ -107,7 +107,7 @@ impl Decoder {
         requires fits { Fits catalogue.now self.old }
         requires octets { 0 < length octets.now }
         requires body { is_header_root self.old.head.root ≡ false }
-        requires outside { self.old.inside ≡ false }
+        requires outside { self.old.inside ≡ Within.Nothing }
         requires front { line_text front.now ≡ front_text catalogue.now self.old }
         requires short { length (line_text front.now) ≤ 128 }
         ensures { TakesSome catalogue.now self.old self.new octets.now
@@ -135,7 +135,7 @@ impl Decoder {
     #[inline(always)]
     fn part_ahead<'a>(&self, catalogue: &Catalogue, octets: &'a [u8]) -> Option<PartAhead<'a>>
         requires fits { Fits catalogue.now self.now }
-        requires outside { self.now.inside ≡ false }
+        requires outside { self.now.inside ≡ Within.Nothing }
         ensures ahead { IfSome result (λ part. IsPartAhead catalogue.now self.now part) }
         ensures octets { IfSome result (λ part. part.octets.now ≡ octets.now) }
     {

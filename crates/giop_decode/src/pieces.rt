@@ -9,6 +9,7 @@ ghost use Rattle.giop_print.specs.Lines.{content_line, more_word, spaced_hex};
 ghost use Rattle.giop_print.specs.Output.{Writes};
 
 use crate::decoder::Decoder;
+use crate::frame::Within;
 use crate::leaf::Leaf;
 use crate::parts::put_front;
 use crate::progress::Progress;
@@ -61,7 +62,7 @@ impl Decoder {
     ) -> Result<(usize, Progress), OutFault>
         requires fits { Fits catalogue.now self.old }
         requires octets { 0 < length octets.now }
-        requires outside { self.old.inside ≡ false }
+        requires outside { self.old.inside ≡ Within.Nothing }
         ensures { TakesSome catalogue.now self.old self.new octets.now
             (O.log out.old) (O.log out.new) result }
     {
@@ -84,7 +85,7 @@ impl Decoder {
     ) -> Result<(usize, Progress), OutFault>
         requires fits { Fits catalogue.now self.old }
         requires octets { 0 < length octets.now }
-        requires outside { self.old.inside ≡ false }
+        requires outside { self.old.inside ≡ Within.Nothing }
         requires front { line_text front.now ≡ path_front catalogue.now self.old }
         requires short { length (line_text front.now) ≤ 90 }
         ensures { TakesSome catalogue.now self.old self.new octets.now
@@ -143,7 +144,7 @@ impl Decoder {
     ) -> Result<(usize, Progress), OutFault>
         requires fits { Fits catalogue.now self.old }
         requires ahead { IsPieceAhead catalogue.now self.old piece }
-        requires outside { self.old.inside ≡ false }
+        requires outside { self.old.inside ≡ Within.Nothing }
         requires front { line_text front.now ≡ path_front catalogue.now self.old }
         requires short { length (line_text front.now) ≤ 90 }
         ensures takes { TakesSome catalogue.now self.old self.new piece.entry.octets.now

@@ -6,17 +6,18 @@ ghost use Rattle.std.specs.List.{AllByRecursion};
 ghost use Rattle.giop_cdr.specs.declared.order.Order.{Order as ByteOrder};
 ghost use Rattle.giop_decode.specs.declared.decoder.Decoder.{Decoder as State};
 ghost use Rattle.giop_decode.specs.declared.frame.Frame.{Frame as FrameState};
+ghost use Rattle.giop_decode.specs.declared.frame.Stage.{Stage as StageState};
 ghost use Rattle.giop_decode.specs.declared.leaf.Leaf.{Leaf as Innermost};
 ghost use Rattle.giop_decode.specs.declared.notes.Buffer.{Buffer as BufferState};
 ghost use Rattle.giop_decode.specs.declared.notes.Notes.{Notes as NotesState};
 ghost use Rattle.giop_decode.specs.DecoderState.{Fits, Reads};
-ghost use Rattle.giop_decode.specs.Stored.{order_octet, root_octet, leaf_octets, buffer_octet, expects_octet, notes_octets, inside_octet, frame_octets, frames_octets, frame_size, FrameHasRange, LeafHasRange, NotesHaveRange, Stored, IsKept, IsRestored};
+ghost use Rattle.giop_decode.specs.Stored.{order_octet, root_octet, leaf_octets, buffer_octet, expects_octet, notes_octets, inside_octet, told_octet, frame_octets, frames_octets, frame_size, FrameHasRange, LeafHasRange, NotesHaveRange, Stored, IsKept, IsRestored};
 ghost use Rattle.giop_print.specs.declared.path.Root.{Root as PathRoot};
 ghost use Rattle.giop_sig.specs.Table.{Table};
 ghost use Rattle.giop_sig.specs.Types.{Ty};
 
 use crate::decoder::Decoder;
-use crate::frame::{Frame, is_inside};
+use crate::frame::{Frame, Stage, Within, is_inside};
 use crate::leaf::Leaf;
 use crate::notes::{Buffer, Notes};
 use crate::stored::FRAME_SIZE;
@@ -83,7 +84,7 @@ fn parsed(fixed: &[u8; 208], frames: &[u8]) -> Decoder
     let root = root_at(fixed, 1);
     let carry: ArrayVec<u8, 8> = held_at(fixed, 24);
     let outer = outer_at(frames);
-    let inside = is_inside(true, outer.as_slice());
+    let inside = is_inside(Within::Telling, outer.as_slice());
     Decoder {
         order: order_at(fixed, 0),
         head: Head::new(eight_at(fixed, 2), root),
@@ -226,6 +227,24 @@ fn frame_at(octets: &[u8]) -> Frame
         index: four_at(octets, 4),
         count: four_at(octets, 8),
         inside: inside_at(octets, 12),
+        told: told_at(octets, 13),
+    }
+}
+
+/// What was told in a frame, as it is stored at this index, or none.
+fn told_at(octets: &[u8], at: usize) -> Option<Stage>
+    requires room { at < length octets.now }
+    ensures { (told : Option StageState) (rest : List ℕ) →
+        drop at octets.now ≡ told_octet told ∷ rest → result ≡ told }
+{
+    match octet_at(octets, at) {
+        0 => None,
+        1 => Some(Stage::Untold),
+        2 => Some(Stage::Awaits),
+        3 => Some(Stage::Offers),
+        4 => Some(Stage::Is),
+        5 => Some(Stage::Empty),
+        _ => Some(Stage::Unknown),
     }
 }
 

@@ -11,9 +11,9 @@ ghost use Rattle.giop_sig.specs.Types.{Ty};
 
 use crate::decoder::Decoder;
 use crate::encapsulation::take_order;
-use crate::frame::{coding, tick_by, up_to_end};
+use crate::frame::{Within, coding, pass_by, up_to_end};
 use crate::leading_numbers::{hold_number, take_count, take_length, take_size, take_value, width};
-use crate::leaf::{Leaf, Output, Step, Transition, ended, refused};
+use crate::leaf::{Finished, Leaf, Output, Step, Transition, ended, refused};
 use crate::lookahead::{
     Lookahead, ahead_of, held, octets_behind, whole_long, whole_number, whole_octets,
 };
@@ -76,7 +76,7 @@ impl Decoder {
         ensures { TakesSome catalogue.now self.old self.new octets.now
             (O.log out.old) (O.log out.new) result }
     {
-        if self.inside {
+        if self.inside != Within::Nothing {
             let (count, progress) = self.take_one(catalogue, octets, out)?;
             return Ok((count, progress));
         }
@@ -351,7 +351,18 @@ impl Decoder {
             TakesSome catalogue.now d self.new octets.now (O.log out.old) (O.log out.new) result }
     {
         self.at = further(self.at, ahead.count);
-        tick_by(self.inside, &mut self.outer, ahead.count);
+        pass_by(
+            catalogue,
+            self.inside,
+            &mut self.outer,
+            ahead.count,
+            Finished {
+                of: ahead.of,
+                output: ahead.step.output,
+                held: &self.piece,
+                rest: ahead.rest,
+            },
+        );
         let progress = self.emit(catalogue, ahead, out)?;
         Ok((ahead.count, progress))
     }

@@ -4,12 +4,12 @@ ghost use Rattle.std.specs.Prelude.{◌≡◌, ◌+◌, ◌*◌, ◌<◌, ◌≤
 ghost use Rattle.std.specs.List.{AllByRecursion};
 ghost use Rattle.arrayvec.specs.ArrayVec.{array_vec_len};
 ghost use Rattle.giop_decode.specs.DecoderState.{Fits};
-ghost use Rattle.giop_decode.specs.Stored.{order_octet, root_octet, leaf_octets, buffer_octet, expects_octet, kept_name, notes_octets, fixed_octets, frame_size, inside_octet, frame_octets, frames_octets, own_frame, FrameHasRange, LeafHasRange, NotesHaveRange, HasRange, Stored};
+ghost use Rattle.giop_decode.specs.Stored.{order_octet, root_octet, leaf_octets, buffer_octet, expects_octet, kept_name, notes_octets, fixed_octets, frame_size, inside_octet, told_octet, frame_octets, frames_octets, own_frame, FrameHasRange, LeafHasRange, NotesHaveRange, HasRange, Stored};
 ghost use Rattle.giop_sig.specs.Table.{Table};
 ghost use Rattle.giop_sig.specs.Trees.{depth_of};
 
 use crate::decoder::Decoder;
-use crate::frame::Frame;
+use crate::frame::{Frame, Stage};
 use crate::leaf::Leaf;
 use crate::notes::{Buffer, Notes};
 use arrayvec::ArrayVec;
@@ -187,6 +187,7 @@ fn put_frames(out: &mut ArrayVec<u8, 576>, outer: &[Frame], leaf: Leaf)
             index: 0,
             count: 0,
             inside: None,
+            told: None,
         },
     );
 }
@@ -202,7 +203,8 @@ fn put_frame(out: &mut ArrayVec<u8, 576>, frame: Frame)
     put_four(out, frame.index);
     put_four(out, frame.count);
     out.push(inside_octet(frame.inside));
-    put_zeros(out, 11);
+    out.push(told_octet(frame.told));
+    put_zeros(out, 10);
 }
 
 /// The octet of an encapsulation's byte order, or of none.
@@ -212,5 +214,20 @@ fn inside_octet(inside: Option<Order>) -> u8
     match inside {
         None => 0,
         Some(order) => 1 + order_octet(order),
+    }
+}
+
+/// The octet of what was told in a frame, or of none.
+fn told_octet(told: Option<Stage>) -> u8
+    ensures { result ≡ told_octet told }
+{
+    match told {
+        None => 0,
+        Some(Stage::Untold) => 1,
+        Some(Stage::Awaits) => 2,
+        Some(Stage::Offers) => 3,
+        Some(Stage::Is) => 4,
+        Some(Stage::Empty) => 5,
+        Some(Stage::Unknown) => 6,
     }
 }

@@ -16,7 +16,8 @@ use Rattle.giop_sig.proofs.Builtins.{builtin_is, builtin_fit, header_built_in}
 use Rattle.giop_decode.specs.ReadResult
 use Rattle.giop_decode.specs.ReadResult.{Coding, PathSegment, Name, Switch, Held, Line, OpenPart, Part, Member, Inside, Leaf, LeadingNumber, Opening, Content, Read, Done, Short, Fault, lines_of, with_front, followed, within, Telling}
 use Rattle.giop_decode.specs.Reading.{parts_from, following, led, told_after, none_left, rooted}
-use Rattle.giop_decode.specs.ReadingSteps.{IsOctetResult, part_at, path_in, segment_of, segment_in, step, resumed, IsEmptyResult, after_told, hearing_in, root_step, leaf_step}
+use Rattle.giop_decode.specs.ReadingSteps.{IsOctetResult, part_at, path_in, segment_of, segment_in, step, resumed, IsEmptyResult, after_told, root_step, leaf_step}
+use Rattle.giop_sig.specs.Hearings.{hearing_in}
 use Rattle.giop_decode.specs.Fits.{FitsIn}
 use Rattle.giop_decode.specs.Noted.{is_member, ends_operation, ends_text}
 use Rattle.giop_decode.proofs.ReadingLaws.{quiet_within, read_quiet, step_now, next_part, switch_member, now_within, parts_quiet}

@@ -6,7 +6,8 @@ use Rattle.giop_decode.specs.declared.progress.Kind.TheVariants as kinds
 use Rattle.giop_decode.specs.ReadResult.{Coding, PathSegment, Name, Index, Held, OpenPart, Part, Member, Inside, Leaf, Read, Done, Short, Fault, followed, within, Telling}
 use Rattle.giop_decode.specs.Pieces.{content, full_pieces}
 use Rattle.giop_decode.specs.Reading.{read, parts_from, enclosed, rest_of, following, led, led_segment, none_left, rooted}
-use Rattle.giop_decode.specs.ReadingSteps.{IsEmptyResult, IsOctetResult, part_at, segment_of, step, after_told, hearing_in}
+use Rattle.giop_decode.specs.ReadingSteps.{IsEmptyResult, IsOctetResult, part_at, segment_of, step, after_told}
+use Rattle.giop_sig.specs.Hearings.{hearing_in}
 use Rattle.giop_decode.specs.Fits.{FitsIn, IsEncapsulation}
 use Rattle.giop_decode.specs.Noted.{ends_in_string}
 use Rattle.giop_decode.proofs.ReadingLaws.{read_quiet, cut_inside, front_inside, now_within, block_waits, width_pos, number_none, part_quiet, step_now}

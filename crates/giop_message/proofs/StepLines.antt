@@ -9,7 +9,8 @@ use Rattle.giop_decode.specs.ReadResult
 use Rattle.giop_decode.specs.ReadResult.{Coding, PathSegment, Switch, Held, Line, Piece, line, OpenPart, Part, Member, Inside, Leaf, LeadingNumber, Opening, Content, Read, Done, Short, Fault, lines_of, with_front, followed, within, Telling}
 use Rattle.giop_decode.specs.Pieces.{Block, Partial, Complete, unless, content, full_piece, last_piece}
 use Rattle.giop_decode.specs.Reading.{after_leading_number, parts_from, enclosed, opening, following, led, none_left}
-use Rattle.giop_decode.specs.ReadingSteps.{coding_in, held, Faulted, OneAt, IsEmptyResult, IsOctetResult, after, leaf_step, part_at, path_in, segment_of, step, after_told, hearing_in}
+use Rattle.giop_decode.specs.ReadingSteps.{coding_in, held, Faulted, OneAt, IsEmptyResult, IsOctetResult, after, leaf_step, part_at, path_in, segment_of, step, after_told}
+use Rattle.giop_sig.specs.Hearings.{hearing_in}
 use Rattle.giop_decode.specs.Noted.{ends_text, ends_in_string}
 use Rattle.giop_decode.proofs.ReadingLaws.{quiet_within, read_quiet, now_within, rest_quiet, parts_quiet, step_now, lines_front}
 

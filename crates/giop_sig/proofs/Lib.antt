@@ -10,6 +10,7 @@ mod Tables
 pub mod PartLaws
 pub mod Builtins
 pub mod HeaderLaws
+pub mod Unled
 mod Added
 mod ListNumbers
 mod ListLines

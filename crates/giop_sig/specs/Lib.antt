@@ -23,3 +23,4 @@ pub mod UnionReading
 pub mod Labels
 pub mod FileReading
 pub mod ScopeViews
+pub mod Hearings

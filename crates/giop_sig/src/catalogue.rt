@@ -1,7 +1,8 @@
 //! The catalogue: the types of a signature file with the built-in ones, and its operations and exceptions by name.
 ghost use Rattle.std.specs.Prelude.{◌≡◌, ℕ, suc, ◌+◌, ◌^◌, ◌<◌, ◌≤◌, ◌++◌, ◌↔◌, codes, drop, nat_le, length, IsTrue, IfSome, IfOk, IfErr, OnOk, OnErr, None, MatchOption};
 ghost use Rattle.std.specs.Option.{option_map};
-ghost use Rattle.giop_sig.specs.Types.{depth, part_of, name_in, enum_name_in, switch_of, select_in, interpreted_in, shape_in, HasShape, HasMember, HasPlace, IsUnion};
+ghost use Rattle.giop_sig.specs.Hearings.{HasPart, hearing_in, sequel_of, sign_is, signal_after, told_of};
+ghost use Rattle.giop_sig.specs.Types.{sequel, depth, part_of, name_in, enum_name_in, switch_of, select_in, interpreted_in, shape_in, HasShape, HasMember, HasPlace, IsUnion};
 ghost use Rattle.giop_sig.specs.Fits.{IsFit, IsRoot};
 ghost use Rattle.giop_sig.specs.Table.{node_at, shape_of, part_number, part_at, name_of, name_at, switch_at, selected, operation_in, operation_at, exception_in, IsFormed, with_type, with_declared, with_operation, with_exception};
 ghost use Rattle.giop_sig.specs.Trees.{tree, tree_at, grow, depth_of};
@@ -10,7 +11,7 @@ ghost use Rattle.giop_sig.specs.HeaderTypes.{header_number, header_type, fixed_n
 use crate::builtin::{builtin_list, fixed_id, header_id};
 use crate::entries::{Entry, Types};
 use crate::part_name::PartName;
-use crate::types::{Counts, Fixed, OpId, Selected, Shape, TypeId};
+use crate::types::{Counts, Fixed, Following, OpId, Selected, Shape, Sign, Signal, TypeId};
 use arrayvec::ArrayVec;
 use giop_cdr::Number;
 use giop_tokens::SigFault;
@@ -310,6 +311,28 @@ impl Catalogue {
         ensures known { result.0 < length self.now.types }
     {
         self.signature(operation).reply
+    }
+
+    /// What a value of a type, which begins with a part that tells what follows, has told after a sign in that part.
+    #[tactic(auto, using(crate::proofs::Unled::none_heard))]
+    pub fn hear(&self, t: TypeId, told: Signal, sign: Sign<'_>) -> Signal
+        requires { t.0 < length self.now.types }
+        ensures is { result ≡ signal_after self.now t.0 told sign.entry }
+        ensures heard { (n : ℕ) → told_of result
+            ≡ (hearing_in (tree_at self.now n t.0)).hears (told_of told) (sign_is sign.entry) }
+    {
+        told
+    }
+
+    /// What follows in a value of a type, which begins with a part that tells it, in this room for what follows.
+    #[tactic(auto, using(crate::proofs::Unled::none_follow))]
+    pub fn following(&self, t: TypeId, told: Signal, room: u8) -> Following
+        requires { t.0 < length self.now.types }
+        ensures is { sequel (hearing_in (tree_at self.now (suc room) t.0)) (told_of told)
+            ≡ sequel_of result }
+        ensures place { HasPart result }
+    {
+        Following::Ends
     }
 
     /// The entry of a type.

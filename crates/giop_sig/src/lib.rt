@@ -26,4 +26,4 @@ pub use fault::{ListFault, ListFaultKind};
 pub use giop_tokens::{SigFault, SigFaultKind};
 pub use parse::one_table;
 pub use requests::{Requests, one_list};
-pub use types::{Counts, Fixed, OpId, Selected, Shape, TypeId};
+pub use types::{Counts, Fixed, Following, OpId, Selected, Shape, Sign, Signal, TypeId};

@@ -11,6 +11,7 @@ use Rattle.giop_sig.specs.Trees.{tree}
 use Rattle.giop_sig.specs.Types.{Ty, part_of}
 use Rattle.giop_decode.specs.declared.decoder.Decoder.{Decoder}
 use Rattle.giop_decode.specs.declared.frame.Frame.{Frame}
+use Rattle.giop_decode.specs.declared.frame.Within.TheVariants as withins
 use Rattle.giop_decode.specs.declared.leaf.Leaf.{Leaf as Innermost}
 use Rattle.giop_decode.specs.declared.leaf.Leaf.TheVariants as innermost
 use Rattle.giop_decode.specs.declared.notes.Buffer.TheVariants as buffers
@@ -52,7 +53,7 @@ number : Innermost
 number = innermost.Number (type_id 8)
 
 parameters_frame : Frame
-parameters_frame = record { of = type_id parameters; index = 0; count = 1; inside = None }
+parameters_frame = record { of = type_id parameters; index = 0; count = 1; inside = None; told = None }
 
 in_body : Decoder
 in_body = record {
@@ -60,7 +61,7 @@ in_body = record {
   head = record { message = 1; root = roots.Body };
   at = 4;
   outer = record { items = parameters_frame ∷ [] };
-  inside = false;
+  inside = withins.Nothing;
   leaf = Some number;
   carry = 1 ∷ 2 ∷ 3 ∷ 4 ∷ [];
   piece = record { items = [] };

@@ -1,9 +1,10 @@
-use Rattle.std.proofs.Common.{◌≡◌, ◌-◌, length, pred, refl, sym, ◌∙◌, arith}
+use Rattle.std.proofs.Common.{◌≡◌, ◌-◌, length, pred, refl, sym, ap, ◌∙◌, arith}
+use Rattle.std.specs.Prelude.{◌||◌}
 use Rattle.giop_sig.specs.Trees.{tree_at}
-use Rattle.giop_decode.specs.Transitions.{open_parts, is_inside, tree_in, IsKnown}
-use Rattle.giop_decode.proofs.Beginning.{begins, begins_places, all_push, part_in_frames, places_push, whole_within}
-use Rattle.giop_decode.proofs.Surrounding.{ended_push, inside_push, or_false, stand_push}
-use Rattle.giop_decode.proofs.Linking.{link_push}
+use Rattle.giop_decode.specs.Transitions.{open_parts, is_inside, is_some_stage, tree_in, within_more, IsKnown}
+use Rattle.giop_decode.proofs.Beginning.{begins, begins_places, all_push, part_in_frames, places_push, whole_placed, whole_within}
+use Rattle.giop_decode.proofs.Surrounding.{ended_push, more_more, push_more, stand_push}
+use Rattle.giop_decode.proofs.Linking.{first_index, link_push}
 use Rattle.giop_decode.proofs.frame.begin.Goals as goal
 
 pub loop-count-preserved : goal.loop-count-preserved
@@ -12,7 +13,8 @@ loop-count-preserved c =
     let old = c.loop-count.outer.items in
     let T = tree_in t old c.loop-count.inner.0 in
     let d = 24 - length old in
-    let b = begins d T c.in-Some.count c.loop-count.invariant.fit (c.in-Some.ensures.whole d) in
+    let b = begins d T c.in-Some.count c.in-Some.told c.loop-count.invariant.fit
+    (c.in-Some.ensures.whole d) in
     let e : pred d ≡ 24 - length c.push.new.self.items = omega (arith, c.push.ensures.len) in
     let part = part_in_frames t old c.push.new.self.items c.loop-count.inner.0
     c.part-inner.result.0 0 (omega (arith, c.push.ensures.len)) (omega (arith, b.room))
@@ -24,35 +26,43 @@ loop-count-preserved c =
           (record {
             known = c.loop-count.invariant.known;
             within = λ room. whole_within (tree_at t room c.loop-count.inner.0) c.in-Some.count
-                b.some (c.in-Some.ensures.whole room);
+                c.in-Some.told b.some (c.in-Some.ensures.whole room);
           }));
       fit = rw (part, ← e) b.fit;
       placed = λ at. rw (part, c.push.ensures.items, places_push)
-          (begins_places d (open_parts t at old) T c.in-Some.count b
+          (begins_places d at (open_parts t at old) T c.in-Some.count c.in-Some.told b
           ∙ c.loop-count.invariant.placed at);
       ended = rw c.push.ensures.items (ended_push old _ refl ∙ c.loop-count.invariant.ended);
-      inside = rw (c.push.ensures.items, inside_push)
-          (or_false (is_inside old) ∙ c.loop-count.invariant.inside);
+      asked = (let a = c.loop-count.invariant.asked in (
+        a.0 || is_some_stage c.in-Some.told,
+        c.within_told.ensures ∙ (ap (within_more (is_some_stage c.in-Some.told)) a.1
+            ∙ more_more a.0 (is_some_stage c.in-Some.told) c.args.inside.now),
+        rw (c.push.ensures.items, push_more) (ap (within_more (is_some_stage c.in-Some.told)) a.2
+            ∙ more_more a.0 (is_some_stage c.in-Some.told) (is_inside c.args.outer.now.items)),
+      ));
       stand = λ at h. rw c.push.ensures.items
           (stand_push at old _ (c.loop-count.invariant.stand at h) tt);
       leaf = rw part (sym b.leaf ∙ c.loop-count.invariant.leaf);
       linked = λ root h. link_push t root old c.push.new.self.items c.loop-count.inner.0
           c.part-inner.result.0 _ refl c.push.ensures.items
-          c.part-inner.ensures.number (c.loop-count.invariant.linked root h);
+          (rw (first_index c.in-Some.told) c.part-inner.ensures.number)
+          (c.loop-count.invariant.linked root h);
     }
 
 pub push-requires : goal.push-requires
 push-requires c =
-    let b = begins _ _ c.in-Some.count c.loop-count.invariant.fit (c.in-Some.ensures.whole _) in
+    let b = begins _ _ c.in-Some.count c.in-Some.told c.loop-count.invariant.fit
+    (c.in-Some.ensures.whole _) in
     (omega arith, omega (arith, b.room))
 
 pub part-inner-requires-clause-place : goal.part-inner-requires-clause-place
 part-inner-requires-clause-place c =
-    (whole_within (tree_at c.args.catalogue.now 24 c.loop-count.inner.0) c.in-Some.count
-    (begins _ _ c.in-Some.count c.loop-count.invariant.fit (c.in-Some.ensures.whole _)).some
-    (c.in-Some.ensures.whole 24)).0
+    whole_placed (tree_at c.args.catalogue.now 24 c.loop-count.inner.0) c.in-Some.count
+    c.in-Some.told (begins _ _ c.in-Some.count c.in-Some.told c.loop-count.invariant.fit
+    (c.in-Some.ensures.whole _)).some (c.in-Some.ensures.whole 24)
 
 pub loop-count-smaller : goal.loop-count-smaller
 loop-count-smaller c =
-    let b = begins _ _ c.in-Some.count c.loop-count.invariant.fit (c.in-Some.ensures.whole _) in
+    let b = begins _ _ c.in-Some.count c.in-Some.told c.loop-count.invariant.fit
+    (c.in-Some.ensures.whole _) in
     omega (arith, b.room, c.push.ensures.len)

@@ -1,7 +1,7 @@
-use Rattle.std.proofs.Common.{◌≡◌, ℕ, ◌-◌, ◌<◌, ◌++◌, length}
+use Rattle.std.proofs.Common.{◌≡◌, ℕ, ◌-◌, ◌<◌, ◌++◌, length, Bool}
 use Rattle.arrayvec.specs.ArrayVec.{array_vec_len}
 use Rattle.giop_decode.specs.Begins.{start_outer, start_leaf}
-use Rattle.giop_decode.specs.Transitions.{open_parts, has_ended, is_inside, AreKnown, Link, StandAt, tree_in}
+use Rattle.giop_decode.specs.Transitions.{open_parts, has_ended, is_inside, within_more, AreKnown, Link, StandAt, tree_in}
 use Rattle.giop_sig.specs.Fits.{IsFit}
 use Rattle.giop_decode.proofs.frame.begin.Given as goal
 
@@ -16,7 +16,8 @@ invariant-loop-count l = record {
       ≡ open_parts l.catalogue at l.fn.outer.items
       ++ start_outer (tree_in l.catalogue l.fn.outer.items l.fn.t.0);
   ended : has_ended l.outer.items ≡ has_ended l.fn.outer.items;
-  inside : is_inside l.outer.items ≡ is_inside l.fn.outer.items;
+  asked : (tells : Bool) × (l.inside ≡ within_more tells l.fn.inside)
+      × (is_inside l.outer.items ≡ within_more tells (is_inside l.fn.outer.items));
   stand : (at : ℕ) → StandAt at l.fn.outer.items → StandAt at l.outer.items;
   leaf : start_leaf (tree_in l.catalogue l.outer.items l.inner.0)
       ≡ start_leaf (tree_in l.catalogue l.fn.outer.items l.fn.t.0);

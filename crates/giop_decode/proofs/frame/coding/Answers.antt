@@ -8,6 +8,6 @@ loop-frame-preserved c =
     c.loop-frame-test.true refl c.loop-frame.invariant
     c.coding_at-coding.ensures
 
-pub returns-then-not-inside : goal.returns-then-not-inside
-returns-then-not-inside c = sym (free_coding_by c.args.order c.args.at c.args.outer.now
-    (sym c.requires ∙ c.if-not-inside.true))
+pub returns-in-Nothing : goal.returns-in-Nothing
+returns-in-Nothing c = sym (free_coding_by c.args.order c.args.at c.args.outer.now
+    (sym c.requires ∙ c.in-Nothing.is))

@@ -1,17 +1,20 @@
-use Rattle.std.proofs.Common.{◌≡◌, suc, false, ◌+◌, ◌-◌, ◌<◌, [], ◌∷◌, ◌++◌, length, refl, ap, subst, ◌∙◌, arith, add-one, append_assoc, length-append}
-use Rattle.giop_decode.specs.Begins.{start_leaf, start_outer}
+use Rattle.std.proofs.Common.{◌≡◌, suc, ◌+◌, ◌-◌, ◌<◌, [], ◌∷◌, ◌++◌, length, refl, sym, ap, subst, ◌∙◌, arith, add-one, length-append}
 use Rattle.giop_decode.specs.ReadResult.{Content, Done, coded}
+use Rattle.giop_decode.specs.Reading.{none_left, rooted}
 use Rattle.giop_decode.specs.NextParts.{frames_above, next_of}
+use Rattle.giop_decode.specs.Heard.{begun_in}
 use Rattle.giop_decode.specs.ReadingSteps.{around}
-use Rattle.giop_decode.specs.Transitions.{has_ended, is_inside, part_in, open_parts, tree_in, IsKnown, StandAt}
+use Rattle.giop_decode.specs.Transitions.{part_in, open_parts, tree_in, within_more, is_inside, IsAtMost, IsKnown, StandAt}
 use Rattle.giop_sig.specs.Types.{part_of}
+use Rattle.giop_decode.proofs.Advancing.{rooted_gone}
 use Rattle.giop_decode.proofs.Rooms.{place_in_room}
 use Rattle.giop_decode.proofs.Around.{fit_part}
 use Rattle.giop_decode.proofs.Beginning.{all_push, part_in_frames, places_push}
-use Rattle.giop_decode.proofs.Going.{part_popped, popped_is, held_popped, next_in, goes_next, goes_out, goes_rest, goes_past, part_is, held_is}
-use Rattle.giop_decode.proofs.Surrounding.{around_gone, around_unless_ended, ended_push, inside_push, outside_pop, unless_ended, stand_pop, stand_push}
+use Rattle.giop_decode.proofs.Going.{next_quiet, popped, part_popped, popped_is, held_popped, next_in, goes_next, goes_out, goes_rest, goes_past, part_is, held_is}
+use Rattle.giop_decode.proofs.Surrounding.{around_gone, most_begun, most_pop, most_replaced, stand_pop, stand_push}
 use Rattle.giop_decode.proofs.Noting.{rest_silent}
 use Rattle.giop_decode.proofs.Linking.{link_push, link_pop}
+use Rattle.giop_decode.proofs.Telling.{begun_at, begun_gone}
 use Rattle.giop_decode.proofs.frame.go_on.Goals as goal
 
 pub returns-then-left-gt0-clause-stand : goal.returns-then-left-gt0-clause-stand
@@ -20,6 +23,14 @@ returns-then-left-gt0-clause-stand c at h =
     c.pop.ensures.rest c.in-Some.ensures.some in
     stand_pop at c.pop.new.self.items c.in-Some.frame
     (subst (StandAt at) is (c.loop-frame.invariant.stand at h))
+
+pub returns-then-left-gt0-clause-most : goal.returns-then-left-gt0-clause-most
+returns-then-left-gt0-clause-most c h =
+    let v = c.loop-frame.invariant in
+    let is = popped_is c.loop-frame.outer.items c.pop.new.self.items c.in-Some.frame
+    c.pop.ensures.rest c.in-Some.ensures.some in
+    rw v.asked (most_pop c.pop.new.self.items c.in-Some.frame c.args.inside.now
+    (subst (λ fs. IsAtMost (is_inside fs) c.args.inside.now) is (v.most c.args.inside.now h)))
 
 pub returns-then-left-gt0-clause-next : goal.returns-then-left-gt0-clause-next
 returns-then-left-gt0-clause-next c coding path at =
@@ -35,25 +46,24 @@ returns-then-left-gt0-clause-next c coding path at =
     let order = c.in-Some-inside.field-0 in
     let end = at + (f.count - f.index) in
     let left : end - at ≡ f.count - f.index = omega arith in
+    let leaf = Content T (f.count - f.index) 0 [] in
     v.same coding path at
-    ∙ (ap (λ ps. around coding path ps (Done [] at []))
+    ∙ rooted_gone t [] at rest leaf _ (ap (λ ps. around coding path ps (Done [] at []))
     (ap (open_parts t at) is ∙ places_push t 24 at rest f)
     ∙ (ap (λ q. around coding path (open_parts t at rest ++ q ∷ []) (Done [] at []))
-    (held_is t (24 - length rest) at f order c.in-Some-inside.is)
+    (held_is t (24 - length rest) at f order p.known c.in-Some-inside.is)
     ∙ (goes_rest coding path (open_parts t at rest) T (coded order (at - f.index)) end at
     (f.count - f.index) (omega arith) left
-    ∙ around_gone t coding path at rest [] (Content T (f.count - f.index) 0 []) p.known_rest)))
+    ∙ around_gone t coding path at rest leaf p.known_rest)))
 
 pub returns-then-left-gt0-clause-linked : goal.returns-then-left-gt0-clause-linked
 returns-then-left-gt0-clause-linked c root inner h =
     let is = popped_is c.loop-frame.outer.items c.pop.new.self.items c.in-Some.frame
     c.pop.ensures.rest c.in-Some.ensures.some in
-    let t = c.args.catalogue.now in
-    let f = c.in-Some.frame in
-    let rest = c.pop.new.self.items in
     let v = c.loop-frame.invariant in
     let l = v.linked root inner h in
-    link_pop t root c.loop-frame.outer.items rest f l.0 is l.1
+    link_pop c.args.catalogue.now root c.loop-frame.outer.items c.pop.new.self.items
+    c.in-Some.frame l.0 is l.1
 
 pub loop-frame-preserved-else-left-gt0 : goal.loop-frame-preserved-else-left-gt0
 loop-frame-preserved-else-left-gt0 c =
@@ -70,26 +80,21 @@ loop-frame-preserved-else-left-gt0 c =
     record {
       known = p.known_rest;
       are_open = (v.are_open.0, p.front);
-      outside = λ h. outside_pop rest f (subst (λ fs. is_inside fs ≡ false) is (v.outside h));
+      asked = v.asked;
+      most = λ most h. most_pop rest f most
+          (subst (λ fs. IsAtMost (is_inside fs) most) is (v.most most h));
       stand = λ at h. stand_pop at rest f (subst (StandAt at) is (v.stand at h));
       same = λ coding path at. (let none : (at + (f.count - f.index)) - at ≡ 0 =
           omega (arith, p.within) in v.same coding path at
-          ∙ (ap (λ ps. around coding path ps (Done [] at []))
+          ∙ ap (rooted none_left) (ap (λ ps. around coding path ps (Done [] at []))
           (ap (open_parts t at) is ∙ places_push t 24 at rest f)
           ∙ (ap (λ q. around coding path (open_parts t at rest ++ q ∷ []) (Done [] at []))
-          (held_is t (24 - length rest) at f order c.in-Some-inside.is)
+          (held_is t (24 - length rest) at f order p.known c.in-Some-inside.is)
           ∙ goes_past coding path (open_parts t at rest) T (coded order (at - f.index))
           (at + (f.count - f.index)) at none)));
       linked = λ root inner h. (let l = v.linked root inner h in
           (f.of.0, link_pop t root c.loop-frame.outer.items rest f l.0 is l.1));
     }
-
-pub part-part-requires-clause-known : goal.part-part-requires-clause-known
-part-part-requires-clause-known c =
-    let v = c.loop-frame.invariant in
-    let p = part_popped c.args.catalogue.now _ _ _ _ v.known v.are_open.1 c.in-Some.ensures.some
-    c.in-None.is in
-    p.known
 
 pub part-part-requires-clause-place : goal.part-part-requires-clause-place
 part-part-requires-clause-place c =
@@ -98,8 +103,9 @@ part-part-requires-clause-place c =
     let rest = frames_above c.loop-frame.outer.items in
     let T = tree_in t rest f.of.0 in
     let v = c.loop-frame.invariant in
-    let p = part_popped c.args.catalogue.now _ _ _ _ v.known v.are_open.1 c.in-Some.ensures.some
-    c.in-None.is in
+    let k = popped t _ _ _ _ v.known v.are_open.1 c.in-Some.ensures.some in
+    let quiet = next_quiet t f k.known (omega arith) in
+    let p = part_popped t _ _ _ _ v.known v.are_open.1 c.in-Some.ensures.some c.in-None.is quiet in
     let below : suc f.index < f.count = omega arith in
     let n = next_in (suc p.left) T f.index f.count p.«open» (p.within (24 - length rest)).2 below in
     rw add-one (place_in_room t (24 - length rest) 24 f.of.0 (suc f.index) n.placed)
@@ -113,14 +119,15 @@ begin-requires-clause-known_outer c =
     let rest = frames_above c.loop-frame.outer.items in
     let T = tree_in t rest f.of.0 in
     let v = c.loop-frame.invariant in
-    let p = part_popped c.args.catalogue.now _ _ _ _ v.known v.are_open.1 c.in-Some.ensures.some
-    c.in-None.is in
+    let k = popped t _ _ _ _ v.known v.are_open.1 c.in-Some.ensures.some in
+    let quiet = next_quiet t f k.known (omega arith) in
+    let p = part_popped t _ _ _ _ v.known v.are_open.1 c.in-Some.ensures.some c.in-None.is quiet in
     let below : suc f.index < f.count = omega arith in
     let n = next_in (suc p.left) T f.index f.count p.«open» (p.within (24 - length rest)).2 below in
     rw gone (all_push (IsKnown t) rest _ p.known_rest
     (record {
       known = p.known;
-      within = λ room. rw c.in-None.is (
+      within = λ room. rw (c.in-None.is, quiet) (
         rw add-one (place_in_room t (24 - length rest) room f.of.0 (suc f.index) n.placed),
         (p.within room).1,
         (p.within room).2,
@@ -136,8 +143,9 @@ begin-requires-clause-fit c =
     let rest = frames_above c.loop-frame.outer.items in
     let T = tree_in t rest f.of.0 in
     let v = c.loop-frame.invariant in
-    let p = part_popped c.args.catalogue.now _ _ _ _ v.known v.are_open.1 c.in-Some.ensures.some
-    c.in-None.is in
+    let k = popped t _ _ _ _ v.known v.are_open.1 c.in-Some.ensures.some in
+    let quiet = next_quiet t f k.known (omega arith) in
+    let p = part_popped t _ _ _ _ v.known v.are_open.1 c.in-Some.ensures.some c.in-None.is quiet in
     let below : suc f.index < f.count = omega arith in
     let n = next_in (suc p.left) T f.index f.count p.«open» (p.within (24 - length rest)).2 below in
     let size : length c.go_to_next.new.outer.items ≡ suc (length rest) =
@@ -146,23 +154,6 @@ begin-requires-clause-fit c =
     let part = part_in_frames t rest c.go_to_next.new.outer.items f.of.0 c.part-part.result.0
     (f.index + 1) size p.few c.part-part.ensures.rooms in
     rw (part, ← e) (fit_part p.left T (f.index + 1) f.count n.fit n.parts (rw add-one below))
-
-pub returns-then-left-gt0-clause-outside : goal.returns-then-left-gt0-clause-outside
-returns-then-left-gt0-clause-outside c h =
-    let is = popped_is c.loop-frame.outer.items c.pop.new.self.items c.in-Some.frame
-    c.pop.ensures.rest c.in-Some.ensures.some in
-    outside_pop c.pop.new.self.items c.in-Some.frame
-    (subst (λ fs. is_inside fs ≡ false) is (c.loop-frame.invariant.outside h))
-
-pub returns-then-frame-last-clause-outside : goal.returns-then-frame-last-clause-outside
-returns-then-frame-last-clause-outside c h =
-    let gone = c.go_to_next.ensures (frames_above c.loop-frame.outer.items) c.in-Some.frame
-    c.in-Some.ensures.some in
-    let f = c.in-Some.frame in
-    let rest = frames_above c.loop-frame.outer.items in
-    let none = outside_pop rest f (subst (λ fs. is_inside fs ≡ false) c.in-Some.ensures.some
-    (c.loop-frame.invariant.outside h)) in
-    c.begin.ensures.inside ∙ rw (gone, inside_push, c.in-None.is, none) refl
 
 pub returns-then-frame-last-clause-stand : goal.returns-then-frame-last-clause-stand
 returns-then-frame-last-clause-stand c at h =
@@ -175,6 +166,23 @@ returns-then-frame-last-clause-stand c at h =
     (stand_pop at rest f (subst (StandAt at) c.in-Some.ensures.some (v.stand at h)))
     (rw c.in-None.is tt)))
 
+pub returns-then-frame-last-clause-most : goal.returns-then-frame-last-clause-most
+returns-then-frame-last-clause-most c h =
+    let gone = c.go_to_next.ensures (frames_above c.loop-frame.outer.items) c.in-Some.frame
+    c.in-Some.ensures.some in
+    let t = c.args.catalogue.now in
+    let f = c.in-Some.frame in
+    let rest = frames_above c.loop-frame.outer.items in
+    let v = c.loop-frame.invariant in
+    let k = popped t _ _ _ _ v.known v.are_open.1 c.in-Some.ensures.some in
+    let quiet = next_quiet t f k.known (omega arith) in
+    let a = c.begin.ensures.inside in
+    let was = c.args.inside.now in
+    most_begun a.0 (is_inside c.go_to_next.new.outer.items) _ was _ a.2
+    (a.1 ∙ ap (within_more a.0) v.asked)
+    (rw gone (most_replaced rest f (next_of f) was c.in-None.is c.in-None.is quiet
+    (subst (λ fs. IsAtMost (is_inside fs) was) c.in-Some.ensures.some (v.most was h))))
+
 pub returns-then-frame-last-clause-next : goal.returns-then-frame-last-clause-next
 returns-then-frame-last-clause-next c coding path at =
     let gone = c.go_to_next.ensures (frames_above c.loop-frame.outer.items) c.in-Some.frame
@@ -182,37 +190,33 @@ returns-then-frame-last-clause-next c coding path at =
     let t = c.args.catalogue.now in
     let f = c.in-Some.frame in
     let rest = frames_above c.loop-frame.outer.items in
+    let mid = c.go_to_next.new.outer.items in
     let T = tree_in t rest f.of.0 in
     let v = c.loop-frame.invariant in
-    let p = part_popped c.args.catalogue.now _ _ _ _ v.known v.are_open.1 c.in-Some.ensures.some
-    c.in-None.is in
+    let k = popped t _ _ _ _ v.known v.are_open.1 c.in-Some.ensures.some in
+    let quiet = next_quiet t f k.known (omega arith) in
+    let p = part_popped t _ _ _ _ v.known v.are_open.1 c.in-Some.ensures.some c.in-None.is quiet in
     let below : suc f.index < f.count = omega arith in
     let n = next_in (suc p.left) T f.index f.count p.«open» (p.within (24 - length rest)).2 below in
     let next = part_in T (suc f.index) f.count in
-    let part = part_of T (suc f.index) in
-    let size : length c.go_to_next.new.outer.items ≡ suc (length rest) =
+    let P = part_of T (suc f.index) in
+    let size : length mid ≡ suc (length rest) =
     omega (arith, ap length gone, length-append rest (next_of f ∷ [])) in
-    let parted : tree_in t c.go_to_next.new.outer.items c.part-part.result.0 ≡ part =
-    rw add-one at (part_in_frames t rest c.go_to_next.new.outer.items f.of.0 c.part-part.result.0
+    let parted : tree_in t mid c.part-part.result.0 ≡ P =
+    rw add-one at (part_in_frames t rest mid f.of.0 c.part-part.result.0
     (f.index + 1) size p.few c.part-part.ensures.rooms) in
-    let ended : has_ended c.go_to_next.new.outer.items ≡ has_ended rest =
-    rw gone (ended_push rest _ (rw c.in-None.is refl)) in
-    let new = c.begin.new.outer.items in
-    let same : unless_ended (has_ended rest) [] at
-    (open_parts t at rest ++ (next ∷ start_outer part)) (start_leaf part)
-    ≡ unless_ended (has_ended new) [] at (open_parts t at new) (start_leaf part) =
-    rw (c.begin.ensures.ended, c.begin.ensures.begun at, parted, ended, gone, places_push)
-    (rw (add-one f.index, c.in-None.is, append_assoc) refl) in
     v.same coding path at
-    ∙ (ap (λ ps. around coding path ps (Done [] at []))
+    ∙ (ap (rooted none_left) (ap (λ ps. around coding path ps (Done [] at []))
     (ap (open_parts t at) c.in-Some.ensures.some ∙ places_push t 24 at rest f)
     ∙ (ap (λ q. around coding path (open_parts t at rest ++ q ∷ []) (Done [] at []))
-    (part_is t (24 - length rest) at f c.in-None.is)
-    ∙ (goes_next coding path (open_parts t at rest) T f.index f.count at p.left n below
-    ∙ (around_unless_ended t 24 coding path at rest [] (next ∷ start_outer part) (start_leaf part)
-    p.known_rest
-    ∙ (same ∙ ap (λ l. unless_ended (has_ended new) [] at (open_parts t at new) l)
-    (rw parted at c.begin.ensures.leaf))))))
+    (part_is t (24 - length rest) at f c.in-None.is quiet)
+    ∙ goes_next coding path (open_parts t at rest) T f.index f.count at p.left n below))
+    ∙ (begun_at t coding path at rest mid (next_of f) next P p.known_rest gone c.in-None.is
+    (part_is t (24 - length rest) at (next_of f) c.in-None.is quiet
+    ∙ ap (λ i. part_in T i f.count) (add-one f.index))
+    ∙ (ap (begun_in t at mid) (sym parted)
+    ∙ begun_gone t at mid c.begin.new.outer.items (tree_in t mid c.part-part.result.0)
+    c.begin.result c.begin.ensures.ended (c.begin.ensures.begun at) c.begin.ensures.leaf)))
 
 pub returns-then-frame-last-clause-linked : goal.returns-then-frame-last-clause-linked
 returns-then-frame-last-clause-linked c root inner h =
@@ -222,32 +226,36 @@ returns-then-frame-last-clause-linked c root inner h =
     let f = c.in-Some.frame in
     let rest = frames_above c.loop-frame.outer.items in
     let v = c.loop-frame.invariant in
+    let k = popped t _ _ _ _ v.known v.are_open.1 c.in-Some.ensures.some in
+    let quiet = next_quiet t f k.known (omega arith) in
     let l = v.linked root inner h in
     c.begin.ensures.linked root (link_push t root rest c.go_to_next.new.outer.items f.of.0
     c.part-part.result.0 _ refl gone
-    (rw c.in-None.is c.part-part.ensures.number)
+    (rw (c.in-None.is, quiet) c.part-part.ensures.number)
     (link_pop t root c.loop-frame.outer.items rest f l.0 c.in-Some.ensures.some l.1))
 
-pub loop-frame-preserved : goal.loop-frame-preserved
-loop-frame-preserved c =
-    let is = popped_is c.loop-frame.outer.items c.pop-in-None.new.self.items c.in-Some.frame
-    c.pop-in-None.ensures.rest c.in-Some.ensures.some in
-    let t = c.args.catalogue.now in
+pub loop-frame-preserved-in-None-told : goal.loop-frame-preserved-in-None-told
+loop-frame-preserved-in-None-told c =
+    let rest = c.pop-in-None-told.new.self.items in
     let f = c.in-Some.frame in
-    let rest = c.pop-in-None.new.self.items in
+    let is = popped_is c.loop-frame.outer.items rest f c.pop-in-None-told.ensures.rest
+    c.in-Some.ensures.some in
+    let t = c.args.catalogue.now in
     let T = tree_in t rest f.of.0 in
     let v = c.loop-frame.invariant in
-    let p = part_popped c.args.catalogue.now _ _ _ _ v.known v.are_open.1 is c.in-None.is in
+    let p = part_popped t _ _ _ _ v.known v.are_open.1 is c.in-None.is c.in-None-told.is in
     record {
       known = p.known_rest;
       are_open = (v.are_open.0, p.front);
-      outside = λ h. outside_pop rest f (subst (λ fs. is_inside fs ≡ false) is (v.outside h));
+      asked = v.asked;
+      most = λ most h. most_pop rest f most
+          (subst (λ fs. IsAtMost (is_inside fs) most) is (v.most most h));
       stand = λ at h. stand_pop at rest f (subst (StandAt at) is (v.stand at h));
       same = λ coding path at. v.same coding path at
-          ∙ (ap (λ ps. around coding path ps (Done [] at []))
+          ∙ ap (rooted none_left) (ap (λ ps. around coding path ps (Done [] at []))
           (ap (open_parts t at) is ∙ places_push t 24 at rest f)
           ∙ (ap (λ q. around coding path (open_parts t at rest ++ q ∷ []) (Done [] at []))
-          (part_is t (24 - length rest) at f c.in-None.is)
+          (part_is t (24 - length rest) at f c.in-None.is c.in-None-told.is)
           ∙ goes_out coding path (open_parts t at rest) T f.index f.count at (omega arith)));
       linked = λ root inner h. (let l = v.linked root inner h in
           (f.of.0, link_pop t root c.loop-frame.outer.items rest f l.0 is l.1));
@@ -260,6 +268,25 @@ returns-then-left-gt0-clause-plain c =
     let t = c.args.catalogue.now in
     let f = c.in-Some.frame in
     let v = c.loop-frame.invariant in
-    let p = held_popped c.args.catalogue.now _ _ _ _ _ v.known v.are_open.1 is c.in-Some-inside.is
-    in
+    let p = held_popped t _ _ _ _ _ v.known v.are_open.1 is c.in-Some-inside.is in
     rest_silent (tree_in t c.pop.new.self.items f.of.0) p.kind
+
+pub returns-in-Some-part_told-clause-stand : goal.returns-in-Some-part_told-clause-stand
+returns-in-Some-part_told-clause-stand c at h =
+    c.begin-in-Some-part_told.ensures.stand at
+    (c.part_told.ensures.stand at (c.loop-frame.invariant.stand at h))
+
+pub loop-frame-preserved : goal.loop-frame-preserved
+loop-frame-preserved c =
+    let v = c.loop-frame.invariant in
+    let e = c.part_told.ensures in
+    let past = c.in_default-part_told.ensures.none in
+    record {
+      known = e.known;
+      are_open = (v.are_open.0, past.are_open v.are_open.0 v.are_open.1);
+      asked = v.asked;
+      most = λ most h. e.most most (v.most most h);
+      stand = λ at h. e.stand at (v.stand at h);
+      same = λ coding path at. v.same coding path at ∙ past.next coding path at;
+      linked = λ root inner h. (let l = v.linked root inner h in past.link root l.0 l.1);
+    }

@@ -7,7 +7,14 @@ use Rattle.giop_decode.proofs.frame.innermost.Goals as goal
 pub returns-clause-some : goal.returns-clause-some
 returns-clause-some c =
     let i = c.len-depth.result - 1 in
-    let none : Frame = record { of = record { 0 = 0 }; index = 0; count = 0; inside = None } in
+    let none : Frame = record {
+      of = record { 0 = 0 };
+      index = 0;
+      count = 0;
+      inside = None;
+      told =
+          None;
+    } in
     subst (λ xs. xs ≡ frames_above xs ++ get_or c.deref.result.now i none ∷ []) c.deref.ensures.0
     (last_frame c.deref.result.now i none (rw c.deref.ensures.0
     (omega (arith, c.len-depth.ensures.value, c.if-depth-eq0.false))))

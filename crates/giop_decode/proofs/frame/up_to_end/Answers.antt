@@ -3,14 +3,14 @@ use Rattle.std.proofs.lemmas.List.{length-take-le, take_all}
 use Rattle.giop_decode.proofs.Counting.{ahead_fewer, ahead_free}
 use Rattle.giop_decode.proofs.frame.up_to_end.Goals as goal
 
-pub returns-then-not-inside-clause-head : goal.returns-then-not-inside-clause-head
-returns-then-not-inside-clause-head c = sym (take_all (length c.args.octets.now) c.args.octets.now
+pub returns-in-Nothing-clause-head : goal.returns-in-Nothing-clause-head
+returns-in-Nothing-clause-head c = sym (take_all (length c.args.octets.now) c.args.octets.now
     (omega arith))
 
-pub returns-then-not-inside-clause-ahead : goal.returns-then-not-inside-clause-ahead
-returns-then-not-inside-clause-ahead c =
+pub returns-in-Nothing-clause-ahead : goal.returns-in-Nothing-clause-ahead
+returns-in-Nothing-clause-ahead c =
     ahead_free (length c.args.octets.now - 1) c.args.outer.now
-    (sym c.requires.inside ∙ c.if-not-inside.true) c.requires.ahead
+    (sym c.requires.inside ∙ c.in-Nothing.is) c.requires.ahead
 
 pub returns-clause-head : goal.returns-clause-head
 returns-clause-head c =

@@ -1,14 +1,19 @@
 use Rattle.std.proofs.Common.{replicate}
 use Rattle.giop_decode.proofs.StoredFields.{put_together}
-use Rattle.giop_decode.specs.Stored.{inside_octet}
+use Rattle.giop_decode.specs.Stored.{inside_octet, told_octet}
 use Rattle.giop_octets.specs.Fields.{four}
 use Rattle.giop_decode.proofs.stored.put_frame.Goals as goal
 
 pub returns-clause-put : goal.returns-clause-put
 returns-clause-put c =
     let frame = c.args.frame in
-    rw (c.put_zeros.ensures.put, c.push.ensures.items, c.inside_octet.ensures)
+    rw (
+      c.put_zeros.ensures.put,
+      c.push-2.ensures.items,
+      c.told_octet.ensures,
+      c.push.ensures.items,
+      c.inside_octet.ensures,
+    )
     (rw (c.put_four-3.ensures.put, c.put_four-2.ensures.put, c.put_four.ensures.put)
     (put_together c.args.out.now.items (four frame.of.0) (four frame.index) (four frame.count)
-    (replicate 11 0)
-    (inside_octet frame.inside)))
+    (replicate 10 0) (inside_octet frame.inside) (told_octet frame.told)))

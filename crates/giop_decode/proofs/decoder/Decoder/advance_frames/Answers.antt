@@ -1,13 +1,15 @@
 use Rattle.std.proofs.Common.{[], List, None, ℕ, suc, ◌≡◌, pred, ◌-◌, length, refl, sym, ap, ◌∙◌, arith, append_assoc, ◌∷◌, ◌++◌}
-use Rattle.giop_decode.specs.ReadResult.{Part, Member, Short, Done, with_front}
+use Rattle.giop_decode.specs.ReadResult.{LeadingNumber, Part, Member, Short}
 use Rattle.giop_decode.specs.Begins.{start_outer, start_leaf}
-use Rattle.giop_decode.specs.Transitions.{AreKnown, IsKnown, has_ended, is_inside, open_part, open_parts, leaf_by, leaf_of, tree_in}
+use Rattle.giop_decode.specs.Transitions.{AreKnown, IsKnown, has_ended, is_inside, within_held, within_more, open_part, open_parts, leaf_by, leaf_of, tree_in}
 use Rattle.giop_decode.specs.ReadingSteps.{around}
 use Rattle.giop_decode.proofs.Beginning.{all_push, part_in_frames, places_push}
 use Rattle.giop_decode.proofs.Around.{around-append, around-fault, fit_room}
 use Rattle.giop_decode.proofs.Going.{case_within, parts_within, place_part, place_case}
-use Rattle.giop_decode.proofs.TransitionsInFrames.{fit_first, fit_selected, fit_inside, around_done}
-use Rattle.giop_decode.proofs.Surrounding.{heard_open, front_gone, behind_stopped, around_gone, around_unless_ended, ended_push, inside_frame, inside_push, or_false, or_true, unless_ended, stand_push}
+use Rattle.giop_decode.proofs.TransitionsInFrames.{fit_first, fit_selected, fit_inside}
+use Rattle.giop_decode.proofs.Advancing.{rooted_fault, rooted_gone}
+use Rattle.giop_decode.specs.Reading.{none_left, rooted}
+use Rattle.giop_decode.proofs.Surrounding.{around_gone, around_unless_ended, at_most, ended_push, gone_stopped, inside_frame, push_held, push_more, unless_ended, stand_push}
 use Rattle.giop_decode.proofs.Noting.{leaf_inside, unless_ended_inside, stopped_silent}
 use Rattle.giop_decode.proofs.Linking.{link_number, link_push}
 use Rattle.giop_decode.proofs.Rooms.{held_in_room, within_in_room}
@@ -165,27 +167,30 @@ begin-requires-in-Entered-clause-fit c =
     (fit_inside (24 - length c.args.self.now.outer.items) T c.requires.fit opens.0)
 
 pub returns-in-More-clause-advances : goal.returns-in-More-clause-advances
-returns-in-More-clause-advances c coding path at lines =
+returns-in-More-clause-advances c coding path at =
     let C = c.args.catalogue.now in
     let d = c.args.self.now in
     let leaf = c.in-More.leaf in
     let fits = rw c.in-More.is at c.requires.transition_fits in
     rw c.in-More.is
+    (rooted_gone C [] at d.outer.items (leaf_of C d.outer.items leaf d.carry d.piece.items) _
     (ap (λ i. around coding path (open_parts C at d.outer.items)
-    (Short lines at [] (leaf_by (tree_in C d.outer.items i) leaf d.carry d.piece.items)))
+    (Short [] at [] (leaf_by (tree_in C d.outer.items i) leaf d.carry d.piece.items)))
     (sym fits.0)
-    ∙ around_gone C coding path at d.outer.items lines
-    (leaf_of C d.outer.items leaf d.carry d.piece.items) c.requires.known_outer)
+    ∙ around_gone C coding path at d.outer.items
+    (leaf_of C d.outer.items leaf d.carry d.piece.items) c.requires.known_outer))
 
 pub returns-in-Refused-clause-advances : goal.returns-in-Refused-clause-advances
-returns-in-Refused-clause-advances c coding path at lines =
+returns-in-Refused-clause-advances c coding path at =
     let C = c.args.catalogue.now in
-    rw c.in-Refused.is (around-fault coding path (open_parts C at c.args.self.now.outer.items) lines
-    at _ (tree_in C c.args.self.now.outer.items c.args.of.0) (rw c.in-Refused.is at
-    c.requires.transition_fits))
+    let T = tree_in C c.args.self.now.outer.items c.args.of.0 in
+    let rule = rw c.in-Refused.is at c.requires.transition_fits in
+    rw c.in-Refused.is (ap (rooted none_left)
+    (around-fault coding path (open_parts C at c.args.self.now.outer.items) [] at _ T rule)
+    ∙ rooted_fault [] at _ T rule)
 
 pub returns-in-Opened-clause-advances : goal.returns-in-Opened-clause-advances
-returns-in-Opened-clause-advances c coding path at lines =
+returns-in-Opened-clause-advances c coding path at =
     let C = c.args.catalogue.now in
     let T = tree_in C c.args.self.now.outer.items c.args.of.0 in
     let same_part = parted c.args.catalogue.now c.args.self.now.outer.items
@@ -197,8 +202,8 @@ returns-in-Opened-clause-advances c coding path at lines =
     let ended : has_ended c.push.new.self.items ≡ has_ended old =
     rw c.push.ensures.items (ended_push old _ refl) in
     let inner = Part T 0 c.in-Opened.count ∷ start_outer (part_of T 0) in
-    let same : unless_ended (has_ended old) lines at (open_parts C at old ++ inner)
-    (start_leaf (part_of T 0)) ≡ unless_ended (has_ended new) lines at (open_parts C at new)
+    let same : unless_ended (has_ended old) [] at (open_parts C at old ++ inner)
+    (start_leaf (part_of T 0)) ≡ unless_ended (has_ended new) [] at (open_parts C at new)
     (start_leaf (part_of T 0)) =
     rw (
       c.begin.ensures.ended,
@@ -212,13 +217,14 @@ returns-in-Opened-clause-advances c coding path at lines =
     ) refl
     in
     rw (c.in-Opened.is, c.clear.ensures)
-    (around_unless_ended C 24 coding path at old lines inner (start_leaf (part_of T 0))
+    (rooted_gone C [] at new (LeadingNumber (tree_in C new c.begin.result.0) []) _
+    (around_unless_ended C 24 coding path at old inner (start_leaf (part_of T 0))
     c.requires.known_outer
-    ∙ (same ∙ ap (λ l. unless_ended (has_ended new) lines at (open_parts C at new) l)
-    (rw same_part at c.begin.ensures.leaf)))
+    ∙ (same ∙ ap (λ l. unless_ended (has_ended new) [] at (open_parts C at new) l)
+    (rw same_part at c.begin.ensures.leaf))))
 
 pub returns-in-Selected-clause-advances : goal.returns-in-Selected-clause-advances
-returns-in-Selected-clause-advances c coding path at lines =
+returns-in-Selected-clause-advances c coding path at =
     let C = c.args.catalogue.now in
     let T = tree_in C c.args.self.now.outer.items c.args.of.0 in
     let same_part = parted c.args.catalogue.now c.args.self.now.outer.items
@@ -231,9 +237,9 @@ returns-in-Selected-clause-advances c coding path at lines =
     let ended : has_ended c.push-in-Selected.new.self.items ≡ has_ended old =
     rw c.push-in-Selected.ensures.items (ended_push old _ refl) in
     let inner = Member T c.in-Selected.index ∷ start_outer (part_of T c.in-Selected.index) in
-    let same : unless_ended (has_ended old) lines at (open_parts C at old ++ inner)
+    let same : unless_ended (has_ended old) [] at (open_parts C at old ++ inner)
     (start_leaf (part_of T c.in-Selected.index))
-    ≡ unless_ended (has_ended new) lines at (open_parts C at new)
+    ≡ unless_ended (has_ended new) [] at (open_parts C at new)
     (start_leaf (part_of T c.in-Selected.index)) =
     rw (
       c.begin-in-Selected.ensures.ended,
@@ -246,13 +252,14 @@ returns-in-Selected-clause-advances c coding path at lines =
       append_assoc,
     ) refl in
     rw (c.in-Selected.is, c.clear-in-Selected.ensures)
-    (around_unless_ended C 24 coding path at old lines inner
+    (rooted_gone C [] at new (LeadingNumber (tree_in C new c.begin-in-Selected.result.0) []) _
+    (around_unless_ended C 24 coding path at old inner
     (start_leaf (part_of T c.in-Selected.index)) c.requires.known_outer
-    ∙ (same ∙ ap (λ l. unless_ended (has_ended new) lines at (open_parts C at new) l)
-    (rw same_part at c.begin-in-Selected.ensures.leaf)))
+    ∙ (same ∙ ap (λ l. unless_ended (has_ended new) [] at (open_parts C at new) l)
+    (rw same_part at c.begin-in-Selected.ensures.leaf))))
 
 pub returns-in-Entered-clause-advances : goal.returns-in-Entered-clause-advances
-returns-in-Entered-clause-advances c coding path at lines =
+returns-in-Entered-clause-advances c coding path at =
     let C = c.args.catalogue.now in
     let T = tree_in C c.args.self.now.outer.items c.args.of.0 in
     let same_part = parted c.args.catalogue.now c.args.self.now.outer.items
@@ -274,8 +281,8 @@ returns-in-Entered-clause-advances c coding path at lines =
         omega (arith, transitions.1),
       );
     })) in
-    let same : unless_ended (has_ended pushed) lines at (open_parts C at pushed ++ start_outer part)
-    (start_leaf part) ≡ unless_ended (has_ended new) lines at (open_parts C at new)
+    let same : unless_ended (has_ended pushed) [] at (open_parts C at pushed ++ start_outer part)
+    (start_leaf part) ≡ unless_ended (has_ended new) [] at (open_parts C at new)
     (start_leaf part) =
     rw (
       c.begin-in-Entered.ensures.ended,
@@ -283,13 +290,14 @@ returns-in-Entered-clause-advances c coding path at lines =
       same_part,
     ) refl in
     rw (c.in-Entered.is, c.clear-in-Entered.ensures)
-    (sym (ap (λ ps. around coding path ps (Short lines at (start_outer part) (start_leaf part)))
+    (rooted_gone C [] at new (LeadingNumber (tree_in C new c.begin-in-Entered.result.0) []) _
+    (sym (ap (λ ps. around coding path ps (Short [] at (start_outer part) (start_leaf part)))
     (ap (open_parts C at) c.push-in-Entered.ensures.items ∙ places_push C 24 at old f)
     ∙ around-append coding path (open_parts C at old) (open_part C (24 - length old) at f)
-    (Short lines at (start_outer part) (start_leaf part)))
-    ∙ (around_unless_ended C 24 coding path at pushed lines (start_outer part) (start_leaf part) all
-    ∙ (same ∙ ap (λ l. unless_ended (has_ended new) lines at (open_parts C at new) l)
-    (rw same_part at c.begin-in-Entered.ensures.leaf))))
+    (Short [] at (start_outer part) (start_leaf part)))
+    ∙ (around_unless_ended C 24 coding path at pushed (start_outer part) (start_leaf part) all
+    ∙ (same ∙ ap (λ l. unless_ended (has_ended new) [] at (open_parts C at new) l)
+    (rw same_part at c.begin-in-Entered.ensures.leaf)))))
 
 pub returns-in-Opened-clause-stand : goal.returns-in-Opened-clause-stand
 returns-in-Opened-clause-stand c at pos h =
@@ -319,16 +327,11 @@ pub returns-in-Ended-clause-stand : goal.returns-in-Ended-clause-stand
 returns-in-Ended-clause-stand c at pos h = c.go_on-self.ensures.stand at h
 
 pub returns-in-Ended-clause-advances : goal.returns-in-Ended-clause-advances
-returns-in-Ended-clause-advances c coding path at lines =
+returns-in-Ended-clause-advances c coding path at =
     let C = c.args.catalogue.now in
-    rw c.in-Ended.is
-    ((around_done coding path (open_parts C at c.args.self.now.outer.items) lines at
-    ∙ ap (λ qs. with_front lines (around coding path qs (Done [] at [])))
-    (heard_open C 24 at lines c.args.self.now.outer.items))
-    ∙ (ap (with_front lines) (c.go_on-self.ensures.next coding path at)
-    ∙ (front_gone C lines at c.go_on-self.new.outer.items c.go_on-self.result
-    ∙ behind_stopped C c.go_on-self.new.outer.items _ _ c.go_on-self.result lines at
-    c.clear-in-Ended.ensures c.clear-in-Ended-2.ensures)))
+    rw c.in-Ended.is (c.go_on-self.ensures.next coding path at
+    ∙ gone_stopped C c.go_on-self.new.outer.items _ _ c.go_on-self.result at
+    c.clear-in-Ended.ensures c.clear-in-Ended-2.ensures)
 
 pub returns-in-Opened-clause-link : goal.returns-in-Opened-clause-link
 returns-in-Opened-clause-link c root leaf moved h e =
@@ -365,18 +368,27 @@ returns-in-Ended-clause-inside c at lines =
 
 pub returns-in-Opened-clause-encloses : goal.returns-in-Opened-clause-encloses
 returns-in-Opened-clause-encloses c =
-    let old = c.args.self.now.outer.items in
-    c.requires.encloses ∙ sym (c.begin.ensures.inside
-    ∙ rw (c.push.ensures.items, inside_push) (or_false (is_inside old)))
+    let a = c.begin.ensures.inside in
+    a.1 ∙ (ap (within_more a.0) c.requires.encloses
+    ∙ sym (a.2 ∙ ap (within_more a.0)
+    (rw c.push.ensures.items (push_more c.args.self.now.outer.items _ refl))))
 
 pub returns-in-Selected-clause-encloses : goal.returns-in-Selected-clause-encloses
 returns-in-Selected-clause-encloses c =
-    let old = c.args.self.now.outer.items in
-    c.requires.encloses ∙ sym (c.begin-in-Selected.ensures.inside
-    ∙ rw (c.push-in-Selected.ensures.items, inside_push) (or_false (is_inside old)))
+    let a = c.begin-in-Selected.ensures.inside in
+    a.1 ∙ (ap (within_more a.0) c.requires.encloses
+    ∙ sym (a.2 ∙ ap (within_more a.0)
+    (rw c.push-in-Selected.ensures.items (push_more c.args.self.now.outer.items _ refl))))
 
 pub returns-in-Entered-clause-encloses : goal.returns-in-Entered-clause-encloses
 returns-in-Entered-clause-encloses c =
-    let old = c.args.self.now.outer.items in
-    sym (c.begin-in-Entered.ensures.inside
-    ∙ rw (c.push-in-Entered.ensures.items, inside_push) (or_true (is_inside old)))
+    let a = c.begin-in-Entered.ensures.inside in
+    a.1 ∙ (ap (within_more a.0) (c.within_encapsulation-self.ensures
+    ∙ ap within_held c.requires.encloses)
+    ∙ sym (a.2 ∙ ap (within_more a.0)
+    (rw c.push-in-Entered.ensures.items (push_held c.args.self.now.outer.items _ _ refl refl))))
+
+pub is_inside-self-requires : goal.is_inside-self-requires
+is_inside-self-requires c =
+    rw c.as_slice.ensures.value (c.go_on-self.ensures.most
+    (rw c.requires.encloses (at_most (is_inside c.args.self.now.outer.items))))

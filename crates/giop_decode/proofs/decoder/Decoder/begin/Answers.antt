@@ -1,4 +1,5 @@
-use Rattle.std.proofs.Common.{refl, sym, ◌∙◌, arith}
+use Rattle.std.proofs.Common.{refl, sym, ap, ◌∙◌, arith}
+use Rattle.giop_decode.specs.Transitions.{within_more}
 use Rattle.giop_decode.proofs.Starting.{first_reads, first_fits, fit_some}
 use Rattle.giop_decode.proofs.Surrounding.{ahead_by}
 use Rattle.giop_decode.proofs.decoder.Decoder.begin.Goals as goal
@@ -27,7 +28,8 @@ returns-clause-fits c some =
     ∙ rw c.clear.ensures refl) (c.begin-first.ensures.stand _ (rw c.clear.ensures tt))
     (ahead_by C _ c.begin-first.ensures.known_outer
     (c.begin-first.ensures.ended ∙ rw c.clear.ensures refl))
-    (sym (c.begin-first.ensures.inside ∙ rw c.clear.ensures refl))
+    (let a = c.begin-first.ensures.inside in
+    a.1 ∙ sym (a.2 ∙ ap (within_more a.0) (rw c.clear.ensures refl)))
     (rw c.clear.ensures at c.begin-first.ensures.leaf)
     (c.begin-first.ensures.linked c.args.of.0 (rw c.clear.ensures refl))
     c.begin-first.ensures.known_outer c.begin-first.ensures.known (omega arith) c.clear-3.ensures

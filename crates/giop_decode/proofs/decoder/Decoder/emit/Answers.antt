@@ -1,6 +1,6 @@
 use Rattle.std.proofs.Common.{◌+◌}
 use Rattle.giop_print.proofs.Writing.{writes_failed}
-use Rattle.giop_decode.proofs.Surrounding.{known_ticked, length_ticked}
+use Rattle.giop_decode.proofs.Surrounding.{length_ticked}
 use Rattle.giop_decode.proofs.Whole.{behind_gives}
 use Rattle.giop_decode.proofs.decoder.Decoder.emit.Goals as goal
 
@@ -9,15 +9,12 @@ write_line-requires-clause-known g c = c.requires.counted.1.around.known
 
 pub write_line-requires-clause-known_outer : goal.write_line-requires-clause-known_outer
 write_line-requires-clause-known_outer g c =
-    let d = c.requires.counted.0 in
-    let b = c.requires.counted.1 in
-    rw (c.as_slice.ensures.value, b.outer)
-    (known_ticked c.args.catalogue.now d.outer.items b.around.ahead b.around.known_outer)
+    rw c.as_slice.ensures.value c.requires.counted.1.outer.known
 
 pub write_line-requires-clause-room : goal.write_line-requires-clause-room
 write_line-requires-clause-room g c =
     let b = c.requires.counted.1 in
-    rw (c.as_slice.ensures.value, b.outer, length_ticked c.requires.counted.0.outer.items)
+    rw (c.as_slice.ensures.value, b.outer.same, length_ticked c.requires.counted.0.outer.items)
     b.around.room
 
 pub write_line-requires-clause-has_output : goal.write_line-requires-clause-has_output

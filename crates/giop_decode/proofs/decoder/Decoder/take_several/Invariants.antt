@@ -1,5 +1,6 @@
 use Rattle.std.proofs.Common.{◌≡◌, ◌-◌, ◌≤◌, false, length}
 use Rattle.giop_print.specs.Line.{line_text}
+use Rattle.giop_decode.specs.declared.frame.Within.TheVariants as withins
 use Rattle.giop_decode.specs.NextParts.{front_text}
 use Rattle.giop_decode.specs.Noted.{is_header_root}
 use Rattle.giop_decode.proofs.SoFar.{TakenSoFar}
@@ -12,7 +13,7 @@ invariant-loop-part g l =
           (g.O.Out.log l.initial.out) (g.O.Out.log l.out);
       within : l.taken ≤ length l.octets;
       body : is_header_root l.self.head.root ≡ false;
-      outside : l.self.inside ≡ false;
+      outside : l.self.inside ≡ withins.Nothing;
       front : line_text l.front ≡ front_text l.catalogue l.self;
       short : length (line_text l.front) ≤ 128;
     }

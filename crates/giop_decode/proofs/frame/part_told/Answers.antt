@@ -1,0 +1,103 @@
+use Rattle.std.proofs.Common.{◌-◌, refl, subst, arith}
+use Rattle.giop_decode.specs.NextParts.{frames_above}
+use Rattle.giop_decode.specs.Transitions.{StandAt}
+use Rattle.giop_decode.proofs.Going.{tell_popped}
+use Rattle.giop_decode.proofs.Surrounding.{stand_pop, stand_push}
+use Rattle.giop_decode.proofs.Telling.{ends_told, stops_told, then_told, told_here}
+use Rattle.giop_sig.specs.Types.{Ends, Stops, Then}
+use Rattle.giop_decode.proofs.frame.part_told.Goals as goal
+
+pub returns-in-Then-clause-part : goal.returns-in-Then-clause-part
+returns-in-Then-clause-part c =
+    let C = c.args.catalogue.now in
+    let items = c.args.outer.now.items in
+    let rest = frames_above items in
+    let f = c.args.frame in
+    let is = c.requires.innermost in
+    let start = c.requires.open.0 in
+    let P = tell_popped C start items rest f c.args.told c.requires.known c.requires.open.1 is
+    c.requires.told in
+    let to = c.replace.ensures rest f is in
+    let s = told_here C items rest f c.args.told start is c.requires.told P c.len.result
+    (Then (c.in-Then.place - 1)) c.len.ensures.value
+    (rw c.signal.ensures at c.in-Then.ensures.is) in
+    (then_told C items rest f c.args.told start is c.requires.told P c.in-Then.place
+    c.replace.new.outer.items _ c.part.result.0 c.in-Then.ensures.place s to refl
+    (omega (arith, c.part.ensures.below, P.known)) c.part.ensures.number c.part.ensures.rooms).0
+
+pub returns-in-Then-clause-known : goal.returns-in-Then-clause-known
+returns-in-Then-clause-known c =
+    let C = c.args.catalogue.now in
+    let items = c.args.outer.now.items in
+    let rest = frames_above items in
+    let f = c.args.frame in
+    let is = c.requires.innermost in
+    let start = c.requires.open.0 in
+    let P = tell_popped C start items rest f c.args.told c.requires.known c.requires.open.1 is
+    c.requires.told in
+    let to = c.replace.ensures rest f is in
+    let s = told_here C items rest f c.args.told start is c.requires.told P c.len.result
+    (Then (c.in-Then.place - 1)) c.len.ensures.value
+    (rw c.signal.ensures at c.in-Then.ensures.is) in
+    (then_told C items rest f c.args.told start is c.requires.told P c.in-Then.place
+    c.replace.new.outer.items _ c.part.result.0 c.in-Then.ensures.place s to refl
+    (omega (arith, c.part.ensures.below, P.known)) c.part.ensures.number c.part.ensures.rooms).1
+
+pub returns-in-Then-clause-stand : goal.returns-in-Then-clause-stand
+returns-in-Then-clause-stand c at h =
+    let items = c.args.outer.now.items in
+    let rest = frames_above items in
+    let f = c.args.frame in
+    let is = c.requires.innermost in
+    let P = tell_popped c.args.catalogue.now c.requires.open.0 items rest f c.args.told
+    c.requires.known c.requires.open.1 is c.requires.told in
+    rw (c.replace.ensures rest f is) (stand_push at rest _
+    (stand_pop at rest f (subst (StandAt at) is h)) (rw (P.within 24).1 tt))
+
+pub returns-in-Ends-clause-none : goal.returns-in-Ends-clause-none
+returns-in-Ends-clause-none c =
+    let C = c.args.catalogue.now in
+    let items = c.args.outer.now.items in
+    let rest = frames_above items in
+    let f = c.args.frame in
+    let is = c.requires.innermost in
+    let start = c.requires.open.0 in
+    let P = tell_popped C start items rest f c.args.told c.requires.known c.requires.open.1 is
+    c.requires.told in
+    let s = told_here C items rest f c.args.told start is c.requires.told P c.len.result
+    Ends c.len.ensures.value (rw c.signal.ensures at c.in-Ends.ensures.is) in
+    ends_told C items rest f c.args.told start is c.requires.told P c.pop.new.self.items s
+    c.pop.ensures.rest
+
+pub returns-in-Stops-clause-known : goal.returns-in-Stops-clause-known
+returns-in-Stops-clause-known c =
+    let C = c.args.catalogue.now in
+    let items = c.args.outer.now.items in
+    let P = tell_popped C c.requires.open.0 items (frames_above items) c.args.frame c.args.told
+    c.requires.known c.requires.open.1 c.requires.innermost c.requires.told in
+    c.leave.ensures.known C (rw c.pop-in-Stops.ensures.rest P.known_rest)
+
+pub returns-in-Stops-clause-stand : goal.returns-in-Stops-clause-stand
+returns-in-Stops-clause-stand c at h =
+    let items = c.args.outer.now.items in
+    c.leave.ensures.stand at (rw c.pop-in-Stops.ensures.rest
+    (stand_pop at (frames_above items) c.args.frame (subst (StandAt at) c.requires.innermost h)))
+
+pub returns-in-Stops-clause-none : goal.returns-in-Stops-clause-none
+returns-in-Stops-clause-none c =
+    let C = c.args.catalogue.now in
+    let items = c.args.outer.now.items in
+    let rest = frames_above items in
+    let f = c.args.frame in
+    let is = c.requires.innermost in
+    let start = c.requires.open.0 in
+    let P = tell_popped C start items rest f c.args.told c.requires.known c.requires.open.1 is
+    c.requires.told in
+    let s = told_here C items rest f c.args.told start is c.requires.told P c.len.result
+    Stops c.len.ensures.value (rw c.signal.ensures at c.in-Stops.ensures.is) in
+    stops_told C items rest f c.args.told start is c.requires.told P c.pop-in-Stops.new.self.items
+    c.leave.new.outer.items s c.pop-in-Stops.ensures.rest
+    (λ at h. c.leave.ensures.are_open C at h)
+    (λ coding path at S. c.leave.ensures.next C coding path at S
+    (rw c.pop-in-Stops.ensures.rest P.known_rest))
+    (λ root inner h. c.leave.ensures.linked C root inner h)

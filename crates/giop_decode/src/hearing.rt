@@ -1,0 +1,137 @@
+//! What a line tells the parts around it of what follows in them.
+
+ghost use Rattle.std.specs.Prelude.{◌≡◌, ℕ, suc, ◌<◌, ◌++◌, List, [], ◌∷◌, length};
+ghost use Rattle.giop_decode.specs.ReadResult.{Line, Number as NumberValue, PathSegment, line};
+ghost use Rattle.giop_decode.specs.Heard.{AreHeard, IsSign};
+ghost use Rattle.giop_decode.specs.Transitions.{AreKnown, HasOutput, IsNumberOf, IsOutput, frames_after, hear_of, is_inside, number_of, signal_by, stage_of, tree_in};
+ghost use Rattle.giop_sig.specs.Trees.{tree_at};
+
+use crate::frame::{Frame, Stage};
+use crate::leaf::{Finished, Output};
+use arrayvec::ArrayVec;
+use giop_cdr::Number;
+use giop_sig::{Catalogue, Shape, Sign, Signal, TypeId};
+
+/// Tells each part around, of which the first part is read and tells what follows, what an octet finishes.
+pub(crate) fn hear(catalogue: &Catalogue, outer: &mut ArrayVec<Frame, 24>, finished: Finished<'_>)
+    requires known { finished.of.0 < length catalogue.now.types }
+    requires known_outer { AreKnown catalogue.now outer.old.items }
+    requires room { length outer.old.items < 24 }
+    requires has_output { HasOutput (tree_in catalogue.now outer.old.items finished.of.0)
+        finished.output }
+    ensures { AreHeard catalogue.now outer.old.items outer.new.items finished.entry.of.0
+        finished.entry.output (finished.entry.held.now ++ finished.entry.rest.now) }
+{
+    match sign(catalogue, finished) {
+        Some(sign) => hear_each(catalogue, outer, sign),
+        None => {}
+    }
+}
+
+/// What the line of what an octet finishes tells, if any.
+fn sign<'a>(catalogue: &Catalogue, finished: Finished<'a>) -> Option<Sign<'a>>
+    requires known { finished.of.0 < length catalogue.now.types }
+    requires has_output { (n : ℕ) × HasOutput (tree_at catalogue.now (suc n) finished.of.0)
+        finished.output }
+    ensures { (n at : ℕ) (path : List PathSegment) (lines : List Line) →
+        IsOutput (tree_at catalogue.now (suc n) finished.entry.of.0) path at finished.entry.output
+        (finished.entry.held.now ++ finished.entry.rest.now) lines → IsSign result lines }
+{
+    match finished.output {
+        Output::Number(number) => marked(catalogue, finished.of, number),
+        Output::Switch(number) => { marked(catalogue, catalogue.switch_type(finished.of), number) }
+        Output::Count(count) => Some(Sign::Counted(count)),
+        Output::Piece { more, .. } => match catalogue.shape(finished.of) {
+            Shape::Text(_) => Some(Sign::Spelt(finished.held, finished.rest, more)),
+            _ => None,
+        },
+        Output::Nothing => None,
+        Output::Length => None,
+        Output::Size(_) => None,
+        Output::Ordered(_) => None,
+    }
+}
+
+/// What the number of a type tells: that of one with a mark.
+fn marked(catalogue: &Catalogue, of: TypeId, number: Number) -> Option<Sign<'static>>
+    requires known { of.0 < length catalogue.now.types }
+    requires number { (n : ℕ) × IsNumberOf (tree_at catalogue.now n of.0) number }
+    ensures { (n at : ℕ) (path : List PathSegment)
+        (is : IsNumberOf (tree_at catalogue.now n of.0) number) →
+        IsSign result (line at path (NumberValue is.scalar is.n) ∷ []) }
+{
+    match (catalogue.shape(of), number) {
+        (Shape::Marked(mark), Number::Unsigned(n)) => Some(Sign::Marked(mark, n as u32)),
+        _ => None,
+    }
+}
+
+/// Tells each of these parts a sign.
+fn hear_each(catalogue: &Catalogue, outer: &mut ArrayVec<Frame, 24>, sign: Sign<'_>)
+    requires { AreKnown catalogue.now outer.old.items }
+    ensures { outer.new.items ≡ frames_after catalogue.now sign.entry outer.old.items }
+{
+    for frame in outer.iter_mut() {
+        *frame = hear_one(catalogue, *frame, sign);
+    }
+}
+
+/// A part after a sign.
+fn hear_one(catalogue: &Catalogue, frame: Frame, sign: Sign<'_>) -> Frame
+    requires { frame.of.0 < length catalogue.now.types }
+    ensures { result ≡ hear_of catalogue.now sign.entry frame }
+{
+    match frame.told {
+        None => frame,
+        Some(stage) => {
+            let told = catalogue.hear(frame.of, signal(stage, frame.index), sign);
+            Frame {
+                index: number_of(told),
+                told: Some(stage_of(told)),
+                ..frame
+            }
+        }
+    }
+}
+
+/// What was told, by its stage and its number.
+pub(crate) fn signal(stage: Stage, number: u32) -> Signal
+    ensures { result ≡ signal_by stage number }
+{
+    match stage {
+        Stage::Untold => Signal::Untold,
+        Stage::Awaits => Signal::Awaits(number),
+        Stage::Offers => Signal::Offers(number),
+        Stage::Is => Signal::Is(number),
+        Stage::Empty => Signal::Empty,
+        Stage::Unknown => Signal::Unknown,
+    }
+}
+
+/// The stage of what was told.
+fn stage_of(told: Signal) -> Stage
+    ensures { result ≡ stage_of told }
+{
+    match told {
+        Signal::Untold => Stage::Untold,
+        Signal::Awaits(_) => Stage::Awaits,
+        Signal::Offers(_) => Stage::Offers,
+        Signal::Is(_) => Stage::Is,
+        Signal::Empty => Stage::Empty,
+        Signal::Unknown => Stage::Unknown,
+    }
+}
+
+/// The number of what was told, or 0.
+fn number_of(told: Signal) -> u32
+    ensures { result ≡ number_of told }
+{
+    match told {
+        Signal::Awaits(number) => number,
+        Signal::Offers(number) => number,
+        Signal::Is(number) => number,
+        Signal::Untold => 0,
+        Signal::Empty => 0,
+        Signal::Unknown => 0,
+    }
+}

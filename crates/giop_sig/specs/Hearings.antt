@@ -1,0 +1,54 @@
+-- How what a value tells of what follows it is kept, and how a type hears it (meaning).
+use Rattle.std.specs.Prelude.{ℕ, ◌-◌, ◌<◌, ◌++◌, None}
+use Rattle.giop_sig.specs.declared.types.Following.{Following}
+use Rattle.giop_sig.specs.declared.types.Following.TheVariants as followings
+use Rattle.giop_sig.specs.declared.types.Sign.{Sign}
+use Rattle.giop_sig.specs.declared.types.Sign.TheVariants as signs
+use Rattle.giop_sig.specs.declared.types.Signal.{Signal}
+use Rattle.giop_sig.specs.declared.types.Signal.TheVariants as signals
+use Rattle.giop_sig.specs.Table.{Table}
+use Rattle.giop_sig.specs.Types.{Ty, Led, Hearing, Told, Sequel}
+use Rattle.giop_sig.specs.Types as types
+
+-- what a signal stands for
+abbrev pub told_of : Signal → Told
+told_of signals.Untold = types.Untold
+told_of (signals.Awaits k) = types.Awaits k None
+told_of (signals.Offers i) = types.Offers i
+told_of (signals.Is i) = types.Is i
+told_of signals.Empty = types.Empty
+told_of signals.Unknown = types.Unknown
+
+-- what a line says by it
+abbrev pub sign_is : Sign → types.Sign
+sign_is (signs.Marked mark n) = types.MarkedNumber mark n
+sign_is (signs.Counted n) = types.Counted n
+sign_is (signs.Spelt held rest more) = types.Spelt (held.now ++ rest.now) more
+
+-- what follows, by the place behind that of the part that tells it
+abbrev pub sequel_of : Following → Sequel
+sequel_of (followings.Then place) = types.Then (place - 1)
+sequel_of followings.Ends = types.Ends
+sequel_of followings.Stops = types.Stops
+
+abbrev pub HasPart : Following → Type 0
+HasPart (followings.Then place) = 0 < place
+HasPart following = Unit {0}
+
+-- of a type that doesn't begin with such a part nothing is heard
+abbrev pub deaf : Hearing
+deaf = record {
+  hears = λ told sign. told;
+  selects = λ told. types.Ends;
+  first = None;
+  second = None;
+}
+
+-- how a type's part that tells what follows is heard
+abbrev pub hearing_in : Ty → Hearing
+hearing_in (Led h F parts) = h
+hearing_in T = deaf
+
+-- what a signal becomes by a sign, in a type of a table: types that hear are none yet
+abbrev pub signal_after : Table → ℕ → Signal → Sign → Signal
+signal_after C t told sign = told
