@@ -1,4 +1,5 @@
--- The flows whose streams live have stamps, so one without a stamp isn't among them; and where one stands.
+-- The flows whose streams live have stamps, so one without a stamp isn't among them; and where one
+-- stands.
 use Rattle.std.proofs.Common.{◌≡◌, ℕ, zero, suc, ◌+◌, ◌<◌, Bool, true, false, cond, eqb, nat_eq, nat_lt, List, [], ◌∷◌, ◌++◌, length, get_or, set, Option, Some, None, refl, sym, ◌∙◌, ap, subst, arith, inl, inr}
 use Rattle.std.specs.Option.{option_map}
 use Rattle.std.specs.List.{AllByRecursion, IsDistinct}
@@ -15,7 +16,9 @@ use Rattle.tcp_streams.proofs.Ids.{all_without, none_left, push_all}
 
 not_own : (stamps : List ℕ) (n x : ℕ) → get_or stamps n 1 ≡ 0 → 0 < get_or stamps x 1 →
     nat_eq x n ≡ false
-not_own stamps n x z l = ne_eqb x n (λ e. absurd (let same = ap (λ (k : ℕ). get_or stamps k 1) e in omega (arith, z, l, same)))
+not_own stamps n x z l =
+    ne_eqb x n (λ e. absurd (let same = ap (λ (k : ℕ). get_or stamps k 1) e in
+    omega (arith, z, l, same)))
 
 -- a flow without a stamp stands nowhere
 pub index_unstamped : (stamps : List ℕ) (n : ℕ) (xs : List ℕ) → get_or stamps n 1 ≡ 0 →
@@ -70,7 +73,8 @@ own_stamp stamps n s l =
     elim (cases_lt n (length stamps)) [
       | inl e ↦ subst (λ (k : ℕ). 0 < k) (sym (get_or-set_same stamps n s 1 e)) l
       | inr e ↦ subst (λ (k : ℕ). 0 < k)
-          (sym (get_or_past (set stamps n s) n 1 (omega (arith, e, length-set stamps n s)))) (omega arith)
+          (sym (get_or_past (set stamps n s) n 1 (omega (arith, e, length-set stamps n s))))
+          (omega arith)
     ]
 
 -- so they have after one more stands there

@@ -4,8 +4,8 @@ ghost use Rattle.std.specs.Prelude.{◌≡◌, ◌<◌, IfOk, get_or, set, repli
 
 use std::alloc::{AllocError, Global};
 
-/// The stamp of each flow whose last stream lives or was closed by a gap: a number that rises with each stream that begins. Other
-/// flows have the stamp 0.
+/// The stamp of each flow whose last stream lives or was closed by a gap: a number that rises with each stream that begins.
+/// Other flows have the stamp 0.
 #[derive(Drop)]
 pub(crate) struct Stamps {
     flows: Vec<u64>,

@@ -11,6 +11,7 @@ pub returns-then-index-flow : goal.returns-then-index-flow
 returns-then-index-flow c =
     let xs = c.args.live.now.items in
     let i = c.partition_point-index.result in
-    let l : i < length xs = omega (arith, c.if-index-len.true, c.len.ensures, c.args.live.now.ok.0) in
+    let l : i < length xs =
+    omega (arith, c.if-index-len.true, c.len.ensures, c.args.live.now.ok.0) in
     sym (index_at c.args.flow xs i l c.requires.ids.1 (get_or_default xs i 0 c.index.result.now l
     ∙ sym c.index.ensures ∙ c.if-index-flow.true))
