@@ -294,6 +294,7 @@ class Connection:
         self.number = number
         self.flows: Dict[Flow, FlowState] = {}
         self.last = 0  # the number of its last segment
+        self.came: Set[Flow] = set()  # the flows of its segments
         self._syn: Optional[Segment] = None  # one that was neither answered nor followed yet
 
     def keeps(self, segment: Segment) -> bool:
@@ -313,6 +314,14 @@ class Connection:
             return segment.is_syn and segment.acknowledged == syn.number
         is_plain = not segment.is_syn and not segment.is_reset
         return is_plain and len(segment.payload) > 0 and segment.number == syn.number
+
+    def used(self, segment: Segment, number: int) -> None:
+        self.last = number
+        self.came.add(segment.flow)
+
+    def before(self) -> Tuple[bool, bool, int]:
+        """The lesser this is, the sooner the connection makes room."""
+        return (bool(self.live()), len(self.came) == 2, self.last)
 
     def live(self) -> List[Stream]:
         return [state.live for state in self.flows.values() if state.live]
@@ -371,7 +380,7 @@ class Capture:
         ends = frozenset(segment.flow)
         connection = self._known.get(ends)
         if connection and connection.keeps(segment):
-            connection.last = self._segments
+            connection.used(segment, self._segments)
             return
         if connection and connection.begins_anew(segment):
             self._forget(ends, segment.flow, "syn")
@@ -381,7 +390,7 @@ class Capture:
                 return
             connection = self._made_known(ends)
             connection.flows[segment.flow] = FlowState(segment.flow, segment.number, self, connection)
-        connection.last = self._segments
+        connection.used(segment, self._segments)
         opposite = connection.flows.get(segment.flow.opposite())
         if opposite:
             opposite.packet_came(segment.acknowledged, len(segment.payload) > 0)
@@ -410,8 +419,8 @@ class Capture:
 
     def _made_known(self, ends: FrozenSet[Endpoint]) -> Connection:
         if len(self._known) == self.limits.connections:
-            oldest = min(self._known, key=lambda each: (bool(self._known[each].live()), self._known[each].last))
-            self._forget(oldest, None, "room")
+            first = min(self._known, key=lambda each: self._known[each].before())
+            self._forget(first, None, "room")
         self._connections += 1
         self._known[ends] = Connection(self._connections)
         return self._known[ends]

@@ -27,6 +27,6 @@ pub fn packet_reader<L: CaptureListener + Drop, N: Notices + Drop>(
         (none_known asked.entry.ports.items asked.entry.pool asked.entry.connections []) []) }
 {
     let connections = Connections::new(alloc, asked.connections, asked.pool as usize, asked.ports)?;
-    let streams = Streams::new(alloc, listener)?;
+    let streams = Streams::new(alloc, asked.connections, listener)?;
     Ok(PacketReader::new(connections, streams, notices))
 }

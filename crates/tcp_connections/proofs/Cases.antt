@@ -13,7 +13,7 @@ use Rattle.tcp_flow.proofs.Steps.{heard_none}
 use Rattle.tcp_streams.specs.declared.pair.Side.{Side}
 use Rattle.tcp_streams.specs.Pairs.{pair_of, opposite, flow_id}
 use Rattle.tcp_streams.specs.Lives.{lives}
-use Rattle.tcp_connections.specs.Connections.{State, flow_at, with_flow, arrived, began, gapped, closed_at, flow_forgotten, place_of, room_at, gaps_at, ended_by, cleared, goes_before, eldest, with_room, next_room, made_known, first_number, number_behind, is_first, is_looked_through, looked_through, with_capture_event, is_kept, is_anew, is_reset, syn_at, syn_kept, flow_of_side, fin_taken, unknown_taken, heard, acknowledgement_heard, payload_taken, reset_taken, known_taken, step, is_holding, gaps_from}
+use Rattle.tcp_connections.specs.Connections.{State, with_segment, flow_at, with_flow, arrived, began, gapped, closed_at, flow_forgotten, place_of, room_at, gaps_at, ended_by, cleared, goes_before, eldest, with_room, next_room, made_known, first_number, number_behind, is_first, is_looked_through, looked_through, with_capture_event, is_kept, is_anew, is_reset, syn_at, syn_kept, flow_of_side, fin_taken, unknown_taken, heard, acknowledgement_heard, payload_taken, reset_taken, known_taken, step, is_holding, gaps_from}
 
 pub arrived_none : (F : Reader) (w : State) (id : ℕ) (a : Arrival) → flow_at w id ≡ None →
     arrived F w id a ≡ w
@@ -238,13 +238,13 @@ pub known_is : (F : Reader) (w : State) (place : ℕ) (s : Segment) (room : ℕ)
     other ≡ flow_id room (opposite side)
     → known_taken F w place s
     ≡ heard F (reset_taken F (fin_taken F (payload_taken F (acknowledgement_heard F
-    (record w { lasts = set w.lasts room w.segments }) other s) id s) id s) place side s)
+    (with_segment w room id) other s) id s) id s) place side s)
     id None false
 unfolding known_taken
 known_is F w place s room side id other e f g h =
     let K : ℕ → Side → ℕ → ℕ → State = λ r d i o.
     heard F (reset_taken F (fin_taken F (payload_taken F (acknowledgement_heard F
-    (record w { lasts = set w.lasts r w.segments }) o s) i s) i s) place d s) i None false in
+    (with_segment w r i) o s) i s) i s) place d s) i None false in
     let here : Side = (pair_of s.flow).1 in
     sym (ap (λ (i : ℕ). K room side i other) g ∙ ap (λ (o : ℕ). K room side (flow_id room side) o) h
     ∙ ap (λ (d : Side). K room d (flow_id room d) (flow_id room (opposite d))) f

@@ -1,5 +1,5 @@
 -- The code has a state: what is noted of a segment, and of a connection that is known from now on.
-use Rattle.std.proofs.Common.{◌≡◌, ℕ, ◌+◌, ◌<◌, cond, nat_eq, List, [], ◌∷◌, ◌++◌, length, set, Option, Some, None, refl, sym, ◌∙◌, ap, subst, arith, length-set}
+use Rattle.std.proofs.Common.{◌≡◌, ℕ, ◌+◌, ◌<◌, cond, nat_eq, List, [], ◌∷◌, ◌++◌, length, set, Bool, true, false, Option, Some, None, refl, sym, ◌∙◌, ap, subst, arith, length-set}
 use Rattle.std.specs.List.{insert}
 use Rattle.tcp_segment.specs.declared.endpoint.Flow.{Flow as Endpoints}
 use Rattle.tcp_segment.specs.Segments.{Segment}
@@ -12,29 +12,26 @@ use Rattle.tcp_streams.proofs.Order.{lives_more}
 use Rattle.tcp_streams.specs.Pairs.{flow_id, flow_from}
 use Rattle.tcp_connections.specs.declared.connections.Connections.{Connections}
 use Rattle.tcp_connections.specs.declared.syns.KeptSyn.{KeptSyn}
-use Rattle.tcp_connections.specs.Connections.{State, place_of, place_among, next_room, rest_of_rooms, made_known, syn_kept}
+use Rattle.tcp_connections.specs.Connections.{State, place_of, place_among, next_room, rest_of_rooms, made_known, syn_kept, with_segment}
 use Rattle.tcp_connections.specs.State.{IsSound, IsState, state_of, times}
 use Rattle.tcp_connections.proofs.Sound.{sound_seen, known_sound}
 use Rattle.tcp_connections.proofs.Times.{next_is, rest_is, times_last, times_own}
 
-pub noted : (O : List Event → Type 0) (live : List ℕ) (c c' : Connections) (w : State) (room : ℕ) →
-    IsState O live c w
-    → ((e : List Event) → state_of c' e ≡ record (state_of c e) {
-      lasts =
-          set c.stamps.last.items room c.segments;
-    })
+pub noted : (O : List Event → Type 0) (live : List ℕ) (c c' : Connections) (w : State)
+    (room id : ℕ) → IsState O live c w
+    → ((e : List Event) → state_of c' e ≡ with_segment (state_of c e) room id)
     → c'.free.most ≡ c.free.most → c'.table.most ≡ c.table.most
-    → IsState O live c' (record w { lasts = set w.lasts room w.segments })
-noted O live c c' w room h same free table =
+    → IsState O live c' (with_segment w room id)
+noted O live c c' w room id h same free table =
     let long : length (set w.lasts room w.segments) ≡ length w.lasts =
     length-set w.lasts room w.segments in
     record {
       observed = h.observed;
       live = h.live;
-      same = same w.events ∙ ap (λ (u : State). record u { lasts = set u.lasts room u.segments })
-          h.same;
+      same = same w.events ∙ ap (λ (u : State). with_segment u room id) h.same;
       told = h.told;
-      sound = sound_seen w (set w.lasts room w.segments) w.syns w.segments w.events w.arrival
+      sound = sound_seen w (set w.lasts room w.segments) w.syns (set w.came id true) w.segments
+          w.events w.arrival
           long h.sound;
       free = free ∙ h.free ∙ sym long;
       room = table ∙ h.room ∙ sym long;
@@ -56,8 +53,8 @@ syn_noted O live c c' w room id s h same free table =
       same = same w.events ∙ ap (λ (u : State). syn_kept u room id s) h.same;
       told = h.told;
       sound = sound_seen w (set w.lasts room w.segments)
-          (set w.syns room (Some (record { flow = id; number = onward s.sequence 1 }))) w.segments
-          w.events w.arrival long h.sound;
+          (set w.syns room (Some (record { flow = id; number = onward s.sequence 1 })))
+          (set w.came id true) w.segments w.events w.arrival long h.sound;
       free = free ∙ h.free ∙ sym long;
       room = table ∙ h.room ∙ sym long;
     }
@@ -73,10 +70,15 @@ counted O live c c' w h same free table =
       live = h.live;
       same = same w.events ∙ ap (λ (u : State). record u { segments = u.segments + 1 }) h.same;
       told = h.told;
-      sound = sound_seen w w.lasts w.syns (w.segments + 1) w.events w.arrival refl h.sound;
+      sound = sound_seen w w.lasts w.syns w.came (w.segments + 1) w.events w.arrival refl h.sound;
       free = free ∙ h.free;
       room = table ∙ h.room;
     }
+
+-- of no flow of a room did a segment come
+abbrev pub came_none : List Bool → ℕ → List Bool
+came_none came room =
+    set (set came (flow_id room FromLesser) false) (flow_id room FromGreater) false
 
 abbrev pub opened : ℕ → EndpointPair → List Event → List Event
 opened room p events = (events ++ Opens (flow_id room FromLesser) (flow_from p FromLesser) ∷ [])
@@ -100,6 +102,7 @@ made_is : (w : State) (p : EndpointPair) (rest : List ℕ) (room : ℕ) → w.fr
       lasts =
           set w.lasts room w.segments;
       syns = set w.syns room None;
+      came = came_none w.came room;
       events = opened room p w.events;
     }) ≡ made_known w p
 unfolding made_known
@@ -113,6 +116,7 @@ made_is w p rest room e =
       free = rest;
       lasts = set w.lasts r w.segments;
       syns = set w.syns r None;
+      came = came_none w.came r;
       events = opened r p w.events;
     }) (sym next)
     ∙ ap (λ (rs : List ℕ). record w {
@@ -123,6 +127,7 @@ made_is w p rest room e =
       lasts =
           set w.lasts (next_room w.free) w.segments;
       syns = set w.syns (next_room w.free) None;
+      came = came_none w.came (next_room w.free);
       events = opened (next_room w.free) p w.events;
     })
     (sym others)
@@ -140,6 +145,7 @@ pub made : (O O' : List Event → Type 0) (live live' : List ℕ) (c c' : Connec
       lasts =
           set c.stamps.last.items room c.segments;
       syns = set c.syns.kept.items room None;
+      came = came_none c.came.ids.items room;
     })
     → c'.free.most ≡ c.free.most → c'.table.most ≡ c.table.most
     → IsState O' live' c' (made_known w p)
@@ -163,12 +169,13 @@ made O O' live live' c c' w p rest room h observed living free new state most ta
             lasts =
                 set u.lasts room u.segments;
             syns = set u.syns room None;
+            came = came_none u.came room;
             events = opened room p w.events;
           }) h.same;
       told = λ id e. subst (λ (xs : List ℕ). 0 < times id xs) (sym (opened_lives room p w.events))
           (h.told id e);
       sound = known_sound w p rest room (set w.lasts room w.segments) (set w.syns room None)
-          (opened room p w.events) h.sound had unknown long;
+          (came_none w.came room) (opened room p w.events) h.sound had unknown long;
       free = most ∙ h.free ∙ sym long;
       room = table ∙ h.room ∙ sym long;
     })
@@ -177,14 +184,15 @@ made O O' live live' c c' w p rest room h observed living free new state most ta
 
 abbrev pub others_of : Connections → List Event → State
 others_of c es =
-    record (state_of c es) { known = []; rooms = []; free = []; lasts = []; syns = [] }
+    record (state_of c es) { known = []; rooms = []; free = []; lasts = []; syns = []; came = [] }
 
 -- only which connections are known has changed, and when
 pub entered : (c c' : Connections) (es : List Event) →
     ((e : List Event) → others_of c' e ≡ others_of c e) →
     (known : List EndpointPair) (rooms free lasts : List ℕ) (syns : List (Option KeptSyn))
-    → c'.table.keys.items ≡ known → c'.table.rooms.items ≡ rooms → c'.free.free.items ≡ free →
-    c'.stamps.last.items ≡ lasts → c'.syns.kept.items ≡ syns
+    (came : List Bool) → c'.table.keys.items ≡ known → c'.table.rooms.items ≡ rooms
+    → c'.free.free.items ≡ free →
+    c'.stamps.last.items ≡ lasts → c'.syns.kept.items ≡ syns → c'.came.ids.items ≡ came
     → state_of c' es ≡ record (state_of c es) {
       known = known;
       rooms = rooms;
@@ -192,8 +200,9 @@ pub entered : (c c' : Connections) (es : List Event) →
       lasts =
           lasts;
       syns = syns;
+      came = came;
     }
-entered c c' es others known rooms free lasts syns k r f l y =
+entered c c' es others known rooms free lasts syns came k r f l y o =
     ap (λ (u : State). record u {
       known = c'.table.keys.items;
       rooms = c'.table.rooms.items;
@@ -201,6 +210,7 @@ entered c c' es others known rooms free lasts syns k r f l y =
           c'.free.free.items;
       lasts = c'.stamps.last.items;
       syns = c'.syns.kept.items;
+      came = c'.came.ids.items;
     }) (others es)
     ∙ ap (λ (ps : List EndpointPair). record (state_of c es) {
       known = ps;
@@ -209,6 +219,7 @@ entered c c' es others known rooms free lasts syns k r f l y =
       free = c'.free.free.items;
       lasts = c'.stamps.last.items;
       syns = c'.syns.kept.items;
+      came = c'.came.ids.items;
     }) k
     ∙ ap (λ (rs : List ℕ). record (state_of c es) {
       known = known;
@@ -217,6 +228,7 @@ entered c c' es others known rooms free lasts syns k r f l y =
           c'.free.free.items;
       lasts = c'.stamps.last.items;
       syns = c'.syns.kept.items;
+      came = c'.came.ids.items;
     }) r
     ∙ ap (λ (rs : List ℕ). record (state_of c es) {
       known = known;
@@ -225,6 +237,7 @@ entered c c' es others known rooms free lasts syns k r f l y =
       lasts =
           c'.stamps.last.items;
       syns = c'.syns.kept.items;
+      came = c'.came.ids.items;
     }) f
     ∙ ap (λ (ns : List ℕ). record (state_of c es) {
       known = known;
@@ -232,6 +245,7 @@ entered c c' es others known rooms free lasts syns k r f l y =
       free = free;
       lasts = ns;
       syns = c'.syns.kept.items;
+      came = c'.came.ids.items;
     }) l
     ∙ ap (λ (ss : List (Option KeptSyn)). record (state_of c es) {
       known = known;
@@ -239,7 +253,16 @@ entered c c' es others known rooms free lasts syns k r f l y =
       free = free;
       lasts = lasts;
       syns = ss;
+      came = c'.came.ids.items;
     }) y
+    ∙ ap (λ (bs : List Bool). record (state_of c es) {
+      known = known;
+      rooms = rooms;
+      free = free;
+      lasts = lasts;
+      syns = syns;
+      came = bs;
+    }) o
 
 -- the ids and flows that are told, by what they are
 pub told_as : (P : List Event → Type 0) (es : List Event) (a b a' b' : ℕ) (x y x' y' : Endpoints) →

@@ -1,5 +1,5 @@
 -- Streams are without a gap, whatever segments come.
-use Rattle.std.proofs.Common.{◌≡◌, ℕ, suc, ◌+◌, ◌*◌, ◌/◌, ◌<◌, ◌≤◌, false, nat_lt, List, [], ◌∷◌, ◌++◌, length, set, get_or, Option, Some, None, is_some, is_eq, refl, sym, ◌∙◌, ap, subst, arith, inl, inr, true≢false, length-set, append_assoc, append-nil}
+use Rattle.std.proofs.Common.{◌≡◌, ℕ, suc, ◌+◌, ◌*◌, ◌/◌, ◌<◌, ◌≤◌, false, nat_lt, List, [], ◌∷◌, ◌++◌, length, set, get_or, Bool, true, Option, Some, None, is_some, is_eq, refl, sym, ◌∙◌, ap, subst, arith, inl, inr, true≢false, length-set, append_assoc, append-nil}
 use Rattle.std.specs.Prelude.{slice_get}
 use Rattle.std.specs.List.{AllByRecursion}
 use Rattle.std.specs.Option.{option_map}
@@ -14,7 +14,7 @@ use Rattle.tcp_flow.specs.Laws.{AllFollow, AllArePartsOf}
 use Rattle.tcp_streams.specs.declared.pair.EndpointPair.{EndpointPair}
 use Rattle.tcp_streams.specs.declared.pair.Side.{Side}
 use Rattle.tcp_streams.specs.Pairs.{compare_pairs, pair_of, opposite, flow_id, flow_from}
-use Rattle.tcp_connections.specs.Connections.{State, none_known, flow_at, began, syn_at, syn_kept, flow_of_side, place_of, room_at, ended_by, with_room, next_room, made_known, first_number, is_first, looked_through, is_kept, is_anew, fin_taken, unknown_taken, acknowledgement_heard, payload_taken, reset_taken, known_taken, step, after, with_packet, with_capture_event, ended}
+use Rattle.tcp_connections.specs.Connections.{State, with_segment, none_known, flow_at, began, syn_at, syn_kept, flow_of_side, place_of, room_at, ended_by, with_room, next_room, made_known, first_number, is_first, looked_through, is_kept, is_anew, fin_taken, unknown_taken, acknowledgement_heard, payload_taken, reset_taken, known_taken, step, after, with_packet, with_capture_event, ended}
 use Rattle.tcp_connections.specs.declared.syns.KeptSyn.{KeptSyn}
 use Rattle.tcp_connections.specs.Gapless.{IsOfSegment, AreGapless, AreWhole, HaveRooms}
 use Rattle.tcp_connections.specs.Owned.{AreOwned}
@@ -72,9 +72,16 @@ unknown_at segments F w s among new h =
     (fin_at segments F began_there id s b) (looked_at segments w s h)
 
 seen_at : (segments : List Segment) (w : State) (lasts : List ℕ) (syns : List (Option KeptSyn))
-    (count : ℕ) (arrival : origin.Arrival) → length lasts ≡ length w.lasts → At segments w →
-    At segments (record w { lasts = lasts; syns = syns; segments = count; arrival = arrival })
-seen_at segments w lasts syns count arrival e h = search (arith, sound_seen)
+    (noted : List Bool) (count : ℕ) (arrival : origin.Arrival) → length lasts ≡ length w.lasts →
+    At segments w →
+    At segments (record w {
+      lasts = lasts;
+      syns = syns;
+      came = noted;
+      segments = count;
+      arrival = arrival;
+    })
+seen_at segments w lasts syns noted count arrival e h = search (arith, sound_seen)
 
 syn_kept_at : (segments : List Segment) (w : State) (room id : ℕ) (s : Segment) → At segments w →
     At segments (syn_kept w room id s)
@@ -90,13 +97,14 @@ known_at segments F w place s among is l h =
     let room : ℕ = room_at w place in
     let id : ℕ = flow_id room side in
     let opposite_id : ℕ = flow_id room (opposite side) in
-    let seen : State = record w { lasts = set w.lasts room w.segments } in
+    let seen : State = with_segment w room id in
     let told : State = acknowledgement_heard F seen opposite_id s in
     let paid : State = payload_taken F told id s in
     let kept = acknowledgement_kept F seen opposite_id s in
     let at_told : At segments told = heard_at segments F seen opposite_id
     s.acknowledgement (nat_lt 0 (length s.payload))
-    (seen_at segments w (set w.lasts room w.segments) w.syns w.segments w.arrival
+    (seen_at segments w (set w.lasts room w.segments) w.syns (set w.came id true) w.segments
+    w.arrival
     (length-set w.lasts room w.segments) h) in
     let within : id < length told.flows =
     omega (arith, id_within w room side h.sound (room_below w place h.sound l), kept.flows) in

@@ -1,5 +1,5 @@
 -- How many rooms there are stays, and each event is in a flow of one of them.
-use Rattle.std.proofs.Common.{◌≡◌, ℕ, ◌+◌, ◌*◌, ◌/◌, ◌≤◌, Bool, true, false, cond, List, [], ◌∷◌, length, set, Option, Some, None, is_some, unwrap_or, refl, sym, ◌∙◌, ap, inl, inr, arith, true≢false, length-set}
+use Rattle.std.proofs.Common.{◌≡◌, ℕ, ◌+◌, ◌*◌, ◌/◌, ◌≤◌, Bool, true, false, cond, List, [], ◌∷◌, length, Option, Some, None, is_some, unwrap_or, refl, sym, ◌∙◌, ap, inl, inr, arith, true≢false, length-set}
 use Rattle.std.specs.List.{AllByRecursion}
 use Rattle.std.proofs.lemmas.Bool.{cases_Bool, cases_lt, eq-eqb}
 use Rattle.tcp_segment.specs.Segments.{Segment}
@@ -12,7 +12,7 @@ use Rattle.tcp_streams.specs.Lives.{lives, elder_side}
 use Rattle.tcp_streams.specs.Pairs.{pair_of, opposite, flow_id}
 use Rattle.tcp_streams.specs.declared.pair.EndpointPair.{EndpointPair}
 use Rattle.tcp_streams.specs.declared.pair.Side.{Side}
-use Rattle.tcp_connections.specs.Connections.{State, flow_at, with_flow, gapped, closed_at, room_at, shown_by_age, ended_by, eldest, with_room, next_room, made_known, place_of, flow_of_side, syn_at, syn_kept, is_kept, is_anew, is_reset, is_first, looked_through, first_number, began, fin_taken, acknowledgement_heard, payload_taken, reset_taken, unknown_taken, known_taken, step, after, gaps_from, ended}
+use Rattle.tcp_connections.specs.Connections.{State, with_segment, flow_at, with_flow, gapped, closed_at, room_at, shown_by_age, ended_by, eldest, with_room, next_room, made_known, place_of, flow_of_side, syn_at, syn_kept, is_kept, is_anew, is_reset, is_first, looked_through, first_number, began, fin_taken, acknowledgement_heard, payload_taken, reset_taken, unknown_taken, known_taken, step, after, gaps_from, ended}
 use Rattle.tcp_connections.specs.Gapless.{HaveRooms}
 use Rattle.tcp_connections.specs.Owned.{Standing, Unopened, Idle, Live, owner, is_of, behind, MayCome, standing, AllMayCome}
 use Rattle.tcp_connections.proofs.Cases.{room_there, room_made, step_unknown, step_kept, step_anew, step_known}
@@ -75,7 +75,7 @@ known_rooms F w place s =
     let side : Side = (pair_of s.flow).1 in
     let room : ℕ = room_at w place in
     let id : ℕ = flow_id room side in
-    let seen : State = record w { lasts = set w.lasts room w.segments } in
+    let seen : State = with_segment w room id in
     let told : State = acknowledgement_heard F seen (flow_id room (opposite side)) s in
     let paid : State = payload_taken F told id s in
     let ended : State = fin_taken F paid id s in

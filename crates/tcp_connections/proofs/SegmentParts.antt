@@ -27,7 +27,7 @@ use Rattle.tcp_connections.specs.Gapless.{IsOfSegment}
 use Rattle.tcp_connections.specs.Owned.{IsPartOf}
 use Rattle.tcp_connections.specs.State.{IsSound, times}
 use Rattle.tcp_connections.proofs.Cases.{forgot_some, room_there, room_made}
-use Rattle.tcp_connections.proofs.Changes.{opened}
+use Rattle.tcp_connections.proofs.Changes.{opened, came_none}
 use Rattle.tcp_connections.proofs.Following.{due_in, Follow, others_kept, flow_before, Goes, arrived_both, began_both, follow_grown, gapped_follow, gapped_sound}
 use Rattle.tcp_connections.proofs.Forgotten.{forgot_either, both_forgotten, forgotten_sound}
 use Rattle.tcp_connections.proofs.Owners.{owner_of, Owns, arrived_owns, began_owns, gapped_owns}
@@ -160,7 +160,7 @@ pub capture_at : (segments : List Segment) (w : State) (event : CaptureEvent) â†
 capture_at segments w event h =
     let events : List Event = w.events ++ OfCapture event âˆ· [] in
     record {
-      sound = sound_seen w w.lasts w.syns w.segments events w.arrival refl h.sound;
+      sound = sound_seen w w.lasts w.syns w.came w.segments events w.arrival refl h.sound;
       payloads = h.payloads;
       came = h.came;
       follow =
@@ -397,7 +397,8 @@ made_at segments w p l new h =
     let none = h.sound.freed room (next_free w h.sound l) in
     record {
       sound = known_sound w p (rest_of_rooms w.free) room lasts (set w.syns room None)
-          (opened room p w.events) h.sound had new (length-set w.lasts room w.segments);
+          (came_none w.came room) (opened room p w.events) h.sound had new
+          (length-set w.lasts room w.segments);
       payloads = h.payloads;
       came = h.came;
       follow =

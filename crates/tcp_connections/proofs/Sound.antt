@@ -194,18 +194,20 @@ forgot_sound w id events h l =
           ];
     }
 
--- what has happened, when, which SYN is kept, how many segments came, and which packet is read, is
--- no part of it
-pub sound_seen : (w : State) (lasts : List ℕ) (syns : List (Option KeptSyn)) (segments : ℕ)
-    (events : List Event) (arrival : origin.Arrival) → length lasts ≡ length w.lasts → IsSound w →
+-- what has happened, when, which SYN is kept, of which flows and how many segments came, and which
+-- packet is read, is no part of it
+pub sound_seen : (w : State) (lasts : List ℕ) (syns : List (Option KeptSyn)) (came : List Bool)
+    (segments : ℕ) (events : List Event) (arrival : origin.Arrival) →
+    length lasts ≡ length w.lasts → IsSound w →
     IsSound (record w {
       lasts = lasts;
       syns = syns;
+      came = came;
       segments = segments;
       events = events;
       arrival = arrival;
     })
-sound_seen w lasts syns segments events arrival e h =
+sound_seen w lasts syns came segments events arrival e h =
     record {
       some = rw e h.some;
       most = rw e h.most;
@@ -236,7 +238,7 @@ among_most p (x ∷ xs) = most_by (is_lt (compare_pairs x p)) (place_among p xs)
 
 -- a connection is known from now on, in the room that was free
 pub known_sound : (w : State) (p : EndpointPair) (rest : List ℕ) (room : ℕ) (lasts : List ℕ)
-    (syns : List (Option KeptSyn)) (events : List Event) → IsSound w →
+    (syns : List (Option KeptSyn)) (came : List Bool) (events : List Event) → IsSound w →
     w.free ≡ rest ++ room ∷ [] → place_of p w.known ≡ None →
     length lasts ≡ length w.lasts
     → IsSound (record w {
@@ -246,9 +248,10 @@ pub known_sound : (w : State) (p : EndpointPair) (rest : List ℕ) (room : ℕ) 
       free = rest;
       lasts = lasts;
       syns = syns;
+      came = came;
       events = events;
     })
-known_sound w p rest room lasts syns events h free new e =
+known_sound w p rest room lasts syns came events h free new e =
     let place : ℕ = place_among p w.known in
     let most : place ≤ length w.known = among_most p w.known in
     let pairs : length (insert w.known place p) ≡ length w.known + 1 =

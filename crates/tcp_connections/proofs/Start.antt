@@ -1,5 +1,5 @@
 -- Where no connection is known, all is so.
-use Rattle.std.proofs.Common.{◌≡◌, ℕ, ◌+◌, ◌*◌, ◌≤◌, List, [], length, replicate, get_or, Option, None, refl, arith}
+use Rattle.std.proofs.Common.{◌≡◌, ℕ, ◌+◌, ◌*◌, ◌≤◌, List, [], length, replicate, get_or, Bool, false, Option, None, refl, arith}
 use Rattle.std.proofs.lemmas.List.{length-replicate}
 use Rattle.std.specs.List.Sorted.{IsStrictlySortedBy}
 use Rattle.tcp_waiting.specs.declared.arrival.Arrival as origin
@@ -39,10 +39,12 @@ none_sound ports blocks most events some few =
     }
 
 pub start_sound : (ports : List ℕ) (blocks most segments : ℕ) (known : List EndpointPair)
-    (rooms free lasts : List ℕ) (syns : List (Option KeptSyn)) (flows : List (Option FlowState))
+    (rooms free lasts : List ℕ) (syns : List (Option KeptSyn)) (came : List Bool)
+    (flows : List (Option FlowState))
     (held : List Payload) (events : List Event) (arrival : origin.Arrival)
     → known ≡ [] → rooms ≡ [] → free ≡ rooms_below most → lasts ≡ replicate most 0 →
-    syns ≡ replicate most None → flows ≡ replicate (2 * most) None → held ≡ [] → segments ≡ 0 →
+    syns ≡ replicate most None → came ≡ replicate (2 * most) false →
+    flows ≡ replicate (2 * most) None → held ≡ [] → segments ≡ 0 →
     arrival ≡ (record { time = None; packet = 0 }) →
     1 ≤ most → most ≤ 65536
     → IsSound (record {
@@ -53,12 +55,13 @@ pub start_sound : (ports : List ℕ) (blocks most segments : ℕ) (known : List 
       free = free;
       lasts = lasts;
       syns = syns;
+      came = came;
       flows = flows;
       held = held;
       events = events;
       segments = segments;
       arrival = arrival;
     })
-start_sound ports blocks most segments known rooms free lasts syns flows held events arrival k r f l
-    y w h s a some few = rw (k, r, f, l, y, w, h, s, a) (none_sound ports blocks most events
-    some few)
+start_sound ports blocks most segments known rooms free lasts syns came flows held events arrival
+    k r f l y o w h s a some few = rw (k, r, f, l, y, o, w, h, s, a) (none_sound ports blocks most
+    events some few)

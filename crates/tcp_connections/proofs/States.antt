@@ -334,7 +334,7 @@ packet_read O live c c' w time same free table h =
       live = h.live;
       same = same w.events ∙ ap (λ (u : State). with_packet u time) h.same;
       told = h.told;
-      sound = sound_seen w w.lasts w.syns w.segments w.events a refl h.sound;
+      sound = sound_seen w w.lasts w.syns w.came w.segments w.events a refl h.sound;
       free = free ∙ h.free;
       room = table ∙ h.room;
     }

@@ -24,8 +24,9 @@ use Rattle.tcp_streams.specs.Lives.{lives, elder_side}
 
 -- the ports that are chosen and the blocks of the pool; the pairs that are known, in their order,
 -- and the room of each; the rooms that are free, the next one last; of each room the number of its
--- last segment, and the SYN that is kept; of each id the flow, from its first stream on; what is
--- held, what has happened, how many segments came, and the packet that is read
+-- last segment, and the SYN that is kept; of each id whether a segment came after the one that made
+-- its connection known, and the flow, from its first stream on; what is held, what has happened,
+-- how many segments came, and the packet that is read
 pub record State : Type 0 where
   pub ports : List ℕ
   pub blocks : ℕ
@@ -34,6 +35,7 @@ pub record State : Type 0 where
   pub free : List ℕ
   pub lasts : List ℕ
   pub syns : List (Option KeptSyn)
+  pub came : List Bool
   pub flows : List (Option FlowState)
   pub held : List Payload
   pub events : List Event
@@ -50,6 +52,7 @@ none_known ports blocks most events = record {
   free = rooms_below most;
   lasts = replicate most 0;
   syns = replicate most None;
+  came = replicate (2 * most) false;
   flows = replicate (2 * most) None;
   held = [];
   events = events;
@@ -199,17 +202,32 @@ is_live w room =
     has_live (flow_at w (flow_id room FromLesser))
     || has_live (flow_at w (flow_id room FromGreater))
 
+-- whether segments of a flow came since its connection is known: of the one that made it known its
+-- first payload did
+abbrev pub has_come : State → ℕ → Bool
+has_come w id = is_some (flow_at w id) || get_or w.came id false
+
+-- whether segments of both flows of a room's connection came
+abbrev pub is_both : State → ℕ → Bool
+is_both w room =
+    has_come w (flow_id room FromLesser) && has_come w (flow_id room FromGreater)
+
+-- how late a room's connection makes room: first one without a live stream, then one of which
+-- segments of one flow alone came, then any other
+abbrev pub class_of : State → ℕ → ℕ
+class_of w room = cond (is_live w room) (cond (is_both w room) 2 1) 0
+
 -- whether the connection at one place was last seen before that at another
 abbrev pub is_older : State → ℕ → ℕ → Bool
 is_older w a b =
     nat_lt (get_or w.lasts (room_at w a) 0) (get_or w.lasts (room_at w b) 0)
 
--- whether the connection at one place makes room rather than that at another: first those without a
--- live stream, then by their last segments
+-- whether the connection at one place makes room rather than that at another: by their classes,
+-- then by their last segments
 abbrev pub goes_before : State → ℕ → ℕ → Bool
 goes_before w a b =
-    cond (is_live w (room_at w a)) (is_live w (room_at w b) && is_older w a b)
-    (is_live w (room_at w b) || is_older w a b)
+    nat_lt (class_of w (room_at w a)) (class_of w (room_at w b))
+    || nat_eq (class_of w (room_at w a)) (class_of w (room_at w b)) && is_older w a b
 
 -- of the first so many connections, the place of the one that makes room
 unfoldable pub eldest : State → ℕ → ℕ
@@ -240,6 +258,11 @@ next_room free = get_or free (length free - 1) 0
 unfoldable pub rest_of_rooms : List ℕ → List ℕ
 rest_of_rooms free = take (length free - 1) free
 
+-- a segment of a flow came, of the connection of a room
+abbrev pub with_segment : State → ℕ → ℕ → State
+with_segment w room id =
+    record w { lasts = set w.lasts room w.segments; came = set w.came id true }
+
 -- a connection is known from now on
 unfoldable pub made_known : State → EndpointPair → State
 made_known w p =
@@ -251,6 +274,7 @@ made_known w p =
       free = rest_of_rooms w.free;
       lasts = set w.lasts room w.segments;
       syns = set w.syns room None;
+      came = set (set w.came (flow_id room FromLesser) false) (flow_id room FromGreater) false;
       events = (w.events ++ Opens (flow_id room FromLesser) (flow_from p FromLesser) ∷ [])
           ++ Opens (flow_id room FromGreater) (flow_from p FromGreater) ∷ [];
     }
@@ -309,8 +333,7 @@ is_kept flow s =
 -- it is kept, in place of an older one, and the segment does nothing more
 unfoldable pub syn_kept : State → ℕ → ℕ → Segment → State
 syn_kept w room id s =
-    record w {
-      lasts = set w.lasts room w.segments;
+    record (with_segment w room id) {
       syns = set w.syns room (Some (record { flow = id; number = onward s.sequence 1 }));
     }
 
@@ -395,7 +418,7 @@ before_reset F w place s =
     let side : Side = (pair_of s.flow).1 in
     let room : ℕ = room_at w place in
     let id : ℕ = flow_id room side in
-    let seen : State = record w { lasts = set w.lasts room w.segments } in
+    let seen : State = with_segment w room id in
     let told : State = acknowledgement_heard F seen (flow_id room (opposite side)) s in
     fin_taken F (payload_taken F told id s) id s
 

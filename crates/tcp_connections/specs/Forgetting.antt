@@ -7,20 +7,23 @@ use Rattle.tcp_streams.specs.Pairs.{pair_of, flow_id}
 use Rattle.tcp_flow.specs.declared.flow.FlowState.{FlowState}
 use Rattle.tcp_flow.specs.Flow.{Reader, is_near}
 use Rattle.tcp_connections.specs.declared.syns.KeptSyn.{KeptSyn}
-use Rattle.tcp_connections.specs.Connections.{State, place_of, room_at, is_live, is_first, cleared, with_room, flow_of_side, syn_at, is_answer, is_following, before_reset}
+use Rattle.tcp_connections.specs.Connections.{State, place_of, room_at, is_live, is_both, class_of, is_first, cleared, with_room, flow_of_side, syn_at, is_answer, is_following, before_reset}
 
 -- the number of the last segment of the connection at a place
 abbrev pub last_at : State → ℕ → ℕ
 last_at w place = get_or w.lasts (room_at w place) 0
 
--- a connection without a live stream, if there is one, and of those alike the one that was seen
--- longest ago
+-- a connection without a live stream, if there is one, else one of which segments of one flow alone
+-- came, if there is one; and of those alike the one that was seen longest ago
 pub record IsEldest (w : State) (place : ℕ) : Type 0 where
   pub within : place < length w.known
   pub idle : is_live w (room_at w place) ≡ true → (other : ℕ) → other < length w.known →
       is_live w (room_at w other) ≡ true
+  pub one_way : is_live w (room_at w place) ≡ true → is_both w (room_at w place) ≡ true →
+      (other : ℕ) → other < length w.known → is_both w (room_at w other) ≡ true
   pub oldest : (other : ℕ) → other < length w.known →
-      is_live w (room_at w other) ≡ is_live w (room_at w place) → last_at w place ≤ last_at w other
+      class_of w (room_at w other) ≡ class_of w (room_at w place) →
+      last_at w place ≤ last_at w other
 
 -- it makes room: what it holds is shown, and it is forgotten
 pub record MakesRoom (F : Reader) (w : State) : Type 0 where

@@ -47,6 +47,7 @@ state_of c events = record {
   free = c.free.free.items;
   lasts = c.stamps.last.items;
   syns = c.syns.kept.items;
+  came = c.came.ids.items;
   flows = c.flows.items;
   held = c.pool.held;
   events = events;

@@ -12,6 +12,7 @@ ghost use Rattle.tcp_connections.specs.Connections.{is_anew as spec_is_anew};
 ghost use Rattle.tcp_connections.specs.Connections.{is_answer as spec_is_answer};
 ghost use Rattle.tcp_connections.specs.Connections.{is_following as spec_is_following};
 
+use crate::came::Came;
 use crate::syns::{KeptSyn, KeptSyns};
 use arrayvec::ArrayVec;
 use std::alloc::{AllocError, Global};
@@ -29,6 +30,7 @@ pub struct Connections {
     pub(crate) free: FreeRooms,
     pub(crate) stamps: Stamps,
     pub(crate) syns: KeptSyns,
+    pub(crate) came: Came,
     pub(crate) flows: Vec<Option<FlowState>>,
     pub(crate) pool: Pool,
     segments: u64,
@@ -42,7 +44,7 @@ impl Connections {
     ghost use Rattle.tcp_flow.specs.Flow.{Event};
     ghost use Rattle.tcp_connections.specs.Connections.{none_known, has_live, live_of, made_known, place_of};
     ghost use Rattle.tcp_connections.specs.Connections.{place_among, next_room, unknown_taken};
-    ghost use Rattle.tcp_connections.specs.Connections.{known_taken, step, syn_kept, with_packet};
+    ghost use Rattle.tcp_connections.specs.Connections.{known_taken, step, syn_kept, with_packet, with_segment};
     ghost use Rattle.tcp_connections.specs.State.{IsSound, HasState, Makes, state_of};
 
     /// No connection is known. At most so many will be at once, 1 to 65,536, and what waits takes at most so many blocks of
@@ -66,6 +68,7 @@ impl Connections {
         let free = FreeRooms::new(alloc, most)?;
         let stamps = Stamps::new(alloc, most as usize)?;
         let syns = KeptSyns::new(alloc, most as usize)?;
+        let came = Came::new(alloc, 2 * most as usize)?;
         let flows = vec![in alloc; None; 2 * most as usize]?;
         let pool = Pool::new(alloc, blocks, 2 * most as usize)?;
         Ok(Connections {
@@ -74,6 +77,7 @@ impl Connections {
             free,
             stamps,
             syns,
+            came,
             flows,
             pool,
             segments: 0,
@@ -152,7 +156,7 @@ impl Connections {
     {
         let room = self.table.room(place);
         let id = flow_id(room, side);
-        self.stamps.note(room, self.segments);
+        self.note(room, id);
         self.recent = place;
         self.acknowledgement(flow_id(room, other(side)), segment, to)?;
         self.payload(id, segment, to)?;
@@ -214,6 +218,8 @@ impl Connections {
         self.syns.set(room, None);
         let lesser = flow_id(room, Side::FromLesser);
         let greater = flow_id(room, Side::FromGreater);
+        self.came.set(lesser, false);
+        self.came.set(greater, false);
         to.opens(lesser, flow_from(pair, Side::FromLesser))?;
         to.opens(greater, flow_from(pair, Side::FromGreater))?;
         Ok(room)
@@ -258,6 +264,18 @@ impl Connections {
         None
     }
 
+    /// A segment of a flow came, of the connection of a room.
+    fn note(&mut self, room: u32, id: u32)
+        requires { room < vec_len self.old.stamps.last }
+        ensures noted { (events : List Event) → state_of self.new events
+            ≡ with_segment (state_of self.old events) room id }
+        ensures free { self.new.free.most ≡ self.old.free.most }
+        ensures room { self.new.table.most ≡ self.old.table.most }
+    {
+        self.stamps.note(room, self.segments);
+        self.came.set(id, true);
+    }
+
     /// A SYN of the connection of a room is kept, in place of an older one.
     fn keep_syn(&mut self, room: u32, flow: u32, segment: Segment<'_>)
         requires { room < vec_len self.old.stamps.last }
@@ -266,7 +284,7 @@ impl Connections {
         ensures free { self.new.free.most ≡ self.old.free.most }
         ensures room { self.new.table.most ≡ self.old.table.most }
     {
-        self.stamps.note(room, self.segments);
+        self.note(room, flow);
         let number = onward(segment.sequence, 1);
         self.syns.set(room, Some(KeptSyn { flow, number }));
     }

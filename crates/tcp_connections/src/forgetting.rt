@@ -1,5 +1,5 @@
 //! Connections are forgotten: by a RST or a SYN, or to make room for another, first those without a
-//! live stream. What they hold is shown before.
+//! live stream, then those of which segments of one flow alone came. What they hold is shown before.
 
 ghost use Rattle.std.specs.Prelude.{◌≡◌, ◌<◌, ◌^◌, [], cond, OnOk, OnErr};
 ghost use Rattle.std.specs.Vec.{vec_len};
@@ -12,7 +12,8 @@ use tcp_segment::Segment;
 use tcp_streams::{Side, Streams, flow_id, other};
 
 impl Connections {
-    ghost use Rattle.tcp_connections.specs.Connections.{is_live, goes_before, eldest, reset_taken};
+    ghost use Rattle.tcp_connections.specs.Connections.{is_live, is_both, has_come, class_of};
+    ghost use Rattle.tcp_connections.specs.Connections.{goes_before, eldest, reset_taken};
     ghost use Rattle.tcp_connections.specs.Connections.{flow_forgotten, forgotten, with_room};
     ghost use Rattle.tcp_connections.specs.Connections.{cleared, emptied, ended_by, shown};
     ghost use Rattle.tcp_connections.specs.State.{IsSound, HasState, Makes, state_of};
@@ -218,8 +219,8 @@ impl Connections {
         }
     }
 
-    /// Whether the connection at one place makes room rather than that at another: first those
-    /// without a live stream, then by their last segments.
+    /// Whether the connection at one place makes room rather than that at another: by their classes,
+    /// then by their last segments.
     fn goes_before(&self, place: usize, other: usize) -> bool
         requires sound { IsSound (state_of self.now []) }
         requires place { place < vec_len self.now.table.keys }
@@ -228,12 +229,37 @@ impl Connections {
     {
         let room = self.table.room(place);
         let other = self.table.room(other);
-        let is_older = self.stamps.last(room) < self.stamps.last(other);
-        if self.is_live(room) {
-            self.is_live(other) && is_older
-        } else {
-            self.is_live(other) || is_older
+        let (class, other_class) = (self.class_of(room), self.class_of(other));
+        class < other_class
+            || class == other_class && self.stamps.last(room) < self.stamps.last(other)
+    }
+
+    /// How late the connection of a room makes room: first one without a live stream, then one of
+    /// which segments of one flow alone came, then any other.
+    fn class_of(&self, room: u32) -> u32
+        requires { room < 2 ^ 31 }
+        ensures { result ≡ class_of (state_of self.now []) room }
+    {
+        if !self.is_live(room) {
+            return 0;
         }
+        if self.is_both(room) { 2 } else { 1 }
+    }
+
+    /// Whether segments of both flows of a room's connection came since it is known.
+    fn is_both(&self, room: u32) -> bool
+        requires { room < 2 ^ 31 }
+        ensures { result ≡ is_both (state_of self.now []) room }
+    {
+        self.has_come(flow_id(room, Side::FromLesser))
+            && self.has_come(flow_id(room, Side::FromGreater))
+    }
+
+    /// Whether segments of a flow came since its connection is known.
+    fn has_come(&self, id: u32) -> bool
+        ensures { result ≡ has_come (state_of self.now []) id }
+    {
+        self.flow(id).is_some() || self.came.at(id)
     }
 
     /// Whether the connection of a room has a live stream.

@@ -42,8 +42,8 @@ pub fn nothing_else_forgets()
 {}
 
 /// Where as many connections are known as may be, the one that makes room for another has no live stream, if there is one
-/// without, and of those alike it is the one whose last segment came first; what it holds is shown before it is forgotten. It
-/// has no body, and is called for its contract.
+/// without, else segments of one flow alone came of it, if there is one such. Of those alike it is the one whose last segment
+/// came first; what it holds is shown before it is forgotten. It has no body, and is called for its contract.
 pub fn the_eldest_makes_room()
     ensures { (reader : Reader) (w : State) → 0 < length w.known
         → length w.lasts ≤ length w.known → MakesRoom reader w }

@@ -3,6 +3,7 @@
 #![tactic(auto)]
 
 mod arrivals;
+mod came;
 mod capture_end;
 mod connections;
 mod forgetting;

@@ -25,7 +25,7 @@ pub fn told_of(alloc: Global, row: &Row, left: usize) -> Option<Teller> {
         left,
         has_failed: false,
     };
-    let Ok(mut streams) = Streams::new(alloc, teller) else {
+    let Ok(mut streams) = Streams::new(alloc, setting.connections, teller) else {
         return None;
     };
     let steps = row.steps.as_slice();

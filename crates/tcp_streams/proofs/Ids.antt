@@ -14,7 +14,7 @@ eqb_comm_false m n h = ne_eqb n m (λ e. absurd
     both : (m n : ℕ) → eqb m n ≡ true → eqb m n ≡ false → ⊥
     both m n t f = cc
 
-push_all : (P : ℕ → Type 0) (xs : List ℕ) (x : ℕ) → AllByRecursion P xs → P x →
+pub push_all : (P : ℕ → Type 0) (xs : List ℕ) (x : ℕ) → AllByRecursion P xs → P x →
     AllByRecursion P (xs ++ x ∷ [])
 push_all P [] x h p = (p, tt)
 push_all P (y ∷ ys) x h p = (h.0, push_all P ys x h.1 p)

@@ -1,4 +1,4 @@
-pub mod Elders
 pub mod Ids
 pub mod Order
+pub mod Stamped
 pub mod Told

@@ -1,2 +1,3 @@
 pub mod Lives
 pub mod Pairs
+pub mod Stamped

@@ -3,6 +3,7 @@
 
 mod pair;
 mod sides;
+mod stamps;
 mod streams;
 
 pub use pair::{EndpointPair, Side};

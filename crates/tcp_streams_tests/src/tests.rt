@@ -53,28 +53,31 @@ fn the_flows_of_a_room_have_ids_side_by_side(rt: HostRuntime) {
 
 #[test]
 fn streams_stand_in_the_order_of_their_beginnings(rt: HostRuntime) {
-    let Ok(mut streams) = Streams::new(rt.alloc(), Silent) else {
-        return;
-    };
-    let start = Start {
-        number: 1,
-        passed: 0,
-        is_found: false,
-    };
-    for flow in [5, 0, 2] {
-        assert!(rt; streams.begins(flow, start).is_ok(), "flow {flow}");
+    // There are stamps for all flows, for two of them, and for none.
+    for connections in [3, 1, 0] {
+        let Ok(mut streams) = Streams::new(rt.alloc(), connections, Silent) else {
+            return;
+        };
+        let start = Start {
+            number: 1,
+            passed: 0,
+            is_found: false,
+        };
+        for flow in [5, 0, 2] {
+            assert!(rt; streams.begins(flow, start).is_ok(), "flow {flow}");
+        }
+        assert!(rt; streams.closes(0, CloseCause::Fin).is_ok());
+        assert!(rt; streams.begins(0, start).is_ok());
+        assert!(rt; streams.delivers(0, b"GIOP").is_ok());
+        // What a gap closes keeps its place.
+        assert!(rt; streams.closes(5, CloseCause::Gap).is_ok());
+        assert_eq!(rt; streams.lacks(5), Ok(None));
+        streams.passes(b"MUCH");
+        assert_eq!(rt; streams.len(), 3);
+        for (rank, flow) in [(0, Some(5)), (1, Some(2)), (2, Some(0)), (3, None)] {
+            assert_eq!(rt; streams.live(rank), flow, "rank {rank}");
+        }
+        assert_eq!(rt; streams.elder_side(2), Side::FromGreater);
+        assert_eq!(rt; streams.elder_side(1), Side::FromLesser);
     }
-    assert!(rt; streams.closes(0, CloseCause::Fin).is_ok());
-    assert!(rt; streams.begins(0, start).is_ok());
-    assert!(rt; streams.delivers(0, b"GIOP").is_ok());
-    // What a gap closes keeps its place.
-    assert!(rt; streams.closes(5, CloseCause::Gap).is_ok());
-    assert_eq!(rt; streams.lacks(5), Ok(None));
-    streams.passes(b"MUCH");
-    assert_eq!(rt; streams.len(), 3);
-    for (rank, flow) in [(0, Some(5)), (1, Some(2)), (2, Some(0)), (3, None)] {
-        assert_eq!(rt; streams.live(rank), flow, "rank {rank}");
-    }
-    assert_eq!(rt; streams.elder_side(2), Side::FromGreater);
-    assert_eq!(rt; streams.elder_side(1), Side::FromLesser);
 }

@@ -73,7 +73,7 @@ returns-clause-does g c w h =
     w place side cause h.sound both l (omega (arith, below, h.sound.flows))
     (λ es. entered c.forget_flow-2.new.self
     (record c.forget_flow-2.new.self { table = c.forget.new.self; free = c.give_back.new.self })
-    es (λ es. refl) _ _ _ _ _ c.forget.ensures.keys c.forget.ensures.rooms
+    es (λ es. refl) _ _ _ _ _ _ c.forget.ensures.keys c.forget.ensures.rooms
     (c.give_back.ensures.free ∙ ap (λ (r : ℕ). c.forget_flow-2.new.self.free.free.items ++ r ∷ [])
-    at) refl refl)
+    at) refl refl refl)
     c.give_back.ensures.most c.forget.ensures.most

@@ -8,24 +8,20 @@ last-requires c = let b = room_below (state_of c.args.self.now []) c.args.place 
     (omega (arith, c.requires.place, c.args.self.now.table.keys.ok.0)) in
     omega (arith, b, c.room-room.ensures, c.args.self.now.stamps.last.ok.0)
 
-pub last-requires-2 : goal.last-requires-2
-last-requires-2 c = let b = room_below (state_of c.args.self.now []) c.args.other c.requires.sound
+pub last-requires-then-class-other_class-2 : goal.last-requires-then-class-other_class-2
+last-requires-then-class-other_class-2 c =
+    let b = room_below (state_of c.args.self.now []) c.args.other c.requires.sound
     (omega (arith, c.requires.other, c.args.self.now.table.keys.ok.0)) in
     omega (arith, b, c.room-other.ensures, c.args.self.now.stamps.last.ok.0)
 
-pub is_live-requires : goal.is_live-requires
-is_live-requires c = let b = room_below (state_of c.args.self.now []) c.args.place c.requires.sound
+pub class_of-class-requires : goal.class_of-class-requires
+class_of-class-requires c =
+    let b = room_below (state_of c.args.self.now []) c.args.place c.requires.sound
     (omega (arith, c.requires.place, c.args.self.now.table.keys.ok.0)) in
     omega (arith, b, c.room-room.ensures, c.requires.sound.most)
 
-pub is_live-requires-then-is_live : goal.is_live-requires-then-is_live
-is_live-requires-then-is_live c = let b =
-    room_below (state_of c.args.self.now []) c.args.other c.requires.sound
-    (omega (arith, c.requires.other, c.args.self.now.table.keys.ok.0)) in
-    omega (arith, b, c.room-other.ensures, c.requires.sound.most)
-
-pub is_live-requires-else-is_live : goal.is_live-requires-else-is_live
-is_live-requires-else-is_live c = let b =
+pub class_of-other_class-requires : goal.class_of-other_class-requires
+class_of-other_class-requires c = let b =
     room_below (state_of c.args.self.now []) c.args.other c.requires.sound
     (omega (arith, c.requires.other, c.args.self.now.table.keys.ok.0)) in
     omega (arith, b, c.room-other.ensures, c.requires.sound.most)

@@ -48,6 +48,7 @@ returns-clause-does g c w h =
       stamps =
           c.note.new.self;
       syns = c.set.new.self;
+      came = c.set-3.new.self;
     }) w pair c.take.new.self.free.items room h told.0 told.1
     (c.take.ensures.some room c.in-Some.is) c.requires.new
     (λ es. entered c.args.self.now (record c.args.self.now {
@@ -56,12 +57,18 @@ returns-clause-does g c w h =
           c.take.new.self;
       stamps = c.note.new.self;
       syns = c.set.new.self;
-    }) es (λ es. refl) _ _ _ _ _
+      came = c.set-3.new.self;
+    }) es (λ es. refl) _ _ _ _ _ _
     (c.add.ensures.keys ∙ ap (λ n. insert c.args.self.now.table.keys.items n pair)
     c.place_for-place.ensures.place)
     (c.add.ensures.rooms ∙ ap (λ n. insert c.args.self.now.table.rooms.items n room)
     c.place_for-place.ensures.place)
-    refl c.note.ensures.last c.set.ensures)
+    refl c.note.ensures.last c.set.ensures
+    (c.set-3.ensures ∙ rw (
+      c.set-2.ensures,
+      c.flow_id-lesser.ensures.id,
+      c.flow_id-greater.ensures.id,
+    ) refl))
     c.take.ensures.most c.add.ensures.most
 
 pub returns-clause-room : goal.returns-clause-room

@@ -1,7 +1,7 @@
-use Rattle.std.proofs.Common.{◌≡◌, ◌/◌, ◌<◌, ℕ, List, [], length, get_or, set, refl, sym, ap, subst, ◌∙◌, arith}
+use Rattle.std.proofs.Common.{◌≡◌, ◌/◌, ◌<◌, ℕ, List, [], length, get_or, sym, ap, subst, ◌∙◌, arith}
 use Rattle.tcp_segment.specs.Segments.{segment_view}
 use Rattle.tcp_streams.specs.Pairs.{flow_id}
-use Rattle.tcp_connections.specs.Connections.{State, acknowledgement_heard, payload_taken}
+use Rattle.tcp_connections.specs.Connections.{State, with_segment, acknowledgement_heard, payload_taken}
 use Rattle.tcp_connections.specs.State.{state_of, times}
 use Rattle.tcp_connections.proofs.Cases.{known_is}
 use Rattle.tcp_connections.proofs.Changes.{noted}
@@ -29,9 +29,8 @@ acknowledgement-requires g c =
     record {
       state = (
         _,
-        noted _ _ c.args.self.now _ c.requires.state.0 c.room-room.result
-            c.requires.state.1 (λ e. ap (λ (ns : List ℕ).
-            record (state_of c.args.self.now e) { lasts = ns }) c.note.ensures.last) refl refl,
+        noted _ _ c.args.self.now _ c.requires.state.0 c.room-room.result c.flow_id-id.result
+            c.requires.state.1 c.note.ensures.noted c.note.ensures.free c.note.ensures.room,
       );
     }
 
@@ -39,9 +38,9 @@ pub payload-requires-clause-state : goal.payload-requires-clause-state
 payload-requires-clause-state g c = (
   _,
   c.in_ok-acknowledgement.ensures.does _
-      (noted _ _ c.args.self.now _ c.requires.state.0 c.room-room.result c.requires.state.1
-      (λ e. ap (λ (ns : List ℕ). record (state_of c.args.self.now e) { lasts = ns })
-      c.note.ensures.last) refl refl),
+      (noted _ _ c.args.self.now _ c.requires.state.0 c.room-room.result
+      c.flow_id-id.result c.requires.state.1 c.note.ensures.noted
+      c.note.ensures.free c.note.ensures.room),
 )
 
 pub payload-requires-clause-within : goal.payload-requires-clause-within
@@ -49,11 +48,10 @@ payload-requires-clause-within g c =
     let w = c.requires.state.0 in
     let h = c.requires.state.1 in
     let n = c.in_ok-acknowledgement.ensures.does _
-    (noted _ _ c.args.self.now _ w c.room-room.result h
-    (λ e. ap (λ (ns : List ℕ). record (state_of c.args.self.now e) { lasts = ns })
-    c.note.ensures.last) refl refl) in
+    (noted _ _ c.args.self.now _ w c.room-room.result c.flow_id-id.result h
+    c.note.ensures.noted c.note.ensures.free c.note.ensures.room) in
     let k = acknowledgement_kept g.L.Listener.reader
-    (record w { lasts = set w.lasts c.room-room.result w.segments }) c.flow_id.result
+    (with_segment w c.room-room.result c.flow_id-id.result) c.flow_id.result
     (segment_view c.args.segment) in
     let sound = sound_of _ _ _ _ h in
     let b = room_below (state_of c.args.self.now []) c.args.place sound
@@ -75,11 +73,10 @@ payload-requires-clause-taken g c =
     let w = c.requires.state.0 in
     let h = c.requires.state.1 in
     let n = c.in_ok-acknowledgement.ensures.does _
-    (noted _ _ c.args.self.now _ w c.room-room.result h
-    (λ e. ap (λ (ns : List ℕ). record (state_of c.args.self.now e) { lasts = ns })
-    c.note.ensures.last) refl refl) in
+    (noted _ _ c.args.self.now _ w c.room-room.result c.flow_id-id.result h
+    c.note.ensures.noted c.note.ensures.free c.note.ensures.room) in
     let k = acknowledgement_kept g.L.Listener.reader
-    (record w { lasts = set w.lasts c.room-room.result w.segments }) c.flow_id.result
+    (with_segment w c.room-room.result c.flow_id-id.result) c.flow_id.result
     (segment_view c.args.segment) in
     let sound = sound_of _ _ _ _ h in
     let rooms : c.acknowledgement.new.self.table.rooms.items ≡ c.args.self.now.table.rooms.items =
@@ -99,9 +96,9 @@ fin-requires g c =
         _,
         c.in_ok-payload.ensures.does _
             (c.in_ok-acknowledgement.ensures.does _
-            (noted _ _ c.args.self.now _ c.requires.state.0 c.room-room.result c.requires.state.1
-            (λ e. ap (λ (ns : List ℕ). record (state_of c.args.self.now e) { lasts = ns })
-            c.note.ensures.last) refl refl)),
+            (noted _ _ c.args.self.now _ c.requires.state.0 c.room-room.result
+            c.flow_id-id.result c.requires.state.1 c.note.ensures.noted
+            c.note.ensures.free c.note.ensures.room)),
       );
     }
 
@@ -110,9 +107,9 @@ reset-requires-clause-state g c = (
   _,
   c.in_ok-fin.ensures.does _ (c.in_ok-payload.ensures.does _
       (c.in_ok-acknowledgement.ensures.does _
-      (noted _ _ c.args.self.now _ c.requires.state.0 c.room-room.result c.requires.state.1
-      (λ e. ap (λ (ns : List ℕ). record (state_of c.args.self.now e) { lasts = ns })
-      c.note.ensures.last) refl refl))),
+      (noted _ _ c.args.self.now _ c.requires.state.0 c.room-room.result
+      c.flow_id-id.result c.requires.state.1 c.note.ensures.noted
+      c.note.ensures.free c.note.ensures.room))),
 )
 
 pub reset-requires-clause-place : goal.reset-requires-clause-place
@@ -121,14 +118,13 @@ reset-requires-clause-place g c =
     let V = segment_view c.args.segment in
     let w = c.requires.state.0 in
     let h = c.requires.state.1 in
-    let seen : State = record w { lasts = set w.lasts c.room-room.result w.segments } in
+    let seen : State = with_segment w c.room-room.result c.flow_id-id.result in
     let told : State = acknowledgement_heard F seen c.flow_id.result V in
     let paid : State = payload_taken F told c.flow_id-id.result V in
     let n = c.in_ok-fin.ensures.does _ (c.in_ok-payload.ensures.does _
     (c.in_ok-acknowledgement.ensures.does _
-    (noted _ _ c.args.self.now _ w c.room-room.result h
-    (λ e. ap (λ (ns : List ℕ). record (state_of c.args.self.now e) { lasts = ns })
-    c.note.ensures.last) refl refl))) in
+    (noted _ _ c.args.self.now _ w c.room-room.result c.flow_id-id.result h
+    c.note.ensures.noted c.note.ensures.free c.note.ensures.room))) in
     let known = known_of _ _ _ _ n ∙ (fin_kept F paid c.flow_id-id.result V).known
     ∙ (payload_kept F told c.flow_id-id.result V).known
     ∙ (acknowledgement_kept F seen c.flow_id.result V).known ∙ sym (known_of _ _ _ _ h) in
@@ -147,9 +143,9 @@ hear-requires g c =
         _,
         c.in_ok-reset.ensures.does _ (c.in_ok-fin.ensures.does _ (c.in_ok-payload.ensures.does _
             (c.in_ok-acknowledgement.ensures.does _
-            (noted _ _ c.args.self.now _ c.requires.state.0 c.room-room.result c.requires.state.1
-            (λ e. ap (λ (ns : List ℕ). record (state_of c.args.self.now e) { lasts = ns })
-            c.note.ensures.last) refl refl)))),
+            (noted _ _ c.args.self.now _ c.requires.state.0 c.room-room.result
+            c.flow_id-id.result c.requires.state.1 c.note.ensures.noted
+            c.note.ensures.free c.note.ensures.room)))),
       );
     }
 
@@ -163,6 +159,5 @@ returns-clause-does g c w h =
     (c.flow_id.ensures.id ∙ ap (flow_id c.room-room.result) c.other.ensures))
     (c.hear.ensures.does _ (c.in_ok-reset.ensures.does _ (c.in_ok-fin.ensures.does _
     (c.in_ok-payload.ensures.does _ (c.in_ok-acknowledgement.ensures.does _
-    (noted _ _ c.args.self.now _ w c.room-room.result h
-    (λ e. ap (λ (ns : List ℕ). record (state_of c.args.self.now e) { lasts = ns })
-    c.note.ensures.last) refl refl))))))
+    (noted _ _ c.args.self.now _ w c.room-room.result c.flow_id-id.result h
+    c.note.ensures.noted c.note.ensures.free c.note.ensures.room))))))

@@ -16,3 +16,6 @@ returns-clause-does g c events o =
     told c.begins.result _ _ (c.begins.ensures.does events o.0)
     (c.begin.ensures.items ∙ ap (begun c.args.flow) o.1
     ∙ sym (lives_more [] events (Begins c.args.flow c.args.start)))
+
+pub invariant_of-self-clause-stamped : goal.invariant_of-self-clause-stamped
+invariant_of-self-clause-stamped g c = c.begin.ensures.stamped

@@ -16,3 +16,6 @@ returns-clause-does g c events o =
     told c.closes.result _ _ (c.closes.ensures.does events o.0)
     (c.end.ensures.items ∙ ap (ended c.args.flow c.args.cause) o.1
     ∙ sym (lives_more [] events (Closes c.args.flow c.args.cause)))
+
+pub invariant_of-self-clause-stamped : goal.invariant_of-self-clause-stamped
+invariant_of-self-clause-stamped g c = c.end.ensures.stamped

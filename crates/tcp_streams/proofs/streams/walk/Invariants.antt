@@ -1,7 +1,7 @@
 use Rattle.std.proofs.Common.{◌≡◌, ◌≤◌, ◌+◌, ◌-◌, ℕ, length, drop}
 use Rattle.std.specs.Option.{option_map}
 use Rattle.tcp_streams.specs.Lives.{index_of}
-use Rattle.tcp_streams.proofs.streams.index_of.Given as goal
+use Rattle.tcp_streams.proofs.streams.walk.Given as goal
 
 abbrev pub invariant-loop-index : goal.invariant-loop-index
 invariant-loop-index l =
