@@ -27,6 +27,7 @@ ENTRIES = 2**16
 TEXTS = {
     **{name: (EXAMPLES / name).read_text() for name in ("naming.sig", "event.sig", "notification.sig")},
     "lab.sig": LAB,
+    "third.sig": LAB.replace("1;", "3;", 1),
     "most.sig": LAB.ljust(SIGNATURES, "\n"),
     "long.sig": LAB.ljust(SIGNATURES + 1, "\n"),
     "twice.sig": "signatures 1;\n" + "".join(f"operation void {name}();\n" for name in "abcdea"),
@@ -74,6 +75,7 @@ OCTETS = {
         "00000004 73657400 00000000 fffffffb"
     ),
     "ask.giop": bytes.fromhex("47494f50 0100 00 01 00000011 00000000 00000001 00000000 0000002a 09"),
+    "locate.giop": bytes.fromhex("47494f50 0102 00 04 00000014 00000001 00000002 00000001 00 000000 00000000"),
     "wrong.giop": b"GIOQ",
     "--help": b"GIOQ",
     "set1.giop": bytes.fromhex("47494f50 0100 00 00 00000024 00000000 00000007"),
@@ -142,6 +144,25 @@ m1 end
 total messages 1 faults 0 octets 29
 """
 
+LOCATED = """\
+m1 start 1.2 big LocateReply size 20
+m1 header.request_id ulong 1
+m1 header.locate_status enum OBJECT_FORWARD
+"""
+
+PLACE = """\
+m1 body.type_id string @0 ""
+m1 body.profiles count 0
+m1 end
+total messages 1 faults 0 octets 32
+"""
+
+NO_PLACE = """\
+m1 rest @0 000000010000000000000000
+m1 end
+total messages 1 faults 0 octets 32
+"""
+
 NOTHING = "total messages 0 faults 0 octets 0\n"
 STOPPED = "stream fault magic at 4\n"
 STOPPED_TOTAL = "total messages 0 faults 1 octets 4\n"
@@ -196,6 +217,19 @@ STEPS = [
     Case("--resume part.check", "set3.giop", 3, "part.check: checkpoint refused: catalogue"),
     Case("--signatures lab.sig --requests lab.req --resume part.check", "set3.giop", 3,
          "part.check: checkpoint refused: catalogue"),
+    Case("--types third.sig", "locate.giop", lines=LOCATED + PLACE),
+    Case("--types third.sig", "set.giop", lines=SET_1 + SET_2 + SET_3),
+    Case("--types lab.sig", "set.giop", lines=SET_1 + SET_2 + SET_3),
+    Case("--types lab.sig", "locate.giop", lines=LOCATED + NO_PLACE),
+    Case("--signatures third.sig", "locate.giop", 3, "third.sig:1: syntax"),
+    Case("--types missing.sig", "locate.giop", 4, "missing.sig: cannot read"),
+    Case("--types wrong.sig", "locate.giop", 3, "wrong.sig:3: unknown-type"),
+    Case("--types third.sig --save third.check", "set1.giop", lines=SET_1, saved="third.check"),
+    Case("--types third.sig --resume third.check --save third.check", "set2.giop", lines=SET_2, saved="third.check"),
+    Case("--types third.sig --resume third.check", "set3.giop", lines=SET_3),
+    Case("--types lab.sig --resume third.check", "set3.giop", 3, "third.check: checkpoint refused: version"),
+    Case("--types third.sig --resume part.check", "set3.giop", 3, "part.check: checkpoint refused: version"),
+    Case("--types third.sig --save types.check", "empty.txt", saved="types.check", octets=fixed(version=4, counts=(0, 2, 0, 0))),
     Case("--resume empty.txt", "empty.txt", 3, "empty.txt: checkpoint refused: length"),
     Case("--resume long.check", "empty.txt", 3, "long.check: checkpoint refused: length"),
     Case("--resume magic.check", "empty.txt", 3, "magic.check: checkpoint refused: magic"),
@@ -258,6 +292,8 @@ WORDS = [
     Case("--resume one.check --open 2 --save one.check", "empty.txt", saved="one.check", octets=fixed(most="00000001 ffffffff")),
     Case("set.giop ask.giop", None, 2, "unexpected argument 'ask.giop' found"),
     Case("--load lab.sig", None, 2, "unexpected argument '--load' found"),
+    Case("--types lab.sig --signatures lab.sig", None, 2,
+         "the argument '--types <FILE>' cannot be used with '--signatures <FILE>'"),
     Case("--open -1", None, 2, "unexpected argument '-1' found"),
     Case("--signatures", None, 2, "a value is required for '--signatures <FILE>' but none was supplied"),
     Case("--requests", None, 2, "a value is required for '--requests <FILE>' but none was supplied"),
@@ -280,6 +316,7 @@ WORDS = [
 # What is printed in place of lines: the help, which has each option, and the version.
 OPTIONS = (
     "--signatures <FILE>",
+    "--types <FILE>",
     "--requests <FILE>",
     "--resume <FILE>",
     "--save <FILE>",

@@ -17,6 +17,7 @@ Made = TypeVar("Made")
 class Table:
     """What is known of bodies: each operation's request and reply, and each exception's members by its repository id."""
 
+    version: int = 1
     requests: Dict[bytes, Struct] = field(default_factory=dict)
     replies: Dict[bytes, Struct] = field(default_factory=dict)
     exceptions: Dict[bytes, Struct] = field(default_factory=dict)
@@ -31,7 +32,7 @@ class Parser:
         self._declared: Dict[str, Type] = {}
         self.table = Table()
         self.wanted("signatures")
-        self.wanted("1", "2")
+        self.table.version = int(self.wanted("1", "2", "3"))
         self.wanted(";")
         while self._at < len(self._tokens):
             self.declaration()

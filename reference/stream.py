@@ -8,6 +8,7 @@ from typing import Dict, List, NamedTuple, Optional, Tuple
 from .encoding import CANCEL_REQUEST, FRAGMENT, HEADER, LOCATE_REPLY, LOCATE_REQUEST, ORDERS, REPLY, REQUEST, Order
 from .signatures import Table
 from .types import (
+    BODY_OF_LOCATE_STATUS,
     BODY_OF_STATUS,
     HEADERS,
     NO_EXCEPTION,
@@ -311,6 +312,8 @@ class Reading:
         if header.kind in (REQUEST, REPLY):
             self.header_ends.append(self._header_end(heard))
             self._body(*self._body_of(heard))
+        elif header.kind == LOCATE_REPLY and self._known.table.version == 3:
+            self._located(heard["locate_status"])
         return self._rest()
 
     def _header_end(self, heard: Dict[str, Read]) -> HeaderEnd:
@@ -366,6 +369,12 @@ class Reading:
             exception = self._known.table.exceptions.get(value)
             if exception:
                 exception.read(reader, "body")
+
+    def _located(self, status: Read) -> None:
+        """The body of a LocateReply, which follows its header at once, if its status has one."""
+        body = BODY_OF_LOCATE_STATUS.get(status) if isinstance(status, int) else None
+        if body:
+            body.read(self._reader, "body")
 
     def _rest(self) -> bool:
         """What is left, and the end."""

@@ -5,7 +5,7 @@ _giopdump() {
     local cur prev words cword
     _init_completion || return
     case $prev in
-        --signatures) _filedir sig && return ;;
+        --signatures | --types) _filedir sig && return ;;
         --requests | --resume | --save) _filedir && return ;;
         --*[a-z]) [[ $("$1" --help) =~ (^|[^-a-z])"$prev"[\ =]+[A-Z\<] ]] && return ;;
     esac

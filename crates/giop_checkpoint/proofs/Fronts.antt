@@ -1,11 +1,11 @@
 -- Octets that begin with the fixed part pass the checks of it.
-use Rattle.std.proofs.Common.{◌≡◌, false, IsTrue, ℕ, List, Option, ◌++◌, length, take, drop, replicate, refl, ap, ◌∙◌, append_assoc, arith}
+use Rattle.std.proofs.Common.{◌≡◌, true, false, IsTrue, ℕ, List, Option, ◌++◌, length, take, drop, replicate, refl, ap, ◌∙◌, append_assoc, arith}
 use Rattle.std.proofs.lemmas.List.{length-append, take_at}
 use Rattle.giop_octets.specs.Fields.{four, eight}
 use Rattle.giop_octets.proofs.FieldLaws.{four_long, eight_long, behind}
 use Rattle.giop_checkpoint.specs.declared.layout.Layout.{Layout}
-use Rattle.giop_checkpoint.specs.declared.layout.Layout.TheVariants.{Second, Third}
-use Rattle.giop_checkpoint.specs.Layouts.{version_of, number_or, owner_octet, limit_octets}
+use Rattle.giop_checkpoint.specs.declared.layout.Layout.TheVariants.{Second, Third, Fourth}
+use Rattle.giop_checkpoint.specs.Layouts.{version_of, reads, number_or, owner_octet, limit_octets}
 use Rattle.giop_checkpoint.specs.declared.fixed.Counts.{Counts}
 use Rattle.giop_checkpoint.specs.declared.fixed.Fixed.{Fixed}
 use Rattle.giop_checkpoint.specs.Fixed.{HasRange, magic, counts_octets, place_octets, state_octets, fixed_octets}
@@ -42,10 +42,8 @@ counts_long c =
       four_long c.ids,
     )
 
-limits_long : (layout : Layout) (n : ℕ) (owner : Option ℕ) →
-    length (limit_octets layout n owner) ≡ 16
-limits_long Second n owner = refl
-limits_long Third n owner =
+later_long : (n : ℕ) (owner : Option ℕ) → length (limit_octets Third n owner) ≡ 16
+later_long n owner =
     let zeros : List ℕ = replicate 8 0 in
     let zeros_long : length zeros ≡ 8 = refl in
     omega (
@@ -56,6 +54,12 @@ limits_long Third n owner =
       four_long (number_or 4294967295 owner),
       zeros_long,
     )
+
+limits_long : (layout : Layout) (n : ℕ) (owner : Option ℕ) →
+    length (limit_octets layout n owner) ≡ 16
+limits_long Second n owner = refl
+limits_long Third n owner = later_long n owner
+limits_long Fourth n owner = later_long n owner
 
 pub state_long : (layout : Layout) (f : Fixed) → HasRange layout f →
     length (state_octets layout f) ≡ 68
@@ -92,10 +96,10 @@ front_is : (at size : ℕ) (s field rest : List ℕ) → drop at s ≡ field ++ 
 front_is at size s field rest e long = ap (take size) e ∙ take_at field rest size long
 
 pub front_of : (layout : Layout) (c : Counts) (f : Fixed) (s records : List ℕ) → f.counts ≡ c →
-    HasRange layout f → s ≡ fixed_octets layout f ++ records
+    reads c.version layout ≡ true → HasRange layout f → s ≡ fixed_octets layout f ++ records
     → Front layout c f s records
 unfolding fixed_octets
-front_of layout c f s records own h e =
+front_of layout c f s records own read h e =
     let version = four (version_of layout) in
     let counts = counts_octets f.counts in
     let state = state_octets layout f in
@@ -123,13 +127,14 @@ front_of layout c f s records own h e =
           state_long layout f h,
         ),
         front_is 0 8 s magic _ whole magic_long,
-        (layout, laid_out),
+        (layout, read, laid_out),
         front_is 12 16 s counts _ at_12 (counts_long f.counts) ∙ ap counts_octets own,
       );
       laid_out = laid_out;
       octets = stated;
       state = record {
         layout = layout;
+        read = read;
         laid_out = laid_out;
         counts = own;
         octets = stated;

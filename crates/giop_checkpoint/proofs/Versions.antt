@@ -1,17 +1,19 @@
 -- The octets of a version are of one layout.
-use Rattle.std.proofs.Common.{◌≡◌, List, ℕ, refl, sym, ◌∙◌}
+use Rattle.std.proofs.Common.{◌≡◌, List, ℕ, refl}
 use Rattle.giop_octets.specs.Fields.{four}
 use Rattle.giop_checkpoint.specs.Layouts.{version_of}
 use Rattle.giop_checkpoint.specs.declared.layout.Layout.{Layout}
-use Rattle.giop_checkpoint.specs.declared.layout.Layout.TheVariants.{Second, Third}
-
-versions_differ : four 2 ≡ four 3 → ⊥
-unfolding four
-versions_differ e = cc
+use Rattle.giop_checkpoint.specs.declared.layout.Layout.TheVariants.{Second, Third, Fourth}
 
 pub one_layout : (octets : List ℕ) (layout other : Layout) → octets ≡ four (version_of layout) →
     octets ≡ four (version_of other) → layout ≡ other
+unfolding four
 one_layout octets Second Second h k = refl
-one_layout octets Second Third h k = absurd (versions_differ (sym h ∙ k))
-one_layout octets Third Second h k = absurd (versions_differ (sym k ∙ h))
+one_layout octets Second Third h k = cc
+one_layout octets Second Fourth h k = cc
+one_layout octets Third Second h k = cc
 one_layout octets Third Third h k = refl
+one_layout octets Third Fourth h k = cc
+one_layout octets Fourth Second h k = cc
+one_layout octets Fourth Third h k = cc
+one_layout octets Fourth Fourth h k = refl

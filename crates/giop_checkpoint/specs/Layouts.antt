@@ -1,20 +1,33 @@
 -- In which fields the layouts of a checkpoint differ (docs/FORMATS.md, Checkpoints; state).
-use Rattle.std.specs.Prelude.{◌≡◌, ℕ, ◌<◌, ◌≤◌, List, ◌++◌, replicate, Option, Some, None}
+use Rattle.std.specs.Prelude.{◌≡◌, ℕ, ◌<◌, ◌≤◌, Bool, List, ◌++◌, replicate, Option, Some, None, nat_le, nat_lt, if◌then◌else◌}
 use Rattle.giop_octets.specs.Fields.{four}
 use Rattle.giop_checkpoint.specs.declared.sizes.TheConstants.{MOST_OPEN, LAYOUT_2_MOST_OPEN}
 use Rattle.giop_checkpoint.specs.declared.layout.Layout.{Layout}
-use Rattle.giop_checkpoint.specs.declared.layout.Layout.TheVariants.{Second, Third}
+use Rattle.giop_checkpoint.specs.declared.layout.Layout.TheVariants.{Second, Third, Fourth}
 
 abbrev pub version_of : Layout → ℕ
 version_of Second = 2
 version_of Third = 3
+version_of Fourth = 4
+
+-- ---- by the version of the signature file that a stream is read with, 1 if there is none
+
+-- the layout in which its checkpoints are written
+abbrev pub layout_of : ℕ → Layout
+layout_of version = if nat_le 3 version then Fourth else Third
+
+-- Whether checkpoints in a layout are read: with a file of version 3 those in layout 4 alone, and
+-- those in the others with other files.
+abbrev pub reads : ℕ → Layout → Bool
+reads version Fourth = nat_le 3 version
+reads version layout = nat_lt version 3
 
 -- ---- ranges
 
 -- so many messages may be open at once
 abbrev pub OpenHasRange : Layout → ℕ → Type 0
 OpenHasRange Second n = n ≡ LAYOUT_2_MOST_OPEN
-OpenHasRange Third n = (1 ≤ n) × (n ≤ MOST_OPEN)
+OpenHasRange layout n = (1 ≤ n) × (n ≤ MOST_OPEN)
 
 -- the payload's record is one of so many
 abbrev pub IsAmong : ℕ → Option ℕ → Type 0
@@ -24,7 +37,7 @@ IsAmong records (Some k) = k < records
 -- the number of the payload's record has room in the layout
 abbrev pub OwnerFits : Layout → Option ℕ → Type 0
 OwnerFits Second owner = IsAmong 255 owner
-OwnerFits Third owner = Unit {0}
+OwnerFits layout owner = Unit {0}
 
 -- ---- octets
 
@@ -36,9 +49,9 @@ number_or nobody (Some k) = k
 -- the octet of the place that names the payload's record, in layout 2
 abbrev pub owner_octet : Layout → Option ℕ → ℕ
 owner_octet Second owner = number_or 255 owner
-owner_octet Third owner = 0
+owner_octet layout owner = 0
 
--- after the place, in layout 3: how many messages may be open at once, and the payload's record
+-- after the place, since layout 3: how many messages may be open at once, and the payload's record
 abbrev pub limit_octets : Layout → ℕ → Option ℕ → List ℕ
 limit_octets Second n owner = replicate 16 0
-limit_octets Third n owner = four n ++ four (number_or 4294967295 owner) ++ replicate 8 0
+limit_octets layout n owner = four n ++ four (number_or 4294967295 owner) ++ replicate 8 0

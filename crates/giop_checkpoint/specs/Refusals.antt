@@ -1,6 +1,6 @@
 -- The checks of a checkpoint in their order, and the first one that fails. Lack of memory is none
 -- of them (docs/FORMATS.md, Checkpoints; state).
-use Rattle.std.specs.Prelude.{◌≡◌, ◌≤◌, ◌⊎◌, ℕ, List, length, take, drop}
+use Rattle.std.specs.Prelude.{◌≡◌, ◌≤◌, ◌⊎◌, ℕ, true, List, length, take, drop}
 use Rattle.giop_octets.specs.Fields.{four}
 use Rattle.giop_checkpoint.specs.declared.sizes.TheConstants.{FIXED_SIZE}
 use Rattle.giop_checkpoint.specs.declared.layout.Layout.{Layout}
@@ -8,7 +8,7 @@ use Rattle.giop_checkpoint.specs.declared.fault.LoadFault.{LoadFault}
 use Rattle.giop_checkpoint.specs.declared.fault.LoadFault.TheVariants as faults
 use Rattle.giop_checkpoint.specs.declared.fixed.Counts.{Counts}
 use Rattle.giop_checkpoint.specs.declared.fixed.Fixed.{Fixed}
-use Rattle.giop_checkpoint.specs.Layouts.{version_of}
+use Rattle.giop_checkpoint.specs.Layouts.{version_of, reads}
 use Rattle.giop_checkpoint.specs.Fixed.{HasRange, magic, counts_octets, state_octets}
 use Rattle.giop_checkpoint.specs.Records.{AreRecords}
 
@@ -22,8 +22,9 @@ HasMagic s = take 8 s ≡ magic
 abbrev pub IsLaidOut : List ℕ → Layout → Type 0
 IsLaidOut s layout = take 4 (drop 8 s) ≡ four (version_of layout)
 
-abbrev pub HasVersion : List ℕ → Type 0
-HasVersion s = (layout : Layout) × IsLaidOut s layout
+-- in a layout that is read with a signature file of this version
+abbrev pub HasVersion : ℕ → List ℕ → Type 0
+HasVersion version s = (layout : Layout) × (reads version layout ≡ true) × IsLaidOut s layout
 
 abbrev pub HasCounts : Counts → List ℕ → Type 0
 HasCounts c s = take 16 (drop 12 s) ≡ counts_octets c
@@ -31,6 +32,7 @@ HasCounts c s = take 16 (drop 12 s) ≡ counts_octets c
 -- these are its fields after the counts, each in its range
 pub record HasState (c : Counts) (f : Fixed) (s : List ℕ) : Type 0 where
   pub layout : Layout
+  pub read : reads c.version layout ≡ true
   pub laid_out : IsLaidOut s layout
   pub counts : f.counts ≡ c
   pub octets : take 68 (drop 28 s) ≡ state_octets layout f
@@ -41,14 +43,15 @@ HasRecords f s = AreRecords f.records (drop FIXED_SIZE s)
 
 -- all checks up to the counts are passed
 abbrev pub IsOurs : Counts → List ℕ → Type 0
-IsOurs c s = IsLong s × HasMagic s × HasVersion s × HasCounts c s
+IsOurs c s = IsLong s × HasMagic s × HasVersion c.version s × HasCounts c s
 
 -- the first check up to the counts that fails
 abbrev pub IsNotOurs : Counts → List ℕ → LoadFault → Type 0
 IsNotOurs c s faults.Length = IsLong s → ⊥
 IsNotOurs c s faults.Magic = IsLong s × (HasMagic s → ⊥)
-IsNotOurs c s faults.Version = IsLong s × HasMagic s × (HasVersion s → ⊥)
-IsNotOurs c s faults.Catalogue = IsLong s × HasMagic s × HasVersion s × (HasCounts c s → ⊥)
+IsNotOurs c s faults.Version = IsLong s × HasMagic s × (HasVersion c.version s → ⊥)
+IsNotOurs c s faults.Catalogue =
+    IsLong s × HasMagic s × HasVersion c.version s × (HasCounts c s → ⊥)
 IsNotOurs c s faults.State = ⊥
 IsNotOurs c s faults.OutOfMemory = ⊥
 

@@ -1,6 +1,7 @@
 //! The checks of a checkpoint, in their order.
 
-ghost use Rattle.std.specs.Prelude.{◌≡◌, ◌↔◌, ℕ, List, ◌++◌, ◌≤◌, drop, length, IfOk, IfErr, IsOkAnd, IsTrue};
+ghost use Rattle.std.specs.Prelude.{◌≡◌, ◌↔◌, ℕ, List, ◌++◌, ◌≤◌, true, drop, length, IfOk, IfErr, IsOkAnd, IsTrue};
+ghost use Rattle.giop_checkpoint.specs.Layouts.{reads};
 ghost use Rattle.giop_checkpoint.specs.Fixed.{HasRange, counts_octets, fixed_octets};
 ghost use Rattle.giop_checkpoint.specs.Records.{AreRecords};
 ghost use Rattle.giop_checkpoint.specs.Refusals.{IsLaidOut, IsOurs, IsNotOurs, Refused, Passes};
@@ -19,6 +20,7 @@ use arrayvec::ArrayVec;
 fn after_counts<'a>(octets: &'a [u8], counts: Counts) -> Result<(Layout, &'a [u8]), LoadFault>
     ensures ours { IfOk result (λ r. IsOurs counts octets.now) }
     ensures layout { IfOk result (λ r. IsLaidOut octets.now r.0) }
+    ensures read { IfOk result (λ r. reads counts.version r.0 ≡ true) }
     ensures rest { IfOk result (λ r. r.1.now ≡ drop 28 octets.now) }
     ensures refused { IfErr result (λ why. IsNotOurs counts octets.now why) }
 {
@@ -30,7 +32,7 @@ fn after_counts<'a>(octets: &'a [u8], counts: Counts) -> Result<(Layout, &'a [u8
         return Err(LoadFault::Magic);
     }
     let (version, behind) = behind.split_at(4);
-    let Some(layout) = Layout::of(version) else {
+    let Some(layout) = Layout::read(version, counts.version) else {
         return Err(LoadFault::Version);
     };
     let (read_with, behind) = behind.split_at(16);
@@ -45,9 +47,9 @@ fn after_counts<'a>(octets: &'a [u8], counts: Counts) -> Result<(Layout, &'a [u8
 pub fn fixed_part<'a>(octets: &'a [u8], counts: Counts) -> Result<(Fixed, &'a [u8]), LoadFault>
     ensures passes { IfOk result (λ r. Passes counts octets.now r.0 r.1.now) }
     ensures refused { IfErr result (λ why. Refused counts octets.now why) }
-    // What is written in either layout is read.
+    // What is written in a layout that is read is read.
     ensures again { (layout : LayoutOf) (f : FixedPart) (records : List ℕ) → f.counts ≡ counts →
-        HasRange layout f → AreRecords f.records records →
+        reads counts.version layout ≡ true → HasRange layout f → AreRecords f.records records →
         octets.now ≡ fixed_octets layout f ++ records → IsOkAnd result (λ r. (r.0 ≡ f)
         × (r.1.now ≡ records)) }
 {

@@ -2,19 +2,19 @@
 
 ghost use Rattle.std.specs.Prelude.{◌≡◌, ℕ, List, ◌+◌, ◌≤◌, ◌∷◌, ◌++◌, length, Option, Some};
 ghost use Rattle.arrayvec.specs.ArrayVec.{array_vec_len};
-ghost use Rattle.giop_checkpoint.specs.Layouts.{OwnerFits};
+ghost use Rattle.giop_checkpoint.specs.Layouts.{OwnerFits, layout_of};
 ghost use Rattle.giop_checkpoint.specs.Fixed.{magic, fault_octet, counts_octets, place_octets, state_octets, fixed_octets};
-ghost use Rattle.giop_checkpoint.specs.declared.layout.Layout.TheVariants.{Third};
 
 use crate::fault::StreamFault;
 use crate::layout::Layout;
 use arrayvec::ArrayVec;
 use giop_octets::{eight_at, four_at, put_eight, put_four, put_octets, put_zeros};
 
-/// The counts of the catalogue and the request list that a stream is read by: how many types, operations and exceptions
-/// a signature file declares, and how many different request ids a list has.
+/// What a checkpoint says of the catalogue and the request list that a stream is read by: the version of the signature
+/// file, by the layout; how many types, operations and exceptions it declares; how many different request ids the list has.
 #[derive(Clone, Copy, Debug, PartialEq, Eq)]
 pub struct Counts {
+    pub version: u8,
     pub types: u32,
     pub operations: u32,
     pub exceptions: u32,
@@ -52,16 +52,18 @@ pub struct Fixed {
 }
 
 impl Fixed {
-    /// Writes the fixed part, in layout 3.
+    /// Writes the fixed part, in the layout of the signature file's version.
     pub fn write<const N: usize>(&self, out: &mut ArrayVec<u8, N>)
         requires room { array_vec_len out.old + 96 ≤ N }
-        ensures put { out.new.items ≡ out.old.items ++ fixed_octets Third self.now }
+        ensures put { out.new.items ≡ out.old.items ++ fixed_octets
+            (layout_of self.now.counts.version) self.now }
         ensures len { array_vec_len out.new ≡ array_vec_len out.old + 96 }
     {
+        let layout = Layout::written(self.counts.version);
         put_octets(out, &magic());
-        put_octets(out, &Layout::Third.version());
+        put_octets(out, &layout.version());
         self.counts.write(out);
-        self.write_state(Layout::Third, out);
+        self.write_state(layout, out);
     }
 
     /// Writes the fields after the counts.

@@ -1,9 +1,9 @@
 //! The layouts of a checkpoint, and the fields in which they differ.
 
-ghost use Rattle.std.specs.Prelude.{◌≡◌, ◌↔◌, ◌+◌, ◌≤◌, ◌++◌, Option, Some, IsTrue};
+ghost use Rattle.std.specs.Prelude.{◌≡◌, ◌↔◌, ◌+◌, ◌≤◌, ◌++◌, ℕ, true, Option, Some, IsTrue};
 ghost use Rattle.arrayvec.specs.ArrayVec.{array_vec_len};
 ghost use Rattle.giop_octets.specs.Fields.{four};
-ghost use Rattle.giop_checkpoint.specs.Layouts.{OpenHasRange, OwnerFits, version_of, owner_octet, limit_octets};
+ghost use Rattle.giop_checkpoint.specs.Layouts.{OpenHasRange, OwnerFits, version_of, layout_of, reads, owner_octet, limit_octets};
 ghost use Rattle.giop_checkpoint.specs.declared.layout.Layout.{Layout as LayoutOf};
 
 use crate::sizes::{LAYOUT_2_MOST_OPEN, MOST_OPEN};
@@ -11,13 +11,15 @@ use crate::state::same;
 use arrayvec::ArrayVec;
 use giop_octets::{put_four, put_zeros};
 
-/// How the octets of a checkpoint are arranged. Both are read; only the third is written.
+/// How the octets of a checkpoint are arranged. All are read; the third and the fourth are written.
 #[derive(Clone, Copy, Debug, PartialEq, Eq)]
 pub enum Layout {
     /// It doesn't store how many messages may be open at once: they are 16.
     Second = 2,
     /// It stores how many messages may be open at once.
     Third = 3,
+    /// As the third, of a stream that is read with a signature file of version 3.
+    Fourth = 4,
 }
 
 impl Layout {
@@ -29,6 +31,7 @@ impl Layout {
         match self {
             Layout::Second => [0, 0, 0, 2],
             Layout::Third => [0, 0, 0, 3],
+            Layout::Fourth => [0, 0, 0, 4],
         }
     }
 
@@ -43,7 +46,45 @@ impl Layout {
         if same(octets, &Layout::Third.version()) {
             return Some(Layout::Third);
         }
+        if same(octets, &Layout::Fourth.version()) {
+            return Some(Layout::Fourth);
+        }
         None
+    }
+
+    /// The layout of the version with these octets, if it is read with a signature file of this version.
+    pub(crate) fn read(octets: &[u8], version: u8) -> Option<Layout>
+        ensures { (layout : LayoutOf) → (result ≡ Some layout)
+            ↔ ((octets.now ≡ four (version_of layout)) × (reads version layout ≡ true)) }
+    {
+        let layout = Layout::of(octets)?;
+        if layout.is_read(version) {
+            Some(layout)
+        } else {
+            None
+        }
+    }
+
+    /// Whether checkpoints in this layout are read with a signature file of this version.
+    fn is_read(self, version: u8) -> bool
+        ensures { result ≡ reads version self }
+    {
+        match self {
+            Layout::Second | Layout::Third => version < 3,
+            Layout::Fourth => version >= 3,
+        }
+    }
+
+    /// The layout in which checkpoints are written with a signature file of this version.
+    pub fn written(version: u8) -> Layout
+        ensures is { result ≡ layout_of version }
+        ensures fits { (owner : Option ℕ) → OwnerFits result owner }
+    {
+        if version >= 3 {
+            Layout::Fourth
+        } else {
+            Layout::Third
+        }
     }
 
     /// Whether so many messages may be open at once in this layout.
@@ -52,7 +93,7 @@ impl Layout {
     {
         match self {
             Layout::Second => most_open == LAYOUT_2_MOST_OPEN,
-            Layout::Third => 1 <= most_open && most_open <= MOST_OPEN,
+            Layout::Third | Layout::Fourth => 1 <= most_open && most_open <= MOST_OPEN,
         }
     }
 
@@ -66,7 +107,7 @@ impl Layout {
                 Some(record) => record as u8,
                 None => 255,
             },
-            Layout::Third => 0,
+            Layout::Third | Layout::Fourth => 0,
         }
     }
 
@@ -83,7 +124,7 @@ impl Layout {
     {
         match self {
             Layout::Second => put_zeros(out, 16),
-            Layout::Third => {
+            Layout::Third | Layout::Fourth => {
                 put_four(out, most_open);
                 put_four(out, owner.unwrap_or(4_294_967_295));
                 put_zeros(out, 8);

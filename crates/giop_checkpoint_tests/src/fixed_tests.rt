@@ -9,6 +9,7 @@ use std::test::Fail;
 
 /// The built-in catalogue and no requests.
 const BUILT_IN: Counts = Counts {
+    version: 1,
     types: 0,
     operations: 0,
     exceptions: 0,
@@ -126,6 +127,27 @@ fn a_checkpoint_of_layout_2_is_read_with_16_open(rt: HostRuntime) -> Result<(), 
     Ok(())
 }
 
+#[test]
+fn with_a_file_of_version_3_the_layout_is_the_fourth(rt: HostRuntime) -> Result<(), Fail> {
+    let counts = Counts {
+        version: 3,
+        ..BUILT_IN
+    };
+    for third in [IN_HEADER, STOPPED] {
+        let octets = octets_of(third)?;
+        assert!(rt; fixed_part(&octets, counts).is_err_and(|why| why == LoadFault::Version));
+        let mut fourth = octets;
+        fourth[11] = 4;
+        let Ok((fixed, _)) = fixed_part(&fourth, counts) else {
+            return Err(Fail::from("layout 4 is read"));
+        };
+        let mut out: ArrayVec<u8, 96> = ArrayVec::new();
+        fixed.write(&mut out);
+        assert!(rt; out.as_slice() == fourth.as_slice(), "{third}");
+    }
+    Ok(())
+}
+
 /// How many messages may be open, how many records there are, and what is answered.
 const OPEN: [(u32, u32, Option<LoadFault>); 9] = [
     (0, 0, Some(LoadFault::State)),
@@ -164,10 +186,11 @@ fn so_many_messages_may_be_open(rt: HostRuntime) -> Result<(), Fail> {
 }
 
 /// An octet that is set to a value, and what is answered then.
-const REFUSED: [(usize, u8, LoadFault); 18] = [
+const REFUSED: [(usize, u8, LoadFault); 19] = [
     (0, 0x46, LoadFault::Magic),
     (7, 0x51, LoadFault::Magic),
     (11, 1, LoadFault::Version),
+    (11, 4, LoadFault::Version),
     (11, 9, LoadFault::Version),
     (15, 1, LoadFault::Catalogue),
     (27, 1, LoadFault::Catalogue),

@@ -1,6 +1,6 @@
 //! The parts that are begun and not ended, and have parts of their own.
 
-ghost use Rattle.std.specs.Prelude.{◌≡◌, ℕ, ◌+◌, ◌-◌, ◌^◌, ◌<◌, ◌≤◌, List, [], ◌∷◌, ◌++◌, length, take, Bool, Some, ◌↔◌, ◌||◌, IsTrue, IfSome, IfNone, false};
+ghost use Rattle.std.specs.Prelude.{◌≡◌, ℕ, ◌+◌, ◌-◌, ◌^◌, ◌<◌, ◌≤◌, List, [], ◌∷◌, ◌++◌, length, take, Bool, Some, ◌↔◌, IsTrue, IfSome, IfNone, false};
 ghost use Rattle.arrayvec.specs.ArrayVec.{array_vec_len};
 ghost use Rattle.giop_decode.specs.ReadResult.{Coding, PathSegment, LeadingNumber, Done, Fault};
 ghost use Rattle.giop_decode.specs.declared.progress.Kind.TheVariants as kinds;

@@ -3,7 +3,7 @@
 ghost use Rattle.std.specs.Prelude.{◌≡◌, ℕ, suc, ◌<◌, ◌++◌, List, [], ◌∷◌, length};
 ghost use Rattle.giop_decode.specs.ReadResult.{Line, Number as NumberValue, PathSegment, line};
 ghost use Rattle.giop_decode.specs.Heard.{AreHeard, IsSign};
-ghost use Rattle.giop_decode.specs.Transitions.{AreKnown, HasOutput, IsNumberOf, IsOutput, frames_after, hear_of, is_inside, number_of, signal_by, stage_of, tree_in};
+ghost use Rattle.giop_decode.specs.Transitions.{AreKnown, HasOutput, IsNumberOf, IsOutput, frames_after, hear_of, number_of, signal_by, stage_of, tree_in};
 ghost use Rattle.giop_sig.specs.Trees.{tree_at};
 
 use crate::frame::{Frame, Stage};

@@ -33,7 +33,7 @@ The object keys that an operation was called at:
     giopcap orders.pcap | giop-json |
         jq -c 'select(.type == \"Request\" and .operation == \"place\") | .header.object_key'
 
-FORMATS.md has every member (docs/ of the sources, /usr/share/doc/giopdump/docs of the package).";
+The manual page has every member.";
 
 /// What the arguments ask for.
 #[derive(Clone, Copy, Debug, Drop)]

@@ -1,6 +1,6 @@
 -- Reading a message with one octet more is one step from where the message is.
 use Rattle.std.proofs.Common.{◌≡◌, ℕ, zero, suc, ◌+◌, ◌-◌, ◌/◌, ◌<◌, ◌≤◌, Bool, true, false, List, [], ◌∷◌, ◌++◌, length, take, drop, Option, Some, None, refl, sym, ap, ◌∙◌, append_assoc, append-nil, arith, length-drop, le_of_eq, add-zero, add_assoc, ◌⊎◌, inl, inr}
-use Rattle.std.specs.Prelude.{◌==◌, if◌then◌else◌}
+use Rattle.std.specs.Prelude.{if◌then◌else◌}
 use Rattle.std.proofs.Math.Seq.{take-length, drop-length}
 use Rattle.std.proofs.lemmas.List.{take-append-le, drop-append-le, drop_all}
 use Rattle.std.proofs.lemmas.Bool.{cases_lt, lt-ltb, le-ltb, eq-eqb, ne_eqb}
@@ -17,7 +17,7 @@ use Rattle.giop_message.specs.declared.part.Section.{Section}
 use Rattle.giop_message.specs.declared.part.Section.TheVariants as sections
 use Rattle.giop_message.specs.Headers.{minor, kind, order}
 use Rattle.giop_message.specs.Signatures.{Signatures}
-use Rattle.giop_message.specs.Messages.{Said, only_lines, nothing_said, said_both, ValueLine, RestLine, line_at, calls, section_lines, BodyType, Untyped, Typed, UserException, SystemException, Stage, In_padding, In_rest, Over, Message, ReadTo, with_front, section_then, rest_in, rest, typed, option_typed, after_exception, body, body_of, has_body, padded, after_header, of_header, message, root_of, may_call, after, section_and_rest}
+use Rattle.giop_message.specs.Messages.{Said, only_lines, nothing_said, said_both, ValueLine, RestLine, line_at, calls, section_lines, BodyType, Untyped, Typed, UserException, SystemException, Stage, In_padding, In_rest, Over, Message, ReadTo, with_front, section_then, rest_in, rest, typed, option_typed, after_exception, body, body_of, is_aligned, padded, after_header, of_header, message, root_of, may_call, after, section_and_rest}
 use Rattle.giop_message.specs.MessageState.{is_header}
 use Rattle.giop_message.specs.StageSteps.{rest_step, message_step, advance, goes_on}
 
@@ -230,14 +230,12 @@ module _ (S : Signatures) (header : List ℕ) (P : (ℕ → List ℕ → Message
 
   header_has : (h : Noted) → P (after_header S header h)
   unfolding after_header
-  header_has h = go (has_body header) (minor header == 2)
+  header_has h = go (is_aligned header)
     where
-      go : (has is_2 : Bool) → P (λ at s. if has
-          then (if is_2 then padded S header (body_of S header h) at s
-          else body S header (body_of S header h) at s) else rest at s)
-      go true true = pads (body_of S header h) (body_has (body_of S header h))
-      go true false = body_has (body_of S header h)
-      go false is_2 = rests
+      go : (aligned : Bool) → P (λ at s. if aligned then padded S header (body_of S header h) at s
+          else body S header (body_of S header h) at s)
+      go true = pads (body_of S header h) (body_has (body_of S header h))
+      go false = body_has (body_of S header h)
 
   pub after_has : (section : Section) (h : Noted) → P (after S header section h)
   after_has sections.Header h = header_has h

@@ -11,9 +11,9 @@ use Rattle.giop_decode.specs.ReadResult.{plain, Read, Done, Short, Fault}
 use Rattle.giop_decode.specs.Reading.{reading}
 use Rattle.giop_decode.specs.Noted.{Noted, nothing_noted, noted}
 use Rattle.giop_message.specs.declared.part.Section.TheVariants as sections
-use Rattle.giop_message.specs.Headers.{order}
+use Rattle.giop_message.specs.Headers.{kind, order}
 use Rattle.giop_message.specs.Signatures.{Signatures, Answer, Answers, signatures_of}
-use Rattle.giop_message.specs.Messages.{Mark, Message, HeaderMark, NameMark, section_then, has_body, after_header, of_header, message, message_marks, stage_of, section_and_rest}
+use Rattle.giop_message.specs.Messages.{Mark, Message, HeaderMark, NameMark, section_then, is_request, rest, body, body_of, is_aligned, after_header, of_header, message, message_marks, stage_of, section_and_rest}
 use Rattle.giop_message.specs.StageSteps.{advance}
 use Rattle.giop_message.specs.ReaderOfTable.{is_over, remarks_by, closes_by}
 use Rattle.giop_message.specs.DueOctets.{StaysUndue}
@@ -165,9 +165,9 @@ over_none C answer number header s more e =
     unmarked C answer number header s more
     (ap message_marks (over_stays (signatures_of C answer) header s more e))
 
--- ---- and no name in a message that has no body
+-- ---- and no name in a Fragment
 
-module _ (P : HeaderEnd → Type 0) (number : ℕ) (header : List ℕ) (none : has_body header ≡ false)
+module _ (P : HeaderEnd → Type 0) (number : ℕ) (header : List ℕ) (fragment : kind header ≡ 7)
     (heads : (n : Noted) → P (Header_end number header n)) where
   abbrev few : List Mark → Type 0
   few ms = (k : ℕ) → Each P (map (end_of number header) (drop k ms))
@@ -180,13 +180,18 @@ module _ (P : HeaderEnd → Type 0) (number : ℕ) (header : List ℕ) (none : h
   one_head n zero = (heads n, tt)
   one_head n (suc k) = bare k
 
+  bodiless : (S : Signatures) (h : Noted) (at : ℕ) (s : List ℕ) →
+      after_header S header h at s ≡ rest at s
+  unfolding after_header is_aligned body_of is_request body
+  bodiless S h at s = rw fragment refl
+
   alone : (S : Signatures) (r : Read) →
       few (message_marks (section_and_rest S header sections.Header nothing_noted r))
-  unfolding section_then after_header message_marks
+  unfolding section_then message_marks
   alone S (Done lines at s) =
       let n = noted true nothing_noted lines in
-      subst few (sym (marks_front _ _
-      ∙ ap (λ (ms : List Mark). HeaderMark n ∷ ms) (rw none (rest_unmarked at s)))) (one_head n)
+      subst few (sym (marks_front _ _ ∙ ap (λ (ms : List Mark). HeaderMark n ∷ ms)
+      (ap message_marks (bodiless S n at s) ∙ rest_unmarked at s))) (one_head n)
   alone S (Short lines at outer leaf) = bare
   alone S (Fault lines at why T) = bare
 

@@ -17,7 +17,7 @@ use Rattle.giop_message.specs.declared.part.Section.{Section}
 use Rattle.giop_message.specs.declared.part.Section.TheVariants as sections
 use Rattle.giop_message.specs.Headers.{order}
 use Rattle.giop_message.specs.Signatures.{Signatures, Answer, signatures_of}
-use Rattle.giop_message.specs.Messages.{Mark, HeaderMark, NameMark, RestLine, line_at, Said, only_lines, nothing_said, BodyType, Untyped, Typed, UserException, SystemException, Stage, In_typed, In_padding, In_rest, Over, Message, ReadTo, with_front, name_mark, end_mark, section_then, rest_in, rest, typed, option_typed, after_exception, type_if, request_body, result_body, reply_body, body, body_of, padded, after_header, of_header, message, message_marks, stage_of, root_of, after, section_and_rest}
+use Rattle.giop_message.specs.Messages.{Mark, HeaderMark, NameMark, RestLine, line_at, Said, only_lines, nothing_said, BodyType, Untyped, Typed, UserException, SystemException, Stage, In_typed, In_padding, In_rest, Over, Message, ReadTo, with_front, name_mark, end_mark, section_then, rest_in, rest, typed, option_typed, after_exception, type_if, request_body, result_body, reply_body, locate_body, body, body_of, padded, after_header, of_header, message, message_marks, stage_of, root_of, after, section_and_rest}
 use Rattle.giop_message.specs.StageSteps.{rest_step, message_step, advance, goes_on}
 use Rattle.giop_message.specs.HeaderEnds.{marks, end_of, header_ends}
 use Rattle.giop_message.specs.MessageState.{is_header}
@@ -109,6 +109,12 @@ module _ (header : List ℕ) where
   result_raises S None at s = refl
   result_raises S (Some id) at s = type_raises S (S.reply id) at s
 
+  locate_raises : (S : Signatures) (status : Option ℕ) (at : ℕ) (s : List ℕ) →
+      Raising S (locate_body S status) at s ≡ []
+  unfolding locate_body
+  locate_raises S None at s = refl
+  locate_raises S (Some status) at s = search (arith)
+
   -- ---- the same by any table, whatever the ids answer
 
   module _ (C D : Table) (x y : Answer) where
@@ -127,7 +133,7 @@ module _ (header : List ℕ) where
     raising_same : (h : Noted) (at : ℕ) (s : List ℕ) →
         Raising Sx (body_of Sx header h) at s ≡ Raising Sy (body_of Sy header h) at s
     unfolding body_of
-    raising_same h at s = search (arith, request_raises, reply_same)
+    raising_same h at s = search (arith, request_raises, reply_same, locate_raises)
 
     body_same : (h : Noted) (at : ℕ) (s : List ℕ) →
         message_marks (body Sx header (body_of Sx header h) at s)

@@ -17,7 +17,7 @@ use Rattle.giop_message.specs.Headers.{minor, kind, order}
 use Rattle.giop_message.specs.MessageReader.{LineClass, Value, Call, Rest, Fault, End, TimedLine, MessageReader}
 use Rattle.giop_message.specs.Text.{value_line_text, call_text, rest_text}
 use Rattle.giop_message.specs.Signatures.{RequestTable, by_list, signatures_of}
-use Rattle.giop_message.specs.Messages.{line_at, is_shown, call_of, calls, section_lines, with_front, section_then, rest_in, rest, typed, option_typed, members_of, after_exception, body, type_if, request_body, result_body, reply_body, is_request, body_of, has_body, padded, after_header, of_header, message, body_may_be_missing, close, message_lines, stage_of}
+use Rattle.giop_message.specs.Messages.{line_at, is_shown, call_of, calls, section_lines, with_front, section_then, rest_in, rest, typed, option_typed, members_of, after_exception, body, type_if, request_body, result_body, reply_body, locate_body, is_request, body_of, is_aligned, padded, after_header, of_header, message, body_may_be_missing, close, message_lines, stage_of}
 use Rattle.giop_message.specs.ReaderOfTable.{line_class_of, text_of, remarks_by, closes_by, message_reader}
 
 -- an operation by its structs, counted from the first type after the built-in ones
@@ -38,6 +38,7 @@ late = record { repository = codes "IDL:Late:1.0"; members = length builtin_type
 table : Table
 unfolding called late
 table = record {
+  version = 1;
   types = builtin_types
       ++ members (member (codes "by") 4 ∷ [])
       ∷ members (member (codes "a") 5 ∷ [])
@@ -72,9 +73,9 @@ unfolding digits num twos_complement padding block number path_text hex hex_numb
     builtin_types minor kind order value_line_text call_text rest_text signatures_of
     line_at is_shown call_of calls section_lines with_front section_then rest_in rest typed
     option_typed members_of after_exception body type_if request_body result_body reply_body
-    is_request body_of has_body padded after_header of_header message body_may_be_missing close
-    message_lines stage_of line_class_of text_of remarks_by closes_by called late table
-    request_table r says
+    locate_body is_request body_of is_aligned padded after_header of_header message
+    body_may_be_missing close message_lines stage_of line_class_of text_of remarks_by closes_by
+    called late table request_table r says
 rows = 0
 
 -- minor version and type

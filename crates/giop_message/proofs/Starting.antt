@@ -1,5 +1,5 @@
 -- A message whose header has come, and what begins after a part of it.
-use Rattle.std.proofs.Common.{◌≡◌, ℕ, zero, ◌<◌, Bool, true, false, List, [], Option, option_map, option_and_then, Some, None, refl, sym, add-zero, arith}
+use Rattle.std.proofs.Common.{◌≡◌, ℕ, zero, Bool, true, false, List, [], Option, option_map, option_and_then, Some, None, refl, sym, add-zero, arith}
 use Rattle.std.specs.Prelude.{◌&&◌, nat_lt, if◌then◌else◌}
 use Rattle.std.proofs.lemmas.Bool.{ltb-false, ne_eqb, false≢true}
 use Rattle.giop_cdr.specs.Alignment.{padding}
@@ -16,8 +16,8 @@ use Rattle.giop_sig.specs.Table.{Table}
 use Rattle.giop_message.specs.Signatures.{Signatures, Answer, request_type, signatures_of}
 use Rattle.giop_message.specs.HeaderEnds.{operation_of}
 use Rattle.giop_message.specs.MessageState.{is_header}
-use Rattle.giop_message.specs.Messages.{Said, nothing_said, section_lines, ReadTo, In_rest, In_padding, with_front, section_then, rest, rest_in, typed, body, body_of, has_body, padded, option_typed, members_of, type_if, after_exception, Untyped, Typed, body_may_be_missing, is_request, request_body, reply_body, after_header, of_header, message_lines, message, after, section_and_rest}
-use Rattle.giop_message.specs.MessageSteps.{is_unaligned, is_padded, body_type_after}
+use Rattle.giop_message.specs.Messages.{Said, nothing_said, section_lines, ReadTo, In_rest, In_padding, with_front, section_then, rest, rest_in, typed, BodyType, body, body_of, padded, option_typed, members_of, type_if, after_exception, Untyped, Typed, body_may_be_missing, is_request, request_body, reply_body, locate_body, after_header, of_header, message_lines, message, after, section_and_rest}
+use Rattle.giop_message.specs.MessageSteps.{is_padded, body_type_after}
 use Rattle.giop_message.proofs.Going.{front_none, none_front}
 use Rattle.giop_message.proofs.Causal.{message_silent}
 use Rattle.giop_message.proofs.Octets.{told_silent}
@@ -58,18 +58,14 @@ front_rests before n = search (arith, rest_is, none_front)
 
 -- a section that ends with no octet after it: in front of what follows there is padding, or there
 -- is none
-by_tests : (S : Signatures) (header : List ℕ) (h : Noted) (n : ℕ) (has two some : Bool) →
-    nat_lt 0 (padding n 8) ≡ some → (if has then
-    (if two then padded S header (body_of S header h) n []
-    else body S header (body_of S header h) n []) else rest n [])
-    ≡ (if has && (two && some) then ReadTo nothing_said n
-    (In_padding (if has then body_of S header h else Untyped))
-    else body S header (if has then body_of S header h else Untyped) n [])
-unfolding padded body
-by_tests S header h n false two some e = refl
-by_tests S header h n true false some e = refl
-by_tests S header h n true true true e = rw (e, add-zero) refl
-by_tests S header h n true true false e = search (arith, ltb-false, add-zero)
+by_tests : (S : Signatures) (header : List ℕ) (b : BodyType) (n : ℕ) (aligned some : Bool) →
+    nat_lt 0 (padding n 8) ≡ some →
+    (if aligned then padded S header b n [] else body S header b n [])
+    ≡ (if aligned && some then ReadTo nothing_said n (In_padding b) else body S header b n [])
+unfolding padded
+by_tests S header b n false some e = refl
+by_tests S header b n true true e = rw (e, add-zero) refl
+by_tests S header b n true false e = search (arith, ltb-false, add-zero)
 
 option_body : (S : Signatures) (header : List ℕ) (found : Option Ty) (n : ℕ) →
     option_typed (order header) found n [] ≡ body S header (type_if found) n []
@@ -82,7 +78,7 @@ follows_by : (S : Signatures) (header : List ℕ) (section : Section) (h : Noted
     ≡ (if is_padded header section n then ReadTo nothing_said n
     (In_padding (body_type_after S header section h))
     else body S header (body_type_after S header section h) n [])
-unfolding after_header after_exception body is_unaligned
+unfolding after_header after_exception body
 follows_by S header sections.Header h n = search (arith, by_tests)
 follows_by S header sections.Exception h n = search (arith, option_body)
 follows_by S header sections.SystemException h n = refl
@@ -114,28 +110,25 @@ some_not_empty T e empty = empty
 
 -- ---- by the message type
 
-pub has_some : (header : List ℕ) → kind header < 2 → has_body header ≡ true
-unfolding has_body
-has_some header few = search (arith)
-
-pub has_none : (header : List ℕ) → (kind header ≡ 0 → ⊥) → (kind header ≡ 1 → ⊥) →
-    has_body header ≡ false
-unfolding has_body
-has_none header f g = search (arith, ne_eqb)
-
 pub request_wants : (S : Signatures) (header : List ℕ) (h : Noted) → kind header ≡ 0 →
-    body_type_after S header sections.Header h ≡ request_body S h.name
-unfolding has_body body_of is_request
+    body_of S header h ≡ request_body S h.name
+unfolding body_of is_request
 request_wants S header h e = rw e refl
 
 pub reply_wants : (S : Signatures) (header : List ℕ) (h : Noted) → kind header ≡ 1 →
-    body_type_after S header sections.Header h ≡ reply_body S h.request_id h.status
-unfolding has_body body_of is_request
+    body_of S header h ≡ reply_body S h.request_id h.status
+unfolding body_of is_request
 reply_wants S header h e = rw e refl
 
+pub locate_wants : (S : Signatures) (header : List ℕ) (h : Noted) → kind header ≡ 4 →
+    body_of S header h ≡ locate_body S h.status
+unfolding body_of is_request
+locate_wants S header h e = rw e refl
+
 pub others_want : (S : Signatures) (header : List ℕ) (h : Noted) → (kind header ≡ 0 → ⊥) →
-    (kind header ≡ 1 → ⊥) → body_type_after S header sections.Header h ≡ Untyped
-others_want S header h f g = rw (has_none header f g) refl
+    (kind header ≡ 1 → ⊥) → (kind header ≡ 4 → ⊥) → body_of S header h ≡ Untyped
+unfolding body_of is_request
+others_want S header h f g k = search (arith, ne_eqb)
 
 -- the body of a Request, by the operation that it names
 pub named_body : (C : Table) (answer : Answer) (header : List ℕ) (n : Noted) → kind header ≡ 0 →

@@ -1,6 +1,6 @@
 -- What the parts of a message's code do: the text of an octet, and where a message is after a part
 -- that has ended (steps). Only private contracts cite it.
-use Rattle.std.specs.Prelude.{◌≡◌, ℕ, ◌+◌, Bool, true, false, List, [], ◌∷◌, ◌++◌, length, take, Option, Some, None, ◌&&◌, ◌==◌, nat_lt, if◌then◌else◌}
+use Rattle.std.specs.Prelude.{◌≡◌, ℕ, ◌+◌, Bool, true, false, List, [], ◌∷◌, ◌++◌, length, take, Option, Some, None, ◌&&◌, nat_lt, if◌then◌else◌}
 use Rattle.giop_cdr.specs.Alignment.{padding}
 use Rattle.giop_print.specs.Lines.{call_line, fault_line, rest_line}
 use Rattle.giop_sig.specs.declared.types.OpId.{OpId}
@@ -16,11 +16,11 @@ use Rattle.giop_message.specs.declared.part.Section.{Section}
 use Rattle.giop_message.specs.declared.part.Section.TheVariants as sections
 use Rattle.giop_message.specs.declared.part.Part.{Part}
 use Rattle.giop_message.specs.declared.part.Part.TheVariants as parts
-use Rattle.giop_message.specs.Headers.{minor, order}
+use Rattle.giop_message.specs.Headers.{order}
 use Rattle.giop_message.specs.Text.{fault_word}
 use Rattle.giop_message.specs.Signatures.{Signatures, Answers, signatures_of}
 use Rattle.giop_message.specs.Messages
-use Rattle.giop_message.specs.Messages.{Said, BodyType, Untyped, is_shown, is_request, has_body, body_of, members_of, type_if, with_front, section_and_rest, root_of, message}
+use Rattle.giop_message.specs.Messages.{Said, BodyType, Untyped, is_shown, is_request, is_aligned, body_of, members_of, type_if, with_front, section_and_rest, root_of, message}
 use Rattle.giop_message.specs.HeaderEnds.{CallEvent, header_event, raise_event}
 use Rattle.giop_message.specs.MessageState.{IsFirst, Stands, Follows, FaultedAt}
 
@@ -43,18 +43,14 @@ request_call number header h = if is_request header then called_text number h.re
 
 -- the type of what follows a section, by what is noted of it
 abbrev pub body_type_after : Signatures → List ℕ → Section → Noted → BodyType
-body_type_after S header sections.Header h = if has_body header then body_of S header h else Untyped
+body_type_after S header sections.Header h = body_of S header h
 body_type_after S header sections.Exception h = type_if (members_of S h.name)
 body_type_after S header sections.SystemException h = Untyped
 body_type_after S header sections.Body h = Untyped
 
--- In 1.2 there is padding in front of a body that would begin at this offset.
-unfoldable pub is_unaligned : List ℕ → ℕ → Bool
-is_unaligned header at = (minor header == 2) && nat_lt 0 (padding at 8)
-
--- whether there is such padding between a section and what follows it
+-- whether there is padding between a section that ends at this offset and what follows it
 abbrev pub is_padded : List ℕ → Section → ℕ → Bool
-is_padded header sections.Header at = has_body header && is_unaligned header at
+is_padded header sections.Header at = is_aligned header && nat_lt 0 (padding at 8)
 is_padded header sections.Exception at = false
 is_padded header sections.SystemException at = false
 is_padded header sections.Body at = false

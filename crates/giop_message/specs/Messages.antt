@@ -220,18 +220,34 @@ reply_body S id (Some status) =
 unfoldable pub is_request : List ℕ → Bool
 is_request header = kind header == 0
 
--- by what is noted of the header
-unfoldable pub body_of : Signatures → List ℕ → Noted → BodyType
-body_of S header h = if is_request header then request_body S h.name else reply_body S h.request_id
-    h.status
+-- of a LocateReply, by its status: OBJECT_FORWARD, OBJECT_FORWARD_PERM, LOC_SYSTEM_EXCEPTION,
+-- LOC_NEEDS_ADDRESSING_MODE (GIOP Message Formats, LocateReply Body). It raises nothing, since it
+-- answers no call.
+unfoldable pub locate_body : Signatures → Option ℕ → BodyType
+locate_body S None = Untyped
+locate_body S (Some status) =
+    if S.has_locate_bodies then
+    (if (status == 2) || (status == 3) then Typed S.forward
+    else (if status == 4 then Typed S.system_exception
+    else (if status == 5 then Typed S.addressing
+    else Untyped)))
+    else Untyped
 
--- a Request or a Reply
-unfoldable pub has_body : List ℕ → Bool
-has_body header = (kind header == 0) || (kind header == 1)
+-- by what is noted of the header; a message of another type has no body
+unfoldable pub body_of : Signatures → List ℕ → Noted → BodyType
+body_of S header h =
+    if is_request header then request_body S h.name
+    else (if kind header == 1 then reply_body S h.request_id h.status
+    else (if kind header == 4 then locate_body S h.status
+    else Untyped))
+
+-- a Request or a Reply of 1.2, whose body begins at the next multiple of 8
+unfoldable pub is_aligned : List ℕ → Bool
+is_aligned header = nat_lt (kind header) 2 && (minor header == 2)
 
 -- ---- a message
 
--- In 1.2 a body begins at the next multiple of 8.
+-- a body after the padding up to the next multiple of 8
 unfoldable pub padded : Signatures → List ℕ → BodyType → ℕ → List ℕ → Message
 padded S header b at s =
     if nat_lt (length s) (padding at 8) then ReadTo nothing_said (at + length s) (In_padding b)
@@ -239,9 +255,8 @@ padded S header b at s =
 
 unfoldable pub after_header : Signatures → List ℕ → Noted → ℕ → List ℕ → Message
 after_header S header h at s =
-    if has_body header then (if minor header == 2 then padded S header (body_of S header h) at s
-    else body S header (body_of S header h) at s)
-    else rest at s
+    if is_aligned header then padded S header (body_of S header h) at s
+    else body S header (body_of S header h) at s
 
 unfoldable pub of_header : Signatures → List ℕ → Option Ty → ℕ → List ℕ → Message
 of_header S header None at s = rest at s

@@ -1,6 +1,6 @@
 -- The types of a message's parts, by a catalogue and the operations that the ids of replies answer:
 -- those of headers, and those that bodies can have (meaning).
-use Rattle.std.specs.Prelude.{ℕ, List, Option}
+use Rattle.std.specs.Prelude.{ℕ, Bool, List, Option, nat_le}
 use Rattle.std.specs.Option.{option_map}
 use Rattle.giop_sig.specs.declared.types.OpId.{OpId}
 use Rattle.giop_sig.specs.declared.types.Fixed.TheVariants.{ExceptionId, SystemException, Forward, Addressing}
@@ -17,6 +17,8 @@ pub record Signatures : Type 0 where
   -- request
   pub request : List ℕ → Option Ty
   pub reply : ℕ → Option Ty
+  -- whether a LocateReply has a typed body
+  pub has_locate_bodies : Bool
   -- the struct of an exception's members, by its repository id
   pub members : List ℕ → Option Ty
   -- the repository id of an exception, and the bodies of the other replies
@@ -52,6 +54,7 @@ signatures_of C answer = record {
   header = header_type;
   request = λ name. option_map (request_type C) (operation_in C name);
   reply = λ id. option_map (reply_type C) (answer id);
+  has_locate_bodies = nat_le 3 C.version;
   members = λ repository. option_map (λ t. tree C t.0) (exception_in C repository);
   exception_id = fixed_type ExceptionId;
   system_exception = fixed_type SystemException;

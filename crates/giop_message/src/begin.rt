@@ -1,12 +1,13 @@
 //! What begins: a message in the place of another, and what comes after a part of it that has ended.
 
-ghost use Rattle.std.specs.Prelude.{◌≡◌, ℕ, ◌+◌, ◌<◌, List, [], length, true, false, cond};
+ghost use Rattle.std.specs.Prelude.{◌≡◌, ℕ, ◌+◌, ◌<◌, List, [], length, true, false, cond, nat_lt};
 ghost use Rattle.giop_sig.specs.Trees.{tree};
 ghost use Rattle.giop_sig.specs.Fits.{IsEmptyStruct};
 ghost use Rattle.giop_decode.specs.ReadResult.{Read as MessageReader};
 ghost use Rattle.giop_decode.specs.Noted.{noted_of, is_header_root};
 ghost use Rattle.giop_decode.specs.DecoderState.{KeepsNoted};
-ghost use Rattle.giop_message.specs.Messages.{root_of};
+ghost use Rattle.giop_message.specs.Headers.{kind};
+ghost use Rattle.giop_message.specs.Messages.{root_of, is_aligned};
 ghost use Rattle.giop_message.specs.MessageState.{is_header};
 ghost use Rattle.giop_message.specs.declared.part.Part.TheVariants as parts;
 
@@ -34,6 +35,23 @@ pub(crate) fn id_behind(section: Section, decoder: &Decoder, before: Option<u32>
     }
 }
 
+/// Whether a header is that of a Request or a Reply.
+fn is_of_call(header: &[u8]) -> bool
+    requires { length header.now ≡ 12 }
+    ensures { result ≡ nat_lt (kind header.now) 2 }
+{
+    kind_of(header) < 2
+}
+
+/// Whether the body after a header begins at the next multiple of 8.
+#[tactic(auto, unfolding(crate::specs::Messages::is_aligned))]
+fn is_aligned(header: &[u8]) -> bool
+    requires { length header.now ≡ 12 }
+    ensures { result ≡ is_aligned header.now }
+{
+    is_of_call(header) && minor_of(header) == 2
+}
+
 /// A decoder for a message that is in no section.
 pub(crate) fn idle(catalogue: &Catalogue) -> Decoder {
     let of = catalogue.fixed(Fixed::ExceptionId);
@@ -48,7 +66,7 @@ impl Message {
     ghost use Rattle.giop_message.specs.Messages.{body, rest, typed, after};
     ghost use Rattle.giop_message.specs.MessageState.{AreKnown, IsKnown, Fits, Follows, in_header, body_type, reach};
     ghost use Rattle.giop_message.specs.HeaderEnds.{after_event, operation_of};
-    ghost use Rattle.giop_message.specs.MessageSteps.{is_padded, is_unaligned, Arrives, Enters, IsTyped, Ended, section_event};
+    ghost use Rattle.giop_message.specs.MessageSteps.{is_padded, Arrives, Enters, IsTyped, Ended, section_event};
 
     /// Begins a message of this number, whose header has come, in the place of another.
     pub fn restart(&mut self, catalogue: &Catalogue, number: u64, header: [u8; 12])
@@ -220,18 +238,10 @@ impl Message {
         ensures { result ≡ is_padded self.now.header section self.now.at }
     {
         match section {
-            Section::Header => kind_of(&self.header) < 2 && self.is_unaligned(),
+            Section::Header => is_aligned(&self.header) && pad(self.at, 8) > 0,
             Section::Exception => false,
             Section::SystemException => false,
             Section::Body => false,
         }
-    }
-
-    /// Whether a body that would begin here needs padding in front of it.
-    #[tactic(auto, unfolding(crate::specs::MessageSteps::is_unaligned))]
-    fn is_unaligned(&self) -> bool
-        ensures { result ≡ is_unaligned self.now.header self.now.at }
-    {
-        minor_of(&self.header) == 2 && pad(self.at, 8) > 0
     }
 }

@@ -1,13 +1,13 @@
 //! Which type a body has (GIOP Message Formats, Request Body, Reply Body).
 
-ghost use Rattle.std.specs.Prelude.{◌≡◌, ◌<◌, length, true};
+ghost use Rattle.std.specs.Prelude.{◌≡◌, ◌<◌, length, nat_le, true};
 ghost use Rattle.std.specs.Option.{option_map};
 ghost use Rattle.giop_sig.specs.Trees.{tree};
 ghost use Rattle.giop_message.specs.Signatures.{Answer, request_type, signatures_of};
 ghost use Rattle.giop_decode.specs.ReadResult.{Read};
 ghost use Rattle.giop_decode.specs.Noted.{noted_of, is_header_root};
 ghost use Rattle.giop_decode.specs.DecoderState.{KeepsNoted};
-ghost use Rattle.giop_message.specs.Messages.{Typed, root_of, body_may_be_missing, members_of, type_if, result_body, reply_body};
+ghost use Rattle.giop_message.specs.Messages.{Typed, root_of, body_may_be_missing, members_of, type_if, result_body, reply_body, locate_body};
 ghost use Rattle.giop_message.specs.MessageState.{AreKnown, IsKnown, body_type, is_header};
 ghost use Rattle.giop_message.specs.HeaderEnds.{IsKnownOperation, operation_of};
 ghost use Rattle.giop_message.specs.MessageSteps.{body_type_after};
@@ -86,6 +86,9 @@ fn header_body<Q: Correspondent>(
             decoder.status(),
         );
     }
+    if kind_of(header) == 4 {
+        return locate_body(catalogue, decoder.status());
+    }
     BodyTypeId::Nothing
 }
 
@@ -161,6 +164,34 @@ fn reply_body<Q: Correspondent>(
         1 => BodyTypeId::Exception,
         2 => BodyTypeId::SystemException,
         3 | 4 => BodyTypeId::Type(catalogue.fixed(Fixed::Forward)),
+        5 => BodyTypeId::Type(catalogue.fixed(Fixed::Addressing)),
+        _ => BodyTypeId::Nothing,
+    }
+}
+
+/// Whether a LocateReply has a typed body: since version 3 of signature files.
+fn has_locate_bodies(catalogue: &Catalogue) -> bool
+    ensures { result ≡ nat_le 3 catalogue.now.version }
+{
+    catalogue.version() >= 3
+}
+
+/// The type of a LocateReply's body, by its status.
+#[tactic(auto, unfolding(crate::specs::Messages::locate_body, crate::specs::Signatures::signatures_of))]
+fn locate_body(catalogue: &Catalogue, status: Option<u32>) -> BodyTypeId
+    ensures is { (answer : Answer) → body_type catalogue.now result
+        ≡ locate_body (signatures_of catalogue.now answer) status }
+    ensures known { IsKnown catalogue.now result }
+{
+    let Some(status) = status else {
+        return BodyTypeId::Nothing;
+    };
+    if !has_locate_bodies(catalogue) {
+        return BodyTypeId::Nothing;
+    }
+    match status {
+        2 | 3 => BodyTypeId::Type(catalogue.fixed(Fixed::Forward)),
+        4 => BodyTypeId::Type(catalogue.fixed(Fixed::SystemException)),
         5 => BodyTypeId::Type(catalogue.fixed(Fixed::Addressing)),
         _ => BodyTypeId::Nothing,
     }

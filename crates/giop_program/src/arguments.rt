@@ -18,6 +18,8 @@ const ABOUT: &str = "Dumps one direction of a GIOP connection, one text line per
 const SIGNATURES_HELP: &str =
     "The types of the operations; the built-in types alone where it is missing";
 
+const TYPES_HELP: &str = "The same of version 3 too, in the place of --signatures";
+
 const REQUESTS_HELP: &str =
     "The requests that the replies of STREAM answer; none where it is missing";
 
@@ -59,6 +61,8 @@ sources, /usr/share/doc/giopdump/docs of the package).";
 pub struct Arguments<'a> {
     /// The signature file; None for the built-in types alone.
     pub signatures: Option<&'a str>,
+    /// Whether that file may be of version 3.
+    pub third: bool,
     /// The request list; None for the empty list.
     pub requests: Option<&'a str>,
     /// The checkpoint from which the stream is read on; None for a new stream.
@@ -97,6 +101,7 @@ fn command<'a>(alloc: Global) -> Result<Command<'a>, AllocError> {
         .about(ABOUT)
         .after_help(EXAMPLES)
         .arg(file_option(alloc, "signatures", SIGNATURES_HELP))?
+        .arg(file_option(alloc, "types", TYPES_HELP).conflicts_with("signatures")?)?
         .arg(file_option(alloc, "requests", REQUESTS_HELP))?
         .arg(file_option(alloc, "resume", RESUME_HELP))?
         .arg(file_option(alloc, "save", SAVE_HELP))?
@@ -111,8 +116,10 @@ impl<'a> Arguments<'a> {
         // What is wrong with the words is said of marked ones.
         command(alloc)?.try_get_matches_from(marked(alloc, words)?.as_slice())?;
         let matches = command(alloc)?.try_get_matches_from(words)?;
+        let types = matches.get_str("types");
         Ok(Arguments {
-            signatures: matches.get_str("signatures"),
+            signatures: types.or(matches.get_str("signatures")),
+            third: types.is_some(),
             requests: matches.get_str("requests"),
             resume: matches.get_str("resume"),
             save: matches.get_str("save"),

@@ -59,7 +59,7 @@ pub fn perform_run<'a, R: Inputs + AllocGlobal, O: Flush, F: Saves>(
         (F.saved files.new) }
     ensures flushed { OnOk result (O.kept out.new ≡ []) }
 {
-    let catalogue = catalogue(rt, asked.signatures)?;
+    let catalogue = catalogue(rt, asked.signatures, asked.third)?;
     run_by_catalogue(rt, asked, out, files, &catalogue)
 }
 
@@ -71,7 +71,8 @@ fn run_by_catalogue<'a, R: Inputs + AllocGlobal, O: Flush, F: Saves>(
     files: &mut F,
     catalogue: &Catalogue,
 ) -> Result<Totals, ProgramFault<'a>>
-    requires read { CatalogueOf (R.held rt.now) (asked_of asked).signatures catalogue.now }
+    requires read { CatalogueOf (R.held rt.now) (asked_of asked).latest
+        (asked_of asked).signatures catalogue.now }
     ensures did { Did (task_of (R.held rt.now) (R.refuses rt.now) (R.given rt.now)
         (asked_of asked.entry)) result (O.log out.old) (O.log out.new) (F.saved files.old)
         (F.saved files.new) }

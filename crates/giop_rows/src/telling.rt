@@ -43,7 +43,7 @@ fn catalogue_of(alloc: Global, text: &str) -> Result<Catalogue, SigFault> {
     if text.is_empty() {
         return Catalogue::builtin(alloc);
     }
-    Catalogue::parse(alloc, text.as_bytes())
+    Catalogue::parse_types(alloc, text.as_bytes())
 }
 
 fn tell_typed(

@@ -1,13 +1,13 @@
 -- What a run takes from the files that the arguments name (meaning). `held` is what the file of a
 -- name holds, where that is known; a name is its text, and None where there is no file.
-use Rattle.std.specs.Prelude.{◌≡◌, ℕ, ◌<◌, ◌≤◌, List, [], length, take, Option, None, Some, IfSome, ◌⊎◌}
+use Rattle.std.specs.Prelude.{◌≡◌, ℕ, ◌<◌, ◌≤◌, Bool, if◌then◌else◌, List, [], length, take, Option, None, Some, IfSome, ◌⊎◌}
 use Rattle.giop_print.specs.Output.{counted}
 use Rattle.giop_sig.specs.Builtin.{builtin_table}
 use Rattle.giop_sig.specs.Grammar.{SignatureFile}
 use Rattle.giop_sig.specs.Scopes.{table}
 use Rattle.giop_sig.specs.Table.{Table, operation_number}
-use Rattle.giop_sig.specs.FileReading.{text_too_long, IsFirstRefusal}
-use Rattle.giop_sig.specs.Validity.{IsValid, Spells as Declared}
+use Rattle.giop_sig.specs.FileReading.{text_too_long, IsFirstRefusalUpTo}
+use Rattle.giop_sig.specs.Validity.{IsValid, SpellsUpTo}
 use Rattle.giop_sig.specs.RequestList.{Entry, Lists, IsOf, IsRefusedAs}
 use Rattle.giop_message.specs.Signatures.{RequestTable}
 use Rattle.giop_checkpoint.specs.declared.fixed.Counts.{Counts}
@@ -49,10 +49,14 @@ requests_most = 16777216
 abbrev pub checkpoint_most : ℕ
 checkpoint_most = 3408800
 
--- a text is a valid signature file, and this is its table
-pub record Declares (text : List ℕ) (C : Table) : Type 0 where
+-- the latest version of signature files that is read: the third if that is asked for
+abbrev pub latest : Bool → ℕ
+latest third = if third then 3 else 2
+
+-- a text is a valid signature file of a version up to the latest, and this is its table
+pub record Declares (latest : ℕ) (text : List ℕ) (C : Table) : Type 0 where
   pub file : SignatureFile
-  pub spelled : Declared text file
+  pub spelled : SpellsUpTo latest text file
   pub valid : IsValid file
   pub is : C ≡ table file
 
@@ -63,10 +67,10 @@ pub record Requests (text : List ℕ) (C : Table) (kept : RequestTable) : Type 0
   pub is : IsOf (operation_number C) entries kept
 
 -- the catalogue of the signature file, or without one the built-in types
-abbrev pub CatalogueOf : Folder → Option (List ℕ) → Table → Type 0
-CatalogueOf held None C = C ≡ builtin_table
-CatalogueOf held (Some name) C =
-    (text : List ℕ) × IsFront signatures_most (held name) text × Declares text C
+abbrev pub CatalogueOf : Folder → ℕ → Option (List ℕ) → Table → Type 0
+CatalogueOf held latest None C = C ≡ builtin_table
+CatalogueOf held latest (Some name) C =
+    (text : List ℕ) × IsFront signatures_most (held name) text × Declares latest text C
 
 -- the list of the request file, or without one no request
 abbrev pub RequestsOf : Folder → Option (List ℕ) → Table → RequestTable → Type 0
@@ -92,20 +96,20 @@ stream_of held given (Some name) = held name
 
 -- why there is no catalogue: no memory, or the signature file can't be read or is refused, by name,
 -- with what its text looks like
-abbrev pub NoCatalogue : Folder → Refusals → Option (List ℕ) → ProgramFault → Type 0
-NoCatalogue held refuses asked (faults.Signatures name why look) =
+abbrev pub NoCatalogue : Folder → Refusals → ℕ → Option (List ℕ) → ProgramFault → Type 0
+NoCatalogue held refuses latest asked (faults.Signatures name why look) =
     (asked ≡ Some name.now)
     × ((text : List ℕ) × IsFront signatures_most (held name.now) text × (look ≡ looks_of text)
     × (signatures_most < length text → why ≡ text_too_long)
-    × (length text ≤ signatures_most → IsFirstRefusal text why))
-NoCatalogue held refuses asked (faults.Unreadable name why) =
+    × (length text ≤ signatures_most → IsFirstRefusalUpTo latest text why))
+NoCatalogue held refuses latest asked (faults.Unreadable name why) =
     (asked ≡ Some name.now) × CannotRead refuses name.now why
-NoCatalogue held refuses asked faults.OutOfMemory = Unit {0}
-NoCatalogue held refuses asked faults.Words = ⊥
-NoCatalogue held refuses asked (faults.Requests name why) = ⊥
-NoCatalogue held refuses asked (faults.Checkpoint name why) = ⊥
-NoCatalogue held refuses asked (faults.Unwritable name) = ⊥
-NoCatalogue held refuses asked (faults.Run why) = ⊥
+NoCatalogue held refuses latest asked faults.OutOfMemory = Unit {0}
+NoCatalogue held refuses latest asked faults.Words = ⊥
+NoCatalogue held refuses latest asked (faults.Requests name why) = ⊥
+NoCatalogue held refuses latest asked (faults.Checkpoint name why) = ⊥
+NoCatalogue held refuses latest asked (faults.Unwritable name) = ⊥
+NoCatalogue held refuses latest asked (faults.Run why) = ⊥
 
 -- why there is no list: no memory, or the request file can't be read or is refused, by its name
 abbrev pub NoRequests : Folder → Refusals → Option (List ℕ) → ProgramFault → Type 0
@@ -149,10 +153,11 @@ NoStream refuses asked (faults.Checkpoint name why) = ⊥
 NoStream refuses asked (faults.Unwritable name) = ⊥
 NoStream refuses asked (faults.Run why) = ⊥
 
--- what the arguments ask for: the names of the files, and how many messages of a new stream may be
--- open
+-- what the arguments ask for: the names of the files, the latest version that the signature file may
+-- have, and how many messages of a new stream may be open
 pub record Asked : Type 0 where
   pub signatures : Option (List ℕ)
+  pub latest : ℕ
   pub requests : Option (List ℕ)
   pub resume : Option (List ℕ)
   pub save : Option (List ℕ)
@@ -171,14 +176,14 @@ setup_by C kept n asked =
 
 -- what a run reads by: the catalogue and the list of the files
 pub record ReadsBy (held : Folder) (asked : Asked) (C : Table) (kept : RequestTable) : Type 0 where
-  pub catalogue : CatalogueOf held asked.signatures C
+  pub catalogue : CatalogueOf held asked.latest asked.signatures C
   pub requests : RequestsOf held asked.requests C kept
 
 -- why a step before the run failed; the steps before that one succeeded
 abbrev pub Refused : Folder → Refusals → Asked → ProgramFault → Type 0
 Refused held refuses asked fault =
-    NoCatalogue held refuses asked.signatures fault
-    ⊎ ((C : Table) × CatalogueOf held asked.signatures C
+    NoCatalogue held refuses asked.latest asked.signatures fault
+    ⊎ ((C : Table) × CatalogueOf held asked.latest asked.signatures C
     × NoRequests held refuses asked.requests fault)
     ⊎ ((C : Table) × (kept : RequestTable) × ReadsBy held asked C kept
     × (NoCheckpoint held refuses asked.resume (counts_of C kept) fault

@@ -3,7 +3,7 @@ use Rattle.std.specs.Prelude.{◌≡◌, ℕ, ◌<◌, ◌≤◌, ◌⊎◌, Lis
 use Rattle.std.specs.List.{All, Contains}
 use Rattle.giop_sig.specs.Builtin.{builtin_table}
 use Rattle.giop_sig.specs.Table.{Table}
-use Rattle.giop_sig.specs.FileReading.{text_too_long, IsFirstRefusal}
+use Rattle.giop_sig.specs.FileReading.{text_too_long, IsFirstRefusalUpTo}
 use Rattle.giop_tokens.specs.declared.fault.SigFault.{SigFault}
 use Rattle.giop_sig_files.specs.declared.places.SignatureText.{SignatureText}
 use Rattle.giop_sig_files.specs.Joined.{joined}
@@ -26,11 +26,11 @@ pub record AreRead (held : Folder) (names : List (List ℕ)) (files : List Signa
 abbrev pub text_of : List SignatureText → List ℕ
 text_of files = joined (map (λ f. f.text.items) files)
 
--- the catalogue of the signature files of these names, or without one the built-in types
+-- the catalogue of the signature files of these names, of any version, or without one the built-in types
 abbrev pub CataloguesOf : Folder → List (List ℕ) → Table → Type 0
 CataloguesOf held [] C = C ≡ builtin_table
 CataloguesOf held (name ∷ names) C =
-    (files : List SignatureText) × AreRead held (name ∷ names) files × Declares (text_of files) C
+    (files : List SignatureText) × AreRead held (name ∷ names) files × Declares 3 (text_of files) C
 
 -- What is said after the refusal of a line of the text that these files are read as: what its file
 -- looks like, or which line above declares its name.
@@ -50,7 +50,7 @@ pub record IsRefusal (first : SignatureText) (others : List SignatureText) (faul
   pub look_is : IsLook first others fault look
   pub long : signatures_most < length (text_of (first ∷ others)) → fault ≡ text_too_long
   pub refused : length (text_of (first ∷ others)) ≤ signatures_most
-      → IsFirstRefusal (text_of (first ∷ others)) fault
+      → IsFirstRefusalUpTo 3 (text_of (first ∷ others)) fault
 
 -- the text of these files is refused
 abbrev pub IsRefused : List SignatureText → ProgramFault → Type 0

@@ -3,13 +3,13 @@
 ghost use Rattle.std.specs.Prelude.{◌≡◌, ◌≢◌, ◌<◌, ◌≤◌, ◌⊎◌, Some, length, IfOk, IfErr, option_map};
 ghost use Rattle.std.specs.IoError.{error_kind};
 ghost use Rattle.std.specs.declared.io.ErrorKind.{ErrorKind as Kind};
-ghost use Rattle.giop_sig.specs.FileReading.{text_too_long, IsFirstRefusal};
+ghost use Rattle.giop_sig.specs.FileReading.{text_too_long, IsFirstRefusalUpTo};
 ghost use Rattle.giop_sig.specs.RequestList.{IsRefusedAs};
 ghost use Rattle.giop_stream.specs.EngineHolds.{AreOf};
 ghost use Rattle.giop_run.specs.Console.{run_fault};
 ghost use Rattle.giop_run.specs.Looks.{HasReason, looks_of};
 ghost use Rattle.giop_run.specs.Fronts.{Appended};
-ghost use Rattle.giop_run.specs.Files.{signatures_most, CannotRead, IsFront, Declares, Requests as Requested, CatalogueOf, RequestsOf, NoCatalogue, NoRequests, NoStream};
+ghost use Rattle.giop_run.specs.Files.{signatures_most, latest, CannotRead, IsFront, Declares, Requests as Requested, CatalogueOf, RequestsOf, NoCatalogue, NoRequests, NoStream};
 ghost use Rattle.giop_run.specs.SourceLog.{unread};
 
 use super::fault::ProgramFault;
@@ -132,33 +132,51 @@ pub(crate) fn contents<'a, R: Inputs + AllocGlobal>(
     }
 }
 
-/// The catalogue of a signature file with this text.
+/// The catalogue of a text, of version 3 too if that is asked for.
+fn parsed(alloc: Global, text: &[u8], third: bool) -> Result<Catalogue, SigFault>
+    ensures ok { IfOk result (Declares (latest third) text.now) }
+    ensures long { IfErr result
+        (λ why. signatures_most < length text.now → why ≡ text_too_long) }
+    ensures first { IfErr result (λ why. length text.now ≤ signatures_most →
+        IsFirstRefusalUpTo (latest third) text.now why) }
+{
+    if third {
+        Catalogue::parse_types(alloc, text)
+    } else {
+        Catalogue::parse(alloc, text)
+    }
+}
+
+/// The catalogue of a signature file with this text, of version 3 too if that is asked for.
 fn catalogue_of<'a>(
     alloc: Global,
     name: &'a str,
     text: &[u8],
+    third: bool,
 ) -> Result<Catalogue, ProgramFault<'a>>
-    ensures ok { IfOk result (λ catalogue. Declares text.now catalogue) }
+    ensures ok { IfOk result (Declares (latest third) text.now) }
     // The refusal has the file's name, and is that of the text.
     ensures err { IfErr result (λ fault. (fault ≡ ProgramFault.OutOfMemory)
         ⊎ ((why : SigFault)
         × (fault ≡ ProgramFault.Signatures name.entry why (looks_of text.now))
         × (signatures_most < length text.now → why ≡ text_too_long)
-        × (length text.now ≤ signatures_most → IsFirstRefusal text.now why))) }
+        × (length text.now ≤ signatures_most → IsFirstRefusalUpTo (latest third) text.now why))) }
 {
-    match Catalogue::parse(alloc, text) {
+    match parsed(alloc, text, third) {
         Ok(catalogue) => Ok(catalogue),
         Err(fault) => Err(ProgramFault::of_signatures(name, fault, text)),
     }
 }
 
-/// The catalogue of a signature file; without one, of the built-in types.
+/// The catalogue of a signature file, of version 3 too if that is asked for; without one, of the built-in types.
 pub fn catalogue<'a, R: Inputs + AllocGlobal>(
     rt: &R,
     name: Option<&'a str>,
+    third: bool,
 ) -> Result<Catalogue, ProgramFault<'a>>
-    ensures ok { IfOk result (CatalogueOf (R.held rt.now) (option_map (λ n. n.now) name.entry)) }
-    ensures err { IfErr result (NoCatalogue (R.held rt.now) (R.refuses rt.now)
+    ensures ok { IfOk result
+        (CatalogueOf (R.held rt.now) (latest third) (option_map (λ n. n.now) name.entry)) }
+    ensures err { IfErr result (NoCatalogue (R.held rt.now) (R.refuses rt.now) (latest third)
         (option_map (λ n. n.now) name.entry)) }
     ensures file { IfErr result (λ fault. run_fault fault ≡ None) }
 {
@@ -170,7 +188,7 @@ pub fn catalogue<'a, R: Inputs + AllocGlobal>(
         };
     };
     let text = contents(rt, name, SIGNATURES_MOST)?;
-    catalogue_of(alloc, name, &text)
+    catalogue_of(alloc, name, &text, third)
 }
 
 /// The request list of a file with this text.

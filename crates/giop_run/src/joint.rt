@@ -3,7 +3,7 @@
 ghost use Rattle.std.specs.Prelude.{◌≡◌, ◌≢◌, ◌<◌, ◌≤◌, ◌⊎◌, ◌∷◌, [], length, map, None, IfOk, IfErr};
 ghost use Rattle.std.specs.List.{Contains};
 ghost use Rattle.giop_sig.specs.Builtin.{builtin_table};
-ghost use Rattle.giop_sig.specs.FileReading.{text_too_long, IsFirstRefusal};
+ghost use Rattle.giop_sig.specs.FileReading.{text_too_long, IsFirstRefusalUpTo};
 ghost use Rattle.giop_run.specs.Console.{run_fault};
 ghost use Rattle.giop_run.specs.Files.{signatures_most, Declares};
 ghost use Rattle.giop_run.specs.Joint.{AreRead, text_of, CataloguesOf, IsLook, IsRefusal, IsRefused, IsUnreadable, NoCatalogues};
@@ -67,7 +67,7 @@ fn refusal<'a>(
 ) -> ProgramFault<'a>
     requires text { text.now ≡ text_of (first.now ∷ others.now) }
     requires long { signatures_most < length text.now → fault ≡ text_too_long }
-    requires refused { length text.now ≤ signatures_most → IsFirstRefusal text.now fault }
+    requires refused { length text.now ≤ signatures_most → IsFirstRefusalUpTo 3 text.now fault }
     ensures { (result ≡ ProgramFault.OutOfMemory) ⊎ IsRefused (first.now ∷ others.now) result }
 {
     if fault.kind == SigFaultKind::OutOfMemory {
@@ -90,7 +90,7 @@ fn catalogue_of_files<'a>(
     files: &[SignatureText<'a>],
 ) -> Result<Catalogue, ProgramFault<'a>>
     ensures builtin { files.now ≡ [] → IfOk result (λ C. C ≡ builtin_table) }
-    ensures ok { files.now ≢ [] → IfOk result (Declares (text_of files.now)) }
+    ensures ok { files.now ≢ [] → IfOk result (Declares 3 (text_of files.now)) }
     ensures err { IfErr result (λ fault. (fault ≡ ProgramFault.OutOfMemory)
         ⊎ IsRefused files.now fault) }
 {
@@ -103,7 +103,7 @@ fn catalogue_of_files<'a>(
     let Ok(text) = joined(alloc, files) else {
         return Err(ProgramFault::OutOfMemory);
     };
-    match Catalogue::parse(alloc, text.as_slice()) {
+    match Catalogue::parse_types(alloc, text.as_slice()) {
         Ok(catalogue) => Ok(catalogue),
         Err(fault) => Err(refusal(first, others, text.as_slice(), fault)),
     }

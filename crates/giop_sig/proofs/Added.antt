@@ -162,22 +162,22 @@ operation_added t o laws call new few = record {
 }
 
 -- the table after a new operation is put
-pub operation_put : (types : List Node) (os new : List (ArrayVec ℕ × Signature))
+pub operation_put : (version : ℕ) (types : List Node) (os new : List (ArrayVec ℕ × Signature))
     (es : List (ArrayVec ℕ × TypeId)) (declared : ℕ) (t : Table) (key : ArrayVec ℕ)
     (s : Signature) (name : List ℕ)
-    → table_view types os es declared ≡ t → key.items ≡ name → operation_in t name ≡ None
+    → table_view version types os es declared ≡ t → key.items ≡ name → operation_in t name ≡ None
     → new ≡ insert_entry same_key os key s
-    → table_view types new es declared
+    → table_view version types new es declared
     ≡ with_operation t (record { name = name; request = s.request.0; reply = s.reply.0 })
-operation_put types os new es declared t key s name view same none is =
-    let none_here : operation_in (table_view types os es declared) name ≡ None =
+operation_put version types os new es declared t key s name view same none is =
+    let none_here : operation_in (table_view version types os es declared) name ≡ None =
     ap (λ (u : Table). operation_in u name) view ∙ none in
     let put = entries_put operation_view (λ (o : Operation). o.name) os new key s name same
     (λ e. refl)
     (none_before op_id (position (λ (o : Operation). bytes_eq name o.name) (map operation_view os))
     none_here) is in
-    ap (λ xs. record (table_view types os es declared) { operations = xs }) put
-    ∙ ap (λ (n : List ℕ). with_operation (table_view types os es declared)
+    ap (λ xs. record (table_view version types os es declared) { operations = xs }) put
+    ∙ ap (λ (n : List ℕ). with_operation (table_view version types os es declared)
     (record { name = n; request = s.request.0; reply = s.reply.0 })) same
     ∙ ap (λ u. with_operation u (record { name = name; request = s.request.0; reply = s.reply.0 }))
     view
@@ -203,15 +203,15 @@ exception_added t e laws raised new few = record {
 }
 
 -- the table after a new exception is put
-pub exception_put : (types : List Node) (os : List (ArrayVec ℕ × Signature))
+pub exception_put : (version : ℕ) (types : List Node) (os : List (ArrayVec ℕ × Signature))
     (es new : List (ArrayVec ℕ × TypeId)) (declared : ℕ) (t : Table) (key : ArrayVec ℕ)
     (m : TypeId) (name : List ℕ)
-    → table_view types os es declared ≡ t → key.items ≡ name → exception_in t name ≡ None
+    → table_view version types os es declared ≡ t → key.items ≡ name → exception_in t name ≡ None
     → new ≡ insert_entry same_key es key m
-    → table_view types os new declared
+    → table_view version types os new declared
     ≡ with_exception t (record { repository = name; members = m.0 })
-exception_put types os es new declared t key m name view same none is =
-    let here = table_view types os es declared in
+exception_put version types os es new declared t key m name view same none is =
+    let here = table_view version types os es declared in
     let none_here : exception_in here name ≡ None =
     ap (λ (u : Table). exception_in u name) view ∙ none in
     let put = entries_put exception_view (λ (e : Exception). e.repository) es new key m name same

@@ -19,7 +19,7 @@ use Rattle.giop_sig.specs.declared.read_calls.Direction.TheVariants as direction
 use Rattle.giop_sig.specs.Table.{Node, Part, operation_in}
 use Rattle.giop_sig.specs.Table as nodes
 use Rattle.giop_sig.specs.Grammar.{TypeExpr, Base, Text, Reference, Named, SequenceOf, EncapsulationOf, Param, base_word, direction_word, spell_type, spell_item, spell_param, spell_more_params, spell_params, spell_return, Call}
-use Rattle.giop_sig.specs.Scopes.{Names, Scope, part, item_part, with_node, add_item, add_params, add_return, onto_request, onto_reply, declare}
+use Rattle.giop_sig.specs.Scopes.{Names, is_third, Scope, part, item_part, with_node, add_item, add_params, add_return, onto_request, onto_reply, declare}
 use Rattle.giop_sig.specs.Validity.{Kind, OfItem, OfItems, OfType, OfReturn, OfOperation, OfDeclaration, items_of}
 use Rattle.giop_sig.specs.TypeReading.{type_at}
 use Rattle.giop_sig.specs.ItemReading.{item_at, Declared, end_of}
@@ -55,7 +55,7 @@ no_void (Base prims.Float) names more free = refl
 no_void (Base prims.Double) names more free = refl
 no_void (Text o) names more free = refl
 no_void Reference names more free = refl
-no_void (Named w) names more free = search (arith, is_not)
+no_void (Named w) names more free = is_not (is_third names) w (codes "void") free refl
 no_void (SequenceOf e o) names more free = refl
 no_void (EncapsulationOf e) names more free = refl
 

@@ -15,7 +15,7 @@ use Rattle.giop_sig.specs.Table.{Node}
 use Rattle.giop_sig.specs.Table as nodes
 use Rattle.giop_sig.specs.Trees.{depth_of}
 use Rattle.giop_sig.specs.Grammar.{spell_more_names, spell_names, Enumeration}
-use Rattle.giop_sig.specs.Scopes.{Scope, with_node, with_named, declare}
+use Rattle.giop_sig.specs.Scopes.{is_third, Scope, with_node, with_named, declare}
 use Rattle.giop_sig.specs.Validity.{Kind, IsFree, OfNewName, OfSome, OfNames, OfDeclaration}
 use Rattle.giop_sig.specs.Outcomes.{refused}
 use Rattle.giop_sig.specs.ItemReading.{new_name_at, declared_at, Declared, type_end_at}
@@ -38,23 +38,25 @@ out_as {rule = rule} {rule2 = rule2} {types = types} {types2 = types2} (Err e) o
 
 -- ---- a text that is spelled so
 
-pub enumerator_reads : (seen : List (List ℕ)) (w text : List ℕ) (types : List Node)
-    (ts : List Token) → IsFree w → AreTokens text (word w ∷ ts)
-    → Out (λ rest. (seen ++ w ∷ [], rest)) (λ k. OfNewName k 1024 seen w) types ts
-    (enumerator_at seen text)
+pub enumerator_reads : {third : Bool} (seen : List (List ℕ)) (w text : List ℕ) (types : List Node)
+    (ts : List Token) → IsFree third w → AreTokens text (word w ∷ ts)
+    → Out (λ rest. (seen ++ w ∷ [], rest)) (λ k. OfNewName k third 1024 seen w) types ts
+    (enumerator_at third seen text)
 unfolding enumerator_at
-enumerator_reads seen w text types ts free h =
-    out_bind (new_name_at 1024 seen text) (λ n. Ok (seen ++ n.0 ∷ [], n.1))
-    (new_name_reads types 1024 seen text w ts free h)
+enumerator_reads {third = third} seen w text types ts free h =
+    out_bind (new_name_at third 1024 seen text) (λ n. Ok (seen ++ n.0 ∷ [], n.1))
+    (new_name_reads third types 1024 seen text w ts free h)
     (λ rest tokens keeps. good rest tokens keeps) (λ k whole. whole) within_same
 
-step_last : (seen : List (List ℕ)) (w text : List ℕ) (types : List Node) (more : List Token)
-    → IsFree w → AreTokens text (word w ∷ mark marks.CloseBrace ∷ more)
-    → Out (λ rest. (true, (seen ++ w ∷ [], rest))) (λ k. OfNewName k 1024 seen w) types more
-    (names_step (seen, text))
+step_last : {third : Bool} (seen : List (List ℕ)) (w text : List ℕ) (types : List Node)
+    (more : List Token)
+    → IsFree third w → AreTokens text (word w ∷ mark marks.CloseBrace ∷ more)
+    → Out (λ rest. (true, (seen ++ w ∷ [], rest))) (λ k. OfNewName k third 1024 seen w) types more
+    (names_step third (seen, text))
 unfolding names_step
-step_last seen w text types more free h =
-    out_bind (enumerator_at seen text) (λ names. mark_if marks.Comma names.1 >>= names_end names)
+step_last {third = third} seen w text types more free h =
+    out_bind (enumerator_at third seen text)
+    (λ names. mark_if marks.Comma names.1 >>= names_end names)
     (enumerator_reads seen w text types (mark marks.CloseBrace ∷ more) free h)
     (λ rest tokens keeps. rw (
       if_apart marks.Comma rest (mark marks.CloseBrace ∷ more) refl tokens,
@@ -63,56 +65,62 @@ step_last seen w text types more free h =
     (good tokens.0 tokens.2 keeps))
     (λ k whole. whole) within_same
 
-step_on : (seen : List (List ℕ)) (w text : List ℕ) (types : List Node) (ts : List Token) → IsFree w
+step_on : {third : Bool} (seen : List (List ℕ)) (w text : List ℕ) (types : List Node)
+    (ts : List Token) → IsFree third w
     → AreTokens text (word w ∷ mark marks.Comma ∷ ts)
-    → Out (λ rest. (false, (seen ++ w ∷ [], rest))) (λ k. OfNewName k 1024 seen w) types ts
-    (names_step (seen, text))
+    → Out (λ rest. (false, (seen ++ w ∷ [], rest))) (λ k. OfNewName k third 1024 seen w) types ts
+    (names_step third (seen, text))
 unfolding names_step
-step_on seen w text types ts free h =
-    out_bind (enumerator_at seen text) (λ names. mark_if marks.Comma names.1 >>= names_end names)
+step_on {third = third} seen w text types ts free h =
+    out_bind (enumerator_at third seen text)
+    (λ names. mark_if marks.Comma names.1 >>= names_end names)
     (enumerator_reads seen w text types (mark marks.Comma ∷ ts) free h)
     (λ rest tokens keeps. rw (mark_if_again marks.Comma rest ts tokens)
     (good tokens.0 tokens.2 keeps))
     (λ k whole. whole) within_same
 
-abbrev then_names : ℕ → Bool × NamesRead → Result NamesRead Refusal
-then_names left x = cond x.0 (Ok x.1) (in_steps names_step too_many_names left x.1)
+abbrev then_names : Bool → ℕ → Bool × NamesRead → Result NamesRead Refusal
+then_names third left x = cond x.0 (Ok x.1) (in_steps (names_step third) too_many_names left x.1)
 
 -- enumerators after others, few enough for the steps
-names_reads : (left : ℕ) (names : List (List ℕ)) (seen : List (List ℕ)) (w text : List ℕ)
+names_reads : (third : Bool) (left : ℕ) (names : List (List ℕ)) (seen : List (List ℕ))
+    (w text : List ℕ)
     (types : List Node) (more : List Token) → left + length seen ≡ 1025
-    → OfNames kinds.Syntax seen (w ∷ names) → AreTokens text (word w ∷ spell_more_names names more)
-    → Out (λ rest. (seen ++ w ∷ names, rest)) (λ k. OfNames k seen (w ∷ names)) types more
-    (in_steps names_step too_many_names left (seen, text))
+    → OfNames kinds.Syntax third seen (w ∷ names)
+    → AreTokens text (word w ∷ spell_more_names names more)
+    → Out (λ rest. (seen ++ w ∷ names, rest)) (λ k. OfNames k third seen (w ∷ names)) types more
+    (in_steps (names_step third) too_many_names left (seen, text))
 unfolding in_steps OfNames
-names_reads zero names seen w text types more room free h = search (arith, broken)
-names_reads (suc left) [] seen w text types more room free h =
-    out_bind (names_step (seen, text)) (then_names left) (step_last seen w text types more free.0 h)
+names_reads third zero names seen w text types more room free h = search (arith, broken)
+names_reads third (suc left) [] seen w text types more room free h =
+    out_bind (names_step third (seen, text)) (then_names third left)
+    (step_last seen w text types more free.0 h)
     (λ rest tokens keeps. good rest tokens (λ k. (keeps k, tt))) (λ k whole. whole.0) within_same
-names_reads (suc left) (n ∷ names) seen w text types more room free h =
-    out_bind (names_step (seen, text)) (then_names left)
+names_reads third (suc left) (n ∷ names) seen w text types more room free h =
+    out_bind (names_step third (seen, text)) (then_names third left)
     (step_on seen w text types (word n ∷ spell_more_names names more) free.0 h)
     (λ rest tokens keeps.
-    out_as (in_steps names_step too_many_names left (seen ++ w ∷ [], rest))
-    (names_reads left names (seen ++ w ∷ []) n rest types more
+    out_as (in_steps (names_step third) too_many_names left (seen ++ w ∷ [], rest))
+    (names_reads third left names (seen ++ w ∷ []) n rest types more
     (omega (arith, length-append seen (w ∷ []))) free.1 tokens)
     (λ after. ap (λ all. (all, after)) (append_assoc seen (w ∷ []) (n ∷ names)))
     (λ k others. (keeps k, others)) (λ k whole. whole.1) within_same)
     (λ k whole. whole.0) within_same
 
-pub all_names_reads : (names : List (List ℕ)) (text : List ℕ) (types : List Node)
-    (more : List Token) → OfNames kinds.Syntax [] names → AreTokens text (spell_names names more)
-    → Out (λ rest. (names, rest)) (λ k. OfSome k names × OfNames k [] names)
-    types more (names_at text)
+pub all_names_reads : (third : Bool) (names : List (List ℕ)) (text : List ℕ) (types : List Node)
+    (more : List Token) → OfNames kinds.Syntax third [] names
+    → AreTokens text (spell_names names more)
+    → Out (λ rest. (names, rest)) (λ k. OfSome k names × OfNames k third [] names)
+    types more (names_at third text)
 unfolding names_at
-all_names_reads [] text types more free h =
+all_names_reads third [] text types more free h =
     rw (filled_end text h.0 (mark_if_again marks.CloseBrace text more h))
     (broken (refused kinds.Empty text) (λ k. k.0))
-all_names_reads (n ∷ names) text types more free h =
+all_names_reads third (n ∷ names) text types more free h =
     rw (filled_on text (if_apart marks.CloseBrace text (word n ∷ spell_more_names names more) refl
     h))
-    (out_as (in_steps names_step too_many_names 1025 ([], text))
-    (names_reads 1025 names [] n text types more refl free h) (λ rest. refl)
+    (out_as (in_steps (names_step third) too_many_names 1025 ([], text))
+    (names_reads third 1025 names [] n text types more refl free h) (λ rest. refl)
     (λ k keeps. (some_keeps n names k, keeps)) (λ k whole. whole.1) within_same)
 
 -- what reading gives of a text that begins with an enum, after its word
@@ -129,13 +137,15 @@ enumeration_reads n names s text more free h =
     let node = nodes.enumeration names in
     let tail = spell_names names (mark marks.Semicolon ∷ more) in
     out_bind (declared_at s s.table.declared text)
-    (λ d. mark_at marks.OpenBrace d.1 >>= λ o. names_at o
+    (λ d. mark_at marks.OpenBrace d.1 >>= λ o. names_at (is_third s.names) o
     >>= λ ns. type_end_at at d.0 s (nodes.enumeration ns.0) ns.1)
     (declared_reads s.table.types s s.table.declared text n (mark marks.OpenBrace ∷ tail) free.0 h)
     (λ a ta ka.
     rw (mark_again marks.OpenBrace a tail ta)
-    (out_bind (names_at ta.0) (λ ns. type_end_at at n s (nodes.enumeration ns.0) ns.1)
-    (all_names_reads names ta.0 s.table.types (mark marks.Semicolon ∷ more) free.2 ta.2)
+    (out_bind (names_at (is_third s.names) ta.0) (λ ns. type_end_at at n s
+    (nodes.enumeration ns.0) ns.1)
+    (all_names_reads (is_third s.names) names ta.0 s.table.types
+    (mark marks.Semicolon ∷ more) free.2 ta.2)
     (λ b tb kb. end_reads at (with_named n (with_node s node))
     (λ k. OfDeclaration k s (Enumeration n names)) b more tb (λ k. (ka k, (kb k).0, (kb k).1)))
     (λ k w. (w.1, w.2)) (node_more s node)))
@@ -149,10 +159,11 @@ pub record AreEnumerators (names : List (List ℕ)) : Type 0 where
   pub short : All (λ name. length name ≤ 64) names
 
 -- a name that was read
-record TakenName (seen : List (List ℕ)) (text : List ℕ) (x : NamesRead) : Type 0 where
+record TakenName (third : Bool) (seen : List (List ℕ)) (text : List ℕ)
+    (x : NamesRead) : Type 0 where
   name : List ℕ
   all : x.0 ≡ seen ++ name ∷ []
-  free : IsFree name
+  free : IsFree third name
   front : Takes text (word name) x.1
   fits : AreEnumerators seen → AreEnumerators (seen ++ name ∷ [])
 
@@ -165,13 +176,13 @@ name_fits seen name short few are =
           All-push (λ n. length n ≤ 64) seen name are.short short;
     }
 
-name_taken : (seen : List (List ℕ)) (text : List ℕ) (x : NamesRead)
-    → enumerator_at seen text ≡ Ok x → TakenName seen text x
+name_taken : {third : Bool} (seen : List (List ℕ)) (text : List ℕ) (x : NamesRead)
+    → enumerator_at third seen text ≡ Ok x → TakenName third seen text x
 unfolding enumerator_at
-name_taken seen text x e =
-    let a = bind_ok (new_name_at 1024 seen text) (λ n. Ok (seen ++ n.0 ∷ [], n.1)) x e in
-    let k = new_name_takes 1024 seen text a.0 a.1 in
-    subst (TakenName seen text) (ok_is (seen ++ (a.0).0 ∷ [], (a.0).1) x a.2)
+name_taken {third = third} seen text x e =
+    let a = bind_ok (new_name_at third 1024 seen text) (λ n. Ok (seen ++ n.0 ∷ [], n.1)) x e in
+    let k = new_name_takes third 1024 seen text a.0 a.1 in
+    subst (TakenName third seen text) (ok_is (seen ++ (a.0).0 ∷ [], (a.0).1) x a.2)
     (record {
       name = (a.0).0;
       all = refl;
@@ -182,20 +193,21 @@ name_taken seen text x e =
     })
 
 -- names that were read after others
-record TakenNames (seen : List (List ℕ)) (text : List ℕ) (x : NamesRead) : Type 0 where
+record TakenNames (third : Bool) (seen : List (List ℕ)) (text : List ℕ)
+    (x : NamesRead) : Type 0 where
   name : List ℕ
   others : List (List ℕ)
   all : x.0 ≡ seen ++ name ∷ others
   took : Took (λ more. word name ∷ spell_more_names others more)
-      (OfNames kinds.Syntax seen (name ∷ others)) text x.1
+      (OfNames kinds.Syntax third seen (name ∷ others)) text x.1
   fits : AreEnumerators seen → AreEnumerators x.0
 
-last_name : (left : ℕ) (seen : List (List ℕ)) (text rest : List ℕ) (y x : NamesRead)
-    → TakenName seen text y → mark_at marks.CloseBrace y.1 ≡ Ok rest
-    → then_names left (true, (y.0, rest)) ≡ Ok x → TakenNames seen text x
+last_name : {third : Bool} (left : ℕ) (seen : List (List ℕ)) (text rest : List ℕ) (y x : NamesRead)
+    → TakenName third seen text y → mark_at marks.CloseBrace y.1 ≡ Ok rest
+    → then_names third left (true, (y.0, rest)) ≡ Ok x → TakenNames third seen text x
 unfolding OfNames
-last_name left seen text rest y x n close e =
-    subst (TakenNames seen text) (ok_is (y.0, rest) x e) (record {
+last_name {third = third} left seen text rest y x n close e =
+    subst (TakenNames third seen text) (ok_is (y.0, rest) x e) (record {
       name = n.name;
       others = [];
       all = n.all;
@@ -208,13 +220,16 @@ last_name left seen text rest y x n close e =
       fits = λ are. subst AreEnumerators (sym n.all) (n.fits are);
     })
 
-next_name : (seen : List (List ℕ)) (text rest : List ℕ) (y x : NamesRead) → TakenName seen text y
-    → mark_if marks.Comma y.1 ≡ Ok (Some rest) → TakenNames y.0 rest x → TakenNames seen text x
+next_name : {third : Bool} (seen : List (List ℕ)) (text rest : List ℕ) (y x : NamesRead)
+    → TakenName third seen text y
+    → mark_if marks.Comma y.1 ≡ Ok (Some rest) → TakenNames third y.0 rest x
+    → TakenNames third seen text x
 unfolding OfNames
-next_name seen text rest y x n comma k =
+next_name {third = third} seen text rest y x n comma k =
     let all = subst (λ ns. x.0 ≡ ns ++ k.name ∷ k.others) n.all k.all
     ∙ append_assoc seen (n.name ∷ []) (k.name ∷ k.others) in
-    let free = subst (λ ns. OfNames kinds.Syntax ns (k.name ∷ k.others)) n.all (k.took).free in
+    let free = subst (λ ns. OfNames kinds.Syntax third ns (k.name ∷ k.others)) n.all
+    (k.took).free in
     record {
       name = n.name;
       others = k.name ∷ k.others;
@@ -228,43 +243,47 @@ next_name seen text rest y x n comma k =
       fits = λ are. k.fits (subst AreEnumerators (sym n.all) (n.fits are));
     }
 
-behind_name : (left : ℕ) (seen : List (List ℕ)) (text : List ℕ) (y : NamesRead)
+behind_name : {third : Bool} (left : ℕ) (seen : List (List ℕ)) (text : List ℕ) (y : NamesRead)
     (o : Option (List ℕ)) (s : Bool × NamesRead) (x : NamesRead)
     → ((seen : List (List ℕ)) (text : List ℕ) (x : NamesRead)
-    → in_steps names_step too_many_names left (seen, text) ≡ Ok x → TakenNames seen text x)
-    → TakenName seen text y → mark_if marks.Comma y.1 ≡ Ok o → names_end y o ≡ Ok s
-    → then_names left s ≡ Ok x → TakenNames seen text x
-behind_name left seen text y None s x on n m e f =
+    → in_steps (names_step third) too_many_names left (seen, text) ≡ Ok x
+    → TakenNames third seen text x)
+    → TakenName third seen text y → mark_if marks.Comma y.1 ≡ Ok o → names_end y o ≡ Ok s
+    → then_names third left s ≡ Ok x → TakenNames third seen text x
+behind_name {third = third} left seen text y None s x on n m e f =
     let c = bind_ok (mark_at marks.CloseBrace y.1) (λ rest. Ok (true, (y.0, rest))) s e in
     last_name left seen text c.0 y x n c.1
-    (ap (then_names left) (ok_is (true, (y.0, c.0)) s c.2) ∙ f)
-behind_name left seen text y (Some rest) s x on n m e f =
+    (ap (then_names third left) (ok_is (true, (y.0, c.0)) s c.2) ∙ f)
+behind_name {third = third} left seen text y (Some rest) s x on n m e f =
     next_name seen text rest y x n m (on y.0 rest x
-    (ap (then_names left) (ok_is (false, (y.0, rest)) s e) ∙ f))
+    (ap (then_names third left) (ok_is (false, (y.0, rest)) s e) ∙ f))
 
-names_taken : (left : ℕ) (seen : List (List ℕ)) (text : List ℕ) (x : NamesRead)
-    → in_steps names_step too_many_names left (seen, text) ≡ Ok x → TakenNames seen text x
+names_taken : {third : Bool} (left : ℕ) (seen : List (List ℕ)) (text : List ℕ) (x : NamesRead)
+    → in_steps (names_step third) too_many_names left (seen, text) ≡ Ok x
+    → TakenNames third seen text x
 unfolding in_steps names_step
-names_taken zero seen text x e = absurd cc
-names_taken (suc left) seen text x e =
-    let s = bind_ok (names_step (seen, text)) (then_names left) x e in
+names_taken {third = third} zero seen text x e = absurd cc
+names_taken {third = third} (suc left) seen text x e =
+    let s = bind_ok (names_step third (seen, text)) (then_names third left) x e in
     let y = bind_ok {A = NamesRead} _ _ s.0 s.1 in
     let o = bind_ok (mark_if marks.Comma (y.0).1) (names_end y.0) s.0 y.2 in
     behind_name left seen text y.0 o.0 s.0 x (names_taken left) (name_taken seen text y.0 y.1) o.1
     o.2 s.2
 
-pub record TakenAll (text : List ℕ) (x : NamesRead) : Type 0 where
-  pub took : Took (spell_names x.0) (OfNames kinds.Syntax [] x.0) text x.1
+pub record TakenAll (third : Bool) (text : List ℕ) (x : NamesRead) : Type 0 where
+  pub took : Took (spell_names x.0) (OfNames kinds.Syntax third [] x.0) text x.1
   pub fits : AreEnumerators x.0
 
-all_taken : (text : List ℕ) (x : NamesRead) → TakenNames [] text x → TakenAll text x
+all_taken : {third : Bool} (text : List ℕ) (x : NamesRead) → TakenNames third [] text x
+    → TakenAll third text x
 all_taken text x k = search (arith)
 
-pub all_names_taken : (text : List ℕ) (x : NamesRead) → names_at text ≡ Ok x → TakenAll text x
+pub all_names_taken : {third : Bool} (text : List ℕ) (x : NamesRead) → names_at third text ≡ Ok x
+    → TakenAll third text x
 unfolding names_at
-all_names_taken text x e =
+all_names_taken {third = third} text x e =
     let f = bind_ok {A = List ℕ} _ _ x e in
-    subst (λ t. TakenAll t x) (sym (filled_takes text f.0 f.1).0)
+    subst (λ t. TakenAll third t x) (sym (filled_takes text f.0 f.1).0)
     (all_taken f.0 x (names_taken 1025 [] f.0 x f.2))
 
 -- an enum that was read

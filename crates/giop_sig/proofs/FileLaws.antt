@@ -14,7 +14,7 @@ use Rattle.giop_tokens.proofs.ReaderLaws.{bind_ok, ok_is, Takes, word_again, num
 use Rattle.giop_sig.specs.Grammar.{TypeExpr, Item, UnionCase, spell_type, spell_names, spell_items, spell_cases, spell_params, spell_return, Declaration, Enumeration, Structure, DeclaredUnion, DeclaredException, Call, spell, spell_all, SignatureFile, is_version, spell_file}
 use Rattle.giop_sig.specs.Scopes.{Scope, first_scope, declare, scope_after}
 use Rattle.giop_sig.specs.Trees.{depth_of}
-use Rattle.giop_sig.specs.Validity.{Kind, OfDeclaration, HasItsWords, Each, Spells}
+use Rattle.giop_sig.specs.Validity.{Kind, OfDeclaration, HasItsWords, Each, SpellsUpTo}
 use Rattle.giop_sig.specs.ItemReading.{Declared, structure_at, exception_at}
 use Rattle.giop_sig.specs.CallReading.{operation_at}
 use Rattle.giop_sig.specs.EnumReading.{enumeration_at}
@@ -209,23 +209,25 @@ declarations_read union (d ∷ ds) (suc n) s text lt free h =
 
 -- ---- the whole file
 
-version_again : (text : List ℕ) (n : ℕ) (more : List Token) (h : AreTokens text (number n ∷ more))
-    → is_version n ≡ true → version_at text ≡ Ok (n, h.0)
+version_again : (latest : ℕ) (text : List ℕ) (n : ℕ) (more : List Token)
+    (h : AreTokens text (number n ∷ more))
+    → is_version latest n ≡ true → version_at latest text ≡ Ok (n, h.0)
 unfolding version_at
-version_again text n more h is = rw (number_again text n more h, is) refl
+version_again latest text n more h is = rw (number_again text n more h, is) refl
 
 -- what reading gives of a file
-pub file_reads : UnionReads → (text : List ℕ) (file : SignatureFile) → Spells text file
-    → FileOut (first_scope file.version) file.declarations (file_at text)
+pub file_reads : {latest : ℕ} → UnionReads → (text : List ℕ) (file : SignatureFile)
+    → SpellsUpTo latest text file
+    → FileOut (first_scope file.version) file.declarations (file_at latest text)
 unfolding file_at head_at
-file_reads union text file spells =
+file_reads {latest = latest} union text file spells =
     let h = spells.tokens in
     let ds = file.declarations in
     let tail = mark marks.Semicolon ∷ spell_all ds in
     let few = tokens_few (spell_file file) text h in
     rw (
       keyword_again (codes "signatures") text (number file.version ∷ tail) h,
-      version_again h.0 file.version tail h.2 spells.version,
+      version_again latest h.0 file.version tail h.2 spells.version,
       mark_again marks.Semicolon (h.2).0 (spell_all ds) (h.2).2,
     )
     (declarations_read union ds (length text) (first_scope file.version) ((h.2).2).0
@@ -314,11 +316,11 @@ declarations_shallow takes (suc n) s text t e le =
     shallow_by takes n s text o.0 x.0 t o.2 x.2 le
     (λ s text run le. declarations_shallow takes n s text t run le)
 
-pub file_shallow : UnionTakes → (text : List ℕ) (t : Scope) → file_at text ≡ Ok t
-    → depth_of t.table.types ≤ 24
+pub file_shallow : (latest : ℕ) → UnionTakes → (text : List ℕ) (t : Scope)
+    → file_at latest text ≡ Ok t → depth_of t.table.types ≤ 24
 unfolding file_at
-file_shallow takes text t e =
-    let h = bind_ok (head_at text)
+file_shallow latest takes text t e =
+    let h = bind_ok (head_at latest text)
     (λ h. in_steps declarations_step misplaced_after (length text) (first_scope h.0, h.1)
     >>= scope_of) t e in
     let d = bind_ok {A = Declared} _ scope_of t h.2 in
@@ -327,29 +329,32 @@ file_shallow takes text t e =
     builtin_are.shallow)
 
 -- the version that a file begins with
-record TakenHead (text : List ℕ) (x : ℕ × List ℕ) : Type 0 where
-  pub version : is_version x.0 ≡ true
+record TakenHead (latest : ℕ) (text : List ℕ) (x : ℕ × List ℕ) : Type 0 where
+  pub version : is_version latest x.0 ≡ true
   pub front : (more : List Token) → AreTokens x.1 more
       → AreTokens text (word (codes "signatures") ∷ number x.0 ∷ mark marks.Semicolon ∷ more)
 
-version_by : (text : List ℕ) (n x : ℕ × List ℕ) (v : Bool) → is_version n.0 ≡ v
-    → cond v (Ok (n.0, n.1)) (Err (misplaced text)) ≡ Ok x → (is_version n.0 ≡ true) × (n ≡ x)
-version_by text n x true h e = (h, ok_is n x e)
-version_by text n x false h e = absurd cc
+version_by : (latest : ℕ) (text : List ℕ) (n x : ℕ × List ℕ) (v : Bool)
+    → is_version latest n.0 ≡ v
+    → cond v (Ok (n.0, n.1)) (Err (misplaced text)) ≡ Ok x
+    → (is_version latest n.0 ≡ true) × (n ≡ x)
+version_by latest text n x true h e = (h, ok_is n x e)
+version_by latest text n x false h e = absurd cc
 
-version_takes : (text : List ℕ) (x : ℕ × List ℕ) → version_at text ≡ Ok x
-    → (is_version x.0 ≡ true) × Takes text (number x.0) x.1
+version_takes : (latest : ℕ) (text : List ℕ) (x : ℕ × List ℕ) → version_at latest text ≡ Ok x
+    → (is_version latest x.0 ≡ true) × Takes text (number x.0) x.1
 unfolding version_at
-version_takes text x e = search (arith, bind_ok, version_by, number_takes)
+version_takes latest text x e = search (arith, bind_ok, version_by latest, number_takes)
 
-head_takes : (text : List ℕ) (x : ℕ × List ℕ) → head_at text ≡ Ok x → TakenHead text x
+head_takes : (latest : ℕ) (text : List ℕ) (x : ℕ × List ℕ) → head_at latest text ≡ Ok x
+    → TakenHead latest text x
 unfolding head_at
-head_takes text x e =
+head_takes latest text x e =
     let k = bind_ok _ _ x e in
     let v = bind_ok {A = ℕ × List ℕ} _ _ x k.2 in
     let r = bind_ok (mark_at marks.Semicolon (v.0).1) (λ r. Ok ((v.0).0, r)) x v.2 in
-    let is = version_takes k.0 v.0 v.1 in
-    subst (TakenHead text) (ok_is ((v.0).0, r.0) x r.2) (record {
+    let is = version_takes latest k.0 v.0 v.1 in
+    subst (TakenHead latest text) (ok_is ((v.0).0, r.0) x r.2) (record {
       version = is.0;
       front = λ more m.
           let tail = mark marks.Semicolon ∷ more in
@@ -357,13 +362,14 @@ head_takes text x e =
           (is.1 tail (mark_takes marks.Semicolon (v.0).1 r.0 r.1 more m));
     })
 
-pub file_takes : UnionReads → UnionTakes → (text : List ℕ) (t : Scope) → length text ≤ 1048576
-    → file_at text ≡ Ok t → (file : SignatureFile) × Spells text file
+pub file_takes : (latest : ℕ) → UnionReads → UnionTakes → (text : List ℕ) (t : Scope)
+    → length text ≤ 1048576
+    → file_at latest text ≡ Ok t → (file : SignatureFile) × SpellsUpTo latest text file
 unfolding file_at
-file_takes reads takes text t short e =
+file_takes latest reads takes text t short e =
     let h = bind_ok _ _ t e in
     let d = bind_ok _ _ t h.2 in
-    let head = head_takes text h.0 h.1 in
+    let head = head_takes latest text h.0 h.1 in
     let all = declarations_take reads takes (length text) (first_scope (h.0).0) (h.0).1 d.0 d.1 in (
       record { version = (h.0).0; declarations = all.declarations },
       record {

@@ -4,7 +4,7 @@ use Rattle.giop_tokens.specs.declared.fault.Refusal.{Refusal}
 use Rattle.giop_tokens.specs.declared.fault.SigFaultKind.TheVariants as kinds
 use Rattle.giop_sig.specs.Grammar.{Declaration, spell_all, SignatureFile, spell_file}
 use Rattle.giop_sig.specs.Scopes.{Scope, first_scope, declare, scope_after, table}
-use Rattle.giop_sig.specs.Validity.{Kind, IsShallow, Each, Rule, IsValid, Spells, IsBroken, Refuses}
+use Rattle.giop_sig.specs.Validity.{Kind, IsShallow, Each, Rule, IsValid, SpellsUpTo, IsBroken, Refuses}
 use Rattle.giop_sig.specs.FileReading.{file_at}
 use Rattle.giop_sig.proofs.PlaceLaws.{deepest, size, scope_more}
 use Rattle.giop_sig.proofs.TokensFew.{tokens_few}
@@ -22,8 +22,9 @@ each_shallow (d ∷ ds) s le = (
 )
 
 -- what was read is the table of a valid file
-pub file_valid : UnionReads → (text : List ℕ) (t : Scope) (file : SignatureFile) → Spells text file
-    → file_at text ≡ Ok t → deepest t ≤ 24 → IsValid file × (t.table ≡ table file)
+pub file_valid : {latest : ℕ} → UnionReads → (text : List ℕ) (t : Scope) (file : SignatureFile)
+    → SpellsUpTo latest text file
+    → file_at latest text ≡ Ok t → deepest t ≤ 24 → IsValid file × (t.table ≡ table file)
 file_valid union text t file spells e shallow =
     let s = first_scope file.version in
     let ds = file.declarations in
@@ -40,10 +41,11 @@ file_valid union text t file spells e shallow =
     )
 
 -- it adds no more types than the text has octets
-pub file_few : UnionReads → UnionTakes → (text : List ℕ) (t : Scope) → length text ≤ 1048576
-    → file_at text ≡ Ok t → size t ≤ length builtin_types + length text
-file_few reads takes text t short e =
-    let f = file_takes reads takes text t short e in
+pub file_few : (latest : ℕ) → UnionReads → UnionTakes → (text : List ℕ) (t : Scope)
+    → length text ≤ 1048576
+    → file_at latest text ≡ Ok t → size t ≤ length builtin_types + length text
+file_few latest reads takes text t short e =
+    let f = file_takes latest reads takes text t short e in
     let s = first_scope (f.0).version in
     let ds = (f.0).declarations in
     let o : FileOut s ds (Ok t) = subst (FileOut s ds) e (file_reads reads text f.0 f.1) in
@@ -55,7 +57,8 @@ is_broken : (k : Kind) (file : SignatureFile)
 is_broken k file b breaks = search (arith)
 
 -- the declarations of a text never make the types too many
-pub not_too_many : (text : List ℕ) (file : SignatureFile) → Spells text file
+pub not_too_many : {latest : ℕ} (text : List ℕ) (file : SignatureFile)
+    → SpellsUpTo latest text file
     → (b : BrokenIn kinds.Limit (first_scope file.version) file.declarations)
     → size (declare (scope_after (first_scope file.version) b.before) b.broken) < 2 ^ 32
 unfolding builtin_types
@@ -79,7 +82,8 @@ limit_broken : (file : SignatureFile)
 limit_broken file b few (inl breaks) = search (arith, is_broken)
 limit_broken file b few (inr many) = absurd (omega arith)
 
-refuses : (k : Kind) (text : List ℕ) (file : SignatureFile) → Spells text file
+refuses : {latest : ℕ} (k : Kind) (text : List ℕ) (file : SignatureFile)
+    → SpellsUpTo latest text file
     → BrokenIn k (first_scope file.version) file.declarations → Refuses k file
 refuses kinds.OutOfMemory text file spells b = tt
 refuses kinds.Depth text file spells b = search (arith, is_broken)
@@ -91,8 +95,8 @@ refuses kinds.Empty text file spells b = search (arith, is_broken)
 refuses _ text file spells b = b.breaks
 
 -- a text that spells a file is refused for a rule that one of its declarations breaks
-pub file_refuses : UnionReads → (text : List ℕ) (e : Refusal) (file : SignatureFile)
-    → Spells text file → file_at text ≡ Err e → Refuses e.kind file
+pub file_refuses : {latest : ℕ} → UnionReads → (text : List ℕ) (e : Refusal) (file : SignatureFile)
+    → SpellsUpTo latest text file → file_at latest text ≡ Err e → Refuses e.kind file
 file_refuses union text e file spells h =
     let s = first_scope file.version in
     let ds = file.declarations in

@@ -16,7 +16,7 @@ use Rattle.giop_tokens.proofs.ReaderLaws.{mark_again, mark_if_again, identifier_
 use Rattle.giop_sig.specs.Table.{Node, Part}
 use Rattle.giop_sig.specs.Trees.{depth_of}
 use Rattle.giop_sig.specs.Grammar.{TypeExpr, Base, Item, spell_length, spell_type, spell_item, spell_items}
-use Rattle.giop_sig.specs.Scopes.{Names, Scope, item_part, place, add_array, add_item, add_items}
+use Rattle.giop_sig.specs.Scopes.{Names, is_third, Scope, item_part, place, add_array, add_item, add_items}
 use Rattle.giop_sig.specs.Validity.{Kind, IsFree, is_among, OfNewName, OfSome, OfItem, OfItems, OfDeclared}
 use Rattle.giop_sig.specs.Outcomes.{refused}
 use Rattle.giop_sig.specs.TypeReading.{enclosed_at, type_at}
@@ -47,12 +47,13 @@ filled_on text h = rw h refl
 -- ---- names
 
 -- what is asked of a name that is new
-pub name_keeps : (most : ℕ) (seen : List (List ℕ)) (w : List ℕ) → IsFree w → length w ≤ 64
-    → length seen < most → is_among seen w ≡ false → (k : Kind) → OfNewName k most seen w
-name_keeps most seen w free short few new kinds.Syntax = free
-name_keeps most seen w free short few new kinds.Duplicate = new
-name_keeps most seen w free short few new kinds.Limit = (short, few)
-name_keeps most seen w free short few new _ = tt
+pub name_keeps : (third : Bool) (most : ℕ) (seen : List (List ℕ)) (w : List ℕ) → IsFree third w
+    → length w ≤ 64 → length seen < most → is_among seen w ≡ false
+    → (k : Kind) → OfNewName k third most seen w
+name_keeps third most seen w free short few new kinds.Syntax = free
+name_keeps third most seen w free short few new kinds.Duplicate = new
+name_keeps third most seen w free short few new kinds.Limit = (short, few)
+name_keeps third most seen w free short few new _ = tt
 
 -- a word, where it is new and there is room for one more; or a rule is broken
 pub unused_reads : {rule : Kind → Type 0} {types : List Node} {more : List Token}
@@ -68,33 +69,37 @@ unused_reads false false text w rest m double many keeps = good rest m (keeps re
 -- what follows an identifier that isn't too long
 identifier_by : {X : Type 0} {made : List ℕ → X} {rule : Kind → Type 0} {types : List Node}
     {more : List Token}
-    (f : List ℕ × List ℕ → Result X Refusal) (text w : List ℕ) (v : Bool) → ltb 64 (length w) ≡ v →
-    IsFree w
+    (third : Bool) (f : List ℕ × List ℕ → Result X Refusal) (text w : List ℕ) (v : Bool)
+    → ltb 64 (length w) ≡ v →
+    IsFree third w
     → AreTokens text (word w ∷ more) → (64 < length w → rule kinds.Limit → ⊥)
     → (length w ≤ 64 → (rest : List ℕ) → AreTokens rest more →
     Out made rule types more (f (w, rest)))
-    → Out made rule types more (identifier_at text >>= f)
-identifier_by {more = more} f text w true e free h long on =
-    let z = ltb-true 64 (length w) e in rw (identifier_long text w more h free z)
+    → Out made rule types more (identifier_at third text >>= f)
+identifier_by {more = more} third f text w true e free h long on =
+    let z = ltb-true 64 (length w) e in rw (identifier_long third text w more h free z)
     (broken (too_long text) (inl (long z)))
-identifier_by {more = more} f text w false e free h long on =
-    let z = ltb-false 64 (length w) e in rw (identifier_again text w more h free z) (on z h.0 h.2)
+identifier_by {more = more} third f text w false e free h long on =
+    let z = ltb-false 64 (length w) e in rw (identifier_again third text w more h free z)
+    (on z h.0 h.2)
 
-pub new_name_reads : (types : List Node) (most : ℕ) (seen : List (List ℕ)) (text w : List ℕ)
-    (more : List Token) → IsFree w → AreTokens text (word w ∷ more)
-    → Out {X = List ℕ × List ℕ} (λ rest. (w, rest)) (λ k. OfNewName k most seen w) types more
-    (new_name_at most seen text)
+pub new_name_reads : (third : Bool) (types : List Node) (most : ℕ) (seen : List (List ℕ))
+    (text w : List ℕ)
+    (more : List Token) → IsFree third w → AreTokens text (word w ∷ more)
+    → Out {X = List ℕ × List ℕ} (λ rest. (w, rest)) (λ k. OfNewName k third most seen w) types more
+    (new_name_at third most seen text)
 unfolding new_name_at
-new_name_reads types most seen text w more free h =
-    identifier_by (λ n. unused (is_among seen n.0) (leb most (length seen)) text n) text w
+new_name_reads third types most seen text w more free h =
+    identifier_by third (λ n. unused (is_among seen n.0) (leb most (length seen)) text n) text w
     (ltb 64 (length w)) refl free h
     (λ long r. let f = r.0 in omega arith)
     (λ short rest m. unused_reads (is_among seen w) (leb most (length seen)) text w rest m
     (λ k r. false≢true (sym r ∙ k))
     (λ k r. let z = leb-true most (length seen) k in let f = r.1 in omega arith)
-    (λ k f. name_keeps most seen w free short (leb-false most (length seen) f) k))
+    (λ k f. name_keeps third most seen w free short (leb-false most (length seen) f) k))
 
-declared_keeps : (s : Scope) (count : ℕ) (w : List ℕ) → IsFree w → length w ≤ 64 → count < 4096
+declared_keeps : (s : Scope) (count : ℕ) (w : List ℕ) → IsFree (is_third s.names) w
+    → length w ≤ 64 → count < 4096
     → lookup (bytes_eq w) s.names.known ≡ None → (k : Kind) → OfDeclared k s count w
 declared_keeps s count w free short few new kinds.Syntax = free
 declared_keeps s count w free short few new kinds.Duplicate = new
@@ -106,13 +111,14 @@ some_none None e h = absurd cc
 some_none (Some x) e h = absurd cc
 
 pub declared_reads : (types : List Node) (s : Scope) (count : ℕ) (text w : List ℕ)
-    (more : List Token) → IsFree w → AreTokens text (word w ∷ more)
+    (more : List Token) → IsFree (is_third s.names) w → AreTokens text (word w ∷ more)
     → Out {X = List ℕ × List ℕ} (λ rest. (w, rest)) (λ k. OfDeclared k s count w) types more
     (declared_at s count text)
 unfolding declared_at
 declared_reads types s count text w more free h =
     let known = lookup (bytes_eq w) s.names.known in
-    identifier_by (λ n. unused (is_some (lookup (bytes_eq n.0) s.names.known)) (leb 4096 count) text
+    identifier_by (is_third s.names)
+    (λ n. unused (is_some (lookup (bytes_eq n.0) s.names.known)) (leb 4096 count) text
     n) text w (ltb 64 (length w)) refl free h
     (λ long r. let f = r.0 in omega arith)
     (λ short rest m. unused_reads (is_some known) (leb 4096 count) text w rest m (some_none known)
@@ -132,14 +138,16 @@ pub item_reads : (most : ℕ) (seen : List (List ℕ)) (s : Scope) (i : Item) (t
 unfolding item_at
 item_reads most seen s i text more free apart h =
     let p = place s i.type in
-    out_bind (type_at s text) (λ t. new_name_at most seen t.2 >>= λ n.
+    out_bind (type_at s text) (λ t. new_name_at (is_third s.names) most seen t.2 >>= λ n.
     enclosed_at marks.OpenBracket marks.CloseBracket n.1
     >>= λ l. Ok (read_item (add_array l.0 (t.0, t.1)) n.0 l.1))
     (type_reads s i.type text (word i.name ∷ spell_length i.length more) free.0 refl h)
     (λ a ta ka.
-    out_bind (new_name_at most seen a) (λ n. enclosed_at marks.OpenBracket marks.CloseBracket n.1
+    out_bind (new_name_at (is_third s.names) most seen a)
+    (λ n. enclosed_at marks.OpenBracket marks.CloseBracket n.1
     >>= λ l. Ok (read_item (add_array l.0 p) n.0 l.1))
-    (new_name_reads (place s i.type).0.table.types most seen a i.name (spell_length i.length more)
+    (new_name_reads (is_third s.names) (place s i.type).0.table.types most seen a i.name
+    (spell_length i.length more)
     free.1 ta)
     (λ b tb kb.
     out_bind (enclosed_at marks.OpenBracket marks.CloseBracket b)

@@ -18,7 +18,7 @@ use Rattle.giop_sig.specs.Table.{Node, Part, IsPart, TakesOctet, exception_in}
 use Rattle.giop_sig.specs.Table as nodes
 use Rattle.giop_sig.specs.Grammar.{Item, spell_length, spell_item, spell_items}
 use Rattle.giop_sig.specs.Trees.{depth_of}
-use Rattle.giop_sig.specs.Scopes.{Scope, AddedType, with_node, add_array}
+use Rattle.giop_sig.specs.Scopes.{is_third, Scope, AddedType, with_node, add_array}
 use Rattle.giop_sig.specs.Validity.{IsFree, is_among, OfItem, OfItems}
 use Rattle.giop_sig.specs.ScopeViews.{IsScope}
 use Rattle.giop_sig.specs.Outcomes.{refused}
@@ -32,9 +32,9 @@ use Rattle.giop_sig.proofs.SizeTaken.{enclosed_takes, bound_free}
 
 -- ---- names
 
-pub record NameTaken (most : ℕ) (seen : List (List ℕ)) (text : List ℕ)
+pub record NameTaken (third : Bool) (most : ℕ) (seen : List (List ℕ)) (text : List ℕ)
     (x : List ℕ × List ℕ) : Type 0 where
-  pub free : IsFree x.0
+  pub free : IsFree third x.0
   pub short : length x.0 ≤ 64
   pub few : length seen < most
   pub front : Takes text (word x.0) x.1
@@ -51,14 +51,15 @@ unused_is true full text n x e = absurd cc
 unused_is false true text n x e = absurd cc
 unused_is false false text n x e = (ok_is n x e, refl, refl)
 
-pub new_name_takes : (most : ℕ) (seen : List (List ℕ)) (text : List ℕ) (x : List ℕ × List ℕ)
-    → new_name_at most seen text ≡ Ok x → NameTaken most seen text x
+pub new_name_takes : (third : Bool) (most : ℕ) (seen : List (List ℕ)) (text : List ℕ)
+    (x : List ℕ × List ℕ)
+    → new_name_at third most seen text ≡ Ok x → NameTaken third most seen text x
 unfolding new_name_at
-new_name_takes most seen text x e =
+new_name_takes third most seen text x e =
     let a = bind_ok _ _ x e in
-    let w = identifier_word text a.0 a.1 in
+    let w = identifier_word third text a.0 a.1 in
     let u = unused_is (is_among seen (a.0).0) (leb most (length seen)) text a.0 x a.2 in
-    subst (NameTaken most seen text) u.0
+    subst (NameTaken third most seen text) u.0
     (record {
       free = w.1;
       short = w.2;
@@ -69,7 +70,7 @@ new_name_takes most seen text x e =
 
 pub record DeclaredTaken (s : Scope) (count : ℕ) (text : List ℕ)
     (x : List ℕ × List ℕ) : Type 0 where
-  pub free : IsFree x.0
+  pub free : IsFree (is_third s.names) x.0
   pub short : length x.0 ≤ 64
   pub new : lookup (bytes_eq x.0) s.names.known ≡ None
   pub few : count < 4096
@@ -84,7 +85,7 @@ pub declared_takes : (s : Scope) (count : ℕ) (text : List ℕ) (x : List ℕ �
 unfolding declared_at
 declared_takes s count text x e =
     let a = bind_ok _ _ x e in
-    let w = identifier_word text a.0 a.1 in
+    let w = identifier_word (is_third s.names) text a.0 a.1 in
     let known = lookup (bytes_eq (a.0).0) s.names.known in
     let u = unused_is (is_some known) (leb 4096 count) text a.0 x a.2 in
     subst (DeclaredTaken s count text) u.0
@@ -118,7 +119,7 @@ pub record TakenItem (s : Scope) (most : ℕ) (seen : List (List ℕ)) (text : L
 
 item_made : (most : ℕ) (seen : List (List ℕ)) (s : Scope) (text : List ℕ) (t : TypeRead)
     (n : List ℕ × List ℕ) (l : Option ℕ × List ℕ) → TakenType s text t
-    → NameTaken most seen t.2 n → Took (spell_length l.0) (Unit {0}) n.1 l.1
+    → NameTaken (is_third s.names) most seen t.2 n → Took (spell_length l.0) (Unit {0}) n.1 l.1
     → TakenItem s most seen text (read_item (add_array l.0 (t.0, t.1)) n.0 l.1)
 item_made most seen s text t n l a b c = record {
   item = record { type = a.expr; name = n.0; length = l.0 };
@@ -144,7 +145,7 @@ item_takes most seen s text x e =
     subst (TakenItem s most seen text)
     (ok_is (read_item (add_array (l.0).0 ((t.0).0, (t.0).1)) (n.0).0 (l.0).1) x l.2)
     (item_made most seen s text t.0 n.0 l.0 (type_takes s text t.0 t.1)
-    (new_name_takes most seen (t.0).2 n.0 n.1)
+    (new_name_takes (is_third s.names) most seen (t.0).2 n.0 n.1)
     (enclosed_takes marks.OpenBracket marks.CloseBracket (n.0).1 l.0 l.1))
 
 -- ---- members

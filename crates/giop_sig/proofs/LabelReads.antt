@@ -18,7 +18,7 @@ use Rattle.giop_tokens.specs.Names.{is_reserved}
 use Rattle.giop_tokens.proofs.ReaderLaws.{if_other, mark_again, keyword_again, keyword_if_again}
 use Rattle.giop_sig.specs.Table.{Node}
 use Rattle.giop_sig.specs.Grammar.{TypeExpr, Base, Text, Reference, Named, SequenceOf, EncapsulationOf, base_word, Value, Plain, Below, Truth, Enumerator, Label, Default, Of, spell_type, spell_value, spell_label, spell_labels}
-use Rattle.giop_sig.specs.Scopes.{Names, label_number, label_numbers, has_default}
+use Rattle.giop_sig.specs.Scopes.{Names, is_third, label_number, label_numbers, has_default}
 use Rattle.giop_sig.specs.Validity.{Kind, IsFree, OfType, OfEnumerator, OfFit, OfValueName, OfLabelValue, same_label, OfNewLabel, OfLabel, OfLabels}
 use Rattle.giop_sig.specs.Outcomes.{refused}
 use Rattle.giop_sig.specs.Repeats.{in_steps}
@@ -32,44 +32,47 @@ use Rattle.giop_sig.proofs.Negatives.{negative_some}
 
 -- ---- a value
 
-enumerator_keeps : (w : List ℕ) → IsFree w → length w ≤ 64 → (k : Kind) → OfEnumerator k w
-enumerator_keeps w free short kinds.Syntax = free
-enumerator_keeps w free short kinds.Limit = short
-enumerator_keeps w free short _ = tt
+enumerator_keeps : (third : Bool) (w : List ℕ) → IsFree third w → length w ≤ 64 → (k : Kind)
+    → OfEnumerator k third w
+enumerator_keeps third w free short kinds.Syntax = free
+enumerator_keeps third w free short kinds.Limit = short
+enumerator_keeps third w free short _ = tt
 
-enumerator_by : (w text rest : List ℕ) (types : List Node) (more : List Token) (v : Bool)
-    → ltb 64 (length w) ≡ v → IsFree w → AreTokens rest more
-    → Out {X = Value × List ℕ} (λ rest. (Enumerator w, rest)) (λ k. OfEnumerator k w) types more
+enumerator_by : (third : Bool) (w text rest : List ℕ) (types : List Node) (more : List Token)
+    (v : Bool)
+    → ltb 64 (length w) ≡ v → IsFree third w → AreTokens rest more
+    → Out {X = Value × List ℕ} (λ rest. (Enumerator w, rest))
+    (λ k. OfEnumerator k third w) types more
     (cond v (Err (refused kinds.Limit text)) (Ok (Enumerator w, rest)))
-enumerator_by w text rest types more true e free m = search (arith, broken, ltb-true)
-enumerator_by w text rest types more false e free m = search (
+enumerator_by third w text rest types more true e free m = search (arith, broken, ltb-true)
+enumerator_by third w text rest types more false e free m = search (
   arith,
   good,
-  enumerator_keeps,
+  enumerator_keeps third,
   ltb-false,
 )
 
-not_true : (w : List ℕ) → IsFree w → bytes_eq w (codes "true") ≡ false
+not_true : (third : Bool) (w : List ℕ) → IsFree third w → bytes_eq w (codes "true") ≡ false
 unfolding is_reserved
-not_true w free = search (arith, is_not)
+not_true third w free = is_not third w (codes "true") free refl
 
-not_false : (w : List ℕ) → IsFree w → bytes_eq w (codes "false") ≡ false
+not_false : (third : Bool) (w : List ℕ) → IsFree third w → bytes_eq w (codes "false") ≡ false
 unfolding is_reserved
-not_false w free = search (arith, is_not)
+not_false third w free = is_not third w (codes "false") free refl
 
-value_reads : (v : Value) (text : List ℕ) (types : List Node) (more : List Token)
-    → OfValueName kinds.Syntax v → AreTokens text (spell_value v more)
-    → Out (λ rest. (v, rest)) (λ k. OfValueName k v) types more (value_at text)
+value_reads : (third : Bool) (v : Value) (text : List ℕ) (types : List Node) (more : List Token)
+    → OfValueName kinds.Syntax third v → AreTokens text (spell_value v more)
+    → Out (λ rest. (v, rest)) (λ k. OfValueName k third v) types more (value_at third text)
 unfolding value_at
-value_reads (Plain n) text types more free h = rw h.1 (good h.0 h.2 (λ k. tt))
-value_reads (Below n) text types more free h = rw h.1 (good h.0 h.2 (λ k. tt))
-value_reads (Truth true) text types more free h = rw h.1 (good h.0 h.2 (λ k. tt))
-value_reads (Truth false) text types more free h = rw h.1 (good h.0 h.2 (λ k. tt))
-value_reads (Enumerator w) text types more free h = search (
+value_reads third (Plain n) text types more free h = rw h.1 (good h.0 h.2 (λ k. tt))
+value_reads third (Below n) text types more free h = rw h.1 (good h.0 h.2 (λ k. tt))
+value_reads third (Truth true) text types more free h = rw h.1 (good h.0 h.2 (λ k. tt))
+value_reads third (Truth false) text types more free h = rw h.1 (good h.0 h.2 (λ k. tt))
+value_reads third (Enumerator w) text types more free h = search (
   arith,
-  not_true,
-  not_false,
-  enumerator_by,
+  not_true third,
+  not_false third,
+  enumerator_by third,
   ltb,
 )
 
@@ -82,23 +85,26 @@ no_fit : (o : Option Number) → o ≡ None → (n : Number) × (o ≡ Some n) �
 no_fit None e k = absurd cc
 no_fit (Some n) e k = absurd cc
 
-fit_by : (node : Node) (v : Value) (text rest : List ℕ) (types : List Node) (more : List Token)
+fit_by : (third : Bool) (node : Node) (v : Value) (text rest : List ℕ) (types : List Node)
+    (more : List Token)
     (o : Option Number) → label_number node v ≡ o → AreTokens rest more
-    → ((k : Kind) → OfValueName k v)
+    → ((k : Kind) → OfValueName k third v)
     → Out {X = LabelRead} (λ rest. (label_number node v, rest))
-    (λ k. OfValueName k v × OfFit k node v) types more (fitting text rest o)
-fit_by node v text rest types more None e m keeps = search (arith, broken, no_fit)
-fit_by node v text rest types more (Some n) e m keeps = search (arith, good, fit_keeps)
+    (λ k. OfValueName k third v × OfFit k node v) types more (fitting text rest o)
+fit_by third node v text rest types more None e m keeps = search (arith, broken, no_fit)
+fit_by third node v text rest types more (Some n) e m keeps = search (arith, good, fit_keeps)
 
-number_reads : (node : Node) (v : Value) (text : List ℕ) (types : List Node) (more : List Token)
-    → OfValueName kinds.Syntax v → AreTokens text (spell_value v more)
-    → Out (λ rest. (label_number node v, rest)) (λ k. OfValueName k v × OfFit k node v) types more
-    (number_of_value node text)
+number_reads : (third : Bool) (node : Node) (v : Value) (text : List ℕ) (types : List Node)
+    (more : List Token)
+    → OfValueName kinds.Syntax third v → AreTokens text (spell_value v more)
+    → Out (λ rest. (label_number node v, rest))
+    (λ k. OfValueName k third v × OfFit k node v) types more
+    (number_of_value third node text)
 unfolding number_of_value
-number_reads node v text types more free h =
-    out_bind (value_at text) (λ x. fitting text x.1 (label_number node x.0))
-    (value_reads v text types more free h)
-    (λ rest m keeps. fit_by node v text rest types more (label_number node v) refl m keeps)
+number_reads third node v text types more free h =
+    out_bind (value_at third text) (λ x. fitting text x.1 (label_number node x.0))
+    (value_reads third v text types more free h)
+    (λ rest m keeps. fit_by third node v text rest types more (label_number node v) refl m keeps)
     (λ k w. w.0) within_same
 
 -- ---- a label
@@ -161,30 +167,33 @@ pub label_above : (l : Label) (text : List ℕ) (more : List Token)
 label_above Default text more h = tt
 label_above (Of v) text more h = search (arith, value_above)
 
-pub label_kept : (node : Node) (l : Label) → IsAboveLabel l
-    → OfLabelValue kinds.Label node l → IsKept node l
-label_kept node Default above fit = tt
-label_kept node (Of v) above fit = search (arith)
+pub label_kept : (third : Bool) (node : Node) (l : Label) → IsAboveLabel l
+    → OfLabelValue kinds.Label third node l → IsKept node l
+label_kept third node Default above fit = tt
+label_kept third node (Of v) above fit = search (arith)
 
-label_reads : (node : Node) (seen : List Label) (l : Label) (text : List ℕ) (types : List Node)
-    (more : List Token) → AllByRecursion (IsKept node) seen → OfLabel kinds.Syntax node seen l
+label_reads : (third : Bool) (node : Node) (seen : List Label) (l : Label) (text : List ℕ)
+    (types : List Node)
+    (more : List Token) → AllByRecursion (IsKept node) seen → OfLabel kinds.Syntax third node seen l
     → AreTokens text (spell_label l more)
-    → Out {X = LabelRead} (λ rest. (mark_of node l, rest)) (λ k. OfLabel k node seen l) types more
-    (label_at node (marks_of node seen) text)
+    → Out {X = LabelRead} (λ rest. (mark_of node l, rest))
+    (λ k. OfLabel k third node seen l) types more
+    (label_at third node (marks_of node seen) text)
 unfolding label_at
-label_reads node seen Default text types more all free h =
+label_reads third node seen Default text types more all free h =
     rw (
       not_case text (mark marks.Colon ∷ more) h,
       keyword_again (codes "default") text (mark marks.Colon ∷ more) h,
     )
     (out_more (fresh_reads node seen Default text h.0 types more tt all h.2) (λ k w. (tt, w))
     (λ k w. w.1))
-label_reads node seen (Of v) text types more all free h =
+label_reads third node seen (Of v) text types more all free h =
     let tail = mark marks.Colon ∷ more in
     rw (keyword_if_again (codes "case") text (spell_value v tail) h)
-    (out_bind (number_of_value node h.0) (λ x. unseen_label (marks_of node seen) x.0 h.0 >>= λ m.
+    (out_bind (number_of_value third node h.0) (λ x. unseen_label
+    (marks_of node seen) x.0 h.0 >>= λ m.
     mark_at marks.Colon x.1 >>= λ r. Ok (m, r))
-    (number_reads node v h.0 types tail free.0.0 h.2)
+    (number_reads third node v h.0 types tail free.0.0 h.2)
     (λ rest m keeps.
     let fit = (keeps kinds.Label).1 in
     out_more (fresh_reads node seen (Of v) h.0 rest types more
@@ -202,10 +211,13 @@ no_label text w ts a b h = rw (
   if_other (is_the_word (codes "default")) text (word w) ts h b,
 ) refl
 
-not_label : (text w : List ℕ) (ts : List Token) → IsFree w → AreTokens text (word w ∷ ts)
+not_label : (third : Bool) (text w : List ℕ) (ts : List Token) → IsFree third w
+    → AreTokens text (word w ∷ ts)
     → begins_label text ≡ Ok false
 unfolding is_reserved
-not_label text w ts free h = search (arith, no_label, is_not)
+not_label third text w ts free h =
+    no_label text w ts (is_not third w (codes "case") free refl)
+    (is_not third w (codes "default") free refl) h
 
 no_base : (p : Primitive) (text : List ℕ) (ts : List Token)
     → AreTokens text (word (base_word p) ∷ ts) → begins_label text ≡ Ok false
@@ -229,7 +241,7 @@ unfolding OfType
 type_no_label (Base p) names text more free h = no_base p text more h
 type_no_label (Text o) names text more free h = search (arith, no_label)
 type_no_label Reference names text more free h = search (arith, no_label)
-type_no_label (Named w) names text more free h = not_label text w more free h
+type_no_label (Named w) names text more free h = not_label (is_third names) text w more free h
 type_no_label (SequenceOf e o) names text more free h = search (arith, no_label)
 type_no_label (EncapsulationOf e) names text more free h = search (arith, no_label)
 
@@ -307,66 +319,74 @@ labelled_end : (node : Node) (seen : List Label) (own : List Number) (default : 
     ≡ labelled node seen own default [] rest
 labelled_end node seen own default rest = search (arith, append-nil, or_false)
 
-step_on : (node : Node) (seen : List Label) (own : List Number) (default : Bool) (l : Label)
+step_on : (third : Bool) (node : Node) (seen : List Label) (own : List Number) (default : Bool)
+    (l : Label)
     (text : List ℕ) (types : List Node) (more : List Token) → AllByRecursion (IsKept node) seen
-    → OfLabel kinds.Syntax node seen l → AreTokens text (spell_label l more)
+    → OfLabel kinds.Syntax third node seen l → AreTokens text (spell_label l more)
     → Out {X = Bool × LabelsRead} (λ rest. (false, labelled node seen own default (l ∷ []) rest))
-    (λ k. OfLabel k node seen l) types more
-    (labels_step node (marks_of node seen, own, default, text))
+    (λ k. OfLabel k third node seen l) types more
+    (labels_step third node (marks_of node seen, own, default, text))
 unfolding labels_step
-step_on node seen own default l text types more all free h =
+step_on third node seen own default l text types more all free h =
     rw (label_begins l text more h)
-    (out_bind (label_at node (marks_of node seen) text)
+    (out_bind (label_at third node (marks_of node seen) text)
     (λ x. Ok (false, with_label (marks_of node seen, own, default, text) x))
-    (label_reads node seen l text types more all free h)
+    (label_reads third node seen l text types more all free h)
     (λ rest m keeps.
-    let kept = label_kept node l (label_above l text more h) (keeps kinds.Label).0 in
+    let kept = label_kept third node l (label_above l text more h) (keeps kinds.Label).0 in
     subst (λ (y : LabelsRead). Out {X = Bool × LabelsRead}
-    (λ rest. (false, labelled node seen own default (l ∷ []) rest)) (λ k. OfLabel k node seen l)
+    (λ rest. (false, labelled node seen own default (l ∷ []) rest))
+    (λ k. OfLabel k third node seen l)
     types more (Ok (false, y)))
     (sym (with_one node seen own default text rest l kept)) (good rest m keeps))
     (λ k w. w) within_same)
 
-step_end : (node : Node) (ls : LabelsRead) → begins_label ls.3 ≡ Ok false
-    → labels_step node ls ≡ Ok (true, ls)
+step_end : (third : Bool) (node : Node) (ls : LabelsRead) → begins_label ls.3 ≡ Ok false
+    → labels_step third node ls ≡ Ok (true, ls)
 unfolding labels_step
-step_end node ls e = rw e refl
+step_end third node ls e = rw e refl
 
 pub all_push : {X : Type 0} (P : X → Type 0) (xs : List X) (x : X) → AllByRecursion P xs → P x
     → AllByRecursion P (xs ++ x ∷ [])
 all_push P [] x all p = (p, tt)
 all_push P (y ∷ ys) x all p = (all.0, all_push P ys x all.1 p)
 
-abbrev pub then_labels : Node → ℕ → Bool × LabelsRead → Result LabelsRead Refusal
-then_labels node left x = cond x.0 (Ok x.1) (in_steps (labels_step node) too_many_labels left x.1)
+abbrev pub then_labels : Bool → Node → ℕ → Bool × LabelsRead → Result LabelsRead Refusal
+then_labels third node left x =
+    cond x.0 (Ok x.1) (in_steps (labels_step third node) too_many_labels left x.1)
 
-labels_run : (ls : List Label) (left : ℕ) (node : Node) (seen : List Label) (own : List Number)
+labels_run : (third : Bool) (ls : List Label) (left : ℕ) (node : Node) (seen : List Label)
+    (own : List Number)
     (default : Bool) (text : List ℕ) (types : List Node) (more : List Token)
     → ((rest : List ℕ) → AreTokens rest more → begins_label rest ≡ Ok false)
     → AllByRecursion (IsKept node) seen → length seen ≤ 1024 → 1025 ≤ left + length seen
-    → OfLabels kinds.Syntax node seen ls → AreTokens text (spell_labels ls more)
-    → Out (labelled node seen own default ls) (λ k. OfLabels k node seen ls) types more
-    (in_steps (labels_step node) too_many_labels left (marks_of node seen, own, default, text))
+    → OfLabels kinds.Syntax third node seen ls → AreTokens text (spell_labels ls more)
+    → Out (labelled node seen own default ls) (λ k. OfLabels k third node seen ls) types more
+    (in_steps (labels_step third node) too_many_labels left
+    (marks_of node seen, own, default, text))
 unfolding in_steps OfLabels
-labels_run [] zero node seen own default text types more ended all few room free h =
+labels_run third [] zero node seen own default text types more ended all few room free h =
     absurd (omega arith)
-labels_run (l ∷ ls) zero node seen own default text types more ended all few room free h =
+labels_run third (l ∷ ls) zero node seen own default text types more ended all few room free h =
     absurd (omega arith)
-labels_run [] (suc left) node seen own default text types more ended all few room free h =
-    rw (step_end node (marks_of node seen, own, default, text) (ended text h))
+labels_run third [] (suc left) node seen own default text types more ended all few room free h =
+    rw (step_end third node (marks_of node seen, own, default, text) (ended text h))
     (subst (λ (y : LabelsRead). Out {X = LabelsRead} (labelled node seen own default [])
     (λ k. Unit {0}) types more (Ok y))
     (sym (labelled_end node seen own default text)) (good text h (λ k. tt)))
-labels_run (l ∷ ls) (suc left) node seen own default text types more ended all few room free h =
-    out_bind (labels_step node (marks_of node seen, own, default, text)) (then_labels node left)
-    (step_on node seen own default l text types (spell_labels ls more) all free.0 h)
+labels_run third (l ∷ ls) (suc left) node seen own default text types more ended all few room free
+    h =
+    out_bind (labels_step third node (marks_of node seen, own, default, text))
+    (then_labels third node left)
+    (step_on third node seen own default l text types (spell_labels ls more) all free.0 h)
     (λ rest m keeps.
-    let kept = label_kept node l (label_above l text (spell_labels ls more) h) (keeps kinds.Label).0
+    let kept = label_kept third node l (label_above l text (spell_labels ls more) h)
+    (keeps kinds.Label).0
     in
     let below = (keeps kinds.Limit).1 in
-    out_as (in_steps (labels_step node) too_many_labels left
+    out_as (in_steps (labels_step third node) too_many_labels left
     (labelled node seen own default (l ∷ []) rest))
-    (labels_run ls left node (seen ++ l ∷ []) (own ++ label_numbers node (l ∷ []))
+    (labels_run third ls left node (seen ++ l ∷ []) (own ++ label_numbers node (l ∷ []))
     (default || has_default (l ∷ [])) rest types more ended
     (all_push (IsKept node) seen l all kept) (omega (arith, length-append seen (l ∷ [])))
     (omega (arith, length-append seen (l ∷ []))) free.1 m)
@@ -374,15 +394,17 @@ labels_run (l ∷ ls) (suc left) node seen own default text types more ended all
     within_same)
     (λ k w. w.0) within_same
 
-pub labels_reads : (node : Node) (seen : List Label) (l : Label) (ls : List Label) (text : List ℕ)
+pub labels_reads : (third : Bool) (node : Node) (seen : List Label) (l : Label) (ls : List Label)
+    (text : List ℕ)
     (types : List Node) (more : List Token)
     → ((rest : List ℕ) → AreTokens rest more → begins_label rest ≡ Ok false)
     → AllByRecursion (IsKept node) seen → length seen ≤ 1024
-    → OfLabels kinds.Syntax node seen (l ∷ ls) → AreTokens text (spell_labels (l ∷ ls) more)
-    → Out (labelled node seen [] false (l ∷ ls)) (λ k. OfLabels k node seen (l ∷ ls)) types more
-    (labels_at node (marks_of node seen) text)
+    → OfLabels kinds.Syntax third node seen (l ∷ ls) → AreTokens text (spell_labels (l ∷ ls) more)
+    → Out (labelled node seen [] false (l ∷ ls))
+    (λ k. OfLabels k third node seen (l ∷ ls)) types more
+    (labels_at third node (marks_of node seen) text)
 unfolding labels_at
-labels_reads node seen l ls text types more ended all few free h =
+labels_reads third node seen l ls text types more ended all few free h =
     rw (label_begins l text (spell_labels ls more) h)
-    (labels_run (l ∷ ls) 1025 node seen [] false text types more ended all few (omega arith)
+    (labels_run third (l ∷ ls) 1025 node seen [] false text types more ended all few (omega arith)
     free h)

@@ -1,5 +1,5 @@
 -- After the labels of a case: each of them names a number, and is kept by it.
-use Rattle.std.proofs.Common.{ℕ, ◌≤◌, List, [], ◌∷◌, ◌++◌, length, append_assoc, arith}
+use Rattle.std.proofs.Common.{ℕ, ◌≤◌, Bool, List, [], ◌∷◌, ◌++◌, length, append_assoc, arith}
 use Rattle.std.specs.List.{AllByRecursion}
 use Rattle.std.proofs.lemmas.List.{length-append, append-nil}
 use Rattle.giop_tokens.specs.declared.fault.SigFaultKind.TheVariants as kinds
@@ -25,33 +25,35 @@ labels_above (l ∷ ls) text more h =
     let r = label_rest l text (spell_labels ls more) h in
     (label_above l text (spell_labels ls more) h, labels_above ls r.0 more r.1)
 
-all_kept : (node : Node) (ls seen : List Label) → AllByRecursion IsAboveLabel ls
-    → OfLabels kinds.Label node seen ls → AllByRecursion (IsKept node) seen
+all_kept : (third : Bool) (node : Node) (ls seen : List Label) → AllByRecursion IsAboveLabel ls
+    → OfLabels kinds.Label third node seen ls → AllByRecursion (IsKept node) seen
     → AllByRecursion (IsKept node) (seen ++ ls)
 unfolding OfLabels
-all_kept node [] seen above fit all = search (arith, append-nil)
-all_kept node (l ∷ ls) seen above fit all = search (
+all_kept third node [] seen above fit all = search (arith, append-nil)
+all_kept third node (l ∷ ls) seen above fit all = search (
   arith,
   append_assoc,
   all_push,
-  label_kept,
-  all_kept node ls (seen ++ l ∷ []) above.1 fit.1 (all_push (IsKept node) seen l all (label_kept
-      node l above.0 (fit.0).0)),
+  label_kept third,
+  all_kept third node ls (seen ++ l ∷ []) above.1 fit.1
+      (all_push (IsKept node) seen l all (label_kept
+      third node l above.0 (fit.0).0)),
 )
 
-pub labels_kept : (node : Node) (ls seen : List Label) (text : List ℕ) (more : List Token)
-    → AreTokens text (spell_labels ls more) → OfLabels kinds.Label node seen ls
+pub labels_kept : (third : Bool) (node : Node) (ls seen : List Label) (text : List ℕ)
+    (more : List Token)
+    → AreTokens text (spell_labels ls more) → OfLabels kinds.Label third node seen ls
     → AllByRecursion (IsKept node) seen → AllByRecursion (IsKept node) (seen ++ ls)
-labels_kept node ls seen text more h fit all = search (arith, all_kept, labels_above)
+labels_kept third node ls seen text more h fit all = search (arith, all_kept third, labels_above)
 
-pub labels_few : (node : Node) (ls seen : List Label) → length seen ≤ 1024
-    → OfLabels kinds.Limit node seen ls → length (seen ++ ls) ≤ 1024
+pub labels_few : (third : Bool) (node : Node) (ls seen : List Label) → length seen ≤ 1024
+    → OfLabels kinds.Limit third node seen ls → length (seen ++ ls) ≤ 1024
 unfolding OfLabels
-labels_few node [] seen few fit = search (arith, length-append)
-labels_few node (l ∷ ls) seen few fit = search (
+labels_few third node [] seen few fit = search (arith, length-append)
+labels_few third node (l ∷ ls) seen few fit = search (
   arith,
   append_assoc,
   length-append,
-  labels_few node
+  labels_few third node
       ls (seen ++ l ∷ []) (omega (arith, length-append seen (l ∷ []))) fit.1,
 )

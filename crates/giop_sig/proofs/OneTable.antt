@@ -5,7 +5,7 @@ use Rattle.giop_tokens.specs.declared.fault.Refusal.{Refusal}
 use Rattle.giop_tokens.specs.declared.fault.SigFaultKind.TheVariants as kinds
 use Rattle.giop_sig.specs.Grammar.{Declaration, SignatureFile}
 use Rattle.giop_sig.specs.Scopes.{Scope, first_scope, declare, scope_after, table}
-use Rattle.giop_sig.specs.Validity.{Kind, Each, IsValid, Spells}
+use Rattle.giop_sig.specs.Validity.{Kind, Each, IsValid, SpellsUpTo}
 use Rattle.giop_sig.specs.FileReading.{file_at}
 use Rattle.giop_sig.proofs.FileLaws.{BrokenIn, FileOut, file_reads}
 use Rattle.giop_sig.proofs.FileRules.{not_too_many}
@@ -26,7 +26,8 @@ each_at R s (e ∷ es) (b ∷ before) after d is each =
     (each_at R (declare s e) es before after d rest each.1)
 
 -- a declaration of a valid file breaks no rule
-not_broken : (k : Kind) (text : List ℕ) (file : SignatureFile) → Spells text file → IsValid file
+not_broken : {latest : ℕ} (k : Kind) (text : List ℕ) (file : SignatureFile)
+    → SpellsUpTo latest text file → IsValid file
     → BrokenIn k (first_scope file.version) file.declarations → ⊥
 not_broken kinds.Depth text file spells valid b = search (arith, each_at)
 not_broken kinds.UnknownType text file spells valid b = search (arith, each_at)
@@ -37,8 +38,8 @@ not_broken kinds.Limit text file spells valid b = search (arith, each_at, not_to
 not_broken _ text file spells valid b = b.breaks
 
 -- the table of a valid file that is read
-read_table : (text : List ℕ) (t : Scope) (file : SignatureFile) → Spells text file →
-    file_at text ≡ Ok t
+read_table : {latest : ℕ} (text : List ℕ) (t : Scope) (file : SignatureFile)
+    → SpellsUpTo latest text file → file_at latest text ≡ Ok t
     → t.table ≡ table file
 read_table text t file spells e =
     let out : FileOut (first_scope file.version) file.declarations (Ok t) =
@@ -46,8 +47,9 @@ read_table text t file spells e =
     (file_reads union_read text file spells) in
     ap (λ (x : Scope). x.table) out.0
 
-table_by : (text : List ℕ) (f g : SignatureFile) → Spells text f → IsValid f → Spells text g
-    → (r : Result Scope Refusal) → file_at text ≡ r → table f ≡ table g
+table_by : {latest : ℕ} (text : List ℕ) (f g : SignatureFile)
+    → SpellsUpTo latest text f → IsValid f → SpellsUpTo latest text g
+    → (r : Result Scope Refusal) → file_at latest text ≡ r → table f ≡ table g
 table_by text f g spells valid others (Ok t) e = search (arith, read_table)
 table_by text f g spells valid others (Err why) e =
     let broken : BrokenIn why.kind (first_scope f.version) f.declarations =
@@ -55,6 +57,7 @@ table_by text f g spells valid others (Err why) e =
     in
     absurd (not_broken why.kind text f spells valid broken)
 
-pub one_table : (text : List ℕ) (f g : SignatureFile) → Spells text f → IsValid f → Spells text g
+pub one_table : (latest : ℕ) (text : List ℕ) (f g : SignatureFile)
+    → SpellsUpTo latest text f → IsValid f → SpellsUpTo latest text g
     → table f ≡ table g
-one_table text f g spells valid others = search (arith, table_by)
+one_table latest text f g spells valid others = search (arith, table_by)

@@ -14,7 +14,7 @@ use Rattle.giop_tokens.specs.Readers.{word_at, mark_at}
 use Rattle.giop_tokens.specs.Names.{is_reserved}
 use Rattle.giop_tokens.proofs.ReaderLaws.{word_again, mark_again}
 use Rattle.giop_sig.specs.Grammar.{TypeExpr, Base, Text, Reference, Named, SequenceOf, EncapsulationOf, base_word, spell_bound, spell_most, spell_type}
-use Rattle.giop_sig.specs.Scopes.{Names, has_encapsulations, Scope, named, base_number, number_or, sequence_node, add_text_type, add_sequence_type, place}
+use Rattle.giop_sig.specs.Scopes.{Names, has_encapsulations, is_third, Scope, named, base_number, number_or, sequence_node, add_text_type, add_sequence_type, place}
 use Rattle.giop_sig.specs.Validity.{Kind, IsFree, OfTypeName, OfVersion, OfType}
 use Rattle.giop_sig.specs.Outcomes.{refused}
 use Rattle.giop_sig.specs.declared.read_types.Opener.TheVariants as openers
@@ -26,18 +26,19 @@ use Rattle.giop_sig.proofs.ReadingLaws.{Out, good, broken, out_bind, Apart}
 
 -- ---- the word of a type
 
-not_by : (w v : List ℕ) (b : Bool) → bytes_eq w v ≡ b → is_reserved w ≡ false
-    → is_reserved v ≡ true → bytes_eq w v ≡ false
-not_by w v true e free reserved = search (arith, false≢true, bytes_eq-Decides)
-not_by w v false e free reserved = e
+not_by : (third : Bool) (w v : List ℕ) (b : Bool) → bytes_eq w v ≡ b
+    → is_reserved third w ≡ false → is_reserved third v ≡ true → bytes_eq w v ≡ false
+not_by third w v true e free reserved = search (arith, false≢true, bytes_eq-Decides)
+not_by third w v false e free reserved = e
 
 -- a free name is no word that is reserved
-pub is_not : (w v : List ℕ) → is_reserved w ≡ false → is_reserved v ≡ true → bytes_eq w v ≡ false
-is_not w v free reserved = search (arith, not_by)
+pub is_not : (third : Bool) (w v : List ℕ) → is_reserved third w ≡ false
+    → is_reserved third v ≡ true → bytes_eq w v ≡ false
+is_not third w v free reserved = search (arith, not_by)
 
-no_base : (w : List ℕ) → is_reserved w ≡ false → base_of w ≡ None
+no_base : (third : Bool) (w : List ℕ) → is_reserved third w ≡ false → base_of w ≡ None
 unfolding is_reserved
-no_base w free = search (arith, is_not)
+no_base third w free = search (arith, is_not)
 
 base_word_of : (p : Primitive) → base_of (base_word p) ≡ Some (base_number p)
 base_word_of prims.Octet = refl
@@ -90,7 +91,7 @@ text_reads s o rest more apart h =
     (enclosed_reads s.table.types marks.OpenAngle marks.CloseAngle rest o more apart h)
     (λ r m keeps. good r m keeps) (λ k w. w) (text_more s o)
 
-named_keeps : (names : Names) (w : List ℕ) (i : ℕ) → IsFree w → length w ≤ 64
+named_keeps : (names : Names) (w : List ℕ) (i : ℕ) → IsFree (is_third names) w → length w ≤ 64
     → named names w ≡ Some i → (k : Kind) → OfTypeName k names w
 named_keeps names w i free short is kinds.Syntax = free
 named_keeps names w i free short is kinds.UnknownType = (i, is)
@@ -102,14 +103,14 @@ not_found : (names : Names) (w : List ℕ) → named names w ≡ None
 not_found names w e h = search (arith)
 
 found_reads : (s : Scope) (text w rest : List ℕ) (more : List Token) (o : Option ℕ)
-    → named s.names w ≡ o → IsFree w → length w ≤ 64 → AreTokens rest more
+    → named s.names w ≡ o → IsFree (is_third s.names) w → length w ≤ 64 → AreTokens rest more
     → Out {X = TypeRead} (λ rest. (s, number_or o, rest)) (λ k. OfTypeName k s.names w)
     s.table.types more (found_type s text rest o)
 found_reads s text w rest more None e free short m = search (arith, broken, not_found)
 found_reads s text w rest more (Some i) e free short m = search (arith, good, named_keeps)
 
 long_reads : (s : Scope) (text w rest : List ℕ) (more : List Token) (v : Bool)
-    → ltb 64 (length w) ≡ v → IsFree w → AreTokens rest more
+    → ltb 64 (length w) ≡ v → IsFree (is_third s.names) w → AreTokens rest more
     → Out {X = TypeRead} (λ rest. (s, number_or (named s.names w), rest))
     (λ k. OfTypeName k s.names w) s.table.types more
     (cond v (Err (refused kinds.Limit text)) (found_type s text rest (named s.names w)))
@@ -117,24 +118,26 @@ long_reads s text w rest more true e free m = search (arith, broken, ltb-true)
 long_reads s text w rest more false e free m = search (arith, found_reads, ltb-false)
 
 named_reads : (s : Scope) (text w rest : List ℕ) (more : List Token)
-    → IsFree w → AreTokens rest more
+    → IsFree (is_third s.names) w → AreTokens rest more
     → Out (placed s (Named w)) (λ k. OfType k s.names (Named w)) (place s (Named w)).0.table.types
     more (named_type s text w rest)
 unfolding named_type OfType place
 named_reads s text w rest more free m = search (arith, long_reads, ltb)
 
 name_reads : (left : ℕ) (s : Scope) (w text : List ℕ) (more : List Token)
-    → IsFree w → AreTokens text (word w ∷ more)
+    → IsFree (is_third s.names) w → AreTokens text (word w ∷ more)
     → Out (placed s (Named w)) (λ k. OfType k s.names (Named w))
     (place s (Named w)).0.table.types more (nested_at (suc left) s text)
 unfolding is_reserved
 name_reads left s w text more free h =
+    let third = is_third s.names in
     rw (
       leaf_first left s text w h.0 (word_again text w more h)
-          (is_not w (codes "sequence") free refl) (is_not w (codes "encapsulation") free refl),
-      no_base w free,
-      is_not w (codes "string") free refl,
-      is_not w (codes "Object") free refl,
+          (is_not third w (codes "sequence") free refl)
+          (is_not third w (codes "encapsulation") free refl),
+      no_base third w free,
+      is_not third w (codes "string") free refl,
+      is_not third w (codes "Object") free refl,
     ) (named_reads s text w h.0 more free h.2)
 
 -- what closes a sequence, after its element

@@ -25,7 +25,7 @@ use Rattle.giop_sig.specs.RequestList.{flat}
 use Rattle.giop_sig.specs.Grammar.{TypeExpr, Base, Text, Reference, Named, SequenceOf, EncapsulationOf, base_word, spell_most, spell_type}
 use Rattle.giop_sig.specs.declared.read_types.Opener.{Opener}
 use Rattle.giop_sig.specs.declared.read_types.Opener.TheVariants as openers
-use Rattle.giop_sig.specs.Scopes.{Names, has_encapsulations, Scope, AddedType, named, base_number, with_node, sequence_node, add_text_type, add_sequence_type, add_encapsulation_type}
+use Rattle.giop_sig.specs.Scopes.{Names, has_encapsulations, is_third, Scope, AddedType, named, base_number, with_node, sequence_node, add_text_type, add_sequence_type, add_encapsulation_type}
 use Rattle.giop_sig.specs.Validity.{OfType}
 use Rattle.giop_sig.specs.ScopeViews.{IsKnown, IsDeclaredName, IsScope}
 use Rattle.giop_sig.specs.Outcomes.{refused}
@@ -181,7 +181,7 @@ named_known types (e ∷ es) w k all h = found_known types es w k (bytes_eq w e.
     (named_known types es w k all.1) h
 
 found_by : (s : Scope) (text w rest : List ℕ) (x : TypeRead) (o : Option ℕ) → named s.names w ≡ o
-    → is_reserved w ≡ false → Takes text (word w) rest
+    → is_reserved (is_third s.names) w ≡ false → Takes text (word w) rest
     → found_type s text rest o ≡ Ok x → TakenType s text x
 unfolding OfType
 found_by s text w rest x None o free t e = absurd cc
@@ -194,7 +194,8 @@ found_by s text w rest x (Some n) o free t e =
           record { scope = is; known = named_known s.table.types s.names.known w n is.names o };
     })
 
-named_by : (s : Scope) (text w rest : List ℕ) (x : TypeRead) (a b : Bool) → is_reserved w ≡ a
+named_by : (s : Scope) (text w rest : List ℕ) (x : TypeRead) (a b : Bool)
+    → is_reserved (is_third s.names) w ≡ a
     → Takes text (word w) rest → cond a (Err (misplaced text))
     (cond b (Err (refused kinds.Limit text)) (found_type s text rest (named s.names w)))
     ≡ Ok x → TakenType s text x

@@ -12,8 +12,8 @@ use Rattle.giop_tokens.proofs.ReaderLaws.{mark_again, mark_if_again}
 use Rattle.giop_sig.specs.declared.types.Selected.{Selected}
 use Rattle.giop_sig.specs.Table.{Case, Node, node_at}
 use Rattle.giop_sig.specs.Grammar.{TypeExpr, Text, SequenceOf, EncapsulationOf, Item, Label, Default, Of, UnionCase, spell_length, spell_item, spell_labels, spell_cases}
-use Rattle.giop_sig.specs.Scopes.{Names, Scope, AddedType, has_default, labels_of, union_case, place, add_array, add_item}
-use Rattle.giop_sig.specs.Validity.{OfItem, OfLabels, OfCases}
+use Rattle.giop_sig.specs.Scopes.{Names, is_third, Scope, AddedType, has_default, labels_of, union_case, place, add_array, add_item}
+use Rattle.giop_sig.specs.Validity.{Kind, OfItem, OfLabels, OfCases}
 use Rattle.giop_sig.specs.ItemReading.{item_at}
 use Rattle.giop_sig.specs.Repeats.{in_steps}
 use Rattle.giop_sig.specs.UnionReading.{labels_at, Cases, chosen, with_case, CasesRead, case_at, cases_step, too_many_cases}
@@ -43,12 +43,13 @@ more_cases node s labels names cases otherwise c =
 case_reads : (switch : ℕ) (node : Node) (s : Scope) (labels : List Label) (names : List (List ℕ))
     (cases : List Case) (otherwise : Selected) (c : UnionCase) (text : List ℕ) (more : List Token)
     → node_at s.table switch ≡ node → AllByRecursion (IsKept node) labels
-    → length labels ≤ 1024 → OfLabels kinds.Syntax node labels (labels_of c)
+    → length labels ≤ 1024 → OfLabels kinds.Syntax (is_third s.names) node labels (labels_of c)
     → OfItem kinds.Syntax s.names 256 names c.item
     → AreTokens text (spell_labels (labels_of c) (spell_item c.item (mark marks.Semicolon ∷ more)))
     → Out {X = CasesRead} (λ rest.
     ((add_item s c.item).0, more_cases node s labels names cases otherwise c, rest))
-    (λ k. OfLabels k node labels (labels_of c) × OfItem k s.names 256 names c.item)
+    (λ k. OfLabels k (is_third s.names) node labels
+    (labels_of c) × OfItem k s.names 256 names c.item)
     (add_item s c.item).0.table.types more
     (case_at switch (s, kept_cases node labels names cases otherwise, text))
 unfolding case_at
@@ -56,10 +57,11 @@ case_reads switch node s labels names cases otherwise c text more same all few f
     let before = kept_cases node labels names cases otherwise in
     let tail = mark marks.Semicolon ∷ more in
     rw same
-    (out_bind (labels_at node (marks_of node labels) text)
+    (out_bind (labels_at (is_third s.names) node (marks_of node labels) text)
     (λ ls. item_at 256 names s ls.3 >>= λ i. mark_at marks.Semicolon i.2 >>= λ rest.
     Ok (i.0, with_case before ls i.1, rest))
-    (labels_reads node labels c.label c.others text s.table.types (spell_item c.item tail)
+    (labels_reads (is_third s.names) node labels c.label c.others text s.table.types
+    (spell_item c.item tail)
     (λ rest m. type_no_label c.item.type s.names rest
     (word c.item.name ∷ spell_length c.item.length tail) item.0 m) all few free h)
     (λ a ta ka.
@@ -144,12 +146,13 @@ case_step_reads : (switch : ℕ) (node : Node) (s : Scope) (labels : List Label)
     (names : List (List ℕ)) (cases : List Case) (otherwise : Selected) (c : UnionCase)
     (text : List ℕ) (more : List Token)
     → node_at s.table switch ≡ node → AllByRecursion (IsKept node) labels
-    → length labels ≤ 1024 → OfLabels kinds.Syntax node labels (labels_of c)
+    → length labels ≤ 1024 → OfLabels kinds.Syntax (is_third s.names) node labels (labels_of c)
     → OfItem kinds.Syntax s.names 256 names c.item
     → AreTokens text (spell_labels (labels_of c) (spell_item c.item (mark marks.Semicolon ∷ more)))
     → Out {X = Bool × CasesRead} (λ rest.
     (false, ((add_item s c.item).0, more_cases node s labels names cases otherwise c, rest)))
-    (λ k. OfLabels k node labels (labels_of c) × OfItem k s.names 256 names c.item)
+    (λ k. OfLabels k (is_third s.names) node labels
+    (labels_of c) × OfItem k s.names 256 names c.item)
     (add_item s c.item).0.table.types more
     (cases_step switch (s, kept_cases node labels names cases otherwise, text))
 case_step_reads switch node s labels names cases otherwise c text more same all few free
@@ -161,6 +164,11 @@ case_step_reads switch node s labels names cases otherwise c text more same all 
     (case_reads switch node s labels names cases otherwise c text more same all few free
     item h)
     (λ rest m keeps. good rest m keeps) (λ k w. w) within_same)
+
+-- what is asked of a case
+abbrev OfCase : Kind → Names → Node → List Label → List (List ℕ) → UnionCase → Type 0
+OfCase k known node labels names c =
+    OfLabels k (is_third known) node labels (labels_of c) × OfItem k known 256 names c.item
 
 pub cases_run : (cs : List UnionCase) (left switch : ℕ) (node : Node) (known : Names) (s : Scope)
     (labels : List Label) (names : List (List ℕ)) (cases : List Case) (otherwise : Selected)
@@ -194,11 +202,12 @@ cases_run (c ∷ cs) (suc left) switch node known s labels names cases otherwise
     let behind = made_cases node t (labels ++ labels_of c) (names ++ c.item.name ∷ [])
     (cases ++ union_case node c (add_item s c.item) ∷ [])
     (chosen otherwise (has_default (labels_of c)) (length names)) cs in
+    let own : OfCase kinds.Syntax s.names node labels names c =
+    subst (λ ns. OfCase kinds.Syntax ns node labels names c) (sym at-names) (free.0, free.1) in
     out_bind (cases_step switch (s, kept_cases node labels names cases otherwise, text))
     (then_cases switch left)
     (case_step_reads switch node s labels names cases otherwise c text tail same all few
-    free.0
-    (subst (λ ns. OfItem kinds.Syntax ns 256 names c.item) (sym at-names) free.1) h)
+    own.0 own.1 h)
     (λ rest m keeps.
     let limit = keeps kinds.Limit in
     let fewer = ((limit.1).1).1 in
@@ -208,14 +217,17 @@ cases_run (c ∷ cs) (suc left) switch node known s labels names cases otherwise
     (chosen otherwise (has_default (labels_of c)) (length names)) rest more
     (item_names s c.item ∙ at-names) (omega (arith, (item_more s c.item).longer))
     (node_stays s t switch (item_grows s c.item) below ∙ same)
-    (labels_kept node (labels_of c) labels text (spell_item c.item (mark marks.Semicolon ∷ tail)) h
+    (labels_kept (is_third s.names) node (labels_of c) labels text
+    (spell_item c.item (mark marks.Semicolon ∷ tail)) h
     (keeps kinds.Label).0 all)
-    (labels_few node (labels_of c) labels few limit.0)
+    (labels_few (is_third s.names) node (labels_of c) labels few limit.0)
     (omega (arith, length-append names (c.item.name ∷ [])))
     (omega (arith, length-append names (c.item.name ∷ []))) free.2 m)
-    (λ k w. ((keeps k).0, subst (λ ns. OfItem k ns 256 names c.item) at-names (keeps k).1, w))
+    (λ k w.
+    let both = subst (λ ns. OfCase k ns node labels names c) at-names (keeps k) in
+    (both.0, both.1, w))
     (λ k w. w.2))
-    (λ k w. (w.0, subst (λ ns. OfItem k ns 256 names c.item) (sym at-names) w.1))
+    (λ k w. subst (λ ns. OfCase k ns node labels names c) (sym at-names) (w.0, w.1))
     (made_more node t (labels ++ labels_of c) (names ++ c.item.name ∷ [])
     (cases ++ union_case node c (add_item s c.item) ∷ [])
     (chosen otherwise (has_default (labels_of c)) (length names)) cs)

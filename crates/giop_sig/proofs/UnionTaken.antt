@@ -19,7 +19,7 @@ use Rattle.giop_sig.specs.declared.types.Selected.{Selected}
 use Rattle.giop_sig.specs.declared.types.Selected.TheVariants as selecteds
 use Rattle.giop_sig.specs.Table.{Case, Node, IsPart, IsCaseBelow}
 use Rattle.giop_sig.specs.Grammar.{Value, Truth, Enumerator, Label, Default, Of, UnionCase, spell_item, spell_value, spell_label, spell_labels, spell_cases}
-use Rattle.giop_sig.specs.Scopes.{Scope, labels_of}
+use Rattle.giop_sig.specs.Scopes.{is_third, Scope, labels_of}
 use Rattle.giop_sig.specs.Validity.{OfItem, OfValueName, OfLabel, OfLabels, OfCases}
 use Rattle.giop_sig.specs.ScopeViews.{IsScope}
 use Rattle.giop_sig.specs.Outcomes.{refused}
@@ -33,61 +33,65 @@ use Rattle.giop_sig.proofs.UnionLaws.{then_cases}
 
 -- ---- labels
 
-record TakenValue (text : List ℕ) (x : Value × List ℕ) : Type 0 where
-  free : OfValueName kinds.Syntax x.0
+record TakenValue (third : Bool) (text : List ℕ) (x : Value × List ℕ) : Type 0 where
+  free : OfValueName kinds.Syntax third x.0
   front : (more : List Token) → AreTokens x.1 more → AreTokens text (spell_value x.0 more)
 
-word_taken : (text w rest : List ℕ) (x : Value × List ℕ) (a b c d : Bool)
-    → bytes_eq w (codes "true") ≡ a → bytes_eq w (codes "false") ≡ b → is_reserved w ≡ c
+word_taken : {third : Bool} (text w rest : List ℕ) (x : Value × List ℕ) (a b c d : Bool)
+    → bytes_eq w (codes "true") ≡ a → bytes_eq w (codes "false") ≡ b → is_reserved third w ≡ c
     → next text ≡ Ok (Some (word w), rest)
     → cond a (Ok (Truth true, rest))
     (cond b (Ok (Truth false, rest))
     (cond c (Err (misplaced text))
-    (cond d (Err (refused kinds.Limit text)) (Ok (Enumerator w, rest))))) ≡ Ok x → TakenValue text x
+    (cond d (Err (refused kinds.Limit text)) (Ok
+    (Enumerator w, rest))))) ≡ Ok x → TakenValue third text x
 word_taken text w rest x true b c d p q r h e = search (arith, bytes_eq-Decides, ok_is)
 word_taken text w rest x false true c d p q r h e = search (arith, bytes_eq-Decides, ok_is)
 word_taken text w rest x false false true d p q r h e = absurd cc
 word_taken text w rest x false false false true p q r h e = absurd cc
 word_taken text w rest x false false false false p q r h e = search (arith, ok_is)
 
-token_taken : (text : List ℕ) (t : Option Token) (rest : List ℕ) (x : Value × List ℕ)
-    → next text ≡ Ok (t, rest) → token_value text t rest ≡ Ok x → TakenValue text x
+token_taken : {third : Bool} (text : List ℕ) (t : Option Token) (rest : List ℕ) (x : Value × List ℕ)
+    → next text ≡ Ok (t, rest) → token_value third text t rest ≡ Ok x → TakenValue third text x
 token_taken text (Some (word w)) rest x h e = search (arith, word_taken, ltb)
 token_taken text (Some (number n)) rest x h e = search (arith, ok_is)
 token_taken text (Some (negative n)) rest x h e = search (arith, ok_is)
 token_taken text _ rest x h e = absurd cc
 
-value_taken : (text : List ℕ) (x : Value × List ℕ) → value_at text ≡ Ok x → TakenValue text x
+value_taken : {third : Bool} (text : List ℕ) (x : Value × List ℕ) → value_at third text ≡ Ok x
+    → TakenValue third text x
 unfolding value_at
 value_taken text x e = search (arith, bind_ok, token_taken)
 
 -- a value, and what follows it
-record TakenNumber (text rest : List ℕ) : Type 0 where
+record TakenNumber (third : Bool) (text rest : List ℕ) : Type 0 where
   value : Value
-  taken : TakenValue text (value, rest)
+  taken : TakenValue third text (value, rest)
 
-fitting_by : (text : List ℕ) (v : Value × List ℕ) (o : Option Number) (x : LabelRead)
-    → TakenValue text v → fitting text v.1 o ≡ Ok x → TakenNumber text x.1
+fitting_by : {third : Bool} (text : List ℕ) (v : Value × List ℕ) (o : Option Number) (x : LabelRead)
+    → TakenValue third text v → fitting text v.1 o ≡ Ok x → TakenNumber third text x.1
 fitting_by text v None x t e = absurd cc
 fitting_by text v (Some n) x t e = search (arith, ok_is)
 
-number_taken : (node : Node) (text : List ℕ) (x : LabelRead)
-    → number_of_value node text ≡ Ok x → TakenNumber text x.1
+number_taken : {third : Bool} (node : Node) (text : List ℕ) (x : LabelRead)
+    → number_of_value third node text ≡ Ok x → TakenNumber third text x.1
 unfolding number_of_value
 number_taken node text x e = search (arith, bind_ok, fitting_by, value_taken)
 
-record TakenLabel (text rest : List ℕ) : Type 0 where
+record TakenLabel (third : Bool) (text rest : List ℕ) : Type 0 where
   label : Label
-  free : (node : Node) (seen : List Label) → OfLabel kinds.Syntax node seen label
+  free : (node : Node) (seen : List Label) → OfLabel kinds.Syntax third node seen label
   front : (more : List Token) → AreTokens rest more → AreTokens text (spell_label label more)
 
-label_rest_is : (text : List ℕ) (m : Mark) (rest : List ℕ) (x : LabelRead) → (m, rest) ≡ x
-    → TakenLabel text rest → TakenLabel text x.1
+label_rest_is : {third : Bool} (text : List ℕ) (m : Mark) (rest : List ℕ) (x : LabelRead)
+    → (m, rest) ≡ x
+    → TakenLabel third text rest → TakenLabel third text x.1
 label_rest_is text m rest x e t = search (arith)
 
-label_taken_by : (node : Node) (seen : List Mark) (text : List ℕ) (o : Option (List ℕ))
+label_taken_by : {third : Bool} (node : Node) (seen : List Mark) (text : List ℕ)
+    (o : Option (List ℕ))
     (x : LabelRead) → keyword_if (codes "case") text ≡ Ok o
-    → label_by node seen text o ≡ Ok x → TakenLabel text x.1
+    → label_by third node seen text o ≡ Ok x → TakenLabel third text x.1
 label_taken_by node seen text (Some inner) x h e =
     let v = bind_ok {A = LabelRead} _ _ x e in
     let m = bind_ok (unseen_label seen (v.0).0 inner)
@@ -113,16 +117,16 @@ label_taken_by node seen text None x h e =
           (mark_takes marks.Colon w.0 r.0 r.1 more k);
     })
 
-label_taken : (node : Node) (seen : List Mark) (text : List ℕ) (x : LabelRead)
-    → label_at node seen text ≡ Ok x → TakenLabel text x.1
+label_taken : {third : Bool} (node : Node) (seen : List Mark) (text : List ℕ) (x : LabelRead)
+    → label_at third node seen text ≡ Ok x → TakenLabel third text x.1
 unfolding label_at
 label_taken node seen text x e = search (arith, bind_ok, label_taken_by)
 
 -- ---- the labels of a case
 
-record TakenLabels (text rest : List ℕ) : Type 0 where
+record TakenLabels (third : Bool) (text rest : List ℕ) : Type 0 where
   labels : List Label
-  free : (node : Node) (seen : List Label) → OfLabels kinds.Syntax node seen labels
+  free : (node : Node) (seen : List Label) → OfLabels kinds.Syntax third node seen labels
   front : (more : List Token) → AreTokens rest more → AreTokens text (spell_labels labels more)
   some : begins_label text ≡ Ok true → (l : Label) × (ls : List Label) × (labels ≡ l ∷ ls)
 
@@ -133,7 +137,8 @@ with_label_rest ls (Some n) rest = refl
 not_both : (text : List ℕ) → begins_label text ≡ Ok false → begins_label text ≡ Ok true → ⊥
 not_both text e f = search (arith, ok_is)
 
-no_labels : (text : List ℕ) → begins_label text ≡ Ok false → TakenLabels text text
+no_labels : {third : Bool} (text : List ℕ) → begins_label text ≡ Ok false
+    → TakenLabels third text text
 unfolding OfLabels
 no_labels text h = record {
   labels = [];
@@ -143,8 +148,8 @@ no_labels text h = record {
       λ b. absurd (not_both text h b);
 }
 
-one_label : (text middle rest : List ℕ) → TakenLabel text middle
-    → TakenLabels middle rest → TakenLabels text rest
+one_label : {third : Bool} (text middle rest : List ℕ) → TakenLabel third text middle
+    → TakenLabels third middle rest → TakenLabels third text rest
 unfolding OfLabels
 one_label text middle rest l ls = record {
   labels = l.label ∷ ls.labels;
@@ -153,48 +158,51 @@ one_label text middle rest l ls = record {
   some = λ b. (l.label, ls.labels, refl);
 }
 
-labels_taken_by : (node : Node) (left : ℕ) (ls : LabelsRead) (b : Bool) (s : Bool × LabelsRead)
+labels_taken_by : {third : Bool} (node : Node) (left : ℕ) (ls : LabelsRead) (b : Bool)
+    (s : Bool × LabelsRead)
     (x : LabelsRead) → ((ls x : LabelsRead)
-    → in_steps (labels_step node) too_many_labels left ls ≡ Ok x → TakenLabels ls.3 x.3)
-    → begins_label ls.3 ≡ Ok b → label_or_end node ls b ≡ Ok s
-    → then_labels node left s ≡ Ok x → TakenLabels ls.3 x.3
-labels_taken_by node left ls false s x on h e f = search (arith, then_labels, ok_is, no_labels)
-labels_taken_by node left ls true s x on h e f =
-    let l = bind_ok (label_at node ls.0 ls.3) (λ l. Ok (false, with_label ls l)) s e in
+    → in_steps (labels_step third node) too_many_labels left ls ≡ Ok x → TakenLabels third ls.3 x.3)
+    → begins_label ls.3 ≡ Ok b → label_or_end third node ls b ≡ Ok s
+    → then_labels third node left s ≡ Ok x → TakenLabels third ls.3 x.3
+labels_taken_by {third = third} node left ls false s x on h e f =
+    search (arith, then_labels, ok_is, no_labels)
+labels_taken_by {third = third} node left ls true s x on h e f =
+    let l = bind_ok (label_at third node ls.0 ls.3) (λ l. Ok (false, with_label ls l)) s e in
     let next = with_label ls l.0 in
-    let run : in_steps (labels_step node) too_many_labels left next ≡ Ok x =
-    ap (then_labels node left) (ok_is (false, next) s l.2) ∙ f in
+    let run : in_steps (labels_step third node) too_many_labels left next ≡ Ok x =
+    ap (then_labels third node left) (ok_is (false, next) s l.2) ∙ f in
     one_label ls.3 (l.0).1 x.3 (label_taken node ls.0 ls.3 l.0 l.1)
-    (subst (λ t. TakenLabels t x.3) (with_label_rest ls (l.0).0 (l.0).1) (on next x run))
+    (subst (λ t. TakenLabels third t x.3) (with_label_rest ls (l.0).0 (l.0).1) (on next x run))
 
-labels_run_taken : (node : Node) (left : ℕ) (ls x : LabelsRead)
-    → in_steps (labels_step node) too_many_labels left ls ≡ Ok x → TakenLabels ls.3 x.3
+labels_run_taken : {third : Bool} (node : Node) (left : ℕ) (ls x : LabelsRead)
+    → in_steps (labels_step third node) too_many_labels left ls ≡ Ok x → TakenLabels third ls.3 x.3
 unfolding in_steps labels_step
-labels_run_taken node zero ls x e = absurd cc
-labels_run_taken node (suc left) ls x e =
-    let s = bind_ok (labels_step node ls) (then_labels node left) x e in
-    let b = bind_ok (begins_label ls.3) (label_or_end node ls) s.0 s.1 in
+labels_run_taken {third = third} node zero ls x e = absurd cc
+labels_run_taken {third = third} node (suc left) ls x e =
+    let s = bind_ok (labels_step third node ls) (then_labels third node left) x e in
+    let b = bind_ok (begins_label ls.3) (label_or_end third node ls) s.0 s.1 in
     labels_taken_by node left ls b.0 s.0 x (labels_run_taken node left) b.1 b.2 s.2
 
 -- the labels of a case, one at least
-record TakenSome (text rest : List ℕ) : Type 0 where
+record TakenSome (third : Bool) (text rest : List ℕ) : Type 0 where
   first : Label
   others : List Label
-  free : (node : Node) (seen : List Label) → OfLabels kinds.Syntax node seen (first ∷ others)
+  free : (node : Node) (seen : List Label) → OfLabels kinds.Syntax third node seen (first ∷ others)
   front : (more : List Token) → AreTokens rest more
       → AreTokens text (spell_labels (first ∷ others) more)
 
-some_labels : (text rest : List ℕ) → begins_label text ≡ Ok true
-    → TakenLabels text rest → TakenSome text rest
+some_labels : {third : Bool} (text rest : List ℕ) → begins_label text ≡ Ok true
+    → TakenLabels third text rest → TakenSome third text rest
 some_labels text rest h t = search (arith)
 
-labels_taken_or : (node : Node) (seen : List Mark) (text : List ℕ) (b : Bool) (x : LabelsRead)
-    → begins_label text ≡ Ok b → labels_by node seen text b ≡ Ok x → TakenSome text x.3
+labels_taken_or : {third : Bool} (node : Node) (seen : List Mark) (text : List ℕ) (b : Bool)
+    (x : LabelsRead)
+    → begins_label text ≡ Ok b → labels_by third node seen text b ≡ Ok x → TakenSome third text x.3
 labels_taken_or node seen text false x h e = absurd cc
 labels_taken_or node seen text true x h e = search (arith, some_labels, labels_run_taken)
 
-labels_taken : (node : Node) (seen : List Mark) (text : List ℕ) (x : LabelsRead)
-    → labels_at node seen text ≡ Ok x → TakenSome text x.3
+labels_taken : {third : Bool} (node : Node) (seen : List Mark) (text : List ℕ) (x : LabelsRead)
+    → labels_at third node seen text ≡ Ok x → TakenSome third text x.3
 unfolding labels_at
 labels_taken node seen text x e = search (arith, bind_ok, labels_taken_or)
 
@@ -246,7 +254,8 @@ case_sound s cs ls i t is sound =
 record TakenCase (x y : CasesRead) : Type 0 where
   case : UnionCase
   named : (y.1).names ≡ (x.1).names ++ case.item.name ∷ []
-  free : (node : Node) (seen : List Label) → OfLabels kinds.Syntax node seen (labels_of case)
+  free : (node : Node) (seen : List Label)
+      → OfLabels kinds.Syntax (is_third (x.0).names) node seen (labels_of case)
   item : OfItem kinds.Syntax (x.0).names 256 (x.1).names case.item
   front : (more : List Token) → AreTokens y.2 more
       → AreTokens x.2 (spell_labels (labels_of case)
@@ -254,7 +263,8 @@ record TakenCase (x y : CasesRead) : Type 0 where
   grows : Grows x.0 y.0
   sound : IsScope x.0 → SoundCases x.0 x.1 → IsScope y.0 × SoundCases y.0 y.1
 
-case_made : (x : CasesRead) (ls : LabelsRead) (i : ItemRead) (rest : List ℕ) → TakenSome x.2 ls.3
+case_made : (x : CasesRead) (ls : LabelsRead) (i : ItemRead) (rest : List ℕ)
+    → TakenSome (is_third (x.0).names) x.2 ls.3
     → TakenItem x.0 256 (x.1).names ls.3 i → mark_at marks.Semicolon i.2 ≡ Ok rest
     → TakenCase x (i.0, with_case x.1 ls i.1, rest)
 case_made x ls i rest t u e = record {

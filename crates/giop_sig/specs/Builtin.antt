@@ -201,4 +201,10 @@ builtin_types =
 
 -- the catalogue of no declarations
 abbrev pub builtin_table : Table
-builtin_table = record { types = builtin_types; operations = []; exceptions = []; declared = 0 }
+builtin_table = record {
+  version = 1;
+  types = builtin_types;
+  operations = [];
+  exceptions = [];
+  declared = 0;
+}

@@ -11,10 +11,11 @@ operation_view e = record { name = e.0.items; request = e.1.request.0; reply = e
 abbrev pub exception_view : ArrayVec ℕ × TypeId → Exception
 exception_view e = record { repository = e.0.items; members = e.1.0 }
 
-abbrev pub table_view : List Node → List (ArrayVec ℕ × Signature)
+abbrev pub table_view : ℕ → List Node → List (ArrayVec ℕ × Signature)
     → List (ArrayVec ℕ × TypeId) → ℕ → Table
-table_view types operations exceptions declared =
+table_view version types operations exceptions declared =
     record {
+      version = version;
       types = types;
       operations = map operation_view operations;
       exceptions = map exception_view exceptions;

@@ -7,7 +7,7 @@ use Rattle.giop_tokens.specs.Tokens.{left_of}
 use Rattle.giop_tokens.specs.Reading.{◌>>=◌}
 use Rattle.giop_tokens.specs.Readers.{mark_at, mark_if}
 use Rattle.giop_sig.specs.Table as nodes
-use Rattle.giop_sig.specs.Scopes.{Scope}
+use Rattle.giop_sig.specs.Scopes.{is_third, Scope}
 use Rattle.giop_sig.specs.Outcomes.{refused}
 use Rattle.giop_sig.specs.ItemReading.{new_name_at, declared_at, filled_at, Declared, type_end_at}
 use Rattle.giop_sig.specs.Repeats.{in_steps}
@@ -17,9 +17,9 @@ abbrev pub NamesRead : Type 0
 NamesRead = List (List ℕ) × List ℕ
 
 -- an enumerator after others
-unfoldable pub enumerator_at : List (List ℕ) → List ℕ → Result NamesRead Refusal
-enumerator_at seen text = do
-  w ← new_name_at 1024 seen text
+unfoldable pub enumerator_at : Bool → List (List ℕ) → List ℕ → Result NamesRead Refusal
+enumerator_at third seen text = do
+  w ← new_name_at third 1024 seen text
   Ok (seen ++ w.0 ∷ [], w.1)
 
 -- a comma, after which another enumerator comes, or the closing mark
@@ -30,9 +30,9 @@ names_end names None = do
   Ok (true, (names.0, rest))
 
 -- an enumerator, and the mark after it
-unfoldable pub names_step : NamesRead → Result (Bool × NamesRead) Refusal
-names_step seen = do
-  names ← enumerator_at seen.0 seen.1
+unfoldable pub names_step : Bool → NamesRead → Result (Bool × NamesRead) Refusal
+names_step third seen = do
+  names ← enumerator_at third seen.0 seen.1
   comma ← mark_if marks.Comma names.1
   names_end names comma
 
@@ -40,15 +40,15 @@ abbrev pub too_many_names : NamesRead → Refusal
 too_many_names names = refused kinds.Limit names.1
 
 -- the enumerators of an enum, after its opening mark
-unfoldable pub names_at : List ℕ → Result NamesRead Refusal
-names_at text = do
+unfoldable pub names_at : Bool → List ℕ → Result NamesRead Refusal
+names_at third text = do
   some ← filled_at text
-  in_steps names_step too_many_names 1025 ([], some)
+  in_steps (names_step third) too_many_names 1025 ([], some)
 
 -- an enum, after its word
 unfoldable pub enumeration_at : Scope → List ℕ → Result Declared Refusal
 enumeration_at s text = do
   n ← declared_at s s.table.declared text
   o ← mark_at marks.OpenBrace n.1
-  names ← names_at o
+  names ← names_at (is_third s.names) o
   type_end_at (left_of text) n.0 s (nodes.enumeration names.0) names.1

@@ -46,23 +46,24 @@ declarations_step d = do
 abbrev pub misplaced_after : Declared → Refusal
 misplaced_after d = misplaced d.1
 
--- the version of the format, a number
-unfoldable pub version_at : List ℕ → Result (ℕ × List ℕ) Refusal
-version_at text = do
+-- the version of the format, a number up to the latest that is read
+unfoldable pub version_at : ℕ → List ℕ → Result (ℕ × List ℕ) Refusal
+version_at latest text = do
   n ← number_at text
-  if is_version n.0 then Ok (n.0, n.1) else Err (misplaced text)
+  if is_version latest n.0 then Ok (n.0, n.1) else Err (misplaced text)
 
 -- what comes before the declarations
-unfoldable pub head_at : List ℕ → Result (ℕ × List ℕ) Refusal
-head_at text = do
+unfoldable pub head_at : ℕ → List ℕ → Result (ℕ × List ℕ) Refusal
+head_at latest text = do
   k ← keyword_at (codes "signatures") text
-  v ← version_at k
+  v ← version_at latest k
   r ← mark_at marks.Semicolon v.1
   Ok (v.0, r)
 
-unfoldable pub file_at : List ℕ → Result Scope Refusal
-file_at text = do
-  h ← head_at text
+-- what a file declares, of a version up to the latest that is read
+unfoldable pub file_at : ℕ → List ℕ → Result Scope Refusal
+file_at latest text = do
+  h ← head_at latest text
   d ← in_steps declarations_step misplaced_after (length text) (first_scope h.0, h.1)
   Ok d.0
 
@@ -70,7 +71,12 @@ file_at text = do
 abbrev pub text_too_long : SigFault
 text_too_long = record { line = 1; kind = kinds.Limit }
 
--- the first refusal of reading from the front, and its place; memory may be refused at any time
+-- the first refusal of reading a file of a version up to one from the front, and its place; memory
+-- may be refused at any time
+abbrev pub IsFirstRefusalUpTo : ℕ → List ℕ → SigFault → Type 0
+IsFirstRefusalUpTo latest text f =
+    (f ≡ no_memory) ⊎ ((r : Refusal) × (file_at latest text ≡ Err r) × (f ≡ fault_of text r))
+
+-- the first refusal of reading a file of version 1 or 2
 abbrev pub IsFirstRefusal : List ℕ → SigFault → Type 0
-IsFirstRefusal text f =
-    (f ≡ no_memory) ⊎ ((r : Refusal) × (file_at text ≡ Err r) × (f ≡ fault_of text r))
+IsFirstRefusal text f = IsFirstRefusalUpTo 2 text f

@@ -1,6 +1,6 @@
 -- Signature files: what a file and its declarations are, and the tokens that spell it
 -- (docs/FORMATS.md, Signature file; meaning). Each spelling is written in front of what follows it.
-use Rattle.std.specs.Prelude.{ℕ, ◌==◌, ◌||◌, Bool, true, false, List, [], ◌∷◌, Option, Some, None, codes}
+use Rattle.std.specs.Prelude.{ℕ, ◌&&◌, nat_le, Bool, true, false, List, [], ◌∷◌, Option, Some, None, codes}
 use Rattle.giop_cdr.specs.declared.prim.Primitive.{Primitive}
 use Rattle.giop_cdr.specs.declared.prim.Primitive.TheVariants as prims
 use Rattle.giop_tokens.specs.declared.marks.Mark.{Mark}
@@ -204,9 +204,9 @@ pub record SignatureFile : Type 0 where
   pub version : ℕ
   pub declarations : List Declaration
 
--- the versions of the format
-abbrev pub is_version : ℕ → Bool
-is_version n = (n == 1) || (n == 2)
+-- the versions of the format up to one
+abbrev pub is_version : ℕ → ℕ → Bool
+is_version latest n = nat_le 1 n && nat_le n latest
 
 -- the whole file, its version first
 abbrev pub spell_file : SignatureFile → List Token

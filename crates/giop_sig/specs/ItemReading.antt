@@ -13,7 +13,7 @@ use Rattle.giop_tokens.specs.Names.{identifier_at}
 use Rattle.giop_sig.specs.Table.{Node, Part, exception_in}
 use Rattle.giop_sig.specs.Table as nodes
 use Rattle.giop_sig.specs.Trees.{depth_of}
-use Rattle.giop_sig.specs.Scopes.{Scope, AddedType, add_array, part, with_node, with_named, with_raised}
+use Rattle.giop_sig.specs.Scopes.{is_third, Scope, AddedType, add_array, part, with_node, with_named, with_raised}
 use Rattle.giop_sig.specs.Validity.{is_among}
 use Rattle.giop_sig.specs.Outcomes.{refused}
 use Rattle.giop_sig.specs.TypeReading.{enclosed_at, type_at}
@@ -22,16 +22,17 @@ use Rattle.giop_sig.specs.Repeats.{in_steps}
 -- ---- names
 
 -- a name after those of its list, which may have so many
-unfoldable pub new_name_at : ℕ → List (List ℕ) → List ℕ → Result (List ℕ × List ℕ) Refusal
-new_name_at most seen text = do
-  n ← identifier_at text
+unfoldable pub new_name_at : Bool → ℕ → List (List ℕ) → List ℕ
+    → Result (List ℕ × List ℕ) Refusal
+new_name_at third most seen text = do
+  n ← identifier_at third text
   if is_among seen n.0 then Err (refused kinds.Duplicate text)
       else (if nat_le most (length seen) then Err (refused kinds.Limit text) else Ok (n.0, n.1))
 
 -- the name of an enum, struct, union or exception, of which the scope has so many
 unfoldable pub declared_at : Scope → ℕ → List ℕ → Result (List ℕ × List ℕ) Refusal
 declared_at s count text = do
-  n ← identifier_at text
+  n ← identifier_at (is_third s.names) text
   if is_some (lookup (bytes_eq n.0) s.names.known) then Err (refused kinds.Duplicate text)
       else (if nat_le 4096 count then Err (refused kinds.Limit text) else Ok (n.0, n.1))
 
@@ -47,7 +48,7 @@ read_item p w rest = (p.0, part w p.1, rest)
 unfoldable pub item_at : ℕ → List (List ℕ) → Scope → List ℕ → Result ItemRead Refusal
 item_at most seen s text = do
   t ← type_at s text
-  n ← new_name_at most seen t.2
+  n ← new_name_at (is_third s.names) most seen t.2
   l ← enclosed_at marks.OpenBracket marks.CloseBracket n.1
   Ok (read_item (add_array l.0 (t.0, t.1)) n.0 l.1)
 

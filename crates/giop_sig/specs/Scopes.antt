@@ -26,7 +26,11 @@ pub record Names : Type 0 where
 
 -- encapsulations are types since version 2
 abbrev pub has_encapsulations : Names → Bool
-has_encapsulations names = names.version == 2
+has_encapsulations names = nat_le 2 names.version
+
+-- version 3 has more reserved words
+abbrev pub is_third : Names → Bool
+is_third names = names.version == 3
 
 -- what the declarations so far have made
 pub record Scope : Type 0 where
@@ -36,7 +40,10 @@ pub record Scope : Type 0 where
 -- the scope in which a file of a version begins
 abbrev pub first_scope : ℕ → Scope
 first_scope version =
-    record { table = builtin_table; names = record { version = version; known = [] } }
+    record {
+      table = record builtin_table { version = version };
+      names = record { version = version; known = [] };
+    }
 
 -- the type of a name
 abbrev pub named : Names → List ℕ → Option ℕ

@@ -136,9 +136,10 @@ pub record Exception : Type 0 where
   pub repository : List ℕ
   pub members : ℕ
 
--- the built-in types come first; declared is how many enums, structs and unions a signature file
--- added
+-- the version is that of the signature file, 1 where there is none; the built-in types come first;
+-- declared is how many enums, structs and unions the file added
 pub record Table : Type 0 where
+  pub version : ℕ
   pub types : List Node
   pub operations : List Operation
   pub exceptions : List Exception

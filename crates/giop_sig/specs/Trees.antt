@@ -1,5 +1,5 @@
 -- The trees of a table's types, and what holds of a table as a whole (meaning).
-use Rattle.std.specs.Prelude.{ℕ, zero, suc, ◌+◌, ◌^◌, ◌<◌, ◌≤◌, max, List, [], length, Option, Some, None, slice_index_or, slice_get}
+use Rattle.std.specs.Prelude.{ℕ, zero, suc, ◌+◌, ◌^◌, ◌<◌, ◌≤◌, ◌==◌, if◌then◌else◌, max, List, [], length, Option, Some, None, slice_index_or, slice_get}
 use Rattle.giop_cdr.specs.declared.prim.Primitive.TheVariants as prims
 use Rattle.giop_cdr.specs.declared.number.Number.{Number}
 use Rattle.giop_sig.specs.declared.types.Shape.{Shape}
@@ -112,6 +112,10 @@ unfoldable pub depth_of : List Node → ℕ
 depth_of types = most (length types) (depth_in types)
 
 -- ---- tables
+
+-- The depth of a catalogue: that of its deepest type. In version 3 it is the greatest there can be.
+abbrev pub catalogue_depth : Table → ℕ
+catalogue_depth t = if t.version == 3 then 24 else depth_of t.types
 
 -- types of which each part has a smaller number than its whole
 pub record AreFormed (types : List Node) : Type 0 where

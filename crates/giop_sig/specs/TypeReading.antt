@@ -11,7 +11,7 @@ use Rattle.giop_tokens.specs.Names.{is_reserved}
 use Rattle.giop_sig.specs.declared.numbers.TheConstants.{IOR}
 use Rattle.giop_sig.specs.declared.read_types.Opener.{Opener}
 use Rattle.giop_sig.specs.declared.read_types.Opener.TheVariants as openers
-use Rattle.giop_sig.specs.Scopes.{has_encapsulations, Scope, AddedType, named, add_text_type, add_sequence_type, add_encapsulation_type}
+use Rattle.giop_sig.specs.Scopes.{has_encapsulations, is_third, Scope, AddedType, named, add_text_type, add_sequence_type, add_encapsulation_type}
 use Rattle.giop_sig.specs.Outcomes.{refused}
 
 -- ---- sizes
@@ -104,7 +104,7 @@ found_type s text rest (Some n) = Ok (s, n, rest)
 -- a type by its name, the first word of the text
 unfoldable pub named_type : Scope → List ℕ → List ℕ → List ℕ → Result TypeRead Refusal
 named_type s text w rest =
-    if is_reserved w then Err (misplaced text) else
+    if is_reserved (is_third s.names) w then Err (misplaced text) else
     (if nat_lt 64 (length w) then Err (refused kinds.Limit text)
     else found_type s text rest (named s.names w))
 

@@ -16,7 +16,7 @@ use Rattle.giop_sig.specs.declared.types.Selected.TheVariants as selecteds
 use Rattle.giop_sig.specs.Table.{Part, Case, Node, node_at, same_number}
 use Rattle.giop_sig.specs.Table as nodes
 use Rattle.giop_sig.specs.Grammar.{Value, Plain, Below, Truth, Enumerator}
-use Rattle.giop_sig.specs.Scopes.{Scope, label_number}
+use Rattle.giop_sig.specs.Scopes.{is_third, Scope, label_number}
 use Rattle.giop_sig.specs.Outcomes.{refused}
 use Rattle.giop_sig.specs.TypeReading.{TypeRead, type_at}
 use Rattle.giop_sig.specs.ItemReading.{declared_at, item_at, filled_at, Declared, type_end_at}
@@ -25,26 +25,26 @@ use Rattle.giop_sig.specs.Repeats.{in_steps}
 -- ---- a label
 
 -- the value that a word is
-abbrev pub word_value : List ℕ → List ℕ → List ℕ → Result (Value × List ℕ) Refusal
-word_value text w rest =
+abbrev pub word_value : Bool → List ℕ → List ℕ → List ℕ → Result (Value × List ℕ) Refusal
+word_value third text w rest =
     if bytes_eq w (codes "true") then Ok (Truth true, rest) else
     (if bytes_eq w (codes "false") then Ok (Truth false, rest) else
-    (if is_reserved w then Err (misplaced text) else
+    (if is_reserved third w then Err (misplaced text) else
     (if nat_lt 64 (length w) then Err (refused kinds.Limit text) else Ok (Enumerator w, rest))))
 
-abbrev pub token_value : List ℕ → Option Token → List ℕ → Result (Value × List ℕ) Refusal
-token_value text None rest = Err (misplaced text)
-token_value text (Some (word w)) rest = word_value text w rest
-token_value text (Some (number n)) rest = Ok (Plain n, rest)
-token_value text (Some (negative n)) rest = Ok (Below n, rest)
-token_value text (Some (repository r)) rest = Err (misplaced text)
-token_value text (Some (mark m)) rest = Err (misplaced text)
+abbrev pub token_value : Bool → List ℕ → Option Token → List ℕ → Result (Value × List ℕ) Refusal
+token_value third text None rest = Err (misplaced text)
+token_value third text (Some (word w)) rest = word_value third text w rest
+token_value third text (Some (number n)) rest = Ok (Plain n, rest)
+token_value third text (Some (negative n)) rest = Ok (Below n, rest)
+token_value third text (Some (repository r)) rest = Err (misplaced text)
+token_value third text (Some (mark m)) rest = Err (misplaced text)
 
 -- the value of a label
-unfoldable pub value_at : List ℕ → Result (Value × List ℕ) Refusal
-value_at text = do
+unfoldable pub value_at : Bool → List ℕ → Result (Value × List ℕ) Refusal
+value_at third text = do
   t ← next text
-  token_value text t.0 t.1
+  token_value third text t.0 t.1
 
 -- a label that was read: the number that it names, none for the default
 abbrev pub Mark : Type 0
@@ -63,9 +63,9 @@ fitting text rest None = Err (refused kinds.Label text)
 fitting text rest (Some n) = Ok (Some n, rest)
 
 -- the number that a value of the discriminator's type names
-unfoldable pub number_of_value : Node → List ℕ → Result LabelRead Refusal
-number_of_value node text = do
-  v ← value_at text
+unfoldable pub number_of_value : Bool → Node → List ℕ → Result LabelRead Refusal
+number_of_value third node text = do
+  v ← value_at third text
   fitting text v.1 (label_number node v.0)
 
 -- a label after others of its union
@@ -74,23 +74,24 @@ unseen_label seen m text =
     if list_any (λ s. same_mark s m) seen then Err (refused kinds.Duplicate text)
     else (if nat_le 1024 (length seen) then Err (refused kinds.Limit text) else Ok m)
 
-abbrev pub label_by : Node → List Mark → List ℕ → Option (List ℕ) → Result LabelRead Refusal
-label_by node seen text (Some inner) = do
-  v ← number_of_value node inner
+abbrev pub label_by : Bool → Node → List Mark → List ℕ → Option (List ℕ)
+    → Result LabelRead Refusal
+label_by third node seen text (Some inner) = do
+  v ← number_of_value third node inner
   m ← unseen_label seen v.0 inner
   rest ← mark_at marks.Colon v.1
   Ok (m, rest)
-label_by node seen text None = do
+label_by third node seen text None = do
   inner ← keyword_at (codes "default") text
   m ← unseen_label seen None text
   rest ← mark_at marks.Colon inner
   Ok (m, rest)
 
 -- a label, with its colon
-unfoldable pub label_at : Node → List Mark → List ℕ → Result LabelRead Refusal
-label_at node seen text = do
+unfoldable pub label_at : Bool → Node → List Mark → List ℕ → Result LabelRead Refusal
+label_at third node seen text = do
   value ← keyword_if (codes "case") text
-  label_by node seen text value
+  label_by third node seen text value
 
 -- ---- the labels of a case
 
@@ -110,31 +111,31 @@ begins_label text = do
   default ← keyword_if (codes "default") text
   Ok (is_some value || is_some default)
 
-abbrev pub label_or_end : Node → LabelsRead → Bool → Result (Bool × LabelsRead) Refusal
-label_or_end node ls false = Ok (true, ls)
-label_or_end node ls true = do
-  l ← label_at node ls.0 ls.3
+abbrev pub label_or_end : Bool → Node → LabelsRead → Bool → Result (Bool × LabelsRead) Refusal
+label_or_end third node ls false = Ok (true, ls)
+label_or_end third node ls true = do
+  l ← label_at third node ls.0 ls.3
   Ok (false, with_label ls l)
 
 -- a label more, where one comes
-unfoldable pub labels_step : Node → LabelsRead → Result (Bool × LabelsRead) Refusal
-labels_step node ls = do
+unfoldable pub labels_step : Bool → Node → LabelsRead → Result (Bool × LabelsRead) Refusal
+labels_step third node ls = do
   more ← begins_label ls.3
-  label_or_end node ls more
+  label_or_end third node ls more
 
 abbrev pub too_many_labels : LabelsRead → Refusal
 too_many_labels ls = refused kinds.Limit ls.3
 
-abbrev pub labels_by : Node → List Mark → List ℕ → Bool → Result LabelsRead Refusal
-labels_by node seen text false = Err (misplaced text)
-labels_by node seen text true =
-    in_steps (labels_step node) too_many_labels 1025 (seen, [], false, text)
+abbrev pub labels_by : Bool → Node → List Mark → List ℕ → Bool → Result LabelsRead Refusal
+labels_by third node seen text false = Err (misplaced text)
+labels_by third node seen text true =
+    in_steps (labels_step third node) too_many_labels 1025 (seen, [], false, text)
 
 -- the labels of a case, one at least
-unfoldable pub labels_at : Node → List Mark → List ℕ → Result LabelsRead Refusal
-labels_at node seen text = do
+unfoldable pub labels_at : Bool → Node → List Mark → List ℕ → Result LabelsRead Refusal
+labels_at third node seen text = do
   some ← begins_label text
-  labels_by node seen text some
+  labels_by third node seen text some
 
 -- ---- cases
 
@@ -169,7 +170,7 @@ CasesRead = Scope × Cases × List ℕ
 -- a case of a union whose discriminator has the type of a number
 unfoldable pub case_at : ℕ → CasesRead → Result CasesRead Refusal
 case_at switch x = do
-  ls ← labels_at (node_at (x.0).table switch) (x.1).labels x.2
+  ls ← labels_at (is_third (x.0).names) (node_at (x.0).table switch) (x.1).labels x.2
   i ← item_at 256 (x.1).names x.0 ls.3
   rest ← mark_at marks.Semicolon i.2
   Ok (i.0, with_case x.1 ls i.1, rest)

@@ -16,20 +16,20 @@ use Rattle.giop_sig.specs.Table.{Node, node_at, operation_in, exception_in}
 use Rattle.giop_sig.specs.Table as nodes
 use Rattle.giop_sig.specs.Trees.{depth_of}
 use Rattle.giop_sig.specs.Grammar.{TypeExpr, Base, Text, Reference, Named, SequenceOf, EncapsulationOf, Item, Value, Plain, Below, Truth, Enumerator, Label, Default, Of, UnionCase, Param, Declaration, Enumeration, Structure, DeclaredUnion, DeclaredException, Call, SignatureFile, is_version, spell_file}
-use Rattle.giop_sig.specs.Scopes.{Names, has_encapsulations, Scope, AddedType, first_scope, named, place, label_number, labels_of, declare, scope_after}
+use Rattle.giop_sig.specs.Scopes.{Names, has_encapsulations, is_third, Scope, AddedType, first_scope, named, place, label_number, labels_of, declare, scope_after}
 
 abbrev pub Kind : Type 0
 Kind = SigFaultKind
 
 -- ---- names and sizes
 
--- a name is no reserved word
-abbrev pub IsFree : List ℕ → Type 0
-IsFree w = is_reserved w ≡ false
+-- a name is no reserved word; the flag is whether the file has version 3
+abbrev pub IsFree : Bool → List ℕ → Type 0
+IsFree third w = is_reserved third w ≡ false
 
 -- a name that is used as a type
 abbrev pub OfTypeName : Kind → Names → List ℕ → Type 0
-OfTypeName kinds.Syntax names w = IsFree w
+OfTypeName kinds.Syntax names w = IsFree (is_third names) w
 OfTypeName kinds.Limit names w = length w ≤ 64
 OfTypeName kinds.UnknownType names w = (i : ℕ) × (named names w ≡ Some i)
 OfTypeName k names w = Unit {0}
@@ -48,11 +48,11 @@ abbrev pub is_among : List (List ℕ) → List ℕ → Bool
 is_among seen w = list_any (λ n. bytes_eq n w) seen
 
 -- a name after those of its list, which may have so many
-abbrev pub OfNewName : Kind → ℕ → List (List ℕ) → List ℕ → Type 0
-OfNewName kinds.Syntax most seen w = IsFree w
-OfNewName kinds.Limit most seen w = (length w ≤ 64) × (length seen < most)
-OfNewName kinds.Duplicate most seen w = is_among seen w ≡ false
-OfNewName k most seen w = Unit {0}
+abbrev pub OfNewName : Kind → Bool → ℕ → List (List ℕ) → List ℕ → Type 0
+OfNewName kinds.Syntax third most seen w = IsFree third w
+OfNewName kinds.Limit third most seen w = (length w ≤ 64) × (length seen < most)
+OfNewName kinds.Duplicate third most seen w = is_among seen w ≡ false
+OfNewName k third most seen w = Unit {0}
 
 -- a list that isn't empty
 abbrev pub OfSome : {X : Type 0} → Kind → List X → Type 0
@@ -61,7 +61,7 @@ OfSome k xs = Unit {0}
 
 -- ---- types and items
 
--- the word of an encapsulation is allowed only in files of its version
+-- the word of an encapsulation is allowed only in files of its version or a later one
 abbrev pub OfVersion : Kind → Names → Type 0
 OfVersion kinds.Syntax names = has_encapsulations names ≡ true
 OfVersion k names = Unit {0}
@@ -76,7 +76,7 @@ OfType k names (EncapsulationOf e) = OfVersion k names × OfType k names e
 
 abbrev pub OfItem : Kind → Names → ℕ → List (List ℕ) → Item → Type 0
 OfItem k names most seen i =
-    OfType k names i.type × OfNewName k most seen i.name × OfBound k i.length
+    OfType k names i.type × OfNewName k (is_third names) most seen i.name × OfBound k i.length
 
 -- items after others of these names
 unfoldable pub OfItems : Kind → Names → ℕ → List (List ℕ) → List Item → Type 0
@@ -85,9 +85,10 @@ OfItems k names most seen (i ∷ is) =
     OfItem k names most seen i × OfItems k names most (seen ++ i.name ∷ []) is
 
 -- enumerators after others
-unfoldable pub OfNames : Kind → List (List ℕ) → List (List ℕ) → Type 0
-OfNames k seen [] = Unit {0}
-OfNames k seen (n ∷ ns) = OfNewName k 1024 seen n × OfNames k (seen ++ n ∷ []) ns
+unfoldable pub OfNames : Kind → Bool → List (List ℕ) → List (List ℕ) → Type 0
+OfNames k third seen [] = Unit {0}
+OfNames k third seen (n ∷ ns) =
+    OfNewName k third 1024 seen n × OfNames k third (seen ++ n ∷ []) ns
 
 -- ---- unions
 
@@ -105,25 +106,25 @@ OfSwitch kinds.Label node = IsDiscriminator node
 OfSwitch k node = Unit {0}
 
 -- the name of an enumerator in a label
-abbrev pub OfEnumerator : Kind → List ℕ → Type 0
-OfEnumerator kinds.Syntax w = IsFree w
-OfEnumerator kinds.Limit w = length w ≤ 64
-OfEnumerator k w = Unit {0}
+abbrev pub OfEnumerator : Kind → Bool → List ℕ → Type 0
+OfEnumerator kinds.Syntax third w = IsFree third w
+OfEnumerator kinds.Limit third w = length w ≤ 64
+OfEnumerator k third w = Unit {0}
 
 -- a value of the discriminator's type
 abbrev pub OfFit : Kind → Node → Value → Type 0
 OfFit kinds.Label node v = (n : Number) × (label_number node v ≡ Some n)
 OfFit k node v = Unit {0}
 
-abbrev pub OfValueName : Kind → Value → Type 0
-OfValueName k (Plain n) = Unit {0}
-OfValueName k (Below n) = Unit {0}
-OfValueName k (Truth b) = Unit {0}
-OfValueName k (Enumerator w) = OfEnumerator k w
+abbrev pub OfValueName : Kind → Bool → Value → Type 0
+OfValueName k third (Plain n) = Unit {0}
+OfValueName k third (Below n) = Unit {0}
+OfValueName k third (Truth b) = Unit {0}
+OfValueName k third (Enumerator w) = OfEnumerator k third w
 
-abbrev pub OfLabelValue : Kind → Node → Label → Type 0
-OfLabelValue k node Default = Unit {0}
-OfLabelValue k node (Of v) = OfValueName k v × OfFit k node v
+abbrev pub OfLabelValue : Kind → Bool → Node → Label → Type 0
+OfLabelValue k third node Default = Unit {0}
+OfLabelValue k third node (Of v) = OfValueName k third v × OfFit k node v
 
 abbrev pub same_value : Value → Value → Bool
 same_value (Plain m) (Plain n) = m == n
@@ -143,18 +144,19 @@ OfNewLabel kinds.Limit seen l = length seen < 1024
 OfNewLabel kinds.Duplicate seen l = list_any (same_label l) seen ≡ false
 OfNewLabel k seen l = Unit {0}
 
-abbrev pub OfLabel : Kind → Node → List Label → Label → Type 0
-OfLabel k node seen l = OfLabelValue k node l × OfNewLabel k seen l
+abbrev pub OfLabel : Kind → Bool → Node → List Label → Label → Type 0
+OfLabel k third node seen l = OfLabelValue k third node l × OfNewLabel k seen l
 
-unfoldable pub OfLabels : Kind → Node → List Label → List Label → Type 0
-OfLabels k node seen [] = Unit {0}
-OfLabels k node seen (l ∷ ls) = OfLabel k node seen l × OfLabels k node (seen ++ l ∷ []) ls
+unfoldable pub OfLabels : Kind → Bool → Node → List Label → List Label → Type 0
+OfLabels k third node seen [] = Unit {0}
+OfLabels k third node seen (l ∷ ls) =
+    OfLabel k third node seen l × OfLabels k third node (seen ++ l ∷ []) ls
 
 -- cases after others of these labels and names
 unfoldable pub OfCases : Kind → Names → Node → List Label → List (List ℕ) → List UnionCase → Type 0
 OfCases k names node labels seen [] = Unit {0}
 OfCases k names node labels seen (c ∷ cs) =
-    OfLabels k node labels (labels_of c) × OfItem k names 256 seen c.item
+    OfLabels k (is_third names) node labels (labels_of c) × OfItem k names 256 seen c.item
     × OfCases k names node (labels ++ labels_of c) (seen ++ c.item.name ∷ []) cs
 
 -- the node of a discriminator's type
@@ -165,7 +167,7 @@ placed_node p = node_at (p.0).table p.1
 
 -- the name of an enum, struct, union or exception, of which the scope has so many
 abbrev pub OfDeclared : Kind → Scope → ℕ → List ℕ → Type 0
-OfDeclared kinds.Syntax s count w = IsFree w
+OfDeclared kinds.Syntax s count w = IsFree (is_third s.names) w
 OfDeclared kinds.Limit s count w = (length w ≤ 64) × (count < 4096)
 OfDeclared kinds.Duplicate s count w = lookup (bytes_eq w) s.names.known ≡ None
 OfDeclared k s count w = Unit {0}
@@ -191,7 +193,8 @@ items_of ps = map (λ p. p.item) ps
 
 unfoldable pub OfDeclaration : Kind → Scope → Declaration → Type 0
 OfDeclaration k s (Enumeration n names) =
-    OfDeclared k s s.table.declared n × OfSome k names × OfNames k [] names
+    OfDeclared k s s.table.declared n × OfSome k names
+    × OfNames k (is_third s.names) [] names
 OfDeclaration k s (Structure n items) =
     OfDeclared k s s.table.declared n × OfSome k items × OfItems k s.names 256 [] items
 OfDeclaration k s (DeclaredUnion n switch cases) =
@@ -260,12 +263,16 @@ pub record IsValid (file : SignatureFile) : Type 0 where
   pub shallow : EachOf IsShallow file
   pub within : EachOf IsWithinLimits file
 
--- the text is this file
-pub record Spells (text : List ℕ) (file : SignatureFile) : Type 0 where
+-- the text is this file, of a version up to one
+pub record SpellsUpTo (latest : ℕ) (text : List ℕ) (file : SignatureFile) : Type 0 where
   pub short : length text ≤ 1048576
   pub tokens : AreTokens text (spell_file file)
-  pub version : is_version file.version ≡ true
+  pub version : is_version latest file.version ≡ true
   pub words : EachOf HasItsWords file
+
+-- the text is this file, of version 1 or 2
+abbrev pub Spells : List ℕ → SignatureFile → Type 0
+Spells text file = SpellsUpTo 2 text file
 
 -- the rule of a kind is broken by one of the declarations
 pub record IsBroken (k : Kind) (file : SignatureFile) : Type 0 where

@@ -5,10 +5,11 @@ ghost use Rattle.giop_sig.specs.Hearings.{HasPart, hearing_in, sequel_of, sign_i
 ghost use Rattle.giop_sig.specs.Types.{sequel, depth, part_of, name_in, enum_name_in, switch_of, select_in, interpreted_in, shape_in, HasShape, HasMember, HasPlace, IsUnion};
 ghost use Rattle.giop_sig.specs.Fits.{IsFit, IsRoot};
 ghost use Rattle.giop_sig.specs.Table.{node_at, shape_of, part_number, part_at, name_of, name_at, switch_at, selected, operation_in, operation_at, exception_in, IsFormed, with_type, with_declared, with_operation, with_exception};
-ghost use Rattle.giop_sig.specs.Trees.{tree, tree_at, grow, depth_of};
+ghost use Rattle.giop_sig.specs.Trees.{tree, tree_at, grow, catalogue_depth};
 ghost use Rattle.giop_sig.specs.HeaderTypes.{header_number, header_type, fixed_number, fixed_type, IdStandsFirst, BeginsWithId, IsTable};
 
 use crate::builtin::{builtin_list, fixed_id, header_id};
+use crate::draft::THIRD_VERSION;
 use crate::entries::{Entry, Types};
 use crate::part_name::PartName;
 use crate::types::{Counts, Fixed, Following, OpId, Selected, Shape, Sign, Signal, TypeId};
@@ -18,6 +19,11 @@ use giop_tokens::SigFault;
 use indexmap::IndexMap;
 use std::alloc::Global;
 use std::marker::Model;
+
+/// The version of the catalogue of no declarations.
+const FIRST_VERSION: u8 = 1;
+/// The greatest depth of a type.
+const DEPTH_MAX: u8 = 24;
 
 /// The octets of an operation's name or of a repository id.
 pub(crate) type Name = ArrayVec<u8, 128>;
@@ -33,6 +39,7 @@ pub(crate) struct Signature {
 /// of a signature file. A contract sees the whole `Table`.
 #[derive(Drop)]
 pub struct Catalogue {
+    version: u8,
     types: Types,
     operations: IndexMap<Name, Signature>,
     exceptions: IndexMap<Name, TypeId>,
@@ -46,10 +53,12 @@ impl Model for Catalogue {
 
     ghost Value = { Table };
 
-    ghost view = { λ a. table_view a.types a.operations.entries a.exceptions.entries a.declared };
+    ghost view = { λ a.
+        table_view a.version a.types a.operations.entries a.exceptions.entries a.declared };
 
     ghost invariant = { λ a.
-        IsTable (table_view a.types a.operations.entries a.exceptions.entries a.declared) };
+        IsTable
+        (table_view a.version a.types a.operations.entries a.exceptions.entries a.declared) };
 }
 
 impl Catalogue {
@@ -65,6 +74,7 @@ impl Catalogue {
     {
         let types = builtin_list(alloc)?;
         Ok(Catalogue {
+            version: FIRST_VERSION,
             types,
             operations: IndexMap::new(alloc),
             exceptions: IndexMap::new(alloc),
@@ -72,17 +82,21 @@ impl Catalogue {
         })
     }
 
-    /// The catalogue of these types, operations and exceptions, and of so many enums, structs and unions.
+    /// The catalogue of a file of a version with these types, operations and exceptions, and of so many enums, structs
+    /// and unions.
     pub(crate) fn of(
+        version: u8,
         types: Types,
         operations: IndexMap<Name, Signature>,
         exceptions: IndexMap<Name, TypeId>,
         declared: u32,
     ) -> Catalogue
-        requires { IsTable (table_view types operations.entries exceptions.entries declared) }
-        ensures { result ≡ table_view types operations.entries exceptions.entries declared }
+        requires { IsTable
+            (table_view version types operations.entries exceptions.entries declared) }
+        ensures { result ≡ table_view version types operations.entries exceptions.entries declared }
     {
         Catalogue {
+            version,
             types,
             operations,
             exceptions,
@@ -99,12 +113,22 @@ impl Catalogue {
         let _types = &self.types;
     }
 
-    /// The depth of the deepest type, the built-in ones included: 9 to 24.
+    /// The version of the signature file: 1, 2 or 3; 1 for the catalogue of no declarations.
+    pub fn version(&self) -> u8
+        ensures { result ≡ self.now.version }
+    {
+        self.version
+    }
+
+    /// The depth of the deepest type, the built-in ones included: 9 to 24. For a file of version 3 it is 24.
     pub fn depth(&self) -> u8
-        ensures depth { result ≡ depth_of self.now.types }
+        ensures depth { result ≡ catalogue_depth self.now }
         ensures least { 9 ≤ result }
         ensures most { result ≤ 24 }
     {
+        if self.version == THIRD_VERSION {
+            return DEPTH_MAX;
+        }
         self.types.deepest() as u8
     }
 

@@ -6,7 +6,7 @@ ghost use Rattle.std.specs.Str.{bytes_eq};
 ghost use Rattle.giop_cdr.specs.declared.prim.Primitive.TheVariants as prims;
 ghost use Rattle.giop_sig.specs.Table.{IsFormed, node_at, prim, operation_in, exception_in, with_exception};
 ghost use Rattle.giop_sig.specs.Trees.{depth_of};
-ghost use Rattle.giop_sig.specs.Scopes.{first_scope, has_encapsulations, named, with_node, with_name, with_named, with_raised, with_call};
+ghost use Rattle.giop_sig.specs.Scopes.{first_scope, has_encapsulations, is_third, named, with_node, with_name, with_named, with_raised, with_call};
 ghost use Rattle.giop_sig.specs.ScopeViews.{IsDraft, IsKnown, IsKnownType};
 ghost use Rattle.giop_sig.specs.Outcomes.{Gives};
 ghost use Rattle.giop_sig.specs.Views.{node_view, IsSized};
@@ -25,14 +25,16 @@ use std::marker::Model;
 pub(crate) type Key = ArrayVec<u8, 64>;
 
 /// The version of a file that may have encapsulations.
-const ENCAPSULATIONS_SINCE: u64 = 2;
+const ENCAPSULATIONS_SINCE: u8 = 2;
+/// The version that has more reserved words.
+pub(crate) const THIRD_VERSION: u8 = 3;
 
 /// The types, operations and exceptions of the declarations so far, with the version of their file, the names of enums,
 /// structs and unions, each with its type, and of exceptions. A contract sees the `Scope`. A type may be too deep until
 /// its declaration ends.
 #[derive(Drop)]
 pub(crate) struct Draft {
-    version: u64,
+    version: u8,
     types: Types,
     operations: IndexMap<Name, Signature>,
     exceptions: IndexMap<Name, TypeId>,
@@ -50,18 +52,18 @@ impl Model for Draft {
 
     ghost view = { λ a.
         scope_view a.version
-        (table_view a.types a.operations.entries a.exceptions.entries a.declared)
+        (table_view a.version a.types a.operations.entries a.exceptions.entries a.declared)
         a.names.entries };
 
     ghost invariant = { λ a.
         IsDraft (scope_view a.version
-        (table_view a.types a.operations.entries a.exceptions.entries a.declared)
+        (table_view a.version a.types a.operations.entries a.exceptions.entries a.declared)
         a.names.entries) };
 }
 
 impl Draft {
     /// The draft of no declarations, of a file of a version.
-    pub(crate) fn new(alloc: Global, version: u64) -> Result<Draft, ParseStop>
+    pub(crate) fn new(alloc: Global, version: u8) -> Result<Draft, ParseStop>
         ensures ok { IfOk result (λ draft. draft ≡ first_scope version) }
         ensures err { IfErr result (λ stop. stop ≡ ParseStop.Memory) }
     {
@@ -88,7 +90,14 @@ impl Draft {
     pub(crate) fn has_encapsulations(&self) -> bool
         ensures { result ≡ has_encapsulations self.now.names }
     {
-        self.version == ENCAPSULATIONS_SINCE
+        self.version >= ENCAPSULATIONS_SINCE
+    }
+
+    /// Whether the file is of version 3, which has more reserved words.
+    pub(crate) fn is_third(&self) -> bool
+        ensures { result ≡ is_third self.now.names }
+    {
+        self.version == THIRD_VERSION
     }
 
     /// The type of an enum, struct or union, by its name.
@@ -294,6 +303,12 @@ impl Draft {
         requires { depth_of self.table.types ≤ 24 }
         ensures { result ≡ self.table }
     {
-        Catalogue::of(self.types, self.operations, self.exceptions, self.declared)
+        Catalogue::of(
+            self.version,
+            self.types,
+            self.operations,
+            self.exceptions,
+            self.declared,
+        )
     }
 }

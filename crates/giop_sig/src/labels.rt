@@ -31,14 +31,15 @@ pub(crate) enum LabelValue<'a> {
     Enumerator(&'a [u8]),
 }
 
-/// The value that a word is, the first of the text.
+/// The value that a word is, the first of the text, in a file of version 3 or in an older one.
 fn word_value<'a>(
+    third: bool,
     text: &[u8],
     name: &'a [u8],
     rest: &'a [u8],
 ) -> Result<(LabelValue<'a>, &'a [u8]), ParseStop>
     ensures { Gives (λ x. (value_view x.0, x.1.now)) result
-        (word_value text.now name.now rest.now) }
+        (word_value third text.now name.now rest.now) }
 {
     if name == b"true".as_slice() {
         return Ok((LabelValue::Truth(true), rest));
@@ -46,7 +47,7 @@ fn word_value<'a>(
     if name == b"false".as_slice() {
         return Ok((LabelValue::Truth(false), rest));
     }
-    if is_reserved(name) {
+    if is_reserved(third, name) {
         return Err(ParseStop::Refused(misplaced(text)));
     }
     if name.len() > NAME_MAX {
@@ -55,14 +56,14 @@ fn word_value<'a>(
     Ok((LabelValue::Enumerator(name), rest))
 }
 
-/// The value of a label.
+/// The value of a label, in a file of version 3 or in an older one.
 #[tactic(auto, unfolding(crate::specs::UnionReading::value_at))]
-pub(crate) fn value_at(text: &[u8]) -> Result<(LabelValue<'_>, &[u8]), ParseStop>
-    ensures { Gives (λ x. (value_view x.0, x.1.now)) result (value_at text.now) }
+pub(crate) fn value_at(third: bool, text: &[u8]) -> Result<(LabelValue<'_>, &[u8]), ParseStop>
+    ensures { Gives (λ x. (value_view x.0, x.1.now)) result (value_at third text.now) }
 {
     let (token, rest) = next(text)?;
     match token {
-        Some(Token::Word(name)) => word_value(text, name, rest),
+        Some(Token::Word(name)) => word_value(third, text, name, rest),
         Some(Token::Number(n)) => Ok((LabelValue::Plain(n), rest)),
         Some(Token::Negative(n)) => Ok((LabelValue::Below(n), rest)),
         _ => Err(ParseStop::Refused(misplaced(text))),

@@ -3,13 +3,13 @@ ghost use Rattle.std.specs.Prelude.{◌≡◌, ℕ, List, ◌+◌, ◌<◌, ◌�
 ghost use Rattle.giop_sig.specs.Builtin.{builtin_types};
 ghost use Rattle.giop_sig.specs.Grammar.{SignatureFile};
 ghost use Rattle.giop_sig.specs.Scopes.{table};
-ghost use Rattle.giop_sig.specs.Validity.{IsValid, Spells, Refuses};
+ghost use Rattle.giop_sig.specs.Validity.{IsValid, Spells, SpellsUpTo, Refuses};
 ghost use Rattle.giop_sig.specs.Outcomes.{Gives};
 ghost use Rattle.giop_sig.specs.Repeats.{in_steps};
-ghost use Rattle.giop_sig.specs.FileReading.{declaration_at, declarations_step, misplaced_after, version_at, head_at, file_at, text_too_long, IsFirstRefusal};
+ghost use Rattle.giop_sig.specs.FileReading.{declaration_at, declarations_step, misplaced_after, version_at, head_at, file_at, text_too_long, IsFirstRefusal, IsFirstRefusalUpTo};
 
 use crate::catalogue::Catalogue;
-use crate::draft::Draft;
+use crate::draft::{Draft, THIRD_VERSION};
 use crate::parse_stop::ParseStop;
 use crate::read_calls::operation_at;
 use crate::read_enums::enumeration;
@@ -25,7 +25,7 @@ const TEXT_MAX: usize = 1_048_576;
 /// The versions of the format.
 const FIRST_VERSION: u64 = 1;
 
-const SECOND_VERSION: u64 = 2;
+const SECOND_VERSION: u8 = 2;
 
 /// A declaration, of the kind that its first word gives.
 #[tactic(auto, unfolding(crate::specs::FileReading::declaration_at))]
@@ -89,14 +89,14 @@ fn declarations<'a>(
     Err(ParseStop::Refused(misplaced(rest)))
 }
 
-/// The version of the format.
+/// The version of the format, up to the latest that is read.
 #[tactic(auto, unfolding(crate::specs::FileReading::version_at))]
-fn version_at(text: &[u8]) -> Result<(u64, &[u8]), ParseStop>
-    ensures { Gives (λ x. (x.0, x.1.now)) result (version_at text.now) }
+fn version_at(latest: u8, text: &[u8]) -> Result<(u8, &[u8]), ParseStop>
+    ensures { Gives (λ x. (x.0, x.1.now)) result (version_at latest text.now) }
 {
     let (n, rest) = number(text)?;
-    if n == FIRST_VERSION || n == SECOND_VERSION {
-        Ok((n, rest))
+    if n >= FIRST_VERSION && n <= u64::from(latest) {
+        Ok((n as u8, rest))
     } else {
         Err(ParseStop::Refused(misplaced(text)))
     }
@@ -104,21 +104,21 @@ fn version_at(text: &[u8]) -> Result<(u64, &[u8]), ParseStop>
 
 /// What comes before the declarations: the version.
 #[tactic(auto, unfolding(crate::specs::FileReading::head_at))]
-fn head_at(text: &[u8]) -> Result<(u64, &[u8]), ParseStop>
-    ensures { Gives (λ x. (x.0, x.1.now)) result (head_at text.now) }
+fn head_at(latest: u8, text: &[u8]) -> Result<(u8, &[u8]), ParseStop>
+    ensures { Gives (λ x. (x.0, x.1.now)) result (head_at latest text.now) }
 {
     let rest = keyword(text, b"signatures")?;
-    let (version, rest) = version_at(rest)?;
+    let (version, rest) = version_at(latest, rest)?;
     let rest = mark(rest, Mark::Semicolon)?;
     Ok((version, rest))
 }
 
-/// The draft of a file.
+/// The draft of a file, of a version up to the latest that is read.
 #[tactic(auto, unfolding(crate::specs::FileReading::file_at))]
-fn draft_of(alloc: Global, text: &[u8]) -> Result<Draft, ParseStop>
-    ensures { Gives (λ x. x) result (file_at text.now) }
+fn draft_of(alloc: Global, latest: u8, text: &[u8]) -> Result<Draft, ParseStop>
+    ensures { Gives (λ x. x) result (file_at latest text.now) }
 {
-    let (version, rest) = head_at(text)?;
+    let (version, rest) = head_at(latest, text)?;
     let mut draft = Draft::new(alloc, version)?;
     declarations(alloc, &mut draft, text.len(), rest)?;
     Ok(draft)
@@ -126,8 +126,8 @@ fn draft_of(alloc: Global, text: &[u8]) -> Result<Draft, ParseStop>
 
 /// A text has one table at most: whatever files it spells, their tables are that of a valid one.
 pub fn one_table()
-    ensures { (text : List ℕ) (f g : SignatureFile) → Spells text f → IsValid f → Spells text g →
-        table f ≡ table g }
+    ensures { (latest : ℕ) (text : List ℕ) (f g : SignatureFile)
+        → SpellsUpTo latest text f → IsValid f → SpellsUpTo latest text g → table f ≡ table g }
 {}
 
 impl Catalogue {
@@ -149,13 +149,46 @@ impl Catalogue {
         ensures first { length text.now ≤ 1048576 → IfErr result (λ f. IsFirstRefusal text.now f) }
         ensures memory { IfErr result (λ f. (f.line ≡ 0) ↔ (f.kind ≡ SigFaultKind.OutOfMemory)) }
     {
+        Catalogue::parse_up_to(alloc, SECOND_VERSION, text)
+    }
+
+    /// The same of a file of version 1, 2 or 3. One of version 3 may have what those of version 2 have, and has more
+    /// reserved words.
+    pub fn parse_types(alloc: Global, text: &[u8]) -> Result<Catalogue, SigFault>
+        ensures ok { IfOk result (λ c.
+            (file : SignatureFile) × SpellsUpTo 3 text.now file × IsValid file
+            × (c ≡ table file)) }
+        ensures few { IfOk result (λ c. length c.types ≤ length builtin_types + length text.now) }
+        ensures err { (file : SignatureFile) → SpellsUpTo 3 text.now file
+            → IfErr result (λ f. Refuses f.kind file) }
+        ensures long { 1048576 < length text.now → result ≡ Err text_too_long }
+        ensures first { length text.now ≤ 1048576
+            → IfErr result (λ f. IsFirstRefusalUpTo 3 text.now f) }
+        ensures memory { IfErr result (λ f. (f.line ≡ 0) ↔ (f.kind ≡ SigFaultKind.OutOfMemory)) }
+    {
+        Catalogue::parse_up_to(alloc, THIRD_VERSION, text)
+    }
+
+    /// The same of a file of a version up to one.
+    fn parse_up_to(alloc: Global, latest: u8, text: &[u8]) -> Result<Catalogue, SigFault>
+        ensures ok { IfOk result (λ c.
+            (file : SignatureFile) × SpellsUpTo latest text.now file × IsValid file
+            × (c ≡ table file)) }
+        ensures few { IfOk result (λ c. length c.types ≤ length builtin_types + length text.now) }
+        ensures err { (file : SignatureFile) → SpellsUpTo latest text.now file
+            → IfErr result (λ f. Refuses f.kind file) }
+        ensures long { 1048576 < length text.now → result ≡ Err text_too_long }
+        ensures first { length text.now ≤ 1048576
+            → IfErr result (λ f. IsFirstRefusalUpTo latest text.now f) }
+        ensures memory { IfErr result (λ f. (f.line ≡ 0) ↔ (f.kind ≡ SigFaultKind.OutOfMemory)) }
+    {
         if text.len() > TEXT_MAX {
             return Err(SigFault {
                 line: 1,
                 kind: SigFaultKind::Limit,
             });
         }
-        match draft_of(alloc, text) {
+        match draft_of(alloc, latest, text) {
             Ok(draft) => {
                 let catalogue = draft.into_catalogue();
                 catalogue.laws();

@@ -18,11 +18,15 @@ const NAMES_MAX: usize = 1024;
 
 /// An enumerator, and the mark after it; whether that is the closing one.
 #[tactic(auto, unfolding(crate::specs::EnumReading::names_step, crate::specs::EnumReading::enumerator_at))]
-fn names_step<'a>(names: &mut Vec<&'a [u8]>, text: &'a [u8]) -> Result<(&'a [u8], bool), ParseStop>
+fn names_step<'a>(
+    third: bool,
+    names: &mut Vec<&'a [u8]>,
+    text: &'a [u8],
+) -> Result<(&'a [u8], bool), ParseStop>
     ensures { Gives (λ x. (x.1, (map (λ n. n.now) names.new.items, x.0.now))) result
-        (names_step (map (λ n. n.now) names.old.items, text.now)) }
+        (names_step third (map (λ n. n.now) names.old.items, text.now)) }
 {
-    let (name, rest) = new_name_at(NAMES_MAX, names.as_slice(), text)?;
+    let (name, rest) = new_name_at(third, NAMES_MAX, names.as_slice(), text)?;
     names.push(name)?;
     match starts_with_mark(rest, Mark::Comma)? {
         Some(after) => Ok((after, false)),
@@ -31,14 +35,18 @@ fn names_step<'a>(names: &mut Vec<&'a [u8]>, text: &'a [u8]) -> Result<(&'a [u8]
 }
 
 /// The enumerators of an enum that isn't empty.
-fn some_names<'a>(alloc: Global, text: &'a [u8]) -> Result<(Vec<&'a [u8]>, &'a [u8]), ParseStop>
+fn some_names<'a>(
+    alloc: Global,
+    third: bool,
+    text: &'a [u8],
+) -> Result<(Vec<&'a [u8]>, &'a [u8]), ParseStop>
     ensures { Gives (λ x. (map (λ n. n.now) x.0.items, x.1.now)) result
-        (in_steps names_step too_many_names 1025 ([], text.now)) }
+        (in_steps (names_step third) too_many_names 1025 ([], text.now)) }
 {
     let mut names = Vec::new(alloc);
     let mut rest = text;
     for _ in 0..1025u32 {
-        let (after, closed) = names_step(&mut names, rest)?;
+        let (after, closed) = names_step(third, &mut names, rest)?;
         if closed {
             return Ok((names, after));
         }
@@ -49,10 +57,14 @@ fn some_names<'a>(alloc: Global, text: &'a [u8]) -> Result<(Vec<&'a [u8]>, &'a [
 
 /// The enumerators of an enum, after its opening mark.
 #[tactic(auto, unfolding(crate::specs::EnumReading::names_at))]
-fn names_at<'a>(alloc: Global, text: &'a [u8]) -> Result<(Vec<&'a [u8]>, &'a [u8]), ParseStop>
-    ensures { Gives (λ x. (map (λ n. n.now) x.0.items, x.1.now)) result (names_at text.now) }
+fn names_at<'a>(
+    alloc: Global,
+    third: bool,
+    text: &'a [u8],
+) -> Result<(Vec<&'a [u8]>, &'a [u8]), ParseStop>
+    ensures { Gives (λ x. (map (λ n. n.now) x.0.items, x.1.now)) result (names_at third text.now) }
 {
-    some_names(alloc, filled_at(text)?)
+    some_names(alloc, third, filled_at(text)?)
 }
 
 /// An enum, after its word; what follows it.
@@ -68,7 +80,7 @@ pub(crate) fn enumeration<'a>(
     let count = draft.types_declared();
     let (name, rest) = declared_at(draft, count, text)?;
     let rest = mark(rest, Mark::OpenBrace)?;
-    let (names, rest) = names_at(alloc, rest)?;
+    let (names, rest) = names_at(alloc, draft.is_third(), rest)?;
     let kept = names_of(alloc, names.as_slice())?;
     type_end_at(draft, left_of(text), name, Entry::Enumeration(kept), rest)
 }

@@ -3,7 +3,7 @@ ghost use Rattle.std.specs.Prelude.{◌≡◌, ◌<◌, ◌≤◌, ◌++◌, ◌
 ghost use Rattle.std.specs.Map.{lookup};
 ghost use Rattle.std.specs.Str.{bytes_eq};
 ghost use Rattle.giop_sig.specs.Outcomes.{Gives};
-ghost use Rattle.giop_sig.specs.Scopes.{part, add_array};
+ghost use Rattle.giop_sig.specs.Scopes.{is_third, part, add_array};
 ghost use Rattle.giop_sig.specs.ScopeViews.{IsKnown};
 ghost use Rattle.giop_sig.specs.Validity.{is_among};
 ghost use Rattle.giop_sig.specs.UnionCases.{part_view};
@@ -36,17 +36,18 @@ pub(crate) fn is_among(seen: &[&[u8]], name: &[u8]) -> bool
     seen.iter().any(|other| *other == name)
 }
 
-/// A name after those of its list, which may have so many.
+/// A name after those of its list, which may have so many, in a file of version 3 or in an older one.
 #[tactic(auto, unfolding(crate::specs::ItemReading::new_name_at))]
 pub(crate) fn new_name_at<'a>(
+    third: bool,
     most: usize,
     seen: &[&[u8]],
     text: &'a [u8],
 ) -> Result<(&'a [u8], &'a [u8]), ParseStop>
     ensures { Gives (λ x. (x.0.now, x.1.now)) result
-        (new_name_at most (map (λ n. n.now) seen.now) text.now) }
+        (new_name_at third most (map (λ n. n.now) seen.now) text.now) }
 {
-    let (name, rest) = identifier(text)?;
+    let (name, rest) = identifier(third, text)?;
     if is_among(seen, name) {
         return Err(ParseStop::Refused(refused(SigFaultKind::Duplicate, text)));
     }
@@ -65,7 +66,7 @@ pub(crate) fn declared_at<'a>(
 ) -> Result<(&'a [u8], &'a [u8]), ParseStop>
     ensures { Gives (λ x. (x.0.now, x.1.now)) result (declared_at draft.now count text.now) }
 {
-    let (name, rest) = identifier(text)?;
+    let (name, rest) = identifier(draft.is_third(), text)?;
     if draft.is_declared(name) {
         return Err(ParseStop::Refused(refused(SigFaultKind::Duplicate, text)));
     }
@@ -100,8 +101,9 @@ pub(crate) fn item_at<'a>(
         (item_at most (map (λ n. n.now) seen.now) draft.old text.now) }
 {
     draft.laws();
+    let third = draft.is_third();
     let (element, rest) = type_at(alloc, draft, text)?;
-    let (name, rest) = new_name_at(most, seen, rest)?;
+    let (name, rest) = new_name_at(third, most, seen, rest)?;
     let (count, rest) = enclosed_at(Mark::OpenBracket, Mark::CloseBracket, rest)?;
     let t = array_of(draft, element, count)?;
     Ok((name, t, rest))

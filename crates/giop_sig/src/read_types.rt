@@ -141,7 +141,7 @@ fn named_type<'a>(
     ensures { Gives (λ x. (draft.now, x.0.0, x.1.now)) result
         (named_type draft.now text.now name.now rest.now) }
 {
-    if is_reserved(name) {
+    if is_reserved(draft.is_third(), name) {
         return Err(ParseStop::Refused(misplaced(text)));
     }
     if name.len() > NAME_MAX {

@@ -3,7 +3,7 @@ ghost use Rattle.std.specs.Prelude.{◌≡◌, ◌+◌, ◌^◌, ◌<◌, ◌≤
 ghost use Rattle.std.specs.List.{list_any};
 ghost use Rattle.giop_sig.specs.Outcomes.{Gives};
 ghost use Rattle.giop_sig.specs.Table.{node_at, union as union_node};
-ghost use Rattle.giop_sig.specs.Scopes.{label_number, part};
+ghost use Rattle.giop_sig.specs.Scopes.{is_third, label_number, part};
 ghost use Rattle.giop_sig.specs.Views.{node_view};
 ghost use Rattle.giop_sig.specs.Labels.{value_view, cases_view};
 ghost use Rattle.giop_sig.specs.Repeats.{in_steps};
@@ -58,9 +58,9 @@ fn number_of_value<'a>(
     text: &'a [u8],
 ) -> Result<(Option<Number>, &'a [u8]), ParseStop>
     ensures { Gives (λ x. (x.0, x.1.now)) result
-        (number_of_value (node_at draft.now.table switch.0) text.now) }
+        (number_of_value (is_third draft.now.names) (node_at draft.now.table switch.0) text.now) }
 {
-    let (value, rest) = value_at(text)?;
+    let (value, rest) = value_at(draft.is_third(), text)?;
     match number_in(draft, switch, value) {
         None => Err(ParseStop::Refused(refused(SigFaultKind::Label, text))),
         Some(n) => Ok((Some(n), rest)),
@@ -101,7 +101,7 @@ fn label_at<'a>(
     text: &'a [u8],
 ) -> Result<(Option<Number>, &'a [u8]), ParseStop>
     ensures { Gives (λ x. (x.0, x.1.now)) result
-        (label_at (node_at draft.now.table switch.0) seen.now text.now) }
+        (label_at (is_third draft.now.names) (node_at draft.now.table switch.0) seen.now text.now) }
 {
     match starts_with_keyword(text, b"case")? {
         Some(inner) => {
@@ -138,7 +138,7 @@ fn labels_step<'a>(
     text: &'a [u8],
 ) -> Result<(bool, bool, &'a [u8]), ParseStop>
     ensures { Gives (λ x. (x.0, (seen.new.items, own.new.items, x.1, x.2.now))) result
-        (labels_step (node_at draft.now.table switch.0)
+        (labels_step (is_third draft.now.names) (node_at draft.now.table switch.0)
         (seen.old.items, own.old.items, default, text.now)) }
 {
     if !begins_label(text)? {
@@ -164,7 +164,9 @@ fn some_labels<'a>(
     text: &'a [u8],
 ) -> Result<(Vec<Number>, bool, &'a [u8]), ParseStop>
     ensures { Gives (λ x. (seen.new.items, x.0.items, x.1, x.2.now)) result
-        (in_steps (labels_step (node_at draft.now.table switch.0)) too_many_labels 1025
+        (in_steps
+        (labels_step (is_third draft.now.names) (node_at draft.now.table switch.0))
+        too_many_labels 1025
         (seen.old.items, [], false, text.now)) }
 {
     let mut own = Vec::new(alloc);
@@ -191,7 +193,8 @@ fn labels_at<'a>(
     text: &'a [u8],
 ) -> Result<(Vec<Number>, bool, &'a [u8]), ParseStop>
     ensures { Gives (λ x. (seen.new.items, x.0.items, x.1, x.2.now)) result
-        (labels_at (node_at draft.now.table switch.0) seen.old.items text.now) }
+        (labels_at (is_third draft.now.names) (node_at draft.now.table switch.0)
+        seen.old.items text.now) }
 {
     if !begins_label(text)? {
         return Err(ParseStop::Refused(misplaced(text)));

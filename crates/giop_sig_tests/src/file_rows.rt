@@ -120,7 +120,6 @@ pub static REFUSED: &[u8] = b"\
     2 syntax|signatures 1;\nenum=\
     2 syntax|signatures 1;\nenum\n=\
     3 syntax|signatures 1;\nenum\n\n=\
-    1 syntax|signatures 3;=\
     1 syntax|Signatures 1;=\
     1 syntax|signatures -1;=\
     2 syntax|\n\n=\

@@ -2,7 +2,7 @@
 
 use crate::rows::{file_differs, row_of};
 use crate::types::expect_rows;
-use crate::{file_rows, version_rows};
+use crate::{file_rows, third_rows, version_rows};
 use giop_sig::Catalogue;
 use std::process::Abort;
 use std::test::Fail;
@@ -11,17 +11,26 @@ use std::test::Fail;
 fn a_file_is_accepted_or_its_broken_rule_is_named_with_its_line(
     rt: HostRuntime,
 ) -> Result<(), Fail> {
-    are_told(&rt, file_rows::ACCEPTED)?;
-    are_told(&rt, file_rows::REFUSED)?;
-    are_told(&rt, version_rows::ACCEPTED)?;
-    are_told(&rt, version_rows::REFUSED)
+    are_told(&rt, false, file_rows::ACCEPTED)?;
+    are_told(&rt, false, file_rows::REFUSED)?;
+    are_told(&rt, false, version_rows::ACCEPTED)?;
+    are_told(&rt, false, version_rows::REFUSED)
 }
 
-/// Compares what is told of each file of a table.
-fn are_told(rt: &(impl Abort + AllocGlobal), rows: &[u8]) -> Result<(), Fail> {
+#[test]
+fn a_file_may_have_version_3_where_that_is_asked_for(rt: HostRuntime) -> Result<(), Fail> {
+    are_told(&rt, true, third_rows::ACCEPTED)?;
+    are_told(&rt, true, third_rows::REFUSED)?;
+    are_told(&rt, true, file_rows::ACCEPTED)?;
+    are_told(&rt, true, file_rows::REFUSED)?;
+    are_told(&rt, true, version_rows::ACCEPTED)
+}
+
+/// Compares what is told of each file of a table, where files may have version 3 or may not.
+fn are_told(rt: &(impl Abort + AllocGlobal), third: bool, rows: &[u8]) -> Result<(), Fail> {
     for row in rows.split(|octet| *octet == b'=') {
         let (want, text) = row_of(row)?;
-        let differs = file_differs(rt.alloc(), text, want);
+        let differs = file_differs(rt.alloc(), third, text, want);
         assert!(rt; differs.is_empty(), "{differs}, not {want}: {text:?}");
     }
     Ok(())
@@ -72,6 +81,23 @@ request enc|e encapsulation, o encapsulation, s sequence
 request enc/0/0|a octet, b ulonglong
 request enc/1/0|octet
 request enc/2/0|encapsulation";
+
+/// A file, and its version.
+static VERSIONS: [(&[u8], u8); 3] = [
+    (b"signatures 1;", 1),
+    (b"signatures 2;", 2),
+    (b"signatures 3;", 3),
+];
+
+#[test]
+fn a_catalogue_has_the_version_of_its_file(rt: HostRuntime) -> Result<(), Fail> {
+    assert_eq!(rt; Catalogue::builtin(rt.alloc())?.version(), 1);
+    for (text, version) in VERSIONS {
+        let catalogue = Catalogue::parse_types(rt.alloc(), text)?;
+        assert_eq!(rt; catalogue.version(), version);
+    }
+    Ok(())
+}
 
 #[test]
 fn a_file_declares_its_types_and_operations(rt: HostRuntime) -> Result<(), Fail> {

@@ -18,6 +18,8 @@ mod list_tests;
 #[cfg(test)]
 mod rows;
 #[cfg(test)]
+mod third_rows;
+#[cfg(test)]
 mod types;
 #[cfg(test)]
 mod version_rows;

@@ -9,7 +9,7 @@ use std::process::Abort;
 use std::test::Fail;
 
 fn expect_told(rt: &(impl Abort + AllocGlobal), text: &[u8], want: &str) {
-    let differs = file_differs(rt.alloc(), text, want);
+    let differs = file_differs(rt.alloc(), false, text, want);
     assert!(rt; differs.is_empty(), "{differs}, not {want}");
 }
 

@@ -30,12 +30,20 @@ pub fn row_of(row: &[u8]) -> Result<(&str, &[u8]), Fail> {
     Ok((str::from_utf8(&row[..end])?, &row[end + 1..]))
 }
 
-/// What differs in what is told of a signature file: how many types, operations and exceptions it has and its depth; or
-/// the line and the word of its refusal.
-pub fn file_differs(alloc: Global, text: &[u8], want: &str) -> &'static str {
-    match Catalogue::parse(alloc, text) {
+/// What differs in what is told of a signature file, which may have version 3 or may not: how many types, operations
+/// and exceptions it has and its depth; or the line and the word of its refusal.
+pub fn file_differs(alloc: Global, third: bool, text: &[u8], want: &str) -> &'static str {
+    match parsed(alloc, third, text) {
         Ok(catalogue) => counts_differ(&catalogue, want),
         Err(fault) => file_refusal_differs(fault, want),
+    }
+}
+
+fn parsed(alloc: Global, third: bool, text: &[u8]) -> Result<Catalogue, SigFault> {
+    if third {
+        Catalogue::parse_types(alloc, text)
+    } else {
+        Catalogue::parse(alloc, text)
     }
 }
 

@@ -26,7 +26,7 @@ The operations with the most time, of a capture:
 
     giopcap orders.pcap | giop-stat
 
-FORMATS.md has every column (docs/ of the sources, /usr/share/doc/giopdump/docs of the package).";
+The manual page has every column.";
 
 /// What the arguments ask for.
 #[derive(Clone, Copy, Debug, Drop)]

@@ -1,6 +1,6 @@
 -- The octets of a checkpoint: which fields of an engine they store, and of which streams they are
 -- the checkpoint (docs/FORMATS.md, Checkpoints; state).
-use Rattle.std.specs.Prelude.{◌≡◌, ◌≤◌, ◌⊎◌, ℕ, ◌+◌, ◌-◌, ◌*◌, List, [], ◌∷◌, ◌++◌, length, flat_map, replicate, nat_lt, Option, Some, None, Result, Ok, Err, IfOk, if◌then◌else◌}
+use Rattle.std.specs.Prelude.{◌≡◌, ◌≤◌, ◌⊎◌, ℕ, ◌+◌, ◌-◌, ◌*◌, List, [], ◌∷◌, ◌++◌, length, flat_map, replicate, nat_lt, Option, Some, None, Result, Ok, Err, IfOk, if◌then◌else◌, true}
 use Rattle.giop_cdr.specs.Numbers.{AreOctets}
 use Rattle.giop_print.specs.declared.sink.OutFault.{OutFault}
 use Rattle.giop_print.specs.Output.{OutLog, Writes}
@@ -13,7 +13,6 @@ use Rattle.giop_stream.specs.Rules.{rules}
 use Rattle.giop_message.specs.Signatures.{RequestTable, by_list}
 use Rattle.giop_checkpoint.specs.declared.sizes.TheConstants.{FIXED_SIZE, RECORD_SIZE, MESSAGE_SIZE, FRAME_SIZE}
 use Rattle.giop_checkpoint.specs.declared.layout.Layout.{Layout}
-use Rattle.giop_checkpoint.specs.declared.layout.Layout.TheVariants.{Third}
 use Rattle.giop_checkpoint.specs.declared.fault.StreamFault.{StreamFault}
 use Rattle.giop_checkpoint.specs.declared.fault.LoadFault.{LoadFault}
 use Rattle.giop_checkpoint.specs.declared.fault.LoadFault.TheVariants as refusals
@@ -23,7 +22,7 @@ use Rattle.giop_checkpoint.specs.declared.fixed.Place.{Place}
 use Rattle.giop_checkpoint.specs.declared.fixed.Place.TheVariants.{Header, Payload, Stopped}
 use Rattle.giop_checkpoint.specs.declared.record.RecordKind.{RecordKind}
 use Rattle.giop_checkpoint.specs.declared.record.RecordKind.TheVariants as record_kinds
-use Rattle.giop_checkpoint.specs.Layouts.{OpenHasRange}
+use Rattle.giop_checkpoint.specs.Layouts.{OpenHasRange, layout_of, reads}
 use Rattle.giop_checkpoint.specs.Fixed.{fixed_octets}
 use Rattle.giop_checkpoint.specs.Records.{Entry, EntryHasRange, entry_octets}
 use Rattle.giop_checkpoint.specs.Refusals.{HasState, HasRecords, IsOurs, IsNotOurs, IsOutOfRange, Refused}
@@ -38,9 +37,11 @@ use Rattle.giop_stream.specs.ViewOfState.{Shows}
 
 -- ---- the fixed part
 
--- how many types, operations, exceptions and requests an engine reads by
+-- the version of the signature file that an engine reads by, and how many types, operations,
+-- exceptions and requests there are
 unfoldable pub counts_of : Table → RequestTable → Counts
 counts_of C l = record {
+  version = C.version;
   types = C.declared;
   operations = length C.operations;
   exceptions =
@@ -175,10 +176,11 @@ pub record IsPutWhole (layout : Layout) (C : Table) (l : RequestTable) (m : Fram
   pub put : octets ≡ checkpoint_octets layout C l m entries
 
 -- These octets are the checkpoint of an engine that holds the stream p, by this table and list,
--- where so many messages may be open. Layout 3 stores how many; in layout 2 they are 16.
+-- where so many messages may be open. In layout 2 they are 16; the others store how many.
 pub record Spells (octets : List ℕ) (C : Table) (l : RequestTable) (most : ℕ) (p : List ℕ) : Type 0
   where
     pub layout : Layout
+    pub is_read : reads C.version layout ≡ true
     pub memory : FramingView
     pub entries : List Entry
     pub octets_are : octets ≡ checkpoint_octets layout C l memory entries
@@ -199,13 +201,14 @@ abbrev pub entries_size : List Entry → ℕ
 entries_size [] = 0
 entries_size (e ∷ es) = (RECORD_SIZE + FRAME_SIZE * e.record_is.frames) + entries_size es
 
--- What a save did: a checkpoint of p was written in layout 3, the fixed part and each record with
--- its frames, and its length is the result; or a front of it before a put failed.
+-- What a save did: a checkpoint of p was written in the layout of the table's version, the fixed
+-- part and each record with its frames, and its length is the result; or a front of it before a put
+-- failed.
 pub record Saves (result : Result ℕ Stop) (before after : OutLog)
     (C : Table) (l : RequestTable) (most : ℕ) (p : List ℕ) : Type 0 where
   pub octets : List ℕ
   pub spells : Spells octets C l most p
-  pub third : spells.layout ≡ Third
+  pub layout : spells.layout ≡ layout_of C.version
   pub written : StopWrites result before after octets
   pub count : IfOk result (λ n. n ≡ length octets)
   pub size : length octets ≡ FIXED_SIZE + entries_size spells.entries

@@ -6,8 +6,7 @@ ghost use Rattle.std.specs.List.{AllByRecursion as Each};
 ghost use Rattle.arrayvec.specs.ArrayVec.{array_vec_len};
 ghost use Rattle.giop_print.specs.Output.{OutLog};
 ghost use Rattle.giop_sig.specs.Table.{Table};
-ghost use Rattle.giop_checkpoint.specs.declared.layout.Layout.TheVariants.{Third};
-ghost use Rattle.giop_checkpoint.specs.Layouts.{OpenHasRange};
+ghost use Rattle.giop_checkpoint.specs.Layouts.{OpenHasRange, layout_of};
 ghost use Rattle.giop_checkpoint.specs.Fixed.{fixed_octets};
 ghost use Rattle.giop_message.specs.MessageState.{Fits};
 ghost use Rattle.giop_stream.specs.Rules.{most_open};
@@ -26,6 +25,7 @@ use giop_print::{Out, OutFault, put_all};
 use giop_sig::{Catalogue, Requests};
 
 /// Writes the checkpoint of a stream that was read by this catalogue and this list; returns how many octets it has.
+#[tactic(auto, using(crate::proofs::Restored::Saved::written_fixed))]
 pub fn write<O: Out>(
     framing: &Framing,
     catalogue: &Catalogue,
@@ -34,10 +34,11 @@ pub fn write<O: Out>(
 ) -> Result<u64, OutFault>
     requires ready { AreReady catalogue.now (framing.now.totals.octets + 1) framing.now.slots }
     ensures whole { PutsSuch result (O.log out.old) (O.log out.new)
-        (IsPutWhole Third catalogue.now requests.now (framing_view framing.now)) }
+        (IsPutWhole (layout_of catalogue.now.version) catalogue.now requests.now
+        (framing_view framing.now)) }
     ensures long { let f = fixed_of catalogue.now requests.now (framing_view framing.now) in
-        length (fixed_octets Third f) ≡ 96 }
-    ensures allows { OpenHasRange Third framing.now.slots.slots.most }
+        length (fixed_octets (layout_of catalogue.now.version) f) ≡ 96 }
+    ensures allows { OpenHasRange (layout_of catalogue.now.version) framing.now.slots.slots.most }
 {
     let mut fixed: ArrayVec<u8, 96> = ArrayVec::new();
     fixed_part(framing, catalogue, requests).write(&mut fixed);
@@ -87,13 +88,14 @@ fn fixed_part(framing: &Framing, catalogue: &Catalogue, requests: &Requests) -> 
     }
 }
 
-/// How many types, operations, exceptions and request ids the catalogue and the list have.
+/// The version of the catalogue, and how many types, operations, exceptions and request ids it and the list have.
 #[tactic(auto, unfolding(crate::specs::Checkpoint::counts_of))]
 pub fn counts_of(catalogue: &Catalogue, requests: &Requests) -> Counts
     ensures { result ≡ counts_of catalogue.now requests.now }
 {
     let counts = catalogue.counts();
     Counts {
+        version: catalogue.version(),
         types: counts.types,
         operations: counts.operations,
         exceptions: counts.exceptions,

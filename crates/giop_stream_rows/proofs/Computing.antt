@@ -19,7 +19,7 @@ use Rattle.giop_message.specs.Headers.{minor, kind, order, has_more, size, may_b
 use Rattle.giop_message.specs.Text.{numbered_line, value_line_text, call_text, rest_text}
 use Rattle.giop_message.specs.Signatures.{signatures_of}
 use Rattle.giop_message.specs.Messages as one
-use Rattle.giop_message.specs.Messages.{line_at, is_shown, call_of, calls, with_front, section_then, rest_in, rest, typed, option_typed, members_of, after_exception, body, type_if, request_body, result_body, reply_body, is_request, body_of, has_body, padded, after_header, of_header, message, body_may_be_missing, close, message_lines, message_marks, stage_of}
+use Rattle.giop_message.specs.Messages.{line_at, is_shown, call_of, calls, with_front, section_then, rest_in, rest, typed, option_typed, members_of, after_exception, body, type_if, request_body, result_body, reply_body, locate_body, is_request, body_of, is_aligned, padded, after_header, of_header, message, body_may_be_missing, close, message_lines, message_marks, stage_of}
 use Rattle.giop_message.specs.ReaderOfTable.{line_class_of, text_of, remarks_by, closes_by}
 use Rattle.giop_stream.specs.HeaderOctets.{fronts, wrong, first_wrong, first_wrong_octet}
 use Rattle.giop_stream.specs.Framing.{with_first, cut_from, limit, limited, cut, messages, read_of}
@@ -47,8 +47,9 @@ unfolding digits num twos_complement padding block number path_text hex hex_numb
     builtin_types minor kind order value_line_text call_text rest_text signatures_of
     line_at is_shown call_of calls one.section_lines with_front section_then rest_in rest typed
     option_typed members_of after_exception body type_if request_body result_body reply_body
-    is_request body_of has_body padded after_header of_header message body_may_be_missing close
-    message_lines message_marks stage_of line_class_of text_of remarks_by closes_by
+    locate_body is_request body_of is_aligned padded after_header of_header message
+    body_may_be_missing close message_lines message_marks stage_of line_class_of text_of remarks_by
+    closes_by
 one_message = 0
 
 -- those to cut a stream and to write its lines
@@ -170,6 +171,7 @@ pub in_a_header : InAHeader
 unfolding one_message a_stream told_with a_checkpoint no_messages in_header
 in_a_header = record {
   layout = Third;
+  is_read = refl;
   memory = in_header;
   entries = [];
   octets_are = refl;
@@ -191,6 +193,7 @@ pub in_an_old_header : InAnOldHeader
 unfolding one_message a_stream told_with a_checkpoint no_messages in_header
 in_an_old_header = record {
   layout = Second;
+  is_read = refl;
   memory = in_header;
   entries = [];
   octets_are = refl;
@@ -212,6 +215,7 @@ pub in_a_payload : InAPayload
 unfolding one_message a_stream told_with a_checkpoint no_messages in_payload
 in_a_payload = record {
   layout = Third;
+  is_read = refl;
   memory = in_payload;
   entries = [];
   octets_are = refl;
@@ -233,6 +237,7 @@ pub behind_a_fault : BehindAFault
 unfolding one_message a_stream told_with a_checkpoint no_messages behind_fault
 behind_a_fault = record {
   layout = Third;
+  is_read = refl;
   memory = behind_fault;
   entries = [];
   octets_are = refl;

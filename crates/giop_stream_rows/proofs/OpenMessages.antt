@@ -53,7 +53,8 @@ number : Innermost
 number = innermost.Number (type_id 8)
 
 parameters_frame : Frame
-parameters_frame = record { of = type_id parameters; index = 0; count = 1; inside = None; told = None }
+parameters_frame =
+    record { of = type_id parameters; index = 0; count = 1; inside = None; told = None }
 
 in_body : Decoder
 in_body = record {
@@ -410,6 +411,7 @@ pub two_open : BetweenMessages
 unfolding one_message a_stream told_with a_checkpoint kept_messages its_parts
 two_open = record {
   layout = Third;
+  is_read = refl;
   memory = between;
   entries = first_entry ∷ second_entry ∷ [];
   octets_are = refl;

@@ -54,6 +54,7 @@ called name request = record {
 -- the built-in types and then these, with these operations and exceptions
 unfoldable pub table_of : List Node → List Operation → List Exception → Table
 table_of types operations exceptions = record {
+  version = 1;
   types = builtin_types ++ types;
   operations =
       operations;

@@ -125,16 +125,20 @@ unfolding end_at
 end_other text t ts h = rw h.1 refl
 
 -- a name is read again, unless it is reserved or too long
-pub identifier_again : (text w : List ℕ) (ts : List Token) (h : AreTokens text (word w ∷ ts)) →
-    is_reserved w ≡ false → length w ≤ 64 → identifier_at text ≡ Ok (w, h.0)
+pub identifier_again : (third : Bool) (text w : List ℕ) (ts : List Token)
+    (h : AreTokens text (word w ∷ ts)) →
+    is_reserved third w ≡ false → length w ≤ 64 → identifier_at third text ≡ Ok (w, h.0)
 unfolding identifier_at
-identifier_again text w ts h r few = let k : ltb 64 (length w) ≡ false = le-ltb 64 (length w) few in
+identifier_again third text w ts h r few =
+    let k : ltb 64 (length w) ≡ false = le-ltb 64 (length w) few in
     rw (word_again text w ts h, r, k) refl
 
-pub identifier_long : (text w : List ℕ) (ts : List Token) → AreTokens text (word w ∷ ts) →
-    is_reserved w ≡ false → 64 < length w → identifier_at text ≡ Err (too_long text)
+pub identifier_long : (third : Bool) (text w : List ℕ) (ts : List Token)
+    → AreTokens text (word w ∷ ts) →
+    is_reserved third w ≡ false → 64 < length w → identifier_at third text ≡ Err (too_long text)
 unfolding identifier_at
-identifier_long text w ts h r long = let k : ltb 64 (length w) ≡ true = lt-ltb 64 (length w) long in
+identifier_long third text w ts h r long =
+    let k : ltb 64 (length w) ≡ true = lt-ltb 64 (length w) long in
     rw (word_again text w ts h, r, k) refl
 
 pub operation_name_again : (text w : List ℕ) (ts : List Token) (h : AreTokens text (word w ∷ ts)) →
@@ -303,18 +307,19 @@ repository_few text x e = (next_first text (repository x.0) x.1
     (repository_next text x e)).token.few
 
 -- a name that was read: a word that isn't reserved and is not too long
-name_by : (text : List ℕ) (w x : List ℕ × List ℕ) (b c : Bool) → is_reserved w.0 ≡ b →
-    ltb 64 (length w.0) ≡ c → word_at text ≡ Ok w
+name_by : (third : Bool) (text : List ℕ) (w x : List ℕ × List ℕ) (b c : Bool)
+    → is_reserved third w.0 ≡ b → ltb 64 (length w.0) ≡ c → word_at text ≡ Ok w
     → cond b (Err (misplaced text)) (cond c (Err (too_long text)) (done (w.0, w.1))) ≡ Ok x →
-    (word_at text ≡ Ok x) × (is_reserved x.0 ≡ false) × (length x.0 ≤ 64)
-name_by text w x true c p q n e = absurd cc
-name_by text w x false true p q n e = absurd cc
-name_by text w x false false p q n e = search (arith, ok_is, ltb-false)
+    (word_at text ≡ Ok x) × (is_reserved third x.0 ≡ false) × (length x.0 ≤ 64)
+name_by third text w x true c p q n e = absurd cc
+name_by third text w x false true p q n e = absurd cc
+name_by third text w x false false p q n e = search (arith, ok_is, ltb-false)
 
-pub identifier_word : (text : List ℕ) (x : List ℕ × List ℕ) → identifier_at text ≡ Ok x →
-    (word_at text ≡ Ok x) × (is_reserved x.0 ≡ false) × (length x.0 ≤ 64)
+pub identifier_word : (third : Bool) (text : List ℕ) (x : List ℕ × List ℕ)
+    → identifier_at third text ≡ Ok x
+    → (word_at text ≡ Ok x) × (is_reserved third x.0 ≡ false) × (length x.0 ≤ 64)
 unfolding identifier_at
-identifier_word text x e = search (arith, bind_ok, cond, ltb, name_by)
+identifier_word third text x e = search (arith, bind_ok, cond, ltb, name_by)
 
 operation_by : (text : List ℕ) (w x : List ℕ × List ℕ) (c : Bool) → ltb 128 (length w.0) ≡ c →
     word_at text ≡ Ok w

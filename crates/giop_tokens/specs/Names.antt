@@ -1,6 +1,6 @@
 -- Names: which words are reserved, and how long a name may be (docs/FORMATS.md, Signature file;
 -- meaning).
-use Rattle.std.specs.Prelude.{ℕ, Bool, List, [], ◌∷◌, length, Result, Ok, Err, nat_lt, if◌then◌else◌, codes}
+use Rattle.std.specs.Prelude.{ℕ, Bool, ◌&&◌, ◌||◌, List, [], ◌∷◌, length, Result, Ok, Err, nat_lt, if◌then◌else◌, codes}
 use Rattle.std.specs.List.{list_any}
 use Rattle.std.specs.Str.{bytes_eq}
 use Rattle.giop_tokens.specs.declared.fault.Refusal.{Refusal}
@@ -9,7 +9,7 @@ use Rattle.giop_tokens.specs.Tokens.{left_of}
 use Rattle.giop_tokens.specs.Reading.{◌>>=◌}
 use Rattle.giop_tokens.specs.Readers.{misplaced, word_at}
 
--- the words that are no names
+-- the words that are no names in any file
 abbrev pub reserved_words : List (List ℕ)
 reserved_words =
     codes "signatures" ∷ codes "enum" ∷ codes "struct" ∷ codes "union" ∷ codes "switch" ∷ codes
@@ -22,18 +22,27 @@ reserved_words =
     ∷ codes "longlong" ∷ codes "ulonglong" ∷ codes "float" ∷ codes "double"
     ∷ codes "return" ∷ codes "encapsulation" ∷ []
 
-unfoldable pub is_reserved : List ℕ → Bool
-is_reserved w = list_any (bytes_eq w) reserved_words
+-- the words that are no names in files of version 3 alone
+abbrev pub later_reserved_words : List (List ℕ)
+later_reserved_words =
+    codes "any" ∷ codes "TypeCode" ∷ codes "wchar" ∷ codes "wstring" ∷ codes "fixed"
+    ∷ codes "longdouble" ∷ []
+
+-- whether a word is no name; the flag is whether the file has version 3
+unfoldable pub is_reserved : Bool → List ℕ → Bool
+is_reserved third w =
+    list_any (bytes_eq w) reserved_words
+    || (third && list_any (bytes_eq w) later_reserved_words)
 
 -- a refusal of the first token of a text as too long
 abbrev pub too_long : List ℕ → Refusal
 too_long text = record { kind = kinds.Limit; left = left_of text }
 
 -- a name: a word that isn't reserved, of at most 64 octets
-unfoldable pub identifier_at : List ℕ → Result (List ℕ × List ℕ) Refusal
-identifier_at text = do
+unfoldable pub identifier_at : Bool → List ℕ → Result (List ℕ × List ℕ) Refusal
+identifier_at third text = do
   w ← word_at text
-  if is_reserved w.0 then Err (misplaced text) else
+  if is_reserved third w.0 then Err (misplaced text) else
       (if nat_lt 64 (length w.0) then Err (too_long text) else Ok (w.0, w.1))
 
 -- an operation's name: any word, of at most 128 octets

@@ -2,7 +2,7 @@
 ghost use Rattle.std.specs.Prelude.{◌≡◌, map, bytes_eq};
 ghost use Rattle.std.specs.List.{list_any};
 ghost use Rattle.giop_tokens.specs.Reading.{Gives};
-ghost use Rattle.giop_tokens.specs.Names.{is_reserved, too_long, identifier_at, operation_name_at};
+ghost use Rattle.giop_tokens.specs.Names.{reserved_words, later_reserved_words, is_reserved, too_long, identifier_at, operation_name_at};
 
 use crate::fault::{Refusal, SigFaultKind};
 use crate::lexer::left_of;
@@ -20,10 +20,17 @@ fn is_one_of(word: &[u8], others: &[&[u8]]) -> bool
     others.iter().any(|other| word == *other)
 }
 
-/// Whether a word is no name.
+/// Whether a word is no name, in a file of version 3 or in an older one.
 #[tactic(auto, unfolding(crate::specs::Names::is_reserved))]
-pub fn is_reserved(word: &[u8]) -> bool
-    ensures { result ≡ is_reserved word.now }
+pub fn is_reserved(third: bool, word: &[u8]) -> bool
+    ensures { result ≡ is_reserved third word.now }
+{
+    is_old_word(word) || (third && is_later_word(word))
+}
+
+/// Whether a word is no name in any file.
+fn is_old_word(word: &[u8]) -> bool
+    ensures { result ≡ list_any (bytes_eq word.now) reserved_words }
 {
     is_one_of(
         word,
@@ -63,6 +70,23 @@ pub fn is_reserved(word: &[u8]) -> bool
     )
 }
 
+/// Whether a word is no name in files of version 3 alone.
+fn is_later_word(word: &[u8]) -> bool
+    ensures { result ≡ list_any (bytes_eq word.now) later_reserved_words }
+{
+    is_one_of(
+        word,
+        &[
+            b"any",
+            b"TypeCode",
+            b"wchar",
+            b"wstring",
+            b"fixed",
+            b"longdouble",
+        ],
+    )
+}
+
 /// The refusal of the first token of a text, where it is too long a name.
 fn too_long(text: &[u8]) -> Refusal
     ensures { result ≡ too_long text.now }
@@ -73,13 +97,13 @@ fn too_long(text: &[u8]) -> Refusal
     }
 }
 
-/// A name: a word that isn't reserved, of at most 64 octets.
+/// A name in a file of version 3 or in an older one: a word that isn't reserved, of at most 64 octets.
 #[tactic(auto, unfolding(crate::specs::Names::identifier_at))]
-pub fn identifier(text: &[u8]) -> Result<(&[u8], &[u8]), Refusal>
-    ensures { Gives (λ x. (x.0.now, x.1.now)) result (identifier_at text.now) }
+pub fn identifier(third: bool, text: &[u8]) -> Result<(&[u8], &[u8]), Refusal>
+    ensures { Gives (λ x. (x.0.now, x.1.now)) result (identifier_at third text.now) }
 {
     let (name, rest) = word(text)?;
-    if is_reserved(name) {
+    if is_reserved(third, name) {
         return Err(misplaced(text));
     }
     if name.len() > NAME_MAX {

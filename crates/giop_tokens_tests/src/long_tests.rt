@@ -30,7 +30,7 @@ fn is_one_word(text: &[u8]) -> bool {
         Ok((name, rest)) => name.len() == SIZE && rest.is_empty(),
         Err(_) => false,
     };
-    is_word && is_refused(identifier(text), SigFaultKind::Limit, SIZE)
+    is_word && is_refused(identifier(false, text), SigFaultKind::Limit, SIZE)
 }
 
 /// A mebibyte of letters is a word.

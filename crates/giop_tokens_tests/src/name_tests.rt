@@ -1,6 +1,6 @@
 //! Names and repository ids: which words are none, and how long they may be.
 
-use crate::rows::{FREE, RESERVED};
+use crate::rows::{FREE, LATER_RESERVED, RESERVED};
 use crate::spelled::repeated;
 use giop_tokens::{Refusal, SigFaultKind, identifier, is_reserved, operation_name, repository_id};
 use std::process::Abort;
@@ -14,12 +14,21 @@ fn reserved_words_are_no_names(rt: HostRuntime) {
 
 fn are_no_names(rt: &impl Abort) {
     for reserved in RESERVED.split(' ') {
-        assert!(rt; is_no_name(reserved.as_bytes()), "{reserved}");
+        assert!(rt; is_no_name(false, reserved.as_bytes()), "{reserved}");
+        assert!(rt; is_no_name(true, reserved.as_bytes()), "{reserved}");
+    }
+    for reserved in LATER_RESERVED.split(' ') {
+        assert!(rt; is_no_name(true, reserved.as_bytes()), "{reserved}");
+        assert!(rt; !is_reserved(false, reserved.as_bytes()), "{reserved}");
+        assert!(rt;
+            identifier(false, reserved.as_bytes()).is_ok(),
+            "{reserved}"
+        );
     }
 }
 
-/// Whether a word is reserved, names nothing, and is an operation all the same.
-fn is_no_name(word: &[u8]) -> bool {
+/// Whether a word is reserved, names nothing, and is an operation all the same; in a file of version 3 or in an older one.
+fn is_no_name(third: bool, word: &[u8]) -> bool {
     let syntax = Refusal {
         kind: SigFaultKind::Syntax,
         left: word.len(),
@@ -28,12 +37,13 @@ fn is_no_name(word: &[u8]) -> bool {
         Ok((name, rest)) => name == word && rest.is_empty(),
         Err(_) => false,
     };
-    is_reserved(word) && is_operation && identifier(word) == Err(syntax)
+    is_reserved(third, word) && is_operation && identifier(third, word) == Err(syntax)
 }
 
 fn are_free(rt: &impl Abort) {
     for free in FREE.split(' ') {
-        assert!(rt; !is_reserved(free.as_bytes()), "{free}");
+        assert!(rt; !is_reserved(false, free.as_bytes()), "{free}");
+        assert!(rt; !is_reserved(true, free.as_bytes()), "{free}");
     }
 }
 
@@ -66,7 +76,7 @@ fn is_limited(
     is_operation: bool,
 ) -> Result<(), Fail> {
     let text = repeated(rt.alloc(), b"  ", b"n", size)?;
-    let name = identifier(&text);
+    let name = identifier(false, &text);
     assert!(rt;
         is_taken_or_limited(name, size, is_name),
         "a name of {size}"

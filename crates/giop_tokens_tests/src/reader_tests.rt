@@ -38,7 +38,7 @@ fn told_differs(after: &[u8]) -> &'static str {
     if !takes(repository_id(b"\"IDL:a\" x"), b"IDL:a", after) {
         return "a repository id";
     }
-    if !takes(identifier(b"A x"), b"A", after) {
+    if !takes(identifier(false, b"A x"), b"A", after) {
         return "an identifier";
     }
     if takes(operation_name(b"void x"), b"void", after) {
@@ -180,7 +180,7 @@ fn refused_name_differs(syntax: SigFaultKind) -> &'static str {
     if !refuses(repository_id(b"IDL:a"), syntax, 5) {
         return "a word for a repository id";
     }
-    if !refuses(identifier(b"1"), syntax, 1) {
+    if !refuses(identifier(false, b"1"), syntax, 1) {
         return "a number for an identifier";
     }
     if refuses(operation_name(b"1"), syntax, 1) {

@@ -86,5 +86,8 @@ pub static LINES: &[u8] = b"\
 pub static RESERVED: &str =
     "signatures enum struct union switch case default true false exception operation void in out inout string Object sequence octet char boolean short ushort long ulong longlong ulonglong float double return encapsulation";
 
+/// Words that are no names in files of version 3 alone.
+pub static LATER_RESERVED: &str = "any TypeCode wchar wstring fixed longdouble";
+
 /// Words that are names.
 pub static FREE: &str = "Enum object bool enums e _enum returns";

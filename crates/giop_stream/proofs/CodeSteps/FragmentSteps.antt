@@ -10,7 +10,6 @@ use Rattle.giop_print.specs.Output.{OutLog, Writes}
 use Rattle.giop_sig.specs.Table.{Table}
 use Rattle.giop_decode.specs.Noted.{Noted}
 use Rattle.giop_message.specs.Headers.{minor, kind, order, size, is_fragment}
-use Rattle.giop_message.specs.Messages.{has_body}
 use Rattle.giop_message.specs.MessageReader.{IsCausal}
 use Rattle.giop_message.specs.Signatures.{Answers}
 use Rattle.giop_message.specs.ReaderOfTable.{message_reader}
@@ -86,10 +85,9 @@ fragment_tells C number header n seven = rw seven refl
 
 fragment_untold : (C : Table) (w : MessageKey) (o : Option (List ℕ)) (octets : List ℕ) →
     kind w.header ≡ 7 → AreUntold C (run_header_ends w o octets)
-unfolding has_body
 fragment_untold C w None octets seven = tt
 fragment_untold C w (Some xs) octets seven =
-    bodiless_ends (λ e. call_event C e ≡ None) w.number w.header (rw seven refl)
+    bodiless_ends (λ e. call_event C e ≡ None) w.number w.header seven
     (λ n. fragment_tells C w.number w.header n seven) xs octets
 
 -- ---- The octets of a request id before the last one.

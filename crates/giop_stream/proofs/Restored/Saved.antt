@@ -1,5 +1,5 @@
 -- What `save` writes: the fixed part, then an entry for each open message and the current one.
-use Rattle.std.proofs.Common.{◌≡◌, ℕ, zero, suc, ◌+◌, ◌<◌, ◌≤◌, get_or, List, [], ◌∷◌, ◌++◌, length, take, flat_map, replicate, Option, Some, None, Result, Ok, Err, IsErr, refl, sym, ap, subst, ◌∙◌, append_assoc, append-nil, arith}
+use Rattle.std.proofs.Common.{◌≡◌, Bool, true, false, nat_le, cond, ℕ, zero, suc, ◌+◌, ◌<◌, ◌≤◌, get_or, List, [], ◌∷◌, ◌++◌, length, take, flat_map, replicate, Option, Some, None, Result, Ok, Err, IsErr, refl, sym, ap, subst, ◌∙◌, append_assoc, append-nil, arith}
 use Rattle.std.specs.List.{AllByRecursion as Each}
 use Rattle.std.proofs.lemmas.List.{take_all}
 use Rattle.std.proofs.lemmas.Grind.{take_at_read}
@@ -10,7 +10,8 @@ use Rattle.giop_checkpoint.proofs.Puts.{then}
 use Rattle.giop_sig.specs.Table.{Table}
 use Rattle.giop_message.specs.MessageState.{Fits}
 use Rattle.giop_message.specs.Signatures.{RequestTable}
-use Rattle.giop_checkpoint.specs.declared.layout.Layout.TheVariants.{Third}
+use Rattle.giop_checkpoint.specs.Layouts.{layout_of, reads}
+use Rattle.giop_checkpoint.specs.declared.layout.Layout.TheVariants.{Third, Fourth}
 use Rattle.giop_checkpoint.specs.Fixed.{fixed_octets}
 use Rattle.giop_stream.specs.SlotsRepresent.{OpenEntry, current_of}
 use Rattle.giop_stream.specs.SlotsRepresent.{IsReady}
@@ -25,7 +26,7 @@ use Rattle.giop_stream.specs.EngineView.{FramingView, EngineView}
 use Rattle.giop_checkpoint.specs.declared.record.RecordKind.TheVariants as record_kinds
 use Rattle.giop_stream.proofs.Restored.LoadRanges.{few_slots}
 use Rattle.giop_stream.proofs.Restored.SavedSizes.{HasRoom, whole_long, whole_within}
-use Rattle.giop_stream.specs.Checkpoint.{standing_of, IsStored, IsOpen, IsMessageRecord, IsCurrent, IsPutOne, IsPut, AreOpen, AreEntries, fixed_of, checkpoint_octets, IsPutWhole, Puts, PutsSuch, Spells, Saves}
+use Rattle.giop_stream.specs.Checkpoint.{counts_of, standing_of, IsStored, IsOpen, IsMessageRecord, IsCurrent, IsPutOne, IsPut, AreOpen, AreEntries, fixed_of, checkpoint_octets, IsPutWhole, Puts, PutsSuch, Spells, Saves}
 
 pub flat_append : (xs ys : List Entry) → flat_map entry_octets (xs ++ ys) ≡ flat_map entry_octets xs
     ++ flat_map entry_octets ys
@@ -110,17 +111,27 @@ ready_fits C at (Some n) m e ready = search (arith)
 
 -- ---- the whole checkpoint
 
+abbrev pub fixed_in : Table → RequestTable → FramingView → List ℕ
+fixed_in C l m = fixed_octets (layout_of C.version) (fixed_of C l m)
+
+-- the fixed part is written in the layout of the table's version
+pub written_fixed : (C : Table) (l : RequestTable) (m : FramingView) →
+    fixed_octets (layout_of (fixed_of C l m).counts.version) (fixed_of C l m) ≡ fixed_in C l m
+unfolding fixed_of counts_of
+written_fixed C l m = refl
+
 pub whole_is : (C : Table) (l : RequestTable) (m : FramingView) (fixed after : List ℕ) →
-    current_of m.slots.owner ≡ None → fixed ≡ fixed_octets Third (fixed_of C l m)
-    → IsPut fixed after (AreOpen m.slots.slots.entries) → IsPutWhole Third C l m after
+    current_of m.slots.owner ≡ None → fixed ≡ fixed_in C l m
+    → IsPut fixed after (AreOpen m.slots.slots.entries) →
+    IsPutWhole (layout_of C.version) C l m after
 unfolding checkpoint_octets
 whole_is C l m fixed after none e p = search (arith, flat_map)
 
 pub whole_own : (C : Table) (l : RequestTable) (m : FramingView) (x : Message)
     (fixed between after : List ℕ) → current_of m.slots.owner ≡ Some x
-    → fixed ≡ fixed_octets Third (fixed_of C l m)
+    → fixed ≡ fixed_in C l m
     → IsPut fixed between (AreOpen m.slots.slots.entries) → IsPutOne between after (IsCurrent x) →
-    IsPutWhole Third C l m after
+    IsPutWhole (layout_of C.version) C l m after
 unfolding checkpoint_octets
 whole_own C l m x fixed between after some e p one = record {
   entries = p.entries ++ one.entry ∷ [];
@@ -128,9 +139,9 @@ whole_own C l m x fixed between after some e p one = record {
   put = one.put
       ∙ ap (λ (xs : List ℕ). xs ++ entry_octets one.entry)
       (p.put ∙ ap (λ (xs : List ℕ). xs ++ flat_map entry_octets p.entries) e)
-      ∙ append_assoc (fixed_octets Third (fixed_of C l m)) (flat_map entry_octets p.entries)
+      ∙ append_assoc (fixed_in C l m) (flat_map entry_octets p.entries)
       (entry_octets one.entry)
-      ∙ ap (λ (xs : List ℕ). fixed_octets Third (fixed_of C l m) ++ xs)
+      ∙ ap (λ (xs : List ℕ). fixed_in C l m ++ xs)
       (sym (flat_append p.entries (one.entry ∷ [])
       ∙ ap (λ (xs : List ℕ). flat_map entry_octets p.entries ++ xs) (flat_one one.entry)));
 }
@@ -226,22 +237,31 @@ puts_stopped (Ok m) (Err i) before between after front octets n e is puts front_
 
 -- ---- an engine's checkpoint
 
+written_read : (version : ℕ) (new : Bool) → nat_le 3 version ≡ new →
+    reads version (cond new Fourth Third) ≡ true
+written_read version true e = e
+written_read version false e = search (arith)
+
 pub saved_is : (e v : EngineView) (p octets : List ℕ) (result : Result ℕ Stop)
     (before after : OutLog) → e ≡ v
     → v.stream.slots.slots.most ≡ v.most → Holds e p →
-    IsPutWhole Third v.table v.request_table v.stream octets
-    → HasRoom Third v.table v.request_table v.stream → StopWrites result before after octets
+    IsPutWhole (layout_of v.table.version) v.table v.request_table v.stream octets
+    → HasRoom (layout_of v.table.version) v.table v.request_table v.stream →
+    StopWrites result before after octets
     → IfOk result (λ n. n ≡ length octets) →
     Saves result before after e.table e.request_table e.most p
 saved_is e v p octets result before after same limit holds put room written count =
-    let whole = subst (λ x. IsPutWhole Third x.table x.request_table x.stream octets) (sym same) put
-    in
-    let here = subst (λ x. HasRoom Third x.table x.request_table x.stream) (sym same) room in
+    let whole = subst (λ x. IsPutWhole (layout_of x.table.version) x.table x.request_table x.stream
+    octets) (sym same) put in
+    let here = subst (λ x. HasRoom (layout_of x.table.version) x.table x.request_table x.stream)
+    (sym same) room in
+    let layout = layout_of e.table.version in
     let limit_here = subst (λ (x : EngineView). x.stream.slots.slots.most ≡ x.most) (sym same) limit
     in
-    let size = whole_long Third e.table e.request_table e.stream octets whole here in
+    let size = whole_long layout e.table e.request_table e.stream octets whole here in
     let spells : Spells octets e.table e.request_table e.most p = record {
-      layout = Third;
+      layout = layout;
+      is_read = written_read e.table.version _ refl;
       memory = e.stream;
       entries = whole.entries;
       octets_are = whole.put;
@@ -256,14 +276,14 @@ saved_is e v p octets result before after same limit holds put room written coun
     record {
       octets = octets;
       spells = spells;
-      third = refl;
+      layout = refl;
       written = written;
       count = count;
       size = size;
       within = omega (
         arith,
         size,
-        whole_within Third e.table e.request_table e.stream e.most octets
+        whole_within layout e.table e.request_table e.stream e.most octets
             whole here few,
       );
     }

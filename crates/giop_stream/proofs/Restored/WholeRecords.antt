@@ -1,5 +1,5 @@
 -- A checkpoint is a fixed part and whole records after it; and why other octets are refused.
-use Rattle.std.proofs.Common.{◌≤◌, ◌≡◌, ℕ, get_or, List, [], ◌∷◌, ◌++◌, length, flat_map, arith, inl, inr, refl, sym, ◌∙◌}
+use Rattle.std.proofs.Common.{◌≤◌, ◌≡◌, ℕ, true, get_or, List, [], ◌∷◌, ◌++◌, length, flat_map, arith, inl, inr, refl, sym, ◌∙◌}
 use Rattle.std.specs.List.{AllByRecursion as Each}
 use Rattle.std.proofs.lemmas.List.{drop_at, length-append}
 use Rattle.giop_sig.specs.Table.{Table}
@@ -9,8 +9,8 @@ use Rattle.giop_checkpoint.specs.declared.fault.LoadFault.TheVariants as refusal
 use Rattle.giop_checkpoint.specs.declared.fixed.Counts.{Counts}
 use Rattle.giop_checkpoint.specs.declared.fixed.Fixed.{Fixed}
 use Rattle.giop_checkpoint.specs.declared.layout.Layout.{Layout}
-use Rattle.giop_checkpoint.specs.declared.layout.Layout.TheVariants.{Second, Third}
-use Rattle.giop_checkpoint.specs.Layouts.{OpenHasRange}
+use Rattle.giop_checkpoint.specs.declared.layout.Layout.TheVariants.{Second, Third, Fourth}
+use Rattle.giop_checkpoint.specs.Layouts.{OpenHasRange, reads}
 use Rattle.giop_checkpoint.specs.Fixed.{HasRange, fixed_octets}
 use Rattle.giop_checkpoint.specs.Records.{Entry, EntryHasRange, AreRecords, kind_octets, own_octets, entry_octets}
 use Rattle.giop_checkpoint.specs.Refusals.{Refused, Passes}
@@ -57,15 +57,20 @@ module _ (octets p : List ℕ) (C : Table) (l : RequestTable) (most : ℕ)
   unfolding checkpoint_octets
   fixed_front = s.octets_are
 
+  layout_read : reads (counts_of C l).version s.layout ≡ true
+  unfolding counts_of
+  layout_read = s.is_read
+
   -- what holds of every fixed part and records in their ranges holds of these
   pub parts_read : (P : Fixed → List ℕ → Type 0) (counts : Counts) → counts ≡ counts_of C l →
-      ((layout : Layout) (f : Fixed) (records : List ℕ) → f.counts ≡ counts → HasRange layout f →
+      ((layout : Layout) (f : Fixed) (records : List ℕ) → f.counts ≡ counts →
+      reads counts.version layout ≡ true → HasRange layout f →
       AreRecords f.records records →
       octets ≡ fixed_octets layout f ++ records → P f records) →
       P (fixed_of C l s.memory) (flat_map entry_octets s.entries)
   parts_read P counts same again =
       again s.layout (fixed_of C l s.memory) (flat_map entry_octets s.entries)
-      (fixed_counts C l s.memory ∙ sym same)
+      (fixed_counts C l s.memory ∙ sym same) (rw same layout_read)
       (fixed_range octets p C l most s) fixed_records fixed_front
 
 -- ---- octets that are no checkpoint
@@ -98,6 +103,7 @@ refused_memory c now s f records same passes = search (arith)
 open_by : (layout : Layout) (n : ℕ) → OpenHasRange layout n → (1 ≤ n) × (n ≤ most_open)
 open_by Second n h = search (arith)
 open_by Third n h = h
+open_by Fourth n h = h
 
 pub passed_open : (c : Counts) (s : List ℕ) (f : Fixed) (records : List ℕ) → Passes c s f records →
     (1 ≤ f.most_open) × (f.most_open ≤ most_open)

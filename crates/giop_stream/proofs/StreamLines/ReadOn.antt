@@ -11,6 +11,7 @@ use Rattle.giop_message.specs.MessageReader.{IsCausal, IsStreamable}
 use Rattle.giop_message.specs.Signatures.{RequestTable}
 use Rattle.giop_checkpoint.specs.declared.layout.Layout.{Layout}
 use Rattle.giop_checkpoint.specs.declared.fixed.Fixed.{Fixed}
+use Rattle.giop_checkpoint.specs.Layouts.{reads}
 use Rattle.giop_checkpoint.specs.Fixed.{HasRange, fixed_octets}
 use Rattle.giop_checkpoint.proofs.Fronts.{front_of}
 use Rattle.giop_stream.specs.Rules.{Rules, rules}
@@ -21,7 +22,7 @@ use Rattle.giop_stream.specs.EngineView.{EngineView}
 use Rattle.giop_stream.specs.declared.fault.Stop.{Stop}
 use Rattle.giop_stream.specs.declared.fault.Stop.TheVariants as stop
 use Rattle.giop_stream.specs.Pieces.{whole_text, remaining}
-use Rattle.giop_stream.specs.Checkpoint.{IsPutWhole, Spells, checkpoint_limit}
+use Rattle.giop_stream.specs.Checkpoint.{counts_of, fixed_of, IsPutWhole, Spells, checkpoint_limit}
 use Rattle.giop_stream.proofs.StreamLines.MoreOctets.{text_adds}
 use Rattle.giop_stream.proofs.Restored.LoadRanges.{fixed_range, few_slots}
 use Rattle.giop_stream.proofs.Restored.SavedSizes.{HasRoom, whole_long, whole_within}
@@ -83,11 +84,18 @@ pub final_by : (ended : Result Totals Stop) (Q R : Rules) (p : List ℕ) → Q �
     IfOk ended (λ t. t ≡ final Q p) → IfOk ended (λ t. t ≡ final R p)
 final_by ended Q R p same totals = search (arith)
 
-fixed_long : (layout : Layout) (f : Fixed) → HasRange layout f → length (fixed_octets layout f) ≡ 96
-fixed_long layout f range =
-    let front = front_of layout f.counts f (fixed_octets layout f) [] refl range
+fixed_long : (layout : Layout) (f : Fixed) → reads f.counts.version layout ≡ true →
+    HasRange layout f → length (fixed_octets layout f) ≡ 96
+fixed_long layout f is_read range =
+    let front = front_of layout f.counts f (fixed_octets layout f) [] refl is_read range
     (sym (append-nil (fixed_octets layout f))) in
     omega (arith, front.ours.0, ap length front.rest, length-drop 96 (fixed_octets layout f))
+
+spelled_read : (octets p : List ℕ) (C : Table) (l : RequestTable) (most : ℕ)
+    (s : Spells octets C l most p) →
+    reads (fixed_of C l s.memory).counts.version s.layout ≡ true
+unfolding fixed_of counts_of
+spelled_read octets p C l most s = s.is_read
 
 pub spells_within : (octets p : List ℕ) (C : Table) (l : RequestTable) (most : ℕ) →
     Spells octets C l most p →
@@ -96,7 +104,9 @@ spells_within octets p C l most s =
     let whole : IsPutWhole s.layout C l s.memory octets =
     record { entries = s.entries; are = s.entries_are; put = s.octets_are } in
     let room : HasRoom s.layout C l s.memory = record {
-      fixed = fixed_long s.layout _ (fixed_range octets p C l most s);
+      fixed =
+          fixed_long s.layout _ (spelled_read octets p C l most s)
+          (fixed_range octets p C l most s);
       allows = rw s.limit s.allows;
       ready = s.ready;
     } in

@@ -7,8 +7,8 @@ pub returns-in_default-clause-refused : goal.returns-in_default-clause-refused
 returns-in_default-clause-refused c = (
   omega arith,
   sym c.split_at.ensures.front ∙ (c.if-not-same.ensures.0 refl ∙ c.magic.ensures),
-  λ h. c.in_default.not-Some h.0 ((c.of.ensures h.0).1
-      (c.split_at-2.ensures.front ∙ (ap (take 4) c.split_at.ensures.back ∙ h.1))),
+  λ h. c.in_default.not-Some h.0 ((c.read.ensures h.0).1
+      (c.split_at-2.ensures.front ∙ (ap (take 4) c.split_at.ensures.back ∙ h.2), h.1)),
 )
 
 pub returns-then-not-are-clause-refused : goal.returns-then-not-are-clause-refused
@@ -19,8 +19,10 @@ returns-then-not-are-clause-refused c =
       sym c.split_at.ensures.front ∙ (c.if-not-same.ensures.0 refl ∙ c.magic.ensures),
       (
         c.in-Some.layout,
+        ((c.read.ensures c.in-Some.layout).0 c.in-Some.is).1,
         ap (take 4) (sym c.split_at.ensures.back)
-            ∙ (sym c.split_at-2.ensures.front ∙ (c.of.ensures c.in-Some.layout).0 c.in-Some.is),
+            ∙ (sym c.split_at-2.ensures.front
+            ∙ ((c.read.ensures c.in-Some.layout).0 c.in-Some.is).0),
       ),
       λ h. untrue (c.if-not-are.ensures.1 (c.split_at-3.ensures.front ∙ (ap (take 16) behind ∙ h))),
     )
@@ -33,8 +35,10 @@ returns-clause-ours c =
       sym c.split_at.ensures.front ∙ (c.if-not-same.ensures.0 refl ∙ c.magic.ensures),
       (
         c.in-Some.layout,
+        ((c.read.ensures c.in-Some.layout).0 c.in-Some.is).1,
         ap (take 4) (sym c.split_at.ensures.back)
-            ∙ (sym c.split_at-2.ensures.front ∙ (c.of.ensures c.in-Some.layout).0 c.in-Some.is),
+            ∙ (sym c.split_at-2.ensures.front
+            ∙ ((c.read.ensures c.in-Some.layout).0 c.in-Some.is).0),
       ),
       sym (ap (take 16) behind) ∙ (sym c.split_at-3.ensures.front ∙ c.if-not-are.ensures.0 refl),
     )
@@ -42,7 +46,10 @@ returns-clause-ours c =
 pub returns-clause-layout : goal.returns-clause-layout
 returns-clause-layout c =
     ap (take 4) (sym c.split_at.ensures.back)
-    ∙ (sym c.split_at-2.ensures.front ∙ (c.of.ensures c.in-Some.layout).0 c.in-Some.is)
+    ∙ (sym c.split_at-2.ensures.front ∙ ((c.read.ensures c.in-Some.layout).0 c.in-Some.is).0)
+
+pub returns-clause-read : goal.returns-clause-read
+returns-clause-read c = ((c.read.ensures c.in-Some.layout).0 c.in-Some.is).1
 
 pub returns-clause-rest : goal.returns-clause-rest
 returns-clause-rest c =

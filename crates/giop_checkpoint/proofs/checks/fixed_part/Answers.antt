@@ -6,8 +6,8 @@ use Rattle.giop_checkpoint.proofs.States.{value_of}
 use Rattle.giop_checkpoint.proofs.checks.fixed_part.Goals as goal
 
 pub returns-in-Err-clause-again : goal.returns-in-Err-clause-again
-returns-in-Err-clause-again c layout f records own h lengths e =
-    ours_not c.args.counts _ _ (front_of layout c.args.counts f _ records own h e).ours
+returns-in-Err-clause-again c layout f records own read h lengths e =
+    ours_not c.args.counts _ _ (front_of layout c.args.counts f _ records own read h e).ours
     c.in-Err.ensures.refused
 
 pub split_at-requires : goal.split_at-requires
@@ -32,9 +32,9 @@ returns-in_default-clause-refused c =
     )
 
 pub returns-in_default-clause-again : goal.returns-in_default-clause-again
-returns-in_default-clause-again c layout f records own h lengths e =
+returns-in_default-clause-again c layout f records own read h lengths e =
     let s = c.args.octets.now in
-    let p = front_of layout c.args.counts f s records own h e in
+    let p = front_of layout c.args.counts f s records own read h e in
     let front = c.split_at.ensures.front ∙ ap (take 68) c.in-Ok.ensures.rest in
     c.in_default.not-Some f
     (c.state_at.ensures.again f own (range_by s _ layout f c.in-Ok.ensures.layout p.laid_out h)
@@ -50,6 +50,7 @@ returns-then-not-are_records-clause-refused c =
         c.in-Some.fixed,
         record {
           layout = _;
+          read = c.in-Ok.ensures.read;
           laid_out = c.in-Ok.ensures.layout;
           counts = c.in-Some.ensures.counts;
           octets = ap (take 68) (sym c.in-Ok.ensures.rest)
@@ -61,9 +62,9 @@ returns-then-not-are_records-clause-refused c =
     )
 
 pub returns-then-not-are_records-clause-again : goal.returns-then-not-are_records-clause-again
-returns-then-not-are_records-clause-again c layout f records own h lengths e =
+returns-then-not-are_records-clause-again c layout f records own read h lengths e =
     let s = c.args.octets.now in
-    let p = front_of layout c.args.counts f s records own h e in
+    let p = front_of layout c.args.counts f s records own read h e in
     let front = c.split_at.ensures.front ∙ ap (take 68) c.in-Ok.ensures.rest in
     let rest = c.split_at.ensures.back ∙ (ap (drop 68) c.in-Ok.ensures.rest
     ∙ (drop-drop 68 28 s ∙ p.rest)) in
@@ -79,6 +80,7 @@ returns-clause-passes c = record {
   ours = c.in-Ok.ensures.ours;
   state = record {
     layout = _;
+    read = c.in-Ok.ensures.read;
     laid_out = c.in-Ok.ensures.layout;
     counts = c.in-Some.ensures.counts;
     octets = ap (take 68) (sym c.in-Ok.ensures.rest)
@@ -91,9 +93,9 @@ returns-clause-passes c = record {
 }
 
 pub returns-clause-again : goal.returns-clause-again
-returns-clause-again c layout f records own h lengths e =
+returns-clause-again c layout f records own read h lengths e =
     let s = c.args.octets.now in
-    let p = front_of layout c.args.counts f s records own h e in
+    let p = front_of layout c.args.counts f s records own read h e in
     let front = c.split_at.ensures.front ∙ ap (take 68) c.in-Ok.ensures.rest in
     let again = c.state_at.ensures.again f own
     (range_by s _ layout f c.in-Ok.ensures.layout p.laid_out h)

@@ -4,7 +4,7 @@ use Rattle.giop_print.specs.declared.path.Root.TheVariants as roots
 use Rattle.std.specs.Option.{option_map}
 use Rattle.giop_message.specs.Messages.{type_if}
 use Rattle.giop_message.specs.Signatures.{request_type, signatures_of}
-use Rattle.giop_message.proofs.Starting.{named_body, request_wants, reply_wants, others_want}
+use Rattle.giop_message.proofs.Starting.{named_body, request_wants, reply_wants, locate_wants, others_want}
 use Rattle.giop_message.proofs.body_type.header_body.Goals as goal
 
 pub returns-then-kind_of-eq0-clause-is : goal.returns-then-kind_of-eq0-clause-is
@@ -33,4 +33,14 @@ returns-clause-is g c r keeps_noted is =
     (g.Q.Correspondent.answer (g.Q.Correspondent.state c.args.correspondent.now)) in
     sym (others_want S c.args.header.now (noted_of true r)
     (λ e. c.if-kind_of-eq0.false (c.kind_of.ensures ∙ e))
-    (λ e. c.if-kind_of-eq1.false (c.kind_of-2.ensures ∙ e)))
+    (λ e. c.if-kind_of-eq1.false (c.kind_of-2.ensures ∙ e))
+    (λ e. c.if-kind_of-eq4.false (c.kind_of-3.ensures ∙ e)))
+
+pub returns-then-kind_of-eq4-clause-is : goal.returns-then-kind_of-eq4-clause-is
+returns-then-kind_of-eq4-clause-is g c r keeps_noted is =
+    let answer = g.Q.Correspondent.answer (g.Q.Correspondent.state c.args.correspondent.now) in
+    let S = signatures_of c.args.catalogue.now answer in
+    c.locate_body.ensures.is answer ∙ (rw
+    (c.status-then-kind_of-eq4.ensures roots.Header r keeps_noted)
+    (sym (locate_wants S c.args.header.now (noted_of true r)
+    (sym c.kind_of-3.ensures ∙ c.if-kind_of-eq4.true))))

@@ -12,7 +12,7 @@ use Rattle.giop_run.proofs.joint.joint_catalogue.Goals as goal
 by_names : (held : Folder) (names : List (List ℕ)) (files : List SignatureText)
     (r : Result Table ProgramFault) → AreRead held names files
     → (files ≡ [] → IfOk r (λ C. C ≡ builtin_table))
-    → (files ≢ [] → IfOk r (Declares (text_of files))) → IfOk r (CataloguesOf held names)
+    → (files ≢ [] → IfOk r (Declares 3 (text_of files))) → IfOk r (CataloguesOf held names)
 by_names held names files (Err fault) read none some = tt
 by_names held [] [] (Ok C) read none some = none refl
 by_names held [] (file ∷ files) (Ok C) read none some = let e = read.names_are in absurd cc

@@ -5,5 +5,6 @@ use Rattle.giop_sig.proofs.read_enums.some_names.Given as goal
 
 abbrev pub invariant-loop : goal.invariant-loop
 invariant-loop l =
-    in_steps names_step too_many_names (1025 - l.counter) (map (λ n. n.now) l.names.items, l.rest)
-    ≡ in_steps names_step too_many_names 1025 ([], l.fn.text)
+    in_steps (names_step l.third) too_many_names (1025 - l.counter)
+    (map (λ n. n.now) l.names.items, l.rest)
+    ≡ in_steps (names_step l.third) too_many_names 1025 ([], l.fn.text)

@@ -1,17 +1,20 @@
 use Rattle.std.proofs.Common.{ℕ, List, [], ◌+◌, ◌++◌, sym, ap, ◌∙◌}
-use Rattle.giop_checkpoint.specs.declared.layout.Layout.TheVariants.{Third}
+use Rattle.giop_checkpoint.specs.Layouts.{layout_of}
+use Rattle.giop_checkpoint.specs.declared.fixed.Fixed.{Fixed}
 use Rattle.giop_checkpoint.specs.Fixed.{fixed_octets}
 use Rattle.giop_stream.specs.SlotsRepresent.{current_of}
-use Rattle.giop_stream.proofs.Restored.Saved.{put_behind, put_none_yet, whole_is, whole_own, current_is, ready_fits}
+use Rattle.giop_stream.proofs.Restored.Saved.{written_fixed, put_behind, put_none_yet, whole_is, whole_own, current_is, ready_fits}
 use Rattle.giop_stream.proofs.saving.write.Goals as goal
 
 pub returns-in_default-clause-whole : goal.returns-in_default-clause-whole
 returns-in_default-clause-whole g c =
     let C = c.args.catalogue.now in
     let before = g.O.Out.log c.args.out.now in
+    let written : Fixed → List ℕ = λ f. fixed_octets (layout_of f.counts.version) f in
     let fixed = c.as_slice.ensures.value ∙ c.write.ensures.put
-    ∙ ap (λ (xs : List ℕ). xs ++ fixed_octets Third c.fixed_part.result) c.new-fixed.ensures
-    ∙ ap (fixed_octets Third) c.fixed_part.ensures in
+    ∙ ap (λ (xs : List ℕ). xs ++ written c.fixed_part.result) c.new-fixed.ensures
+    ∙ ap written c.fixed_part.ensures
+    ∙ written_fixed C c.args.requests.now _ in
     let begun = c.put_next-begun.ensures.put before [] (put_none_yet before) in
     let at = c.args.framing.now.totals.octets + 1 in
     let so_far = c.write_open-written.ensures.put C at before _ c.requires.ready.each_ready begun in
@@ -26,9 +29,11 @@ pub returns-clause-whole : goal.returns-clause-whole
 returns-clause-whole g c =
     let C = c.args.catalogue.now in
     let before = g.O.Out.log c.args.out.now in
+    let written : Fixed → List ℕ = λ f. fixed_octets (layout_of f.counts.version) f in
     let fixed = c.as_slice.ensures.value ∙ c.write.ensures.put
-    ∙ ap (λ (xs : List ℕ). xs ++ fixed_octets Third c.fixed_part.result) c.new-fixed.ensures
-    ∙ ap (fixed_octets Third) c.fixed_part.ensures in
+    ∙ ap (λ (xs : List ℕ). xs ++ written c.fixed_part.result) c.new-fixed.ensures
+    ∙ ap written c.fixed_part.ensures
+    ∙ written_fixed C c.args.requests.now _ in
     let begun = c.put_next-begun.ensures.put before [] (put_none_yet before) in
     let at = c.args.framing.now.totals.octets + 1 in
     let so_far = c.write_open-written.ensures.put C at before _ c.requires.ready.each_ready begun in

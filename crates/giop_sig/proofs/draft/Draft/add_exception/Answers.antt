@@ -10,7 +10,7 @@ returns-clause-added c =
     let key = rw c.unwrap-key.ensures at c.try_from.ensures in
     draft_table c.self.inside.version _ _ _ c.self.inside.names.entries c.args.self.now
     c.self.view_is
-    (exception_put c.self.inside.types c.self.inside.operations.entries
+    (exception_put c.self.inside.version c.self.inside.types c.self.inside.operations.entries
     c.self.inside.exceptions.entries c.insert.new.self.entries c.self.inside.declared
     c.args.self.now.table c.unwrap-key.result c.args.t c.args.repository.now
     (ap (λ (s : Scope). s.table) c.self.view_is) key.0
@@ -22,7 +22,7 @@ invariant_of-self-2 c =
     let key = rw c.unwrap-key.ensures at c.try_from.ensures in
     let put = draft_table c.self.inside.version _ _ _ c.self.inside.names.entries c.args.self.now
     c.self.view_is
-    (exception_put c.self.inside.types c.self.inside.operations.entries
+    (exception_put c.self.inside.version c.self.inside.types c.self.inside.operations.entries
     c.self.inside.exceptions.entries c.insert.new.self.entries c.self.inside.declared
     c.args.self.now.table c.unwrap-key.result c.args.t c.args.repository.now
     (ap (λ (s : Scope). s.table) c.self.view_is) key.0

@@ -8,8 +8,8 @@ pub invariant_of-self-2 : goal.invariant_of-self-2
 invariant_of-self-2 c =
     let key = rw c.unwrap-key.ensures at c.try_from.ensures in
     let put = put_name c.args.self.now c.self.inside.version
-    (table_view c.self.inside.types c.self.inside.operations.entries
-    c.self.inside.exceptions.entries c.self.inside.declared)
+    (table_view c.self.inside.version c.self.inside.types
+    c.self.inside.operations.entries c.self.inside.exceptions.entries c.self.inside.declared)
     c.self.inside.names.entries c.insert.new.self.entries c.unwrap-key.result
     c.args.t c.args.name.now c.self.view_is key.0 c.requires.new c.in_ok-insert.ensures.entries in
     let is = subst IsDraft c.self.view_is c.self.invariant in
@@ -23,7 +23,7 @@ pub returns-clause-added : goal.returns-clause-added
 returns-clause-added c =
     let key = rw c.unwrap-key.ensures at c.try_from.ensures in
     put_name c.args.self.now c.self.inside.version
-    (table_view c.self.inside.types c.self.inside.operations.entries
-    c.self.inside.exceptions.entries c.self.inside.declared)
+    (table_view c.self.inside.version c.self.inside.types
+    c.self.inside.operations.entries c.self.inside.exceptions.entries c.self.inside.declared)
     c.self.inside.names.entries c.insert.new.self.entries c.unwrap-key.result c.args.t
     c.args.name.now c.self.view_is key.0 c.requires.new c.in_ok-insert.ensures.entries

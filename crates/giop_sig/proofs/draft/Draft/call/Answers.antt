@@ -10,8 +10,9 @@ returns-clause-added c =
     let key = rw c.unwrap-key.ensures at c.try_from.ensures in
     draft_table c.self.inside.version _ _ _ c.self.inside.names.entries c.args.self.now
     c.self.view_is
-    (operation_put c.self.inside.types c.self.inside.operations.entries c.insert.new.self.entries
-    c.self.inside.exceptions.entries c.self.inside.declared
+    (operation_put c.self.inside.version c.self.inside.types
+    c.self.inside.operations.entries c.insert.new.self.entries c.self.inside.exceptions.entries
+    c.self.inside.declared
     c.args.self.now.table c.unwrap-key.result
     (record { request = c.args.request; reply = c.args.reply }) c.args.name.now
     (ap (λ (s : Scope). s.table) c.self.view_is) key.0
@@ -23,8 +24,9 @@ invariant_of-self-2 c =
     let key = rw c.unwrap-key.ensures at c.try_from.ensures in
     let put = draft_table c.self.inside.version _ _ _ c.self.inside.names.entries c.args.self.now
     c.self.view_is
-    (operation_put c.self.inside.types c.self.inside.operations.entries c.insert.new.self.entries
-    c.self.inside.exceptions.entries c.self.inside.declared
+    (operation_put c.self.inside.version c.self.inside.types
+    c.self.inside.operations.entries c.insert.new.self.entries c.self.inside.exceptions.entries
+    c.self.inside.declared
     c.args.self.now.table c.unwrap-key.result
     (record { request = c.args.request; reply = c.args.reply }) c.args.name.now
     (ap (λ (s : Scope). s.table) c.self.view_is) key.0

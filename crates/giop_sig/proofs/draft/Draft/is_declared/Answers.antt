@@ -9,7 +9,7 @@ returns c =
     let key = rw c.unwrap-key.ensures at c.try_from.ensures in
     c.is_some.ensures ∙ some_copied c.get.result ∙ ap is_some c.get.ensures.value
     ∙ name_declared c.args.self.now c.self.inside.version
-    (table_view c.self.inside.types c.self.inside.operations.entries
-    c.self.inside.exceptions.entries c.self.inside.declared)
+    (table_view c.self.inside.version c.self.inside.types
+    c.self.inside.operations.entries c.self.inside.exceptions.entries c.self.inside.declared)
     c.self.inside.names.entries c.unwrap-key.result
     c.args.name.now c.self.view_is key.0

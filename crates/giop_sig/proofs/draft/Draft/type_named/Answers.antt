@@ -10,8 +10,8 @@ returns-in_err-get c =
     ap number_of_id c.from_residual.ensures
     ∙ ap (λ o. number_of_id (flat o)) c.in_err-get.ensures.value
     ∙ name_typed c.args.self.now c.self.inside.version
-    (table_view c.self.inside.types c.self.inside.operations.entries
-    c.self.inside.exceptions.entries c.self.inside.declared)
+    (table_view c.self.inside.version c.self.inside.types
+    c.self.inside.operations.entries c.self.inside.exceptions.entries c.self.inside.declared)
     c.self.inside.names.entries c.unwrap-key.result
     c.args.name.now c.self.view_is key.0
 
@@ -20,7 +20,7 @@ returns c =
     let key = rw c.unwrap-key.ensures at c.try_from.ensures in
     ap (λ o. number_of_id (flat o)) c.in_ok-get.ensures.value
     ∙ name_typed c.args.self.now c.self.inside.version
-    (table_view c.self.inside.types c.self.inside.operations.entries
-    c.self.inside.exceptions.entries c.self.inside.declared)
+    (table_view c.self.inside.version c.self.inside.types
+    c.self.inside.operations.entries c.self.inside.exceptions.entries c.self.inside.declared)
     c.self.inside.names.entries c.unwrap-key.result
     c.args.name.now c.self.view_is key.0
