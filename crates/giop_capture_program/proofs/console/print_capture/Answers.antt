@@ -1,4 +1,6 @@
-use Rattle.std.proofs.Common.{Ok, Err, None, inl, refl}
+use Rattle.std.proofs.Common.{◌≤◌, Ok, Err, None, inl, refl, arith}
+use Rattle.giop_run.specs.Console.{fault_status}
+use Rattle.giop_run.specs.declared.fault.ProgramFault.{ProgramFault}
 use Rattle.giop_run.specs.declared.fault.ProgramFault.TheVariants as faults
 use Rattle.giop_capture_program.specs.Failures.{fault_of}
 use Rattle.giop_capture_program.proofs.console.print_capture.Goals as goal
@@ -17,3 +19,16 @@ returns-in-Ok-perform_capture-clause-status c = (
 pub returns-clause-status : goal.returns-clause-status
 returns-clause-status c =
     (Err (fault_of c.in-Err.failure), (_, c.in-Err.ensures.refused), c.report_failure.ensures)
+
+few : (fault : ProgramFault) → fault_status fault ≤ 5
+few faults.Words = omega arith
+few (faults.Signatures name why look) = omega arith
+few (faults.Requests name why) = omega arith
+few (faults.Checkpoint name why) = omega arith
+few (faults.Unreadable name why) = omega arith
+few (faults.Unwritable name) = omega arith
+few (faults.Run why) = omega arith
+few faults.OutOfMemory = omega arith
+
+pub returns-clause-most : goal.returns-clause-most
+returns-clause-most c = rw c.report_failure.ensures (few (fault_of c.in-Err.failure))
