@@ -321,7 +321,8 @@ class Connection:
 
     def before(self) -> Tuple[bool, bool, int]:
         """The lesser this is, the sooner the connection makes room."""
-        return (bool(self.live()), len(self.came) == 2, self.last)
+        is_live = bool(self.live())
+        return is_live, is_live and len(self.came) == 2, self.last
 
     def live(self) -> List[Stream]:
         return [state.live for state in self.flows.values() if state.live]
