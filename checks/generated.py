@@ -8,6 +8,7 @@ from __future__ import annotations
 
 import os
 import random
+import re
 import subprocess
 import sys
 import tempfile
@@ -18,18 +19,29 @@ from typing import Dict, List, Sequence, Tuple
 
 import encapsulated
 from failing import CHECKPOINT, EXAMPLES, PROGRAM, SECONDS, Case, Differences, Ended, checkpoint_of, run
-from rows import TOUR, TOUR_TYPES, TOUR_WORDS
+from rows import FOLDER, TOUR, TOUR_TYPES, TOUR_WORDS
 
 from reference.encoding import ORDERS  # on the path by encapsulated
 from reference.signatures import Table, requests_of, table_of
 from reference.stream import MOST_OPEN, Known, dump
 
 MOST = 20_000
+
+# The features in a file of version 3, whose enums, structs and unions have repository ids.
+THIRD = Path(FOLDER.name, "third.sig")
+THIRD.write_text(
+    re.sub(
+        r"(?m)^((?:enum|struct|union) (\w+))",
+        r'\1 "IDL:\2:1.0"',
+        (EXAMPLES / "features.sig").read_text().replace("signatures 2;", "signatures 3;", 1),
+    )
+)
 TYPES = [
     (),
     ("--signatures", str(EXAMPLES / "naming.sig"), "--requests", str(EXAMPLES / "naming.req")),
     TOUR_WORDS,
     ("--signatures", str(EXAMPLES / "features.sig")),
+    ("--types", str(THIRD)),
     (*TOUR_TYPES, "--open", "1"),
     ("--signatures", str(EXAMPLES / "naming.sig"), "--open", "4096"),
 ]
@@ -104,7 +116,8 @@ def is_right(ended: Ended, octets: int) -> bool:
 def known_of(words: Tuple[str, ...]) -> Known:
     """What the reference is told by these words."""
     told = dict(zip(words[::2], words[1::2]))
-    table = table_of(Path(told["--signatures"]).read_bytes()) if "--signatures" in told else Table()
+    types = told.get("--types", told.get("--signatures"))
+    table = table_of(Path(types).read_bytes()) if types else Table()
     requests = requests_of(Path(told["--requests"]).read_bytes()) if "--requests" in told else {}
     return Known(table, requests, int(told.get("--open", MOST_OPEN)))
 

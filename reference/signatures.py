@@ -15,12 +15,14 @@ Made = TypeVar("Made")
 
 @dataclass
 class Table:
-    """What is known of bodies: each operation's request and reply, and each exception's members by its repository id."""
+    """What is known of bodies: each operation's request and reply, and each exception's members by its repository id. In
+    version 3 an enum, struct or union may have a repository id too."""
 
     version: int = 1
     requests: Dict[bytes, Struct] = field(default_factory=dict)
     replies: Dict[bytes, Struct] = field(default_factory=dict)
     exceptions: Dict[bytes, Struct] = field(default_factory=dict)
+    identified: Dict[bytes, Type] = field(default_factory=dict)
 
 
 class Parser:
@@ -77,13 +79,18 @@ class Parser:
             self.operation()
         elif kind == "exception":
             self.taken()
-            repository_id = self.taken().strip('"').encode()
+            repository_id = self.repository_id()
             self.table.exceptions[repository_id] = Struct(self.members())
         else:
             name = self.taken()
+            repository_ids = [self.repository_id()] if self.table.version == 3 and self.next.startswith('"') else []
             makers: Dict[str, Callable[[], Type]] = {"enum": self.enum, "struct": self.struct, "union": self.union}
             self._declared[name] = makers[kind]()
+            self.table.identified.update((each, self._declared[name]) for each in repository_ids)
         self.wanted(";")
+
+    def repository_id(self) -> bytes:
+        return self.taken().strip('"').encode()
 
     def enum(self) -> Type:
         self.wanted("{")

@@ -138,7 +138,7 @@ read_none coding path (suc d) (Array (suc more) T) at h = search (
 )
 read_none coding path (suc d) (Led k F parts) at h = search (
   arith,
-  read_none coding (path ++ led_segment k 0 ∷ []) d F at h.0,
+  read_none coding (path ++ led_segment 0 ∷ []) d F at h.0,
 )
 read_none coding path (suc d) T at h = search (arith, number_none, lit<)
 

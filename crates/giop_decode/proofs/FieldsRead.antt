@@ -1,8 +1,8 @@
 -- The path of the innermost part, spelled from its end, is that of the decoder's frames.
-use Rattle.std.proofs.Common.{◌≡◌, ℕ, pred, true, false, Bool, Option, Some, None, ◌+◌, ◌-◌, ◌<◌, ◌≤◌, List, [], ◌∷◌, ◌++◌, length, get_or, drop, refl, ap, ◌∙◌, sym, append_assoc, append-nil, length-append, codes, decimal, arith}
+use Rattle.std.proofs.Common.{◌≡◌, ℕ, suc, subst, pred, true, false, Bool, Option, Some, None, ◌+◌, ◌-◌, ◌<◌, ◌≤◌, List, [], ◌∷◌, ◌++◌, length, get_or, drop, refl, ap, ◌∙◌, sym, append_assoc, append-nil, length-append, codes, decimal, arith}
 use Rattle.std.proofs.lemmas.Bool.{false≢true}
 use Rattle.std.proofs.lemmas.List.{drop_more}
-use Rattle.giop_decode.specs.Segments.{end_segments, end_text, frame_text, frames_text}
+use Rattle.giop_decode.specs.Segments.{IsSwitch, end_segments, end_text, frame_text, frames_text}
 use Rattle.giop_decode.specs.ReadResult.{PathSegment}
 use Rattle.giop_decode.specs.Spelling.{segment_text, segments_text, path_text}
 use Rattle.giop_decode.specs.ReadingSteps.{segment_in, path_in}
@@ -13,7 +13,9 @@ use Rattle.giop_print.specs.declared.line.Line.{Line}
 use Rattle.giop_print.specs.declared.path.Root.{Root}
 use Rattle.giop_print.specs.Line.{line_text, line_room, headed, Spells}
 use Rattle.giop_print.specs.Paths.{root_word}
+use Rattle.giop_sig.specs.HeaderTypes.{IsTable}
 use Rattle.giop_sig.specs.Table.{Table}
+use Rattle.giop_sig.specs.Trees.{tree, tree_at}
 use Rattle.giop_sig.specs.declared.types.TypeId.{TypeId}
 
 path_anywhere : (C : Table) (room here : ℕ) (path : List PathSegment) (outer : List Frame) →
@@ -48,27 +50,39 @@ frames_spelled C room path (f ∷ outer) =
     ∙ ap (λ s. segments_text path ++ (segment_text s ++ frames_text C outer))
     (segment_anywhere C room 24 0 0 f))
 
+-- a discriminator has the same segment in these frames as in the room of a whole
+abbrev SameSwitch : Table → List Frame → Option TypeId → Type 0
+SameSwitch C outer None = Unit {0}
+SameSwitch C outer (Some of) = switch_segment (tree_in C outer of.0) ≡ switch_segment (tree C of.0)
+
+pub same_switch : (C : Table) (outer : List Frame) (switch : Option TypeId) → IsTable C →
+    length outer < 24 → IsSwitch C switch → SameSwitch C outer switch
+same_switch C outer None laws few is = tt
+same_switch C outer (Some of) laws few is =
+    let one : suc (23 - length outer) ≡ 24 - length outer = omega (arith, few) in
+    subst (λ room. switch_segment (tree_at C room of.0) ≡ switch_segment (tree C of.0)) one
+    (switch_in_room C (23 - length outer) 23 of.0 laws is.0 is.1)
+
 ends_spelled : (C : Table) (path : List PathSegment) (outer : List Frame)
-    (switch : Option TypeId) → segments_text (path ++ end_segments C outer switch)
-    ≡ segments_text path ++ end_text C switch
-ends_spelled C path outer None = search (arith, append-nil)
-ends_spelled C path outer (Some of) =
+    (switch : Option TypeId) → SameSwitch C outer switch →
+    segments_text (path ++ end_segments C outer switch) ≡ segments_text path ++ end_text C switch
+ends_spelled C path outer None same = search (arith, append-nil)
+ends_spelled C path outer (Some of) same =
     segments_text-append path (switch_segment (tree_in C outer of.0))
-    ∙ ap (λ s. segments_text path ++ segment_text s)
-    (switch_in_room C (24 - length outer) 24 of.0)
+    ∙ ap (λ s. segments_text path ++ segment_text s) same
 
 pub here_spelled : (C : Table) (root : Root) (outer : List Frame) (switch : Option TypeId) →
-    root_word root ++ (frames_text C outer ++ end_text C switch)
+    SameSwitch C outer switch → root_word root ++ (frames_text C outer ++ end_text C switch)
     ≡ path_text root (path_in [] (open_parts C 0 outer) ++ end_segments C outer switch)
 unfolding path_text
-here_spelled C root outer switch = search (arith, ends_spelled, frames_spelled)
+here_spelled C root outer switch same = search (arith, ends_spelled, frames_spelled)
 
 -- the same of the innermost part, at any offset
 pub path_spelled : (C : Table) (here : ℕ) (root : Root) (outer : List Frame) →
     root_word root ++ frames_text C outer ≡ path_text root (path_in [] (open_parts C here outer))
 path_spelled C here root outer =
     ap (λ text. root_word root ++ text) (sym (append-nil (frames_text C outer)))
-    ∙ (here_spelled C root outer None ∙ stands_at C here root outer)
+    ∙ (here_spelled C root outer None tt ∙ stands_at C here root outer)
 
 -- what a line begins with, and what follows that
 pub headed_is : (message : ℕ) (place rest : List ℕ) →
@@ -91,13 +105,13 @@ spells_more w a b c end more text e r s =
 -- room for all of it
 pub spells_here : (message : ℕ) (C : Table) (root : Root) (outer : List Frame)
     (switch : Option TypeId) (w : Bool)
-    (a b c d : Line) → line_text b ≡ end_text C switch ++ line_text a →
+    (a b c d : Line) → SameSwitch C outer switch → line_text b ≡ end_text C switch ++ line_text a →
     line_room b + length (end_text C switch) ≡ line_room a → Spells w b c (frames_text C outer) →
     w ≡ true → line_text d ≡ headed message (root_word root) [] ++ line_text c →
     line_room d + length (headed message (root_word root) []) ≡ line_room c →
     Spells true a d (headed message
     (path_text root (path_in [] (open_parts C 0 outer) ++ end_segments C outer switch)) [])
-spells_here message C root outer switch w a b c d be br s whole de dr =
+spells_here message C root outer switch w a b c d same be br s whole de dr =
     let head = headed message (root_word root) [] in
     let frames = frames_text C outer in
     let end = end_text C switch in
@@ -120,7 +134,7 @@ spells_here message C root outer switch w a b c d be br s whole de dr =
       );
       all = λ h. headed_is message (root_word root) (frames ++ end)
           ∙ ap (λ t. codes "m" ++ (decimal message ++ (codes " " ++ t)))
-          (here_spelled C root outer switch
+          (here_spelled C root outer switch same
           ∙ sym (append-nil (path_text root (path_in [] (open_parts C 0 outer)
           ++ end_segments C outer switch))));
     }

@@ -23,6 +23,7 @@ mod TransitionLaws
 mod Rooms
 mod HeardFrames
 mod StepLaws
+mod MarkedNumbers
 mod PieceLaws
 mod Segments
 mod FieldsRead

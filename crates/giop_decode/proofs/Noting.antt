@@ -17,10 +17,11 @@ use Rattle.giop_decode.specs.ReadingSteps.{path_in, segment_in}
 use Rattle.giop_decode.specs.Transitions.{AreKnown, IsKnown, leaf_of, leaf_type, open_part, part_in, open_parts, tree_in, IsOutput}
 use Rattle.giop_decode.proofs.Resuming.{noted-append, lines_front}
 use Rattle.std.specs.Prelude.{IfSome}
-use Rattle.giop_decode.specs.Fits.{IsEncapsulation}
+use Rattle.giop_decode.specs.Fits.{IsEncapsulation, IsLed}
 use Rattle.giop_decode.specs.DecoderSteps.{stopped_with}
-use Rattle.giop_decode.specs.Reading.{cut_off}
-use Rattle.giop_decode.proofs.Segments.{quiet}
+use Rattle.giop_decode.specs.Reading.{cut_off, led_name}
+use Rattle.giop_decode.specs.Segments.{led_place}
+use Rattle.giop_decode.proofs.Segments.{held_quiet, led_frame, quiet}
 use Rattle.giop_decode.proofs.Surrounding.{unless_ended}
 use Rattle.giop_sig.specs.Table.{Table}
 use Rattle.giop_sig.specs.declared.types.Shape.TheVariants as shapes
@@ -28,7 +29,7 @@ use Rattle.giop_decode.specs.declared.notes.Notes.{Notes}
 use Rattle.giop_decode.specs.DecoderState.{HoldsNoted}
 use Rattle.std.proofs.Math.Bool.{and-false}
 use Rattle.giop_sig.specs.Trees.{tree}
-use Rattle.giop_sig.specs.Types.{Marked, Scalar, Cases, Ty, Single, Text, Octets, Struct, Union, Sequence, Array, Plain, Enum, HasMember, name_in, shape_in, Encapsulation, Led, Tag}
+use Rattle.giop_sig.specs.Types.{Marked, Scalar, Cases, Ty, Single, Text, Octets, Struct, Union, Sequence, Array, Plain, Enum, HasMember, HasShape, name_in, shape_in, Encapsulation, Led, Tag}
 
 content_in : (T : Ty) (total offset : ℕ) (piece : List ℕ) →
     in_content (Content T total offset piece) ≡ is_text T
@@ -215,6 +216,10 @@ named_by name (Sequence bound T) i count h = absurd h
 named_by name (Array n T) i count h = absurd h
 named_by name (Encapsulation T) i count h = absurd h
 
+member_unled : (T : Ty) (i : ℕ) → HasMember (shape_in T) i → IsLed T → ⊥
+member_unled (Led g F parts) i has led = absurd has
+member_unled T i has led = absurd led
+
 pub member_by : (name text : List ℕ) (C : Table) (here : ℕ) (outer : List Frame) (d : Frame)
     (b : Bool) → length outer ≡ 1 → AreKnown C outer → (slice_index_or outer 0 d).inside ≡ None →
     HasMember (shape_in (tree C (slice_index_or outer 0 d).of.0)) (slice_index_or outer 0 d).index →
@@ -224,7 +229,7 @@ member_by name text C here outer d b one known part h is e =
     let f = slice_index_or outer 0 d in
     rw (
       only C here outer d one,
-      quiet C f (only_known C outer d one known),
+      quiet C 24 f (only_known C outer d one known) (member_unled (tree C f.of.0) f.index h),
       part,
       named_by name
           (tree C f.of.0) f.index f.count h,
@@ -239,9 +244,22 @@ pub held_member : (name : List ℕ) (C : Table) (here : ℕ) (outer : List Frame
 held_member name C here outer d order one known inside =
     rw (
       only C here outer d one,
-      quiet C (slice_index_or outer 0 d) (only_known C outer d one known),
+      held_quiet C (slice_index_or outer 0 d) order (only_known C outer d one known) inside,
       inside,
     ) refl
+
+-- and of an any it is its type or its value
+pub led_member : (name text : List ℕ) (C : Table) (here : ℕ) (outer : List Frame) (d : Frame)
+    (b : Bool) → length outer ≡ 1 → (slice_index_or outer 0 d).inside ≡ None →
+    HasShape (tree C (slice_index_or outer 0 d).of.0) shapes.Led →
+    text ≡ led_name (led_place (slice_index_or outer 0 d).told (slice_index_or outer 0 d).index) →
+    b ≡ bytes_eq name text → b ≡ is_member name (path_in [] (open_parts C here outer))
+led_member name text C here outer d b one none has is e =
+    rw (
+      only C here outer d one,
+      led_frame C 24 here (slice_index_or outer 0 d) none has,
+      ← is,
+    ) e
 
 -- a discriminator is no member
 pub switch_member : (name : List ℕ) (path : List PathSegment) (tag : Option (List ℕ)) →

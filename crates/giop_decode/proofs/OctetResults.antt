@@ -370,7 +370,7 @@ after_now n coding path (Union choice scalar select names cases) k =
     let T = Union choice scalar select names cases in
     let next : ℕ → List ℕ → Read = member (select k)
     (λ i at s. within (Member T i) (read coding (inner_path path T i) (part_of T i) at s)) in
-    let front : List Line = line n (path ++ Switch (tag_of choice names) ∷ [])
+    let front : List Line = line n (path ++ Switch (tag_of choice scalar names) ∷ [])
     (ReadResult.Number scalar k) ∷ [] in
     now_unless n T (wrong scalar k) _
     (now_unless n T (refused (select k)) _

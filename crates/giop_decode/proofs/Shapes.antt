@@ -26,6 +26,9 @@ head_prim T p h = rw h tt
 pub head_enum : (T : Ty) (n : ℕ) → HasShape T (shapes.Enumeration n) → HasLeadingNumber T
 head_enum T n h = rw h.1 tt
 
+pub head_marked : (T : Ty) (mark : ℕ) → HasShape T (shapes.Marked mark) → HasLeadingNumber T
+head_marked T mark h = rw h tt
+
 pub head_union : (T : Ty) (n : ℕ) → HasShape T (shapes.Union n) → HasLeadingNumber T
 head_union T n h = rw h.4 tt
 
@@ -41,6 +44,7 @@ pub ruleset shape_laws = (
   whole_led,
   head_prim,
   head_enum,
+  head_marked,
   head_union,
   head_tag,
   head_encapsulation,

@@ -345,10 +345,10 @@ read_keeps (suc d) coding path (Encapsulation T) fit =
     (λ n. size_keeps coding path T n (λ inner. read_keeps d inner (path ++ Held ∷ []) T fit))
 read_keeps (suc d) coding path (Led h F parts) fit = λ at s.
     sound_led coding path (Led h F parts) Untold (at + length s)
-    (read coding (path ++ led_segment h 0 ∷ []) F at s) tt
-    (λ i case. read_keeps d coding (path ++ led_segment h (suc i) ∷ []) (parts i)
+    (read coding (path ++ led_segment 0 ∷ []) F at s) tt
+    (λ i case. read_keeps d coding (path ++ led_segment (suc i) ∷ []) (parts i)
     (fit.1 case.0 i case.1))
-    (read_keeps d coding (path ++ led_segment h 0 ∷ []) F fit.0 at s)
+    (read_keeps d coding (path ++ led_segment 0 ∷ []) F fit.0 at s)
 
 pub after_keeps : (d : ℕ) (coding : Coding) (path : List PathSegment) (T : Ty) (n : ℕ) → IsFit d T →
     Keeps T (after coding path T n)

@@ -170,7 +170,7 @@ module _ (coding : Coding) (path : List PathSegment) (at : ℕ) (number : Taken)
       let s : scalar ≡ is.scalar = same_scalar scalar is.scalar is.is in
       let w : wrong scalar is.n ≡ None = rw s is.right in
       record {
-        lines = line at (path ++ Switch (tag_of choice names) ∷ [])
+        lines = line at (path ++ Switch (tag_of choice scalar names) ∷ [])
             (ReadResult.Number is.scalar is.n) ∷ [];
         comes = rw (
           w,
@@ -178,8 +178,8 @@ module _ (coding : Coding) (path : List PathSegment) (at : ℕ) (number : Taken)
           read_none coding (inner_path path (Union choice scalar select names cases)
               i) d (cases i) at (fit.1 i h),
         ) (ap (λ k.
-            Short (line at (path ++ Switch (tag_of choice names) ∷ []) (ReadResult.Number k is.n) ∷
-            []) at
+            Short (line at (path ++ Switch (tag_of choice scalar names) ∷ [])
+            (ReadResult.Number k is.n) ∷ []) at
             (Member (Union choice scalar select names cases) i ∷ start_outer (cases i))
             (start_leaf (cases i))) s);
         says = (is, refl);
@@ -203,9 +203,9 @@ module _ (coding : Coding) (path : List PathSegment) (at : ℕ) (number : Taken)
       let s : scalar ≡ is.scalar = same_scalar scalar is.scalar is.is in
       let w : wrong scalar is.n ≡ None = rw s is.right in
       record {
-        lines = line at (path ++ Switch (tag_of choice names) ∷ [])
+        lines = line at (path ++ Switch (tag_of choice scalar names) ∷ [])
             (ReadResult.Number is.scalar is.n) ∷ [];
-        comes = rw (w, e) (ap (λ k. Done (line at (path ++ Switch (tag_of choice names) ∷ [])
+        comes = rw (w, e) (ap (λ k. Done (line at (path ++ Switch (tag_of choice scalar names) ∷ [])
             (ReadResult.Number k is.n) ∷ []) at []) s);
         says = (is, refl);
       }

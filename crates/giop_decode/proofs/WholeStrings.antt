@@ -323,8 +323,8 @@ read_strings coding path (Union choice scalar select names cases) at s =
     headed_strings (Union choice scalar select names cases) _ (λ xs at rest.
     let T = Union choice scalar select names cases in
     let n = num coding.order xs in
-    let front : List Line = line at (path ++ Switch (tag_of choice names) ∷ []) (Number scalar n) ∷
-    [] in
+    let front : List Line = line at (path ++ Switch (tag_of choice scalar names) ∷ [])
+    (Number scalar n) ∷ [] in
     unless_strings T (wrong scalar n) at _ (unless_strings T (refused (select n)) at _
     (then_strings front _ refl (member_strings (select n) _ (λ i at s. within_strings (Member T i) _
     (read_strings coding (path ++ Name (names i) ∷ []) (cases i) at s)) at rest)))) _
@@ -337,5 +337,5 @@ read_strings coding path (Encapsulation T) at s =
 read_strings coding path (Led h F parts) at s =
     led_strings (Led h F parts) h Untold _ _
     (λ i at s. within_strings (Member (Led h F parts) (suc i)) _
-    (read_strings coding (path ++ led_segment h (suc i) ∷ []) (parts i) at s))
-    (read_strings coding (path ++ led_segment h 0 ∷ []) F at s)
+    (read_strings coding (path ++ led_segment (suc i) ∷ []) (parts i) at s))
+    (read_strings coding (path ++ led_segment 0 ∷ []) F at s)

@@ -1,6 +1,6 @@
 -- Reading a value of a type from a whole list of octets, by recursion on the type (CDR Transfer
 -- Syntax; meaning).
-use Rattle.std.specs.Prelude.{ℕ, zero, suc, ◌+◌, ◌-◌, cond, ltb, List, [], ◌∷◌, ◌++◌, take, drop, get_or, Option, Some, None}
+use Rattle.std.specs.Prelude.{ℕ, zero, suc, ◌+◌, ◌-◌, Bool, true, cond, ltb, codes, List, [], ◌∷◌, ◌++◌, take, drop, get_or, Option, Some, None}
 use Rattle.giop_cdr.specs.Numbers.{num}
 use Rattle.giop_cdr.specs.declared.order.Order.{Order}
 use Rattle.giop_cdr.specs.declared.order.Order.TheVariants.{Big, Little}
@@ -9,6 +9,7 @@ use Rattle.giop_decode.specs.declared.progress.Kind.{Kind}
 use Rattle.giop_decode.specs.declared.progress.Kind.TheVariants as kinds
 use Rattle.giop_decode.specs.ReadResult.{Coding, PathSegment, Name, Index, Switch, Value, Number, Count, Piece, Line, Telling, line, Part, Member, LeadingNumber, Read, Done, Short, with_front, followed, within, Held, Size, Ordered, coded, Inside, Leaf, Opening, Content, Fault}
 use Rattle.giop_decode.specs.Pieces.{Block, Partial, Complete, number, unless, over, text, octets, block, content, full_pieces}
+use Rattle.giop_sig.specs.Kinds.{is_kind, kind_word}
 use Rattle.giop_sig.specs.Types.{Scalar, Plain, Enum, Marked, width, Ty, Single, Text, Octets, Struct, Union, Sequence, Array, tag_of, Encapsulation, Led, Sign, MarkedNumber, Counted, Spelt, Told, Untold, Sequel, Then, Ends, Stops, Hearing, sequel}
 use Rattle.giop_sig.specs.declared.types.Selected.{Selected}
 use Rattle.giop_sig.specs.declared.types.Selected.TheVariants.{Case, Nothing, Refused}
@@ -18,12 +19,18 @@ abbrev pub after_leading_number : Ty → (List ℕ → ℕ → List ℕ → Read
 after_leading_number T after (Partial carry at) = Short [] at [] (LeadingNumber T carry)
 after_leading_number T after (Complete octets at rest) = after octets at rest
 
--- why a number is no value: a boolean is 0 or 1, and an enum's numbers are those of its names
+-- a kind without a word is none
+abbrev pub wrong_kind : Bool → Option (List ℕ) → Option Kind
+wrong_kind true None = Some kinds.Enum
+wrong_kind kind word = None
+
+-- why a number is no value: a boolean is 0 or 1, an enum's numbers are those of its names, and a
+-- kind's those of the words
 abbrev pub wrong : Scalar → ℕ → Option Kind
 wrong (Plain prims.Boolean) n = cond (ltb n 2) None (Some kinds.Boolean)
 wrong (Plain p) n = None
 wrong (Enum count names) n = cond (ltb n count) None (Some kinds.Enum)
-wrong (Marked mark) n = None
+wrong (Marked mark) n = wrong_kind (is_kind mark) (kind_word n)
 
 -- a value of one number, after its octets
 abbrev pub single : List PathSegment → Scalar → ℕ → ℕ → List ℕ → Read
@@ -141,15 +148,13 @@ abbrev pub told_after : Hearing → Told → List Line → Told
 told_after h told [] = told
 told_after h told (l ∷ ls) = told_after h (heard h told (sign_of l.value)) ls
 
--- the segment of a part that may have a name
-abbrev pub named : Option (List ℕ) → PathSegment
-named None = Held
-named (Some name) = Name name
+-- the name of the part that tells, the type of an any, and of what follows it, the any's value
+abbrev pub led_name : ℕ → List ℕ
+led_name zero = codes "type"
+led_name (suc i) = codes "value"
 
--- the segment of the part that tells, and of what follows it
-abbrev pub led_segment : Hearing → ℕ → PathSegment
-led_segment h zero = named h.first
-led_segment h (suc i) = named h.second
+abbrev pub led_segment : ℕ → PathSegment
+led_segment i = Name (led_name i)
 
 -- what follows
 abbrev pub following : Ty → Sequel → (ℕ → ℕ → List ℕ → Read) → ℕ → List ℕ → Read
@@ -196,7 +201,7 @@ read coding path (Sequence bound T) at s =
     (number coding.origin 4 at s)
 read coding path (Union choice scalar select names cases) at s =
     after_leading_number (Union choice scalar select names cases) (λ xs at rest.
-    chosen path (Union choice scalar select names cases) (tag_of choice names) scalar
+    chosen path (Union choice scalar select names cases) (tag_of choice scalar names) scalar
     (select (num coding.order xs)) (num coding.order xs)
     (λ i at s. within (Member (Union choice scalar select names cases) i)
     (read coding (path ++ Name (names i) ∷ []) (cases i) at s)) at rest)
@@ -210,8 +215,8 @@ read coding path (Encapsulation T) at s =
 read coding path (Led h F parts) at s =
     led (Led h F parts) h Untold
     (λ i at s. within (Member (Led h F parts) (suc i))
-    (read coding (path ++ led_segment h (suc i) ∷ []) (parts i) at s))
-    (read coding (path ++ led_segment h 0 ∷ []) F at s)
+    (read coding (path ++ led_segment (suc i) ∷ []) (parts i) at s))
+    (read coding (path ++ led_segment 0 ∷ []) F at s)
 
 -- ---- a whole
 

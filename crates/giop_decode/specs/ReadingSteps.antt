@@ -42,7 +42,7 @@ abbrev pub segment_of : Ty → ℕ → PathSegment
 segment_of (Struct count names parts) i = Name (names i)
 segment_of (Union choice scalar select names cases) i = Name (names i)
 segment_of (Encapsulation T) i = Held
-segment_of (Led h F parts) i = led_segment h i
+segment_of (Led h F parts) i = led_segment i
 segment_of T i = Index i
 
 -- the path inside part i
@@ -72,7 +72,8 @@ after coding path (Sequence bound T) n at rest = unless (Sequence bound T) (over
     (with_front (line at path (Count n) ∷ [])
     (parts_from (part_at coding path (Sequence bound T) n) n 0 at rest))
 after coding path (Union choice scalar select names cases) n at rest =
-    chosen path (Union choice scalar select names cases) (tag_of choice names) scalar (select n) n
+    chosen path (Union choice scalar select names cases) (tag_of choice scalar names) scalar
+    (select n) n
     (λ i at s. within (Member (Union choice scalar select names cases) i)
     (read coding (path ++ Name (names i) ∷ []) (cases i) at s)) at rest
 after coding path (Encapsulation T) n at rest =

@@ -1,6 +1,7 @@
 -- The path of the innermost part and its text, from the decoder's fields (steps).
 use Rattle.std.specs.Prelude.{ℕ, ◌<◌, List, [], ◌∷◌, ◌++◌, length, Option, Some, None}
 use Rattle.giop_decode.specs.declared.frame.Frame.{Frame}
+use Rattle.giop_decode.specs.declared.frame.Stage.{Stage}
 use Rattle.giop_decode.specs.ReadResult.{PathSegment}
 use Rattle.giop_decode.specs.Spelling.{segment_text, path_text}
 use Rattle.giop_decode.specs.ReadingSteps.{segment_in, path_in}
@@ -25,6 +26,12 @@ end_segments C frames (Some of) = switch_segment (tree_in C frames of.0) ∷ []
 abbrev pub end_text : Table → Option TypeId → List ℕ
 end_text C None = []
 end_text C (Some of) = segment_text (switch_segment (tree C of.0))
+
+-- which part of a frame of an any is being read: its type, in place 0, as long as that tells what
+-- follows
+abbrev pub led_place : Option Stage → ℕ → ℕ
+led_place None i = i
+led_place (Some stage) i = 0
 
 -- the text of a frame's segment; in what room and at which offset it stands makes no difference
 abbrev pub frame_text : Table → Frame → List ℕ

@@ -344,7 +344,7 @@ pub record IsNumberOf (T : Ty) (number : Taken) : Type 0 where
 
 -- the name of a union's discriminator, if it has one
 abbrev pub tag_in : Ty → Option (List ℕ)
-tag_in (Union choice scalar select names cases) = tag_of choice names
+tag_in (Union choice scalar select names cases) = tag_of choice scalar names
 tag_in T = None
 
 abbrev pub switch_segment : Ty → PathSegment
@@ -390,6 +390,11 @@ pub record TransitionGives (T : Ty) (transition : Transition) (output : Output)
 abbrev pub over_by : Bool → Option Kind
 over_by true = Some kinds.Bound
 over_by false = None
+
+-- a kind without a word
+abbrev pub unnamed_by : Bool → Option Kind
+unnamed_by true = Some kinds.Enum
+unnamed_by false = None
 
 -- octets held: all of a block, or a part of it
 abbrev pub block_of : Bool → List ℕ → ℕ → Block

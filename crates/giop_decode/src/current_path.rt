@@ -1,10 +1,11 @@
 //! The path of the innermost part, which its lines show, spelled from the frames and the catalogue.
 
-ghost use Rattle.std.specs.Prelude.{◌≡◌, ℕ, ◌+◌, ◌<◌, ◌≤◌, [], ◌++◌, drop, length};
+ghost use Rattle.std.specs.Prelude.{◌≡◌, ℕ, suc, ◌+◌, ◌<◌, ◌≤◌, [], ◌++◌, drop, length};
 ghost use Rattle.giop_decode.specs.Spelling.{segment_text, path_text};
+ghost use Rattle.giop_decode.specs.Reading.{led_name};
 ghost use Rattle.giop_decode.specs.ReadingSteps.{segment_in, path_in};
 ghost use Rattle.giop_decode.specs.Transitions.{open_part, open_parts, IsKnown, AreKnown, switch_segment};
-ghost use Rattle.giop_decode.specs.Segments.{frame_text, frames_text, end_text, IsSwitch};
+ghost use Rattle.giop_decode.specs.Segments.{frame_text, frames_text, end_text, led_place, IsSwitch};
 ghost use Rattle.giop_print.specs.Line.{line_text, line_room, Spells};
 ghost use Rattle.giop_print.specs.Paths.{name_segment, index_segment};
 ghost use Rattle.giop_sig.specs.Types.{shape_in, IsUnion};
@@ -51,6 +52,7 @@ impl Position for CurrentPath<'_> {
     ghost spelled = { current_path_text };
 
     fn spell(&self, line: &mut Line) -> bool {
+        self.catalogue.laws();
         if line.room() < SEGMENT {
             return false;
         }
@@ -130,7 +132,32 @@ pub(crate) fn spell_segment(catalogue: &Catalogue, frame: Frame, line: &mut Line
         Shape::Tagged => spell_name(line, catalogue.dotted_name(frame.of, frame.index)),
         Shape::Sequence(_) => spell_index(line, frame.index),
         Shape::Array(_) => spell_index(line, frame.index),
+        Shape::Led => spell_led(line, led_name(frame)),
         _ => unreachable!(),
+    }
+}
+
+/// Spells the segment of an any's type or value.
+fn spell_led(line: &mut Line, name: &[u8])
+    requires short { length name.now ≤ 5 }
+    requires room { 65 ≤ line_room line.old }
+    ensures text { line_text line.new ≡ name_segment name.now ++ line_text line.old }
+    ensures room { line_room line.new + length (name_segment name.now) ≡ line_room line.old }
+    ensures most { line_room line.old ≤ line_room line.new + 65 }
+{
+    line.put_octets(name);
+    line.put(b'.');
+}
+
+/// The name of the part of an any that is being read: its type, as long as that tells what follows, or its value.
+pub(crate) fn led_name(frame: Frame) -> &'static [u8]
+    ensures name { result.now ≡ led_name (led_place frame.told frame.index) }
+    ensures short { length result.now ≤ 5 }
+{
+    match (frame.told, frame.index) {
+        (Some(_), _) => b"type",
+        (None, 0) => b"type",
+        (None, _) => b"value",
     }
 }
 
@@ -148,19 +175,23 @@ fn spell_end(catalogue: &Catalogue, switch: Option<TypeId>, line: &mut Line)
     }
 }
 
-/// Spells the segment of a discriminator: `switch`, or a name of its own.
+/// Spells the segment of a discriminator: `switch`, `kind` where it is a number with a mark, or a tag's own name.
 fn spell_switch(catalogue: &Catalogue, of: TypeId, line: &mut Line)
     requires known { of.0 < length catalogue.now.types }
     requires union { IsUnion (shape_in (tree catalogue.now of.0)) }
     requires room { 65 ≤ line_room line.old }
     ensures text { (n : ℕ) → line_text line.new
-        ≡ segment_text (switch_segment (tree_at catalogue.now n of.0)) ++ line_text line.old }
+        ≡ segment_text (switch_segment (tree_at catalogue.now (suc n) of.0))
+        ++ line_text line.old }
     ensures room { (n : ℕ) → line_room line.new
-        + length (segment_text (switch_segment (tree_at catalogue.now n of.0)))
+        + length (segment_text (switch_segment (tree_at catalogue.now (suc n) of.0)))
         ≡ line_room line.old }
 {
     match catalogue.shape(of) {
-        Shape::Union(_) => line.put_octets(b".switch"),
+        Shape::Union(_) => match catalogue.shape(catalogue.switch_type(of)) {
+            Shape::Marked(_) => line.put_octets(b".kind"),
+            _ => line.put_octets(b".switch"),
+        },
         Shape::Tagged => spell_name(line, catalogue.dotted_name(of, 0)),
         _ => unreachable!(),
     }
@@ -217,20 +248,24 @@ fn push_segment(catalogue: &Catalogue, frame: Frame, path: &mut Path)
         Shape::Tagged => path.push_name(catalogue.part_name(frame.of, frame.index)),
         Shape::Sequence(_) => path.push_index(frame.index),
         Shape::Array(_) => path.push_index(frame.index),
+        Shape::Led => path.push_name(led_name(frame)),
         _ => unreachable!(),
     }
 }
 
-/// Adds the segment of a discriminator: `switch`, or a name of its own.
+/// Adds the segment of a discriminator: `switch`, `kind` where it is a number with a mark, or a tag's own name.
 fn push_switch(catalogue: &Catalogue, of: TypeId, path: &mut Path)
     requires known { of.0 < length catalogue.now.types }
     requires union { IsUnion (shape_in (tree catalogue.now of.0)) }
     requires room { path.old.segments < 24 }
     ensures text { (n : ℕ) → path.new.text
-        ≡ path.old.text ++ segment_text (switch_segment (tree_at catalogue.now n of.0)) }
+        ≡ path.old.text ++ segment_text (switch_segment (tree_at catalogue.now (suc n) of.0)) }
 {
     match catalogue.shape(of) {
-        Shape::Union(_) => path.push_name(b"switch"),
+        Shape::Union(_) => match catalogue.shape(catalogue.switch_type(of)) {
+            Shape::Marked(_) => path.push_name(b"kind"),
+            _ => path.push_name(b"switch"),
+        },
         Shape::Tagged => path.push_name(catalogue.part_name(of, 0)),
         _ => unreachable!(),
     }

@@ -4,11 +4,12 @@ ghost use Rattle.std.specs.Prelude.{◌≡◌, ℕ, suc, ◌+◌, ◌<◌, ◌�
 ghost use Rattle.giop_cdr.specs.Alignment.{IsAlignment, padding};
 ghost use Rattle.giop_cdr.specs.Numbers.{num};
 ghost use Rattle.giop_decode.specs.Pieces.{over};
+ghost use Rattle.giop_decode.specs.Reading.{wrong};
 ghost use Rattle.giop_decode.specs.Runs.{IsStep, IsStepOf};
 ghost use Rattle.giop_decode.specs.ReadingSteps.{leading_width};
 ghost use Rattle.giop_decode.specs.Fits.{HasLeadingNumber};
-ghost use Rattle.giop_decode.specs.Transitions.{IsNumberOf, NumberStands, over_by};
-ghost use Rattle.giop_sig.specs.Types.{Ty, Text, Octets, Sequence, switch_of, shape_in, IsUnion};
+ghost use Rattle.giop_decode.specs.Transitions.{IsNumberOf, NumberStands, over_by, unnamed_by};
+ghost use Rattle.giop_sig.specs.Types.{Marked, Ty, Text, Octets, Sequence, switch_of, shape_in, IsUnion};
 ghost use Rattle.giop_sig.specs.Fits.{IsFit};
 ghost use Rattle.giop_sig.specs.Trees.{tree, tree_at};
 
@@ -16,7 +17,7 @@ use crate::encapsulation;
 use crate::leaf::{Leaf, Output, Step, Transition, refused};
 use crate::progress::Kind;
 use giop_cdr::{Carry, Number, Order, Prim, number_of, pad, size};
-use giop_sig::{Catalogue, Selected, Shape, TypeId};
+use giop_sig::{Catalogue, Selected, Shape, TypeId, is_kind, kind_word};
 
 /// The size of the number that begins a type.
 #[inline(always)]
@@ -136,12 +137,26 @@ pub(crate) fn take_value(catalogue: &Catalogue, order: Order, of: TypeId, octets
         Shape::Encapsulation => encapsulation::take_length(catalogue, of, long_of(order, octets)),
         Shape::Members(_) => unreachable!(),
         Shape::Array(_) => unreachable!(),
-        Shape::Marked(_) => Step {
-            transition: Transition::Ended,
-            output: Output::Number(Number::Unsigned(u64::from(long_of(order, octets)))),
-        },
+        Shape::Marked(mark) => {
+            let n = long_of(order, octets);
+            if is_unnamed(mark, n) {
+                return refused(Kind::Enum);
+            }
+            Step {
+                transition: Transition::Ended,
+                output: Output::Number(Number::Unsigned(u64::from(n))),
+            }
+        }
         Shape::Led => unreachable!(),
     }
+}
+
+/// Whether a number with this mark is a kind without a word.
+#[inline]
+fn is_unnamed(mark: u32, n: u32) -> bool
+    ensures { wrong (Marked mark) n ≡ unnamed_by result }
+{
+    is_kind(mark) && kind_word(mark, n).is_none()
 }
 
 /// Goes on after the number of a union's discriminator, which has these octets.
@@ -165,6 +180,13 @@ fn take_switch(catalogue: &Catalogue, order: Order, of: TypeId, octets: &[u8]) -
                 return refused(Kind::Enum);
             }
             take_selected(catalogue, of, Number::Unsigned(u64::from(label)))
+        }
+        Shape::Marked(mark) => {
+            let kind = long_of(order, octets);
+            if is_unnamed(mark, kind) {
+                return refused(Kind::Enum);
+            }
+            take_selected(catalogue, of, Number::Unsigned(u64::from(kind)))
         }
         _ => unreachable!(),
     }

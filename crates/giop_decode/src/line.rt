@@ -14,12 +14,12 @@ ghost use Rattle.giop_sig.specs.Trees.{tree_at};
 use crate::current_path::CurrentPath;
 use crate::frame::Frame;
 use crate::leaf::{Finished, Output};
-use giop_cdr::Number;
+use giop_cdr::{Number, Prim};
 use giop_print::{
     Head, Out, OutFault, Piece, SplitPiece, Value, encapsulation_line, order_line,
     split_inner_rest_line, split_piece_line, value_line,
 };
-use giop_sig::{Catalogue, Shape, TypeId};
+use giop_sig::{Catalogue, Shape, TypeId, kind_word};
 
 /// The line of a value of a type of one number.
 #[tactic(auto, unfolding(giop_print::specs::Lines::kind_line))]
@@ -43,6 +43,13 @@ fn number_line<O: Out>(
             Number::Unsigned(n) => match path.catalogue.enum_name(t, n as u32) {
                 Some(name) => value_line(out, path, Value::Enum(name)),
                 None => unreachable!(),
+            },
+            _ => unreachable!(),
+        },
+        Shape::Marked(mark) => match number {
+            Number::Unsigned(n) => match kind_word(mark, n as u32) {
+                Some(word) => value_line(out, path, Value::Enum(word)),
+                None => value_line(out, path, Value::Primitive(Prim::ULong, number)),
             },
             _ => unreachable!(),
         },

@@ -12,6 +12,7 @@ ghost use Rattle.giop_decode.specs.ReadingSteps.{path_in};
 ghost use Rattle.giop_decode.specs.Transitions.{open_parts, tree_in, AreKnown, IsNumberOf, HasOutput};
 ghost use Rattle.giop_sig.specs.Trees.{tree_at};
 
+use crate::current_path::led_name;
 use crate::frame::Frame;
 use crate::leaf::{Finished, Output};
 use arrayvec::ArrayVec;
@@ -311,6 +312,7 @@ fn is_member(catalogue: &Catalogue, outer: &[Frame], name: &[u8]) -> bool
         Shape::Members(_) => name == catalogue.part_name(frame.of, frame.index),
         Shape::Union(_) => name == catalogue.part_name(frame.of, frame.index),
         Shape::Tagged => name == catalogue.part_name(frame.of, frame.index),
+        Shape::Led => name == led_name(frame),
         _ => false,
     }
 }

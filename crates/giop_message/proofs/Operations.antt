@@ -65,7 +65,7 @@ read_mute coding path (Led g F parts) n = search (
   arith,
   mute_led,
   read_quiet,
-  read_mute coding (path ++ led_segment g 0 ∷ []) F n,
+  read_mute coding (path ++ led_segment 0 ∷ []) F n,
 )
 read_mute coding path _ n = search (arith, number_none, lit<)
 

@@ -8,7 +8,8 @@ use Rattle.giop_print.specs.Text.{hex, hex_number, escaped}
 use Rattle.giop_sig.specs.Types.{places_of, Enum, Ty, Single, Struct, Union, Sequence, Array, Encapsulation, part_of, name_in}
 use Rattle.giop_sig.specs.HeaderTypes.{header_type}
 use Rattle.giop_decode.specs.Noted.{is_text}
-use Rattle.giop_sig.specs.Table.{Table, Operation, Exception, members, op_id}
+use Rattle.giop_sig.specs.Interfaces.{no_interfaces}
+use Rattle.giop_sig.specs.Table.{Table, Operation, Exception, members, op_id, operation_key}
 use Rattle.giop_sig.specs.Trees.{tree_at}
 use Rattle.giop_sig.specs.Builtin.{builtin_types, member}
 use Rattle.giop_decode.specs.Pieces.{block, number}
@@ -23,7 +24,7 @@ use Rattle.giop_message.specs.ReaderOfTable.{line_class_of, text_of, remarks_by,
 -- an operation by its structs, counted from the first type after the built-in ones
 called : List ℕ → ℕ → ℕ → Operation
 called name request reply = record {
-  name = name;
+  key = operation_key 0 name;
   request = length builtin_types + request;
   reply = length builtin_types + reply;
 }
@@ -54,6 +55,9 @@ table = record {
       ∷ called (codes "set") 6 3 ∷ called (codes "put") 7 3 ∷ [];
   exceptions = late ∷ [];
   declared = 0;
+  called = 6;
+  interfaces = no_interfaces;
+  identities = [];
 }
 
 -- 1 ask, 1 ask, 2 nop, 2 ask

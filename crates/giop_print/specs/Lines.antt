@@ -142,6 +142,12 @@ call_line message id name =
     joined (codes "m" ∷ decimal message ∷ codes " call " ∷ decimal id ∷ codes " " ∷ name ∷ codes
     "\n" ∷ [])
 
+-- of a Request whose object key has an interface
+unfoldable pub interface_call_line : ℕ → ℕ → List ℕ → List ℕ → List ℕ
+interface_call_line message id name interface =
+    joined (codes "m" ∷ decimal message ∷ codes " call " ∷ decimal id ∷ codes " " ∷ name
+    ∷ codes " " ∷ interface ∷ codes "\n" ∷ [])
+
 unfoldable pub continues_line : ℕ → ℕ → List ℕ
 continues_line fragment opener =
     joined (codes "m" ∷ decimal fragment ∷ codes " continues m" ∷ decimal opener ∷ codes "\n" ∷ [])

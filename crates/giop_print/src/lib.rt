@@ -20,9 +20,10 @@ pub use encapsulation_lines::{
 pub use head::Head;
 pub use line::Line;
 pub use lines::{
-    call_line, cancelled_line, continues_line, end_line, fault_line, line_behind, numbered_line,
-    piece_line, put_number_end, put_piece_end, rest_line, split_piece_line, split_rest_line,
-    start_line, stream_fault_line, total_line, unfinished_line, value_line,
+    call_line, cancelled_line, continues_line, end_line, fault_line, interface_call_line,
+    line_behind, numbered_line, piece_line, put_number_end, put_piece_end, rest_line,
+    split_piece_line, split_rest_line, start_line, stream_fault_line, total_line, unfinished_line,
+    value_line,
 };
 pub use path::{Path, Root};
 pub use position::Position;

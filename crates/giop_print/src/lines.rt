@@ -5,7 +5,7 @@ ghost use Rattle.std.specs.Prelude.{◌≡◌, ◌+◌, ◌≤◌, [], ◌++◌,
 ghost use Rattle.giop_cdr.specs.Primitives.{size_of};
 ghost use Rattle.giop_print.specs.Output.{Writes};
 ghost use Rattle.giop_print.specs.Line.{line_text, line_room, numbered, headed, Spells};
-ghost use Rattle.giop_print.specs.Lines.{kind_line, kind_word, spaced, number_text, piece_octets, piece_word, split_text, more_word, value_line, piece_line, split_piece_line, rest_line, start_line, call_line, continues_line, cancelled_line, fault_line, end_line, stream_fault_line, unfinished_line, total_line};
+ghost use Rattle.giop_print.specs.Lines.{kind_line, kind_word, spaced, number_text, piece_octets, piece_word, split_text, more_word, value_line, piece_line, split_piece_line, rest_line, start_line, call_line, interface_call_line, continues_line, cancelled_line, fault_line, end_line, stream_fault_line, unfinished_line, total_line};
 
 use crate::line::Line;
 use crate::position::Position;
@@ -385,6 +385,36 @@ fn long_call_line<O: Out>(out: &mut O, message: u64, id: u32, name: &[u8]) -> Re
             id_digits.format(id).as_bytes(),
             b" ",
             name,
+            b"\n",
+        ],
+    )
+}
+
+/// The line of a Request's id, operation and interface.
+#[tactic(auto, unfolding(crate::specs::Lines::interface_call_line))]
+pub fn interface_call_line<O: Out>(
+    out: &mut O,
+    message: u64,
+    id: u32,
+    name: &[u8],
+    interface: &[u8],
+) -> Result<(), OutFault>
+    ensures { Writes result (O.log out.old) (O.log out.new)
+        (interface_call_line message id name.now interface.now) }
+{
+    let mut message_digits = Buffer::new();
+    let mut call_digits = Buffer::new();
+    put_parts(
+        out,
+        &[
+            b"m",
+            message_digits.format(message).as_bytes(),
+            b" call ",
+            call_digits.format(id).as_bytes(),
+            b" ",
+            name,
+            b" ",
+            interface,
             b"\n",
         ],
     )

@@ -4,8 +4,8 @@ use crate::place::placed;
 use giop_cdr::{Number, Order, Prim};
 use giop_print::{
     MessageHeader, Out, OutFault, Path, Piece, Root, Value, call_line, cancelled_line,
-    continues_line, end_line, fault_line, piece_line, rest_line, start_line, stream_fault_line,
-    total_line, unfinished_line, value_line,
+    continues_line, end_line, fault_line, interface_call_line, piece_line, rest_line, start_line,
+    stream_fault_line, total_line, unfinished_line, value_line,
 };
 
 /// A header of a message that no fragments follow.
@@ -77,6 +77,7 @@ pub fn fragments<O: Out>(out: &mut O) -> Result<(), OutFault> {
     start_line(out, 3, first)?;
     start_line(out, 4, header(2, Order::Big, 9, 0))?;
     continues_line(out, 3, 1)?;
+    interface_call_line(out, 4, 7, b"get", b"IDL:Orders:1.0")?;
     cancelled_line(out, 1, 2)?;
     rest_line(out, 1, 32, b"\x00\x00\x00\x2a\x09")?;
     fault_line(out, 17, "too-many-open", 272)?;
@@ -88,6 +89,7 @@ pub fn fragments<O: Out>(out: &mut O) -> Result<(), OutFault> {
 pub const FRAGMENTS: &[u8] = b"m3 start 1.2 little Fragment size 6 more
 m4 start 1.2 big 9 size 0
 m3 continues m1
+m4 call 7 get IDL:Orders:1.0
 m1 cancelled by m2
 m1 rest @32 0000002a09
 m17 fault too-many-open at 272

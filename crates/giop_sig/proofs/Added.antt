@@ -1,5 +1,5 @@
 -- A catalogue stays a table when a type, an operation or an exception is added.
-use Rattle.std.proofs.Common.{◌≡◌, ◌⊎◌, inl, inr, ℕ, zero, suc, ◌+◌, ◌<◌, ◌≤◌, Bool, true, false, cond, ◌||◌, ltb, List, [], ◌∷◌, ◌++◌, length, map, get_or, Option, Some, None, refl, sym, ap, ◌∙◌, append_assoc, arith}
+use Rattle.std.proofs.Common.{◌≡◌, ◌⊎◌, inl, inr, ℕ, zero, suc, ◌+◌, ◌^◌, ◌<◌, ◌≤◌, Bool, true, false, cond, ◌||◌, ltb, List, [], ◌∷◌, ◌++◌, length, map, get_or, Option, Some, None, refl, sym, ap, ◌∙◌, append_assoc, arith}
 use Rattle.std.specs.List.{position, position_or_len, list_any}
 use Rattle.std.specs.Option.{option_map}
 use Rattle.std.specs.Str.{bytes_eq}
@@ -13,9 +13,9 @@ use Rattle.arrayvec.specs.ArrayVec.{ArrayVec}
 use Rattle.indexmap.specs.IndexMap.{insert_entry}
 use Rattle.giop_sig.specs.declared.types.TypeId.{TypeId}
 use Rattle.giop_sig.specs.declared.catalogue.Signature.{Signature}
-use Rattle.giop_sig.specs.Table.{Node, Operation, Exception, Table, op_id, operation_in, exception_in, members_at, no_operation, no_exception, with_type, with_operation, with_exception}
-use Rattle.giop_sig.specs.HeaderTypes.{IsOperation, IsException, AreDistinct, TableOf}
-use Rattle.giop_sig.specs.Entries.{operation_view, exception_view, table_view}
+use Rattle.giop_sig.specs.Table.{Node, Operation, Exception, Identity, Table, keyed_number, exception_in, members_at, identified_in, identity_at, no_operation, no_exception, no_identity, with_type, with_operation, with_exception, with_identity}
+use Rattle.giop_sig.specs.HeaderTypes.{IsOperation, IsException, IsIdentity, AreDistinct, TableOf}
+use Rattle.giop_sig.specs.Entries.{operation_view, exception_view, identity_view}
 
 -- ---- a type
 
@@ -27,9 +27,20 @@ raised_stays : (types : List Node) (n : Node) (e : Exception) → IsException ty
     → IsException (types ++ n ∷ []) e
 raised_stays types n e is = search (arith, length-append)
 
+identified_stays : (types : List Node) (n : Node) (e : Identity) → IsIdentity types e
+    → IsIdentity (types ++ n ∷ []) e
+identified_stays types n e is = search (arith, length-append)
+
 pub type_added : {Types : List Node → Type 0} (t : Table) (n : Node) → TableOf Types t
     → Types (t.types ++ n ∷ []) → TableOf Types (with_type t n)
-type_added t n laws are = search (arith, append_assoc, call_stays, get_or, raised_stays)
+type_added t n laws are = search (
+  arith,
+  append_assoc,
+  call_stays,
+  get_or,
+  raised_stays,
+  identified_stays,
+)
 
 -- ---- a new key goes last
 
@@ -43,7 +54,7 @@ some_cons : {X : Type 0} (p : X → Bool) (x : X) (xs : List X) (v : Bool) → p
 some_cons p x xs true e h = search (arith, lt-ltb)
 some_cons p x xs false e h = search (arith, ltb_both, ltb)
 
-some_position : {X : Type 0} (p : X → Bool) (xs : List X)
+pub some_position : {X : Type 0} (p : X → Bool) (xs : List X)
     → ltb (position_or_len p xs) (length xs) ≡ list_any p xs
 some_position p [] = refl
 some_position p (x ∷ xs) = search (arith, some_cons, some_position p xs)
@@ -145,41 +156,44 @@ distinct_push name_in d xs x before none i j li lj e =
 -- ---- an operation
 
 pub operation_added : {Types : List Node → Type 0} (t : Table) (o : Operation) → TableOf Types t
-    → IsOperation t.types o → operation_in t o.name ≡ None → length t.operations < 4096
+    → IsOperation t.types o → keyed_number t o.key ≡ None → length t.operations + 1 < 2 ^ 32
     → TableOf Types (with_operation t o)
 operation_added t o laws call new few = record {
   types = laws.types;
   begins = laws.begins;
   operations = All-push (IsOperation t.types) t.operations o laws.operations call;
   exceptions = laws.exceptions;
-  operations_distinct = distinct_push (λ (x : Operation). x.name) no_operation t.operations o
-      laws.operations_distinct
-      (none_before op_id (position (λ (x : Operation). bytes_eq o.name x.name) t.operations) new);
+  operations_distinct = distinct_push (λ (x : Operation). x.key) no_operation t.operations o
+      laws.operations_distinct new;
   exceptions_distinct = laws.exceptions_distinct;
   operations_few = omega (arith, length-append t.operations (o ∷ []));
   exceptions_few = laws.exceptions_few;
   declared_few = laws.declared_few;
+  called_few = laws.called_few;
+  identities = laws.identities;
+  identities_distinct = laws.identities_distinct;
+  interfaces_few = laws.interfaces_few;
 }
 
 -- the table after a new operation is put
-pub operation_put : (version : ℕ) (types : List Node) (os new : List (ArrayVec ℕ × Signature))
-    (es : List (ArrayVec ℕ × TypeId)) (declared : ℕ) (t : Table) (key : ArrayVec ℕ)
-    (s : Signature) (name : List ℕ)
-    → table_view version types os es declared ≡ t → key.items ≡ name → operation_in t name ≡ None
+pub operation_put : (here : Table) (os new : List (ArrayVec ℕ × Signature)) (t : Table)
+    (key : ArrayVec ℕ) (s : Signature) (name : List ℕ) → here.operations ≡ map operation_view os
+    → here ≡ t → key.items ≡ name → keyed_number t name ≡ None
     → new ≡ insert_entry same_key os key s
-    → table_view version types new es declared
-    ≡ with_operation t (record { name = name; request = s.request.0; reply = s.reply.0 })
-operation_put version types os new es declared t key s name view same none is =
-    let none_here : operation_in (table_view version types os es declared) name ≡ None =
-    ap (λ (u : Table). operation_in u name) view ∙ none in
-    let put = entries_put operation_view (λ (o : Operation). o.name) os new key s name same
-    (λ e. refl)
-    (none_before op_id (position (λ (o : Operation). bytes_eq name o.name) (map operation_view os))
-    none_here) is in
-    ap (λ xs. record (table_view version types os es declared) { operations = xs }) put
-    ∙ ap (λ (n : List ℕ). with_operation (table_view version types os es declared)
-    (record { name = n; request = s.request.0; reply = s.reply.0 })) same
-    ∙ ap (λ u. with_operation u (record { name = name; request = s.request.0; reply = s.reply.0 }))
+    → record here { operations = map operation_view new }
+    ≡ with_operation t (record { key = name; request = s.request.0; reply = s.reply.0 })
+operation_put here os new t key s name kept view same none is =
+    let none_here : keyed_number here name ≡ None =
+    ap (λ (u : Table). keyed_number u name) view ∙ none in
+    let none_view = ap (λ xs. position (λ (o : Operation). bytes_eq name o.key) xs) (sym kept)
+    ∙ none_here in
+    let put = entries_put operation_view (λ (o : Operation). o.key) os new key s name same
+    (λ e. refl) none_view is in
+    ap (λ xs. record here { operations = xs }) (put
+    ∙ ap (λ (xs : List Operation). xs ++ operation_view (key, s) ∷ []) (sym kept))
+    ∙ ap (λ (n : List ℕ). with_operation here
+    (record { key = n; request = s.request.0; reply = s.reply.0 })) same
+    ∙ ap (λ u. with_operation u (record { key = name; request = s.request.0; reply = s.reply.0 }))
     view
 
 -- ---- an exception
@@ -200,24 +214,74 @@ exception_added t e laws raised new few = record {
   operations_few = laws.operations_few;
   exceptions_few = omega (arith, length-append t.exceptions (e ∷ []));
   declared_few = laws.declared_few;
+  called_few = laws.called_few;
+  identities = laws.identities;
+  identities_distinct = laws.identities_distinct;
+  interfaces_few = laws.interfaces_few;
 }
 
 -- the table after a new exception is put
-pub exception_put : (version : ℕ) (types : List Node) (os : List (ArrayVec ℕ × Signature))
-    (es new : List (ArrayVec ℕ × TypeId)) (declared : ℕ) (t : Table) (key : ArrayVec ℕ)
-    (m : TypeId) (name : List ℕ)
-    → table_view version types os es declared ≡ t → key.items ≡ name → exception_in t name ≡ None
+pub exception_put : (here : Table) (es new : List (ArrayVec ℕ × TypeId)) (t : Table)
+    (key : ArrayVec ℕ) (m : TypeId) (name : List ℕ) → here.exceptions ≡ map exception_view es
+    → here ≡ t → key.items ≡ name → exception_in t name ≡ None
     → new ≡ insert_entry same_key es key m
-    → table_view version types os new declared
+    → record here { exceptions = map exception_view new }
     ≡ with_exception t (record { repository = name; members = m.0 })
-exception_put version types os es new declared t key m name view same none is =
-    let here = table_view version types os es declared in
+exception_put here es new t key m name kept view same none is =
     let none_here : exception_in here name ≡ None =
     ap (λ (u : Table). exception_in u name) view ∙ none in
+    let none_view = ap (λ xs. position (λ (e : Exception). bytes_eq name e.repository) xs)
+    (sym kept)
+    ∙ none_before (members_at here) (position (λ (e : Exception). bytes_eq name e.repository)
+    here.exceptions) none_here in
     let put = entries_put exception_view (λ (e : Exception). e.repository) es new key m name same
-    (λ e. refl)
-    (none_before (members_at here) (position (λ (e : Exception). bytes_eq name e.repository)
-    (map exception_view es)) none_here) is in
-    ap (λ xs. record here { exceptions = xs }) put
+    (λ e. refl) none_view is in
+    ap (λ xs. record here { exceptions = xs }) (put
+    ∙ ap (λ (xs : List Exception). xs ++ exception_view (key, m) ∷ []) (sym kept))
     ∙ ap (λ (n : List ℕ). with_exception here (record { repository = n; members = m.0 })) same
     ∙ ap (λ u. with_exception u (record { repository = name; members = m.0 })) view
+
+-- ---- a repository id of a type
+
+pub identity_added : {Types : List Node → Type 0} (t : Table) (e : Identity) → TableOf Types t
+    → IsIdentity t.types e → identified_in t e.repository ≡ None
+    → TableOf Types (with_identity t e)
+identity_added t e laws identified new = record {
+  types = laws.types;
+  begins = laws.begins;
+  operations = laws.operations;
+  exceptions = laws.exceptions;
+  operations_distinct = laws.operations_distinct;
+  exceptions_distinct = laws.exceptions_distinct;
+  operations_few = laws.operations_few;
+  exceptions_few = laws.exceptions_few;
+  declared_few = laws.declared_few;
+  called_few = laws.called_few;
+  identities = All-push (IsIdentity t.types) t.identities e laws.identities identified;
+  identities_distinct = distinct_push (λ (x : Identity). x.repository) no_identity t.identities e
+      laws.identities_distinct
+      (none_before (identity_at t) (position (λ (x : Identity). bytes_eq e.repository x.repository)
+      t.identities) new);
+  interfaces_few = laws.interfaces_few;
+}
+
+-- the table after a new repository id is put
+pub identity_put : (here : Table) (es new : List (ArrayVec ℕ × TypeId)) (t : Table)
+    (key : ArrayVec ℕ) (m : TypeId) (name : List ℕ) → here.identities ≡ map identity_view es
+    → here ≡ t → key.items ≡ name → identified_in t name ≡ None
+    → new ≡ insert_entry same_key es key m
+    → record here { identities = map identity_view new }
+    ≡ with_identity t (record { repository = name; type = m.0 })
+identity_put here es new t key m name kept view same none is =
+    let none_here : identified_in here name ≡ None =
+    ap (λ (u : Table). identified_in u name) view ∙ none in
+    let none_view = ap (λ xs. position (λ (e : Identity). bytes_eq name e.repository) xs)
+    (sym kept)
+    ∙ none_before (identity_at here) (position (λ (e : Identity). bytes_eq name e.repository)
+    here.identities) none_here in
+    let put = entries_put identity_view (λ (e : Identity). e.repository) es new key m name same
+    (λ e. refl) none_view is in
+    ap (λ xs. record here { identities = xs }) (put
+    ∙ ap (λ (xs : List Identity). xs ++ identity_view (key, m) ∷ []) (sym kept))
+    ∙ ap (λ (n : List ℕ). with_identity here (record { repository = n; type = m.0 })) same
+    ∙ ap (λ u. with_identity u (record { repository = name; type = m.0 })) view

@@ -1,30 +1,32 @@
 -- Operations, both ways: reading the spelling of one gives it or a rule that it breaks, and the
 -- text that was read spells it.
-use Rattle.std.proofs.Common.{◌≡◌, inl, ℕ, zero, suc, ◌+◌, ◌<◌, ◌≤◌, Bool, true, false, ltb, leb, List, [], ◌∷◌, ◌++◌, length, Option, Some, None, Result, Ok, append_assoc, refl, sym, subst, ◌∙◌, arith}
+use Rattle.std.proofs.Common.{◌≡◌, inl, ℕ, zero, suc, ◌+◌, ◌<◌, ◌≤◌, Bool, true, false, not, ◌&&◌, ltb, leb, List, [], ◌∷◌, ◌++◌, length, Option, Some, None, Result, Ok, append_assoc, refl, sym, ap, subst, ◌∙◌, arith}
 use Rattle.std.specs.Prelude.{codes}
+use Rattle.std.specs.List.{position}
 use Rattle.std.specs.Option.{is_some}
+use Rattle.std.specs.Str.{bytes_eq}
 use Rattle.std.proofs.lemmas.List.{length-append, append-nil}
 use Rattle.std.proofs.lemmas.Bool.{ltb-true, ltb-false, leb-true, leb-false}
 use Rattle.giop_cdr.specs.declared.prim.Primitive.TheVariants as prims
 use Rattle.giop_tokens.specs.declared.fault.Refusal.{Refusal}
 use Rattle.giop_tokens.specs.declared.fault.SigFaultKind.TheVariants as kinds
 use Rattle.giop_tokens.specs.declared.marks.Mark.TheVariants as marks
-use Rattle.giop_tokens.specs.Tokens.{Token, word, mark, left_of, AreTokens}
+use Rattle.giop_tokens.specs.Tokens.{Token, word, repository, mark, left_of, AreTokens}
 use Rattle.giop_tokens.specs.Reading.{◌>>=◌}
-use Rattle.giop_tokens.specs.Readers.{is_the_word, mark_at, mark_if, keyword_if}
+use Rattle.giop_tokens.specs.Readers.{is_the_word, mark_at, mark_if, keyword_at, keyword_if}
 use Rattle.giop_tokens.specs.Names.{is_reserved, too_long}
-use Rattle.giop_tokens.proofs.ReaderLaws.{bind_ok, Takes, if_other, word_again, mark_again, mark_if_again, keyword_if_again, operation_name_again, operation_name_long, mark_takes}
+use Rattle.giop_tokens.proofs.ReaderLaws.{bind_ok, Takes, if_other, word_again, keyword_again, keyword_takes, repository_again, repository_few, mark_again, mark_if_again, keyword_if_again, operation_name_again, operation_name_long, mark_takes}
 use Rattle.giop_sig.specs.declared.read_calls.Direction.{Direction}
 use Rattle.giop_sig.specs.declared.read_calls.Direction.TheVariants as directions
-use Rattle.giop_sig.specs.Table.{Node, Part, operation_in}
+use Rattle.giop_sig.specs.Table.{Node, Part, Operation, operation_key, keyed_number, with_listed}
 use Rattle.giop_sig.specs.Table as nodes
-use Rattle.giop_sig.specs.Grammar.{TypeExpr, Base, Text, Reference, Named, SequenceOf, EncapsulationOf, Param, base_word, direction_word, spell_type, spell_item, spell_param, spell_more_params, spell_params, spell_return, Call}
-use Rattle.giop_sig.specs.Scopes.{Names, is_third, Scope, part, item_part, with_node, add_item, add_params, add_return, onto_request, onto_reply, declare}
-use Rattle.giop_sig.specs.Validity.{Kind, OfItem, OfItems, OfType, OfReturn, OfOperation, OfDeclaration, items_of}
+use Rattle.giop_sig.specs.Grammar.{TypeExpr, Base, Text, Reference, Named, SequenceOf, EncapsulationOf, Param, base_word, direction_word, spell_type, spell_item, spell_param, spell_more_params, spell_params, spell_return, spell_interfaces, Call, KeyOf}
+use Rattle.giop_sig.specs.Scopes.{Names, is_third, Scope, AddedType, with_key_of, part, item_part, with_node, add_item, add_params, add_return, onto_request, onto_reply, declare}
+use Rattle.giop_sig.specs.Validity.{Kind, OfItem, OfItems, OfType, OfReturn, OfOperation, OfList, OfParts, OfKey, OfDeclaration, items_of}
 use Rattle.giop_sig.specs.TypeReading.{type_at}
 use Rattle.giop_sig.specs.ItemReading.{item_at, Declared, end_of}
-use Rattle.giop_sig.specs.CallReading.{ReturnRead, return_at, new_operation_at, direction_of, direction_at, in_request, in_reply, with_param, Params, ParameterLists, param_end, param_step, too_many_params, ParamsRead, params_read, params_run, no_parameters, params_at, call_of, operation_at}
-use Rattle.giop_sig.proofs.PlaceLaws.{within_same, within_on, item_names, params_more, return_names, return_operations, structs_more}
+use Rattle.giop_sig.specs.CallReading.{ReturnRead, return_at, new_operation_at, direction_of, direction_at, in_request, in_reply, with_param, Params, ParameterLists, param_end, param_step, too_many_params, ParamsRead, params_read, params_run, no_parameters, params_at, Called, Variants, with_listed_by, listed_at, structs_of, called_of, counted, interface_at, new_key_at, key_at, operation_at}
+use Rattle.giop_sig.proofs.PlaceLaws.{Within, Grown, within_same, within_on, item_names, params_names, params_more, return_names, return_operations, return_called, listed_types, structs_more}
 use Rattle.giop_sig.proofs.ReadingLaws.{Out, good, broken, out_bind, out_more, Apart, if_apart}
 use Rattle.giop_sig.proofs.TypeLaws.{is_not, type_reads}
 use Rattle.giop_sig.proofs.ItemLaws.{made_item, item_reads, some_none, unused_reads, end_reads}
@@ -32,6 +34,8 @@ use Rattle.giop_sig.proofs.ItemTaken.{none_of, TakenEnd, end_takes}
 use Rattle.giop_sig.proofs.RepeatLaws.{step_first}
 use Rattle.giop_sig.proofs.CallTaken.{TakenReturn, return_takes, then_run, OperationTaken, new_operation_takes, TakenList, list_takes}
 use Rattle.giop_sig.proofs.DeclaredLaws.{TakenDeclaration}
+use Rattle.giop_sig.proofs.VariantLaws.{interface_reads, interface_takes, new_key_takes, listed_reads, TakenListed, listed_takes, IsAllowedList, list_free}
+use Rattle.giop_sig.specs.Interfaces.{is_key, of_text}
 
 -- ---- what an operation returns
 
@@ -94,18 +98,31 @@ return_reads s (Some e) text more free apart h =
 
 -- ---- the name
 
-operation_keeps : (s : Scope) (w : List ℕ) → length w ≤ 128 → length s.table.operations < 4096
-    → operation_in s.table w ≡ None → (k : Kind) → OfOperation k s w
+operation_keeps : (s : Scope) (w : List ℕ) → length w ≤ 128 → s.table.called < 4096
+    → (is_third s.names ≡ false → keyed_number s.table (operation_key 0 w) ≡ None) → (k : Kind)
+    → OfOperation k s w
 operation_keeps s w short few new kinds.Duplicate = new
 operation_keeps s w short few new kinds.Limit = (short, few)
 operation_keeps s w short few new _ = tt
 
 -- the operations are those of the scope before
-operation_same : (s t : Scope) (w : List ℕ) → t.table.operations ≡ s.table.operations → (k : Kind)
+operation_same : (s t : Scope) (w : List ℕ) → t.names ≡ s.names
+    → t.table.operations ≡ s.table.operations → t.table.called ≡ s.table.called → (k : Kind)
     → OfOperation k s w → OfOperation k t w
-operation_same s t w same kinds.Duplicate h = search (arith)
-operation_same s t w same kinds.Limit h = search (arith)
-operation_same s t w same _ h = tt
+operation_same s t w names same called kinds.Duplicate h = λ old.
+    subst (λ os. position (λ (o : Operation). bytes_eq (operation_key 0 w) o.key) os ≡ None)
+    (sym same) (h (ap is_third (sym names) ∙ old))
+operation_same s t w names same called kinds.Limit h = (h.0, subst (λ n. n < 4096) (sym called) h.1)
+operation_same s t w names same called _ h = tt
+
+early : (third : Bool) (o : Option ℕ) → (not third && is_some o) ≡ true
+    → (third ≡ false → o ≡ None) → ⊥
+early true o e r = absurd cc
+early false o e r = some_none o e (r refl)
+
+late : (third : Bool) (o : Option ℕ) → (not third && is_some o) ≡ false → third ≡ false → o ≡ None
+late true o e f = absurd cc
+late false o e f = none_of o e
 
 long_name : (types : List Node) (s : Scope) (text w : List ℕ) (more : List Token) (v : Bool)
     → ltb 128 (length w) ≡ v → AreTokens text (word w ∷ more)
@@ -117,12 +134,13 @@ long_name types s text w more true e h =
     (broken (too_long text) (inl (λ r. let z = ltb-true 128 (length w) e in let f = r.0 in
     omega arith)))
 long_name types s text w more false e h =
+    let known = keyed_number s.table (operation_key 0 w) in
     rw (operation_name_again text w more h (ltb-false 128 (length w) e))
-    (unused_reads (is_some (operation_in s.table w)) (leb 4096 (length s.table.operations)) text w
-    h.0 h.2 (some_none (operation_in s.table w))
-    (λ k r. let z = leb-true 4096 (length s.table.operations) k in let f = r.1 in omega arith)
+    (unused_reads (not (is_third s.names) && is_some known) (leb 4096 s.table.called) text w
+    h.0 h.2 (early (is_third s.names) known)
+    (λ k r. let z = leb-true 4096 s.table.called k in let f = r.1 in omega arith)
     (λ k f. operation_keeps s w (ltb-false 128 (length w) e)
-    (leb-false 4096 (length s.table.operations) f) (none_of (operation_in s.table w) k)))
+    (leb-false 4096 s.table.called f) (late (is_third s.names) known k)))
 
 name_reads : (types : List Node) (s : Scope) (text w : List ℕ) (more : List Token)
     → AreTokens text (word w ∷ more)
@@ -301,72 +319,133 @@ list_reads (p ∷ ps) returned s names text more same free h =
 
 -- ---- operations
 
-pub operation_reads : (s : Scope) (o : Option TypeExpr) (w : List ℕ) (ps : List Param)
-    (text : List ℕ) (more : List Token) → OfDeclaration kinds.Syntax s (Call o w ps)
-    → AreTokens text (spell_return o
-    (word w ∷ mark marks.OpenParenthesis ∷ spell_params ps (mark marks.Semicolon ∷ more)))
-    → Out {X = Declared} (λ rest. (declare s (Call o w ps), rest))
-    (λ k. OfDeclaration k s (Call o w ps)) (declare s (Call o w ps)).table.types
-    more (operation_at s text)
-unfolding operation_at declare OfDeclaration
-operation_reads s o w ps text more free h =
+-- the structs of an operation's parameters
+abbrev structs : Scope → Option TypeExpr → List Param → AddedType
+structs s o ps =
     let t = add_return s o in
     let x = add_params t.0 ps in
-    let request = nodes.members x.1 in
-    let reply = nodes.members (t.1 ++ x.2) in
-    let structs = structs_more x.0 request reply in
-    let behind = within_on (params_more t.0 ps) structs in
+    with_node (with_node x.0 (nodes.members x.1)).0 (nodes.members (t.1 ++ x.2))
+
+abbrev call_at : Scope → Option TypeExpr → List ℕ → List Param → Called
+call_at s o w ps = record {
+  name = w;
+  request = length (add_params (add_return s o).0 ps).0.table.types;
+  reply = (structs s o ps).1;
+}
+
+interfaces_read : (s : Scope) (o : Option TypeExpr) (w : List ℕ) (ps : List Param)
+    (ids : List (List ℕ)) (at text : List ℕ) (more : List Token)
+    → OfParts kinds.Syntax s.names w ps ids (add_return s o)
+    → AreTokens text (spell_interfaces ids (mark marks.Semicolon ∷ more))
+    → Out {X = Variants} (λ rest. (
+      with_listed_by (with_listed w (call_at s o w ps).request
+          (call_at s o w ps).reply ids) (structs s o ps).0,
+      rest,
+    ))
+    (λ k. OfParts k s.names w ps ids (add_return s o)) (structs s o ps).0.table.types
+    (mark marks.Semicolon ∷ more) (listed_at at (call_at s o w ps) ((structs s o ps).0, text))
+interfaces_read s o w ps ids at text more free h =
+    let p = structs s o ps in
+    let c = call_at s o w ps in
+    let same : (p.0).names ≡ s.names =
+    params_names (add_return s o).0 ps ∙ return_names s o in
+    subst (λ ns. Out {X = Variants}
+    (λ rest. (with_listed_by (with_listed w c.request c.reply ids) p.0, rest))
+    (λ k. OfList k ns w c.request c.reply ids (p.0).table) (p.0).table.types
+    (mark marks.Semicolon ∷ more) (listed_at at c (p.0, text))) same
+    (listed_reads ids c p.0 at text more
+    (subst (λ ns. OfList kinds.Syntax ns w c.request c.reply ids (p.0).table) (sym same) free) h)
+
+pub operation_reads : (s : Scope) (o : Option TypeExpr) (w : List ℕ) (ps : List Param)
+    (ids : List (List ℕ)) (text : List ℕ) (more : List Token)
+    → OfDeclaration kinds.Syntax s (Call o w ps ids)
+    → AreTokens text (spell_return o (word w ∷ mark marks.OpenParenthesis
+    ∷ spell_params ps (spell_interfaces ids (mark marks.Semicolon ∷ more))))
+    → Out {X = Declared} (λ rest. (declare s (Call o w ps ids), rest))
+    (λ k. OfDeclaration k s (Call o w ps ids)) (declare s (Call o w ps ids)).table.types
+    more (operation_at s text)
+unfolding operation_at declare OfDeclaration
+operation_reads s o w ps ids text more free h =
+    let t = add_return s o in
+    let x = add_params t.0 ps in
+    let p = structs s o ps in
+    let tail = spell_interfaces ids (mark marks.Semicolon ∷ more) in
+    let listed : Grown p.0 (declare s (Call o w ps ids)) =
+    subst (Within (p.0).table.types)
+    (sym (listed_types w (length (x.0).table.types) p.1 ids (p.0).table)) within_same in
+    let made = within_on (structs_more x.0 (nodes.members x.1) (nodes.members (t.1 ++ x.2)))
+    listed in
+    let behind = within_on (params_more t.0 ps) made in
     out_bind (return_at s text)
     (λ t. new_operation_at t.0 t.2 >>= λ n. mark_at marks.OpenParenthesis n.1
     >>= λ o. params_at t.1 t.0 o
-    >>= λ m. end_of (left_of t.2) (call_of n.0 m.2 (with_node m.0 (nodes.members m.1))) m.3)
-    (return_reads s o text (word w ∷ mark marks.OpenParenthesis ∷ spell_params ps
-    (mark marks.Semicolon ∷ more)) free.0 refl h)
+    >>= λ m. listed_at t.2 (called_of n.0 m) ((structs_of m).0, m.3)
+    >>= λ l. end_of (left_of t.2) (counted l.0) l.1)
+    (return_reads s o text (word w ∷ mark marks.OpenParenthesis ∷ spell_params ps tail)
+    free.0 refl h)
     (λ a ta ka.
     out_bind (new_operation_at t.0 a) (λ n. mark_at marks.OpenParenthesis n.1 >>= λ o.
     params_at t.1 t.0 o
-    >>= λ m. end_of (left_of a) (call_of n.0 m.2 (with_node m.0 (nodes.members m.1))) m.3)
-    (name_reads t.0.table.types t.0 a w (mark marks.OpenParenthesis ∷ spell_params ps
-    (mark marks.Semicolon ∷ more)) ta)
-    (λ b tb kb. rw (mark_again marks.OpenParenthesis b
-    (spell_params ps (mark marks.Semicolon ∷ more)) tb)
+    >>= λ m. listed_at a (called_of n.0 m) ((structs_of m).0, m.3)
+    >>= λ l. end_of (left_of a) (counted l.0) l.1)
+    (name_reads t.0.table.types t.0 a w (mark marks.OpenParenthesis ∷ spell_params ps tail) ta)
+    (λ b tb kb. rw (mark_again marks.OpenParenthesis b (spell_params ps tail) tb)
     (out_bind (params_at t.1 t.0 tb.0)
-    (λ m. end_of (left_of a) (call_of w m.2 (with_node m.0 (nodes.members m.1))) m.3)
-    (list_reads ps t.1 t.0 s.names tb.0 (mark marks.Semicolon ∷ more) (return_names s o)
-    free.2 tb.2)
-    (λ c tc kc. end_reads (left_of a) (call_of w (t.1 ++ x.2) (with_node x.0 request))
-    (λ k. OfDeclaration k s (Call o w ps)) c more tc
-    (λ k. (ka k, operation_same t.0 s w (sym (return_operations s o)) k (kb k), kc k)))
-    (λ k h. h.2) structs))
-    (λ k h. operation_same s t.0 w (return_operations s o) k h.1) behind)
+    (λ m. listed_at a (called_of w m) ((structs_of m).0, m.3)
+    >>= λ l. end_of (left_of a) (counted l.0) l.1)
+    (list_reads ps t.1 t.0 s.names tb.0 tail (return_names s o) free.2 tb.2)
+    (λ c tc kc. out_bind (listed_at a (call_at s o w ps) (p.0, c))
+    (λ l. end_of (left_of a) (counted l.0) l.1)
+    (interfaces_read s o w ps ids a c more free.3 tc)
+    (λ d td kd. end_reads (left_of a) (declare s (Call o w ps ids))
+    (λ k. OfDeclaration k s (Call o w ps ids)) d more td
+    (λ k. (
+      ka k,
+      operation_same t.0 s w (sym (return_names s o)) (sym (return_operations s o))
+          (sym (return_called s o)) k (kb k),
+      kc k,
+      kd k,
+    )))
+    (λ k h. h.3) listed)
+    (λ k h. h.2) made))
+    (λ k h. operation_same s t.0 w (return_names s o) (return_operations s o) (return_called s o) k
+    h.1) behind)
     (λ k h. h.0) behind
 
 operation_made : (s last : Scope) (whole text o : List ℕ) (t : ReturnRead) (n : List ℕ × List ℕ)
-    (m : ParamsRead) (x : Declared) → Takes whole (word (codes "operation")) text
+    (m : ParamsRead) (l : Variants) (x : Declared)
+    → Takes whole (word (codes "operation")) text
     → TakenReturn s text t → OperationTaken t.0 t.2 n → mark_at marks.OpenParenthesis n.1 ≡ Ok o
-    → TakenList t.1 t.0 o m → TakenEnd last m.3 x → TakenDeclaration s whole x
+    → TakenList t.1 t.0 o m → TakenListed (m.0).names m.3 l → TakenEnd last l.1 x
+    → TakenDeclaration s whole x
 unfolding OfDeclaration
-operation_made s last whole text o t n m x before a b c k e = record {
-  declaration = Call a.returned n.0 k.params;
-  took = record {
-    free = (
-      a.took.free,
-      tt,
-      subst (λ ns. OfItems kinds.Syntax ns 255 [] (items_of k.params))
-          a.grows.names k.took.free,
-    );
-    front = λ more h.
-        let list = spell_params k.params (mark marks.Semicolon ∷ more) in
-        let inner : AreTokens o list = k.took.front (mark marks.Semicolon ∷ more)
-        (mark_takes marks.Semicolon m.3 x.1 e.rest more h) in
-        let behind : AreTokens t.2 (word n.0 ∷ mark marks.OpenParenthesis ∷ list) =
-        b.front (mark marks.OpenParenthesis ∷ list)
-        (mark_takes marks.OpenParenthesis n.1 o c list inner) in
-        before (spell_return a.returned (word n.0 ∷ mark marks.OpenParenthesis ∷ list))
-        (a.took.front (word n.0 ∷ mark marks.OpenParenthesis ∷ list) behind);
-  };
-  shallow = e.shallow;
-}
+operation_made s last whole text o t n m l x before a b c k i e =
+    let names : (m.0).names ≡ s.names = k.grows.names ∙ a.grows.names in
+    record {
+      declaration = Call a.returned n.0 k.params i.ids;
+      took = record {
+        free = (
+          a.took.free,
+          tt,
+          subst (λ ns. OfItems kinds.Syntax ns 255 [] (items_of k.params))
+              a.grows.names k.took.free,
+          list_free s.names n.0 _ _ i.ids _
+              (subst (λ ns. IsAllowedList ns i.ids) names i.took.free),
+        );
+        front = λ more h.
+            let tail = spell_interfaces i.ids (mark marks.Semicolon ∷ more) in
+            let list = spell_params k.params tail in
+            let inner : AreTokens o list = k.took.front tail
+            (i.took.front (mark marks.Semicolon ∷ more)
+            (mark_takes marks.Semicolon l.1 x.1 e.rest more h)) in
+            let behind : AreTokens t.2 (word n.0 ∷ mark marks.OpenParenthesis ∷ list) =
+            b.front (mark marks.OpenParenthesis ∷ list)
+            (mark_takes marks.OpenParenthesis n.1 o c list inner) in
+            before (spell_return a.returned (word n.0 ∷ mark marks.OpenParenthesis ∷ list))
+            (a.took.front (word n.0 ∷ mark marks.OpenParenthesis ∷ list) behind);
+      };
+      shallow = e.shallow;
+    }
 
 pub operation_takes : (s : Scope) (whole text : List ℕ) (x : Declared)
     → Takes whole (word (codes "operation")) text → operation_at s text ≡ Ok x
@@ -376,8 +455,84 @@ operation_takes s whole text x before e =
     let t = bind_ok _ _ x e in
     let n = bind_ok _ _ x t.2 in
     let o = bind_ok _ _ x n.2 in
-    let m = bind_ok _ _ x o.2 in
-    let last = call_of (n.0).0 (m.0).2 (with_node (m.0).0 (nodes.members (m.0).1)) in
-    operation_made s last whole text o.0 t.0 n.0 m.0 x before (return_takes s text t.0 t.1)
+    let m = bind_ok {A = ParamsRead} _ _ x o.2 in
+    let l = bind_ok {A = Variants} _ _ x m.2 in
+    operation_made s (counted (l.0).0) whole text o.0 t.0 n.0 m.0 l.0 x before
+    (return_takes s text t.0 t.1)
     (new_operation_takes (t.0).0 (t.0).2 n.0 n.1) o.1 (list_takes (t.0).1 (t.0).0 o.0 m.0 m.1)
-    (end_takes (left_of (t.0).2) last (m.0).3 x m.2)
+    (listed_takes (called_of (n.0).0 m.0) (structs_of m.0).0 (t.0).2 (m.0).3 l.0 l.1)
+    (end_takes (left_of (t.0).2) (counted (l.0).0) (l.0).1 x l.2)
+
+-- ---- KEYs
+
+key_keeps : (s : Scope) (text : List ℕ) → is_third s.names ≡ true → is_key text ≡ true
+    → length text ≤ 128 → of_text s.table.interfaces text ≡ None
+    → length s.table.interfaces.keys < 16384 → (k : Kind)
+    → OfKey k s.names s.table.interfaces text
+key_keeps s text third is short new few kinds.Syntax = (third, is)
+key_keeps s text third is short new few kinds.Duplicate = new
+key_keeps s text third is short new few kinds.Limit = (short, few)
+key_keeps s text third is short new few _ = tt
+
+new_key_reads : (s : Scope) (text key : List ℕ) (more : List Token) → is_third s.names ≡ true
+    → is_key key ≡ true → AreTokens text (repository key ∷ more)
+    → Out {X = List ℕ × List ℕ} (λ rest. (key, rest))
+    (λ k. OfKey k s.names s.table.interfaces key) s.table.types more (new_key_at s text)
+unfolding new_key_at
+new_key_reads s text key more third is h =
+    let i = s.table.interfaces in
+    let short = repository_few text (key, h.0) (repository_again text key more h) in
+    rw (repository_again text key more h, is)
+    (unused_reads (is_some (of_text i key)) (leb 16384 (length i.keys)) text key h.0 h.2
+    (some_none (of_text i key))
+    (λ k r. let z = leb-true 16384 (length i.keys) k in let f = r.1 in omega arith)
+    (λ k f. key_keeps s key third is short (none_of (of_text i key) k)
+    (leb-false 16384 (length i.keys) f)))
+
+pub key_reads : (s : Scope) (key id text : List ℕ) (more : List Token)
+    → OfDeclaration kinds.Syntax s (KeyOf key id)
+    → AreTokens text (repository key ∷ word (codes "of") ∷ repository id
+    ∷ mark marks.Semicolon ∷ more)
+    → Out {X = Declared} (λ rest. (declare s (KeyOf key id), rest))
+    (λ k. OfDeclaration k s (KeyOf key id)) (declare s (KeyOf key id)).table.types more
+    (key_at s text)
+unfolding key_at declare OfDeclaration
+key_reads s key id text more free h =
+    let tail = mark marks.Semicolon ∷ more in
+    out_bind (new_key_at s text) (λ k. keyword_at (codes "of") k.1
+    >>= λ o. interface_at s.table.interfaces o
+    >>= λ i. end_of (left_of text) (with_key_of s k.0 i.0) i.1)
+    (new_key_reads s text key (word (codes "of") ∷ repository id ∷ tail) free.0.0 free.0.1 h)
+    (λ a ta ka. rw (keyword_again (codes "of") a (repository id ∷ tail) ta)
+    (out_bind (interface_at s.table.interfaces ta.0)
+    (λ i. end_of (left_of text) (with_key_of s key i.0) i.1)
+    (interface_reads s.table.types s.table.interfaces ta.0 id tail ta.2)
+    (λ b tb kb. end_reads (left_of text) (with_key_of s key id)
+    (λ k. OfDeclaration k s (KeyOf key id)) b more tb (λ k. (ka k, kb k)))
+    (λ k w. w.1) within_same))
+    (λ k w. w.0) within_same
+
+pub key_takes : (s : Scope) (whole text : List ℕ) (x : Declared) → is_third s.names ≡ true
+    → Takes whole (word (codes "key")) text → key_at s text ≡ Ok x → TakenDeclaration s whole x
+unfolding key_at OfDeclaration
+key_takes s whole text x third before e =
+    let k = bind_ok {A = List ℕ × List ℕ} _ _ x e in
+    let o = bind_ok {A = List ℕ} _ _ x k.2 in
+    let i = bind_ok {A = List ℕ × List ℕ} _ _ x o.2 in
+    let last = with_key_of s (k.0).0 (i.0).0 in
+    let r = end_takes (left_of text) last (i.0).1 x i.2 in
+    let a = new_key_takes s text k.0 k.1 in
+    let b = interface_takes s.table.interfaces o.0 i.0 i.1 in
+    record {
+      declaration = KeyOf (k.0).0 (i.0).0;
+      took = record {
+        free = ((third, a.is), tt);
+        front = λ more h.
+            let tail = mark marks.Semicolon ∷ more in
+            before (repository (k.0).0 ∷ word (codes "of") ∷ repository (i.0).0 ∷ tail)
+            (a.front (word (codes "of") ∷ repository (i.0).0 ∷ tail)
+            (keyword_takes (codes "of") (k.0).1 o.0 o.1 (repository (i.0).0 ∷ tail)
+            (b.front tail (mark_takes marks.Semicolon (i.0).1 x.1 r.rest more h))));
+      };
+      shallow = r.shallow;
+    }

@@ -1,6 +1,6 @@
 -- Parameters that were read: the text that was read spells them, and they can be members of
 -- structs.
-use Rattle.std.proofs.Common.{◌≡◌, ℕ, zero, suc, ◌+◌, ◌<◌, ◌≤◌, Bool, true, false, cond, leb, List, [], ◌∷◌, ◌++◌, length, Option, Some, None, Result, Ok, refl, sym, ap, subst, ◌∙◌, lit≤, arith}
+use Rattle.std.proofs.Common.{◌≡◌, ℕ, zero, suc, ◌+◌, ◌<◌, ◌≤◌, Bool, true, false, not, ◌&&◌, cond, leb, List, [], ◌∷◌, ◌++◌, length, Option, Some, None, Result, Ok, refl, sym, ap, subst, ◌∙◌, lit≤, arith}
 use Rattle.std.specs.Prelude.{codes}
 use Rattle.std.specs.Option.{is_some}
 use Rattle.std.specs.Str.{bytes_eq}
@@ -17,10 +17,10 @@ use Rattle.giop_tokens.specs.Readers.{mark_at, mark_if, keyword_if}
 use Rattle.giop_tokens.proofs.ReaderLaws.{bind_ok, ok_is, Takes, word_takes, mark_takes, mark_if_takes, keyword_if_takes, operation_name_word}
 use Rattle.giop_sig.specs.declared.read_calls.Direction.{Direction}
 use Rattle.giop_sig.specs.declared.read_calls.Direction.TheVariants as directions
-use Rattle.giop_sig.specs.Table.{Node, Part, IsPart, operation_in}
+use Rattle.giop_sig.specs.Table.{Node, Part, IsPart, operation_key, keyed_number}
 use Rattle.giop_sig.specs.Table as nodes
 use Rattle.giop_sig.specs.Grammar.{TypeExpr, Param, direction_word, spell_item, spell_param, spell_params, spell_more_params, spell_return}
-use Rattle.giop_sig.specs.Scopes.{Scope, part, with_node}
+use Rattle.giop_sig.specs.Scopes.{is_third, Scope, part, with_node}
 use Rattle.giop_sig.specs.Validity.{OfItems, OfReturn, items_of}
 use Rattle.giop_sig.specs.ScopeViews.{IsScope}
 use Rattle.giop_sig.specs.TypeReading.{TypeRead}
@@ -77,9 +77,13 @@ return_takes s text x e = search (arith, bind_ok, return_by)
 
 pub record OperationTaken (s : Scope) (text : List ℕ) (x : List ℕ × List ℕ) : Type 0 where
   pub short : length x.0 ≤ 128
-  pub new : operation_in s.table x.0 ≡ None
-  pub few : length s.table.operations < 4096
+  pub new : is_third s.names ≡ false → keyed_number s.table (operation_key 0 x.0) ≡ None
+  pub few : s.table.called < 4096
   pub front : Takes text (word x.0) x.1
+
+late : (third : Bool) (o : Option ℕ) → (not third && is_some o) ≡ false → third ≡ false → o ≡ None
+late true o e f = absurd cc
+late false o e f = none_of o e
 
 pub new_operation_takes : (s : Scope) (text : List ℕ) (x : List ℕ × List ℕ)
     → new_operation_at s text ≡ Ok x → OperationTaken s text x
@@ -87,14 +91,15 @@ unfolding new_operation_at
 new_operation_takes s text x e =
     let a = bind_ok _ _ x e in
     let w = operation_name_word text a.0 a.1 in
-    let known = operation_in s.table (a.0).0 in
-    let u = unused_is (is_some known) (leb 4096 (length s.table.operations)) text a.0 x a.2 in
+    let known = keyed_number s.table (operation_key 0 (a.0).0) in
+    let u = unused_is (not (is_third s.names) && is_some known) (leb 4096 s.table.called) text a.0 x
+    a.2 in
     subst (OperationTaken s text) u.0
     (record {
       short = w.1;
-      new = none_of known u.1;
+      new = late (is_third s.names) known u.1;
       few =
-          leb-false 4096 (length s.table.operations) u.2;
+          leb-false 4096 s.table.called u.2;
       front = word_takes text a.0 w.0;
     })
 
@@ -301,10 +306,6 @@ unfolding params_at
 list_takes returned s text x e = search (arith, bind_ok, list_by)
 
 -- ---- what the code asks
-
-pub still_uncalled : (s t : Scope) (w : List ℕ) → Grows s t → operation_in s.table w ≡ None
-    → operation_in t.table w ≡ None
-still_uncalled s t w g e = search (arith)
 
 -- the structs of an operation can be added
 pub record CallReady (s : Scope) (m : ParamsRead) : Type 0 where

@@ -1,6 +1,6 @@
 -- Structs and exceptions, both ways: reading the spelling of one gives it or a rule that it breaks,
 -- and the text that was read spells it.
-use Rattle.std.proofs.Common.{◌≡◌, ℕ, ◌≤◌, false, List, [], ◌∷◌, length, None, Ok, refl, sym, subst, arith}
+use Rattle.std.proofs.Common.{◌≡◌, ℕ, ◌≤◌, false, List, [], ◌∷◌, length, Option, None, Ok, refl, sym, subst, arith}
 use Rattle.std.specs.Prelude.{codes}
 use Rattle.std.specs.Option.{is_some}
 use Rattle.std.proofs.lemmas.Bool.{false≢true}
@@ -13,14 +13,15 @@ use Rattle.giop_tokens.proofs.ReaderLaws.{bind_ok, Takes, mark_again, mark_if_ag
 use Rattle.giop_sig.specs.Table.{Node, exception_in}
 use Rattle.giop_sig.specs.Table as nodes
 use Rattle.giop_sig.specs.Trees.{depth_of}
-use Rattle.giop_sig.specs.Grammar.{Item, spell_items, Declaration, Structure, DeclaredException, spell}
+use Rattle.giop_sig.specs.Grammar.{Item, spell_items, spell_identity, Declaration, Structure, DeclaredException, spell}
 use Rattle.giop_sig.specs.Scopes.{Scope, AddedType, with_node, with_named, with_raised, add_items, add_struct_type, declare}
 use Rattle.giop_sig.specs.Validity.{Kind, OfSome, OfItems, OfRepository, OfDeclaration}
 use Rattle.giop_sig.specs.Outcomes.{refused}
-use Rattle.giop_sig.specs.ItemReading.{declared_at, members_at, filled_at, Declared, end_of, type_end_at, structure_at, new_repository_at, exception_at, MembersRead}
+use Rattle.giop_sig.specs.ItemReading.{declared_at, members_at, filled_at, IdentityRead, identity_at, Declared, end_of, type_end_at, structure_at, new_repository_at, exception_at, MembersRead}
 use Rattle.giop_sig.proofs.PlaceLaws.{within_same, within_on, Grown, node_more, struct_more}
 use Rattle.giop_sig.proofs.ReadingLaws.{Out, good, broken, out_bind, if_apart, Took}
 use Rattle.giop_sig.proofs.ItemLaws.{declared_reads, members_reads, some_keeps, filled_end, filled_on, type_apart, some_none, unused_reads, end_reads}
+use Rattle.giop_sig.proofs.IdentityLaws.{identity_reads, IdentityTaken, identity_takes}
 use Rattle.giop_sig.proofs.ItemTaken.{none_of, DeclaredTaken, declared_takes, filled_takes, members_takes, TakenMembers, TakenEnd, end_takes, RepositoryTaken, new_repository_takes}
 
 -- reading a text that begins with members
@@ -60,28 +61,35 @@ closed_reads at s is h rule text more free t on up le =
     (λ rest m keeps. end_reads at (h (add_struct_type made)) rule rest more m (on keeps))
     up (within_on (node_more made.0 (nodes.members made.1)) le)
 
-pub structure_reads : (s : Scope) (w : List ℕ) (is : List Item) (text : List ℕ) (more : List Token)
-    → OfDeclaration kinds.Syntax s (Structure w is)
-    → AreTokens text (word w ∷ mark marks.OpenBrace ∷ spell_items is (mark marks.Semicolon ∷ more))
-    → Out {X = Declared} (λ rest. (declare s (Structure w is), rest))
-    (λ k. OfDeclaration k s (Structure w is)) (declare s (Structure w is)).table.types
+pub structure_reads : (s : Scope) (w : List ℕ) (id : Option (List ℕ)) (is : List Item)
+    (text : List ℕ) (more : List Token) → OfDeclaration kinds.Syntax s (Structure w id is)
+    → AreTokens text (word w ∷ spell_identity id (mark marks.OpenBrace
+    ∷ spell_items is (mark marks.Semicolon ∷ more)))
+    → Out {X = Declared} (λ rest. (declare s (Structure w id is), rest))
+    (λ k. OfDeclaration k s (Structure w id is)) (declare s (Structure w id is)).table.types
     more (structure_at s text)
 unfolding structure_at declare OfDeclaration
-structure_reads s w is text more free t =
+structure_reads s w id is text more free t =
     let at = left_of text in
+    let members = spell_items is (mark marks.Semicolon ∷ more) in
     out_bind (declared_at s s.table.declared text)
-    (λ n. mark_at marks.OpenBrace n.1 >>= λ o. filled_at o >>= λ f. members_at s f
-    >>= λ m. type_end_at at n.0 m.0 (nodes.members m.1) m.2)
+    (λ n. identity_at s n.1 >>= λ i. mark_at marks.OpenBrace i.1 >>= λ o. filled_at o
+    >>= λ f. members_at s f >>= λ m. type_end_at at n.0 i.0 m.0 (nodes.members m.1) m.2)
     (declared_reads s.table.types s s.table.declared text w
-    (mark marks.OpenBrace ∷ spell_items is (mark marks.Semicolon ∷ more)) free.0 t)
-    (λ a ta ka. rw (mark_again marks.OpenBrace a (spell_items is (mark marks.Semicolon ∷ more)) ta)
-    (out_bind (filled_at ta.0) (λ f. members_at s f
-    >>= λ m. type_end_at at w m.0 (nodes.members m.1) m.2)
-    (filled_reads s.table.types is ta.0 (mark marks.Semicolon ∷ more) ta.2)
-    (λ b tb kb. closed_reads at s is (with_named w) (λ k. OfDeclaration k s (Structure w is)) b more
-    free.2 tb (λ keeps k. (ka k, kb k, keeps k))
-    (λ k h. h.2) within_same)
-    (λ k h. h.1) (struct_more s is)))
+    (spell_identity id (mark marks.OpenBrace ∷ members)) free.0 t)
+    (λ a ta ka.
+    out_bind (identity_at s a) (λ i. mark_at marks.OpenBrace i.1 >>= λ o. filled_at o
+    >>= λ f. members_at s f >>= λ m. type_end_at at w i.0 m.0 (nodes.members m.1) m.2)
+    (identity_reads s.table.types s id a (mark marks.OpenBrace) members refl free.1 ta)
+    (λ i ti ki. rw (mark_again marks.OpenBrace i members ti)
+    (out_bind (filled_at ti.0) (λ f. members_at s f
+    >>= λ m. type_end_at at w id m.0 (nodes.members m.1) m.2)
+    (filled_reads s.table.types is ti.0 (mark marks.Semicolon ∷ more) ti.2)
+    (λ b tb kb. closed_reads at s is (with_named w id) (λ k. OfDeclaration k s (Structure w id is))
+    b more free.3 tb (λ keeps k. (ka k, ki k, kb k, keeps k))
+    (λ k h. h.3) within_same)
+    (λ k h. h.2) (struct_more s is)))
+    (λ k h. h.1) (struct_more s is))
     (λ k h. h.0) (struct_more s is)
 
 -- ---- what was read
@@ -93,23 +101,24 @@ pub record TakenDeclaration (s : Scope) (text : List ℕ) (x : Declared) : Type 
   pub shallow : depth_of (x.0).table.types ≤ 24
 
 structure_made : (s last : Scope) (whole text o f : List ℕ) (n : List ℕ × List ℕ)
-    (m : MembersRead) (x : Declared) → Takes whole (word (codes "struct")) text
-    → DeclaredTaken s s.table.declared text n → mark_at marks.OpenBrace n.1 ≡ Ok o → o ≡ f
+    (i : IdentityRead) (m : MembersRead) (x : Declared) → Takes whole (word (codes "struct")) text
+    → DeclaredTaken s s.table.declared text n → IdentityTaken s n.1 i
+    → mark_at marks.OpenBrace i.1 ≡ Ok o → o ≡ f
     → TakenMembers 257 [] [] s f m → TakenEnd last m.2 x → TakenDeclaration s whole x
 unfolding OfDeclaration
-structure_made s last whole text o f n m x before a b same k e = record {
-  declaration = Structure n.0 k.items;
+structure_made s last whole text o f n i m x before a d b same k e = record {
+  declaration = Structure n.0 i.0 k.items;
   took = record {
-    free = (a.free, tt, k.took.free);
+    free = (a.free, d.took.free, tt, k.took.free);
     front = λ more h.
         let behind : AreTokens f (spell_items k.items (mark marks.Semicolon ∷ more)) =
         k.took.front (mark marks.Semicolon ∷ more)
         (mark_takes marks.Semicolon m.2 x.1 e.rest more h) in
         let members = spell_items k.items (mark marks.Semicolon ∷ more) in
-        before (word n.0 ∷ mark marks.OpenBrace ∷ members)
-        (a.front (mark marks.OpenBrace ∷ members)
-        (mark_takes marks.OpenBrace n.1 o b members
-        (subst (λ z. AreTokens z members) (sym same) behind)));
+        let braced = spell_identity i.0 (mark marks.OpenBrace ∷ members) in
+        before (word n.0 ∷ braced) (a.front braced (d.took.front (mark marks.OpenBrace ∷ members)
+        (mark_takes marks.OpenBrace i.1 o b members
+        (subst (λ z. AreTokens z members) (sym same) behind))));
   };
   shallow = e.shallow;
 }
@@ -120,12 +129,13 @@ pub structure_takes : (s : Scope) (whole text : List ℕ) (x : Declared)
 unfolding structure_at
 structure_takes s whole text x before e =
     let n = bind_ok _ _ x e in
-    let o = bind_ok _ _ x n.2 in
+    let i = bind_ok _ _ x n.2 in
+    let o = bind_ok _ _ x i.2 in
     let f = bind_ok _ _ x o.2 in
     let m = bind_ok _ _ x f.2 in
-    let last = with_named (n.0).0 (with_node (m.0).0 (nodes.members (m.0).1)) in
-    structure_made s last whole text o.0 f.0 n.0 m.0 x before
-    (declared_takes s s.table.declared text n.0 n.1) o.1
+    let last = with_named (n.0).0 (i.0).0 (with_node (m.0).0 (nodes.members (m.0).1)) in
+    structure_made s last whole text o.0 f.0 n.0 i.0 m.0 x before
+    (declared_takes s s.table.declared text n.0 n.1) (identity_takes s (n.0).1 i.0 i.1) o.1
     (filled_takes o.0 f.0 f.1).0 (members_takes 257 [] [] s f.0 m.0 m.1)
     (end_takes (left_of text) last (m.0).2 x m.2)
 

@@ -14,15 +14,16 @@ use Rattle.giop_tokens.proofs.ReaderLaws.{bind_ok, ok_is, Takes, mark_again, mar
 use Rattle.giop_sig.specs.Table.{Node}
 use Rattle.giop_sig.specs.Table as nodes
 use Rattle.giop_sig.specs.Trees.{depth_of}
-use Rattle.giop_sig.specs.Grammar.{spell_more_names, spell_names, Enumeration}
+use Rattle.giop_sig.specs.Grammar.{spell_more_names, spell_names, spell_identity, Enumeration}
 use Rattle.giop_sig.specs.Scopes.{is_third, Scope, with_node, with_named, declare}
 use Rattle.giop_sig.specs.Validity.{Kind, IsFree, OfNewName, OfSome, OfNames, OfDeclaration}
 use Rattle.giop_sig.specs.Outcomes.{refused}
-use Rattle.giop_sig.specs.ItemReading.{new_name_at, declared_at, Declared, type_end_at}
+use Rattle.giop_sig.specs.ItemReading.{new_name_at, declared_at, identity_at, Declared, type_end_at}
 use Rattle.giop_sig.specs.Repeats.{in_steps}
 use Rattle.giop_sig.specs.EnumReading.{NamesRead, enumerator_at, names_end, names_step, too_many_names, names_at, enumeration_at}
 use Rattle.giop_sig.proofs.PlaceLaws.{Within, within_same, node_more}
 use Rattle.giop_sig.proofs.ReadingLaws.{lift, Out, good, broken, out_bind, if_apart, Took}
+use Rattle.giop_sig.proofs.IdentityLaws.{identity_reads, identity_takes}
 use Rattle.giop_sig.proofs.ItemTaken.{new_name_takes, declared_takes, filled_takes, end_takes}
 use Rattle.giop_sig.proofs.ItemLaws.{new_name_reads, declared_reads, some_keeps, filled_end, filled_on, end_reads}
 
@@ -124,31 +125,40 @@ all_names_reads third (n ∷ names) text types more free h =
     (λ k keeps. (some_keeps n names k, keeps)) (λ k whole. whole.1) within_same)
 
 -- what reading gives of a text that begins with an enum, after its word
-pub enumeration_reads : (n : List ℕ) (names : List (List ℕ)) (s : Scope) (text : List ℕ)
-    (more : List Token) → OfDeclaration kinds.Syntax s (Enumeration n names)
-    → AreTokens text (word n ∷ mark marks.OpenBrace
-    ∷ spell_names names (mark marks.Semicolon ∷ more))
-    → Out (λ rest. (declare s (Enumeration n names), rest))
-    (λ k. OfDeclaration k s (Enumeration n names)) (declare s (Enumeration n names)).table.types
-    more (enumeration_at s text)
+pub enumeration_reads : (n : List ℕ) (id : Option (List ℕ)) (names : List (List ℕ)) (s : Scope)
+    (text : List ℕ) (more : List Token) → OfDeclaration kinds.Syntax s (Enumeration n id names)
+    → AreTokens text (word n ∷ spell_identity id (mark marks.OpenBrace
+    ∷ spell_names names (mark marks.Semicolon ∷ more)))
+    → Out (λ rest. (declare s (Enumeration n id names), rest))
+    (λ k. OfDeclaration k s (Enumeration n id names))
+    (declare s (Enumeration n id names)).table.types more (enumeration_at s text)
 unfolding enumeration_at OfDeclaration declare
-enumeration_reads n names s text more free h =
+enumeration_reads n id names s text more free h =
     let at = left_of text in
     let node = nodes.enumeration names in
     let tail = spell_names names (mark marks.Semicolon ∷ more) in
     out_bind (declared_at s s.table.declared text)
-    (λ d. mark_at marks.OpenBrace d.1 >>= λ o. names_at (is_third s.names) o
-    >>= λ ns. type_end_at at d.0 s (nodes.enumeration ns.0) ns.1)
-    (declared_reads s.table.types s s.table.declared text n (mark marks.OpenBrace ∷ tail) free.0 h)
+    (λ d. identity_at s d.1 >>= λ i. mark_at marks.OpenBrace i.1
+    >>= λ o. names_at (is_third s.names) o
+    >>= λ ns. type_end_at at d.0 i.0 s (nodes.enumeration ns.0) ns.1)
+    (declared_reads s.table.types s s.table.declared text n
+    (spell_identity id (mark marks.OpenBrace ∷ tail)) free.0 h)
     (λ a ta ka.
-    rw (mark_again marks.OpenBrace a tail ta)
-    (out_bind (names_at (is_third s.names) ta.0) (λ ns. type_end_at at n s
+    out_bind (identity_at s a) (λ i. mark_at marks.OpenBrace i.1
+    >>= λ o. names_at (is_third s.names) o
+    >>= λ ns. type_end_at at n i.0 s (nodes.enumeration ns.0) ns.1)
+    (identity_reads s.table.types s id a (mark marks.OpenBrace) tail refl free.1 ta)
+    (λ i ti ki.
+    rw (mark_again marks.OpenBrace i tail ti)
+    (out_bind (names_at (is_third s.names) ti.0) (λ ns. type_end_at at n id s
     (nodes.enumeration ns.0) ns.1)
-    (all_names_reads (is_third s.names) names ta.0 s.table.types
-    (mark marks.Semicolon ∷ more) free.2 ta.2)
-    (λ b tb kb. end_reads at (with_named n (with_node s node))
-    (λ k. OfDeclaration k s (Enumeration n names)) b more tb (λ k. (ka k, (kb k).0, (kb k).1)))
-    (λ k w. (w.1, w.2)) (node_more s node)))
+    (all_names_reads (is_third s.names) names ti.0 s.table.types
+    (mark marks.Semicolon ∷ more) free.3 ti.2)
+    (λ b tb kb. end_reads at (with_named n id (with_node s node))
+    (λ k. OfDeclaration k s (Enumeration n id names)) b more tb
+    (λ k. (ka k, ki k, (kb k).0, (kb k).1)))
+    (λ k w. (w.2, w.3)) (node_more s node)))
+    (λ k w. w.1) (node_more s node))
     (λ k w. w.0) (node_more s node)
 
 -- ---- a text that was read
@@ -289,10 +299,11 @@ all_names_taken {third = third} text x e =
 -- an enum that was read
 pub record TakenEnumeration (s : Scope) (text : List ℕ) (x : Declared) : Type 0 where
   pub name : List ℕ
+  pub id : Option (List ℕ)
   pub names : List (List ℕ)
-  pub took : Took (λ more. word name ∷ mark marks.OpenBrace
-      ∷ spell_names names (mark marks.Semicolon ∷ more))
-      (OfDeclaration kinds.Syntax s (Enumeration name names)) text x.1
+  pub took : Took (λ more. word name ∷ spell_identity id (mark marks.OpenBrace
+      ∷ spell_names names (mark marks.Semicolon ∷ more)))
+      (OfDeclaration kinds.Syntax s (Enumeration name id names)) text x.1
   pub shallow : depth_of (x.0).table.types ≤ 24
 
 pub enumeration_takes : (s : Scope) (text : List ℕ) (x : Declared) → enumeration_at s text ≡ Ok x
@@ -300,23 +311,27 @@ pub enumeration_takes : (s : Scope) (text : List ℕ) (x : Declared) → enumera
 unfolding enumeration_at OfDeclaration
 enumeration_takes s text x e =
     let d = bind_ok _ _ x e in
-    let o = bind_ok _ _ x d.2 in
+    let i = bind_ok _ _ x d.2 in
+    let o = bind_ok _ _ x i.2 in
     let ns = bind_ok _ _ x o.2 in
-    let last = with_named (d.0).0 (with_node s (nodes.enumeration (ns.0).0)) in
+    let last = with_named (d.0).0 (i.0).0 (with_node s (nodes.enumeration (ns.0).0)) in
     let r = end_takes (left_of text) last (ns.0).1 x ns.2 in
     let a = declared_takes s s.table.declared text d.0 d.1 in
+    let c = (identity_takes s (d.0).1 i.0 i.1).took in
     let b = (all_names_taken o.0 ns.0 ns.1).took in
     record {
       name = (d.0).0;
+      id = (i.0).0;
       names = (ns.0).0;
       took = record {
-        free = (a.free, tt, b.free);
-        front = λ more m. a.front (mark marks.OpenBrace ∷ spell_names (ns.0).0
-            (mark marks.Semicolon ∷ more))
-            (mark_takes marks.OpenBrace (d.0).1 o.0 o.1
-            (spell_names (ns.0).0 (mark marks.Semicolon ∷ more))
+        free = (a.free, c.free, tt, b.free);
+        front = λ more m.
+            let inner = spell_names (ns.0).0 (mark marks.Semicolon ∷ more) in
+            a.front (spell_identity (i.0).0 (mark marks.OpenBrace ∷ inner))
+            (c.front (mark marks.OpenBrace ∷ inner)
+            (mark_takes marks.OpenBrace (i.0).1 o.0 o.1 inner
             (b.front (mark marks.Semicolon ∷ more)
-            (mark_takes marks.Semicolon (ns.0).1 x.1 r.rest more m)));
+            (mark_takes marks.Semicolon (ns.0).1 x.1 r.rest more m))));
       };
       shallow = r.shallow;
     }

@@ -1,6 +1,6 @@
 -- Signature files, both ways: reading the spelling of one gives it or a rule that it breaks, and
 -- the text that was read spells it.
-use Rattle.std.proofs.Common.{◌≡◌, ℕ, zero, suc, ◌<◌, ◌≤◌, Bool, true, false, cond, List, [], ◌∷◌, ◌++◌, length, Option, Some, None, Result, Ok, Err, refl, ap, subst, ◌∙◌, arith}
+use Rattle.std.proofs.Common.{◌≡◌, ℕ, zero, suc, ◌<◌, ◌≤◌, Bool, true, false, ◌&&◌, cond, List, [], ◌∷◌, ◌++◌, length, Option, Some, None, Result, Ok, Err, refl, ap, subst, ◌∙◌, arith}
 use Rattle.std.specs.Prelude.{MatchResult, codes}
 use Rattle.std.specs.Str.{bytes_eq}
 use Rattle.std.proofs.lemmas.Slice.Eq.{bytes_eq-Decides}
@@ -11,19 +11,19 @@ use Rattle.giop_tokens.specs.Tokens.{Token, word, number, repository, mark, next
 use Rattle.giop_tokens.specs.Reading.{◌>>=◌}
 use Rattle.giop_tokens.specs.Readers.{misplaced, mark_at, is_end, end_at}
 use Rattle.giop_tokens.proofs.ReaderLaws.{bind_ok, ok_is, Takes, word_again, number_again, mark_again, keyword_again, end_again, end_other, word_takes, number_takes, mark_takes, keyword_takes}
-use Rattle.giop_sig.specs.Grammar.{TypeExpr, Item, UnionCase, spell_type, spell_names, spell_items, spell_cases, spell_params, spell_return, Declaration, Enumeration, Structure, DeclaredUnion, DeclaredException, Call, spell, spell_all, SignatureFile, is_version, spell_file}
-use Rattle.giop_sig.specs.Scopes.{Scope, first_scope, declare, scope_after}
+use Rattle.giop_sig.specs.Grammar.{TypeExpr, Item, UnionCase, spell_type, spell_names, spell_items, spell_cases, spell_params, spell_return, spell_interfaces, spell_identity, Declaration, Enumeration, Structure, DeclaredUnion, DeclaredException, Call, KeyOf, spell, spell_all, SignatureFile, is_version, spell_file}
+use Rattle.giop_sig.specs.Scopes.{is_third, Scope, first_scope, declare, scope_after}
 use Rattle.giop_sig.specs.Trees.{depth_of}
 use Rattle.giop_sig.specs.Validity.{Kind, OfDeclaration, HasItsWords, Each, SpellsUpTo}
 use Rattle.giop_sig.specs.ItemReading.{Declared, structure_at, exception_at}
-use Rattle.giop_sig.specs.CallReading.{operation_at}
+use Rattle.giop_sig.specs.CallReading.{operation_at, key_at}
 use Rattle.giop_sig.specs.EnumReading.{enumeration_at}
 use Rattle.giop_sig.specs.UnionReading.{union_at}
 use Rattle.giop_sig.specs.Repeats.{in_steps}
 use Rattle.giop_sig.specs.FileReading.{declaration_at, declaration_or_end, declarations_step, misplaced_after, version_at, head_at, file_at}
 use Rattle.giop_sig.proofs.ReadingLaws.{Breaks, Out}
 use Rattle.giop_sig.proofs.DeclaredLaws.{TakenDeclaration, structure_reads, structure_takes, raise_reads, raise_takes}
-use Rattle.giop_sig.proofs.CallLaws.{operation_reads, operation_takes}
+use Rattle.giop_sig.proofs.CallLaws.{operation_reads, operation_takes, key_reads, key_takes}
 use Rattle.giop_sig.proofs.EnumLaws.{enumeration_reads, TakenEnumeration, enumeration_takes}
 use Rattle.giop_sig.proofs.TokensFew.{tokens_few, next_none}
 use Rattle.giop_sig.proofs.SpellLaws.{spelled_few}
@@ -43,86 +43,108 @@ DeclarationOut s d more r =
 -- what is read of a union
 abbrev pub UnionReads : Type 0
 UnionReads =
-    (s : Scope) (n : List ℕ) (e : TypeExpr) (cs : List UnionCase) (text : List ℕ)
-    (more : List Token) → OfDeclaration kinds.Syntax s (DeclaredUnion n e cs)
-    → AreTokens text (word n ∷ word (codes "switch") ∷ mark marks.OpenParenthesis
+    (s : Scope) (n : List ℕ) (id : Option (List ℕ)) (e : TypeExpr) (cs : List UnionCase)
+    (text : List ℕ) (more : List Token)
+    → OfDeclaration kinds.Syntax s (DeclaredUnion n id e cs)
+    → AreTokens text (word n ∷ spell_identity id (word (codes "switch")
+    ∷ mark marks.OpenParenthesis
     ∷ spell_type e (mark marks.CloseParenthesis ∷ mark marks.OpenBrace
-    ∷ spell_cases cs (mark marks.Semicolon ∷ more)))
-    → DeclarationOut s (DeclaredUnion n e cs) more (union_at s text)
+    ∷ spell_cases cs (mark marks.Semicolon ∷ more))))
+    → DeclarationOut s (DeclaredUnion n id e cs) more (union_at s text)
 
 abbrev pub UnionTakes : Type 0
 UnionTakes =
     (s : Scope) (whole text : List ℕ) (x : Declared) → Takes whole (word (codes "union")) text
     → union_at s text ≡ Ok x → TakenDeclaration s whole x
 
+key_third : (s : Scope) (key id : List ℕ) → OfDeclaration kinds.Syntax s (KeyOf key id)
+    → is_third s.names ≡ true
+unfolding OfDeclaration
+key_third s key id free = free.0.0
+
 declaration_reads : UnionReads → (d : Declaration) (s : Scope) (text : List ℕ) (more : List Token)
     → OfDeclaration kinds.Syntax s d → AreTokens text (spell d more)
     → DeclarationOut s d more (declaration_at s text)
 unfolding declaration_at
-declaration_reads union (Enumeration n names) s text more free h =
-    rw (word_again text (codes "enum") (word n ∷ mark marks.OpenBrace ∷ spell_names names
-    (mark marks.Semicolon ∷ more)) h)
-    (enumeration_reads n names s h.0 more free h.2)
-declaration_reads union (Structure n is) s text more free h =
-    rw (word_again text (codes "struct") (word n ∷ mark marks.OpenBrace ∷ spell_items is
-    (mark marks.Semicolon ∷ more)) h)
-    (structure_reads s n is h.0 more free h.2)
-declaration_reads union (DeclaredUnion n e cs) s text more free h =
-    rw (word_again text (codes "union") (word n ∷ word (codes "switch") ∷ mark marks.OpenParenthesis
-    ∷ spell_type e (mark marks.CloseParenthesis ∷ mark marks.OpenBrace ∷ spell_cases cs
-    (mark marks.Semicolon ∷ more))) h)
-    (union s n e cs h.0 more free h.2)
+declaration_reads union (Enumeration n id names) s text more free h =
+    rw (word_again text (codes "enum") (word n ∷ spell_identity id (mark marks.OpenBrace
+    ∷ spell_names names (mark marks.Semicolon ∷ more))) h)
+    (enumeration_reads n id names s h.0 more free h.2)
+declaration_reads union (Structure n id is) s text more free h =
+    rw (word_again text (codes "struct") (word n ∷ spell_identity id (mark marks.OpenBrace
+    ∷ spell_items is (mark marks.Semicolon ∷ more))) h)
+    (structure_reads s n id is h.0 more free h.2)
+declaration_reads union (DeclaredUnion n id e cs) s text more free h =
+    rw (word_again text (codes "union") (word n ∷ spell_identity id (word (codes "switch")
+    ∷ mark marks.OpenParenthesis ∷ spell_type e (mark marks.CloseParenthesis
+    ∷ mark marks.OpenBrace ∷ spell_cases cs (mark marks.Semicolon ∷ more)))) h)
+    (union s n id e cs h.0 more free h.2)
 declaration_reads union (DeclaredException n r is) s text more free h =
     rw (word_again text (codes "exception") (spell_raise n r is more) h)
     (raise_reads s n r is h.0 more free h.2)
-declaration_reads union (Call o n ps) s text more free h =
+declaration_reads union (Call o n ps ids) s text more free h =
     rw (word_again text (codes "operation")
     (spell_return o (word n ∷ mark marks.OpenParenthesis ∷ spell_params ps
-    (mark marks.Semicolon ∷ more))) h)
-    (operation_reads s o n ps h.0 more free h.2)
+    (spell_interfaces ids (mark marks.Semicolon ∷ more)))) h)
+    (operation_reads s o n ps ids h.0 more free h.2)
+declaration_reads union (KeyOf key id) s text more free h =
+    rw (
+      word_again text (codes "key") (repository key ∷ word (codes "of") ∷ repository id
+          ∷ mark marks.Semicolon ∷ more) h,
+      key_third s key id free,
+    )
+    (key_reads s key id h.0 more free h.2)
 
 enumeration_taken : (s : Scope) (whole text : List ℕ) (x : Declared)
     → Takes whole (word (codes "enum")) text → TakenEnumeration s text x
     → TakenDeclaration s whole x
 enumeration_taken s whole text x before t = record {
-  declaration = Enumeration t.name t.names;
+  declaration = Enumeration t.name t.id t.names;
   took = record {
     free = t.took.free;
     front = λ more m. before
-        (word t.name ∷ mark marks.OpenBrace ∷ spell_names t.names (mark marks.Semicolon ∷ more))
+        (word t.name ∷ spell_identity t.id (mark marks.OpenBrace
+        ∷ spell_names t.names (mark marks.Semicolon ∷ more)))
         (t.took.front more m);
   };
   shallow = t.shallow;
 }
 
-after_by : UnionTakes → (s : Scope) (text w rest : List ℕ) (x : Declared) (a b c d e : Bool)
+after_by : UnionTakes → (s : Scope) (text w rest : List ℕ) (x : Declared) (a b c d e g f : Bool)
     → bytes_eq w (codes "enum") ≡ a → bytes_eq w (codes "struct") ≡ b
     → bytes_eq w (codes "union") ≡ c → bytes_eq w (codes "exception") ≡ d
-    → bytes_eq w (codes "operation") ≡ e
+    → bytes_eq w (codes "operation") ≡ e → is_third s.names ≡ g → bytes_eq w (codes "key") ≡ f
     → Takes text (word w) rest → cond a (enumeration_at s rest)
     (cond b (structure_at s rest)
     (cond c (union_at s rest) (cond d (exception_at s rest)
-    (cond e (operation_at s rest) (Err (misplaced text)))))) ≡ Ok x → TakenDeclaration s text x
-after_by union s text w rest x true b c d e p q r u v t h =
+    (cond e (operation_at s rest)
+    (cond (g && f) (key_at s rest) (Err (misplaced text))))))) ≡ Ok x → TakenDeclaration s text x
+after_by union s text w rest x true b c d e g f p q r u v y z t h =
     enumeration_taken s text rest x (subst (λ v. Takes text (word v) rest)
     ((bytes_eq-Decides w (codes "enum")).0 p) t) (enumeration_takes s rest x h)
-after_by union s text w rest x false true c d e p q r u v t h = search (
+after_by union s text w rest x false true c d e g f p q r u v y z t h = search (
   arith,
   structure_takes,
   bytes_eq-Decides,
 )
-after_by union s text w rest x false false true d e p q r u v t h = search (arith, bytes_eq-Decides)
-after_by union s text w rest x false false false true e p q r u v t h = search (
+after_by union s text w rest x false false true d e g f p q r u v y z t h =
+    search (arith, bytes_eq-Decides)
+after_by union s text w rest x false false false true e g f p q r u v y z t h = search (
   arith,
   raise_takes,
   bytes_eq-Decides,
 )
-after_by union s text w rest x false false false false true p q r u v t h = search (
+after_by union s text w rest x false false false false true g f p q r u v y z t h = search (
   arith,
   operation_takes,
   bytes_eq-Decides,
 )
-after_by union s text w rest x false false false false false p q r u v t h = absurd cc
+after_by union s text w rest x false false false false false true true p q r u v y z t h =
+    key_takes s text rest x y (subst (λ v. Takes text (word v) rest)
+    ((bytes_eq-Decides w (codes "key")).0 z) t) h
+after_by union s text w rest x false false false false false true false p q r u v y z t h =
+    absurd cc
+after_by union s text w rest x false false false false false false f p q r u v y z t h = absurd cc
 
 declaration_takes : UnionTakes → (s : Scope) (text : List ℕ) (x : Declared)
     → declaration_at s text ≡ Ok x → TakenDeclaration s text x
@@ -188,11 +210,12 @@ file_on n s d ds (Err e) o on = record {
 
 not_over : (d : Declaration) (text : List ℕ) (more : List Token)
     → AreTokens text (spell d more) → end_at text ≡ Ok false
-not_over (Enumeration n names) text more h = search (arith, end_other)
-not_over (Structure n is) text more h = search (arith, end_other)
-not_over (DeclaredUnion n e cs) text more h = search (arith, end_other)
+not_over (Enumeration n id names) text more h = search (arith, end_other)
+not_over (Structure n id is) text more h = search (arith, end_other)
+not_over (DeclaredUnion n id e cs) text more h = search (arith, end_other)
 not_over (DeclaredException n r is) text more h = search (arith, end_other)
-not_over (Call o n ps) text more h = search (arith, end_other)
+not_over (Call o n ps ids) text more h = search (arith, end_other)
+not_over (KeyOf key id) text more h = search (arith, end_other)
 
 declarations_read : UnionReads → (ds : List Declaration) (n : ℕ) (s : Scope) (text : List ℕ)
     → length ds < n → Each HasItsWords s ds → AreTokens text (spell_all ds)

@@ -1,5 +1,5 @@
--- Looking up by name: the index in a list of keys is that in the table's list; for operations and
--- exceptions.
+-- Looking up by name: the index in a list of keys is that in the table's list; for operations,
+-- exceptions and repository ids of types.
 use Rattle.std.proofs.Common.{◌≡◌, ℕ, zero, suc, ◌<◌, ◌≤◌, Bool, cond, not, List, [], ◌∷◌, length, map, get_or, Option, Some, None, refl, sym, ap, ◌∙◌, arith}
 use Rattle.std.specs.Prelude.{slice_get}
 use Rattle.std.specs.List.{position, position_or_len}
@@ -12,9 +12,9 @@ use mathlib.Core.Path.{fun_ext}
 use Rattle.arrayvec.specs.ArrayVec.{ArrayVec}
 use Rattle.giop_sig.specs.declared.types.TypeId.{TypeId}
 use Rattle.giop_sig.specs.declared.catalogue.Signature.{Signature}
-use Rattle.giop_sig.specs.Table.{Operation, Exception, Table, op_id, type_id, no_operation, no_exception, operation_in, exception_in, members_at}
+use Rattle.giop_sig.specs.Table.{Operation, Exception, Identity, Table, op_id, type_id, no_operation, no_exception, no_identity, operation_key, keyed_number, exception_in, members_at, identified_in, identity_at}
 use Rattle.giop_sig.specs.HeaderTypes.{IsTable}
-use Rattle.giop_sig.specs.Entries.{operation_view, exception_view}
+use Rattle.giop_sig.specs.Entries.{operation_view, exception_view, identity_view}
 
 position_or_len-map : {X Y : Type 0} (p : Y → Bool) (f : X → Y) (xs : List X)
     → position_or_len p (map f xs) ≡ position_or_len (λ x. p (f x)) xs
@@ -44,9 +44,10 @@ none_from (Some i) h = absurd (h i refl)
 
 -- a name longer than all is not found
 not_there : {X : Type 0} (name_in : X → List ℕ) (xs : List X) (d : X) (name : List ℕ)
-    → ((i : ℕ) → i < length xs → length (name_in (get_or xs i d)) ≤ 128) → 128 < length name
+    → (most : ℕ) → ((i : ℕ) → i < length xs → length (name_in (get_or xs i d)) ≤ most)
+    → most < length name
     → position (λ x. bytes_eq name (name_in x)) xs ≡ None
-not_there name_in xs d name short long =
+not_there name_in xs d name most short long =
     none_from (position (λ x. bytes_eq name (name_in x)) xs) (λ i e.
     let s = position-Some (λ x. bytes_eq name (name_in x)) xs i d e in
     let same = (bytes_eq-Decides name (name_in (get_or xs i d))).0 s.1 in
@@ -54,21 +55,23 @@ not_there name_in xs d name short long =
 
 -- ---- operations
 
-pub no_operation_long : (t : Table) (name : List ℕ) → IsTable t → 128 < length name
-    → None ≡ operation_in t name
-no_operation_long t name laws long =
-    sym (ap (option_map op_id) (not_there (λ (o : Operation). o.name) t.operations no_operation name
-    (λ i lt. (laws.operations i no_operation lt).short) long))
+pub no_operation_long : (t : Table) (interface : ℕ) (name : List ℕ) → IsTable t
+    → 128 < length name → None ≡ option_map op_id (keyed_number t (operation_key interface name))
+no_operation_long t interface name laws long =
+    sym (ap (option_map op_id) (not_there (λ (o : Operation). o.key) t.operations no_operation
+    (operation_key interface name) 130
+    (λ i lt. (laws.operations i no_operation lt).short) (omega arith)))
 
 -- what is found among the keys is the table's
 pub operation_found : (es : List (ArrayVec ℕ × Signature)) (t : Table) (key name : List ℕ)
     (r : Option ℕ) → map operation_view es ≡ t.operations → key ≡ name
     → r ≡ position (λ (k : ArrayVec ℕ). bytes_eq key k.items)
-    (map (λ (e : ArrayVec ℕ × Signature). e.0) es) → option_map op_id r ≡ operation_in t name
+    (map (λ (e : ArrayVec ℕ × Signature). e.0) es)
+    → option_map op_id r ≡ option_map op_id (keyed_number t name)
 operation_found es t key name r view same is =
     ap (option_map op_id) (is ∙ place_of (λ (k : ArrayVec ℕ). k.items) operation_view
-    (λ (o : Operation). o.name) es key name same (λ e. refl)
-    ∙ ap (λ (os : List Operation). position (λ (o : Operation). bytes_eq name o.name) os) view)
+    (λ (o : Operation). o.key) es key name same (λ e. refl)
+    ∙ ap (λ (os : List Operation). position (λ (o : Operation). bytes_eq name o.key) os) view)
 
 read_map : {X Y : Type 0} (f : X → Y) (xs : List X) (i : ℕ) (x : X) (d : Y)
     → slice_get xs i ≡ Some x → get_or (map f xs) i d ≡ f x
@@ -100,7 +103,7 @@ pub no_exception_long : (t : Table) (name : List ℕ) → IsTable t → 128 < le
     → None ≡ exception_in t name
 no_exception_long t name laws long =
     sym (ap (option_map (members_at t)) (not_there (λ (e : Exception). e.repository) t.exceptions
-    no_exception name
+    no_exception name 128
     (λ i lt. (laws.exceptions i no_exception lt).short) long))
 
 pub exception_place : (es : List (ArrayVec ℕ × TypeId)) (t : Table) (key name : List ℕ)
@@ -135,3 +138,46 @@ pub exception_known : (es : List (ArrayVec ℕ × TypeId)) (t : Table) (i : ℕ)
     (e : ArrayVec ℕ × TypeId) → IsTable t → map exception_view es ≡ t.exceptions
     → slice_get es i ≡ Some e → e.1.0 < length t.types
 exception_known es t i e laws view at = search (arith, length-map, inside_by, get_or, read_map)
+
+-- ---- repository ids of types
+
+pub no_identity_long : (t : Table) (name : List ℕ) → IsTable t → 128 < length name
+    → None ≡ identified_in t name
+no_identity_long t name laws long =
+    sym (ap (option_map (identity_at t)) (not_there (λ (e : Identity). e.repository) t.identities
+    no_identity name 128
+    (λ i lt. (laws.identities i no_identity lt).short) long))
+
+pub identity_place : (es : List (ArrayVec ℕ × TypeId)) (t : Table) (key name : List ℕ)
+    (r : Option ℕ) → map identity_view es ≡ t.identities → key ≡ name
+    → r ≡ position (λ (k : ArrayVec ℕ). bytes_eq key k.items)
+    (map (λ (e : ArrayVec ℕ × TypeId). e.0) es)
+    → option_map (identity_at t) r ≡ identified_in t name
+identity_place es t key name r view same is =
+    ap (option_map (identity_at t)) (is ∙ place_of (λ (k : ArrayVec ℕ). k.items) identity_view
+    (λ (e : Identity). e.repository) es key name same (λ e. refl)
+    ∙ ap (λ (xs : List Identity). position (λ (e : Identity). bytes_eq name e.repository) xs)
+    view)
+
+pub identity_none : (es : List (ArrayVec ℕ × TypeId)) (t : Table) (key name : List ℕ)
+    → map identity_view es ≡ t.identities → key ≡ name
+    → None ≡ position (λ (k : ArrayVec ℕ). bytes_eq key k.items)
+    (map (λ (e : ArrayVec ℕ × TypeId). e.0) es) → None ≡ identified_in t name
+identity_none es t key name view same is = identity_place es t key name None view same is
+
+pub identity_found : (es : List (ArrayVec ℕ × TypeId)) (t : Table) (key name : List ℕ) (i : ℕ)
+    (e : ArrayVec ℕ × TypeId) → map identity_view es ≡ t.identities → key ≡ name
+    → Some i ≡ position (λ (k : ArrayVec ℕ). bytes_eq key k.items)
+    (map (λ (e : ArrayVec ℕ × TypeId). e.0) es) → slice_get es i ≡ Some e
+    → Some e.1 ≡ identified_in t name
+identity_found es t key name i e view same is at =
+    let read : get_or t.identities i no_identity ≡ identity_view e =
+    ap (λ (xs : List Identity). get_or xs i no_identity) (sym view)
+    ∙ read_map identity_view es i e no_identity at in
+    ap (λ (x : Identity). Some (type_id x.type)) (sym read)
+    ∙ identity_place es t key name (Some i) view same is
+
+pub identity_known : (es : List (ArrayVec ℕ × TypeId)) (t : Table) (i : ℕ)
+    (e : ArrayVec ℕ × TypeId) → IsTable t → map identity_view es ≡ t.identities
+    → slice_get es i ≡ Some e → e.1.0 < length t.types
+identity_known es t i e laws view at = search (arith, length-map, inside_by, get_or, read_map)

@@ -74,7 +74,7 @@ switch_formed types n (nodes.tagged special tag inner other) formed is = formed.
 switch_formed types n _ formed is = absurd is
 
 -- the names of an enum are short
-names_short : (names : List (List ℕ)) (n : ℕ) → AllByRecursion (λ name. length name ≤ 64) names
+pub names_short : (names : List (List ℕ)) (n : ℕ) → AllByRecursion (λ name. length name ≤ 64) names
     → IfSome (slice_get names n) (λ name. length name ≤ 64)
 names_short [] n all = tt
 names_short (x ∷ xs) zero all = all.0

@@ -1,5 +1,6 @@
 mod Nodes
 mod Formed
+mod KindWords
 mod Depths
 mod Rooms
 mod Kept
@@ -12,6 +13,7 @@ pub mod Builtins
 pub mod HeaderLaws
 pub mod Unled
 mod Added
+mod InterfaceLaws
 mod ListNumbers
 mod ListLines
 mod ListEntries
@@ -29,7 +31,9 @@ mod TypeLaws
 mod TypeSteps
 mod ItemTaken
 mod ItemLaws
+mod IdentityLaws
 mod CallTaken
+mod VariantLaws
 mod DeclaredLaws
 mod CallLaws
 mod RepeatLaws

@@ -1,10 +1,10 @@
 -- Adding the types of a declaration keeps the names of a scope, and only adds types.
-use Rattle.std.proofs.Common.{◌≡◌, ℕ, ◌≤◌, List, [], ◌∷◌, ◌++◌, length, Option, Some, None, refl, arith}
+use Rattle.std.proofs.Common.{◌≡◌, ℕ, ◌≤◌, List, [], ◌∷◌, ◌++◌, length, Option, Some, None, refl, sym, subst, ◌∙◌, arith}
 use Rattle.std.proofs.lemmas.List.{length-append}
-use Rattle.giop_sig.specs.Table.{Node, node_at}
+use Rattle.giop_sig.specs.Table.{Node, Table, node_at, with_variant, with_variants, with_listed}
 use Rattle.giop_sig.specs.Table as nodes
 use Rattle.giop_sig.specs.Trees.{depth_of}
-use Rattle.giop_sig.specs.Grammar.{TypeExpr, Base, Text, Reference, Named, SequenceOf, EncapsulationOf, Item, UnionCase, Param, Declaration, Enumeration, Structure, DeclaredUnion, DeclaredException, Call}
+use Rattle.giop_sig.specs.Grammar.{TypeExpr, Base, Text, Reference, Named, SequenceOf, EncapsulationOf, Item, UnionCase, Param, Declaration, Enumeration, Structure, DeclaredUnion, DeclaredException, Call, KeyOf}
 use Rattle.giop_sig.specs.Scopes.{Scope, AddedType, with_node, place, add_array, add_item, add_items, add_cases, default_from, add_params, add_return, add_struct_type, declare, scope_after}
 use Rattle.giop_sig.proofs.Depths.{deepest_more}
 
@@ -89,6 +89,21 @@ place_operations s (Named w) = refl
 place_operations s (SequenceOf e bound) = place_operations s e
 place_operations s (EncapsulationOf e) = place_operations s e
 
+pub place_called : (s : Scope) (e : TypeExpr) → (place s e).0.table.called ≡ s.table.called
+unfolding place
+place_called s (Base p) = refl
+place_called s (Text None) = refl
+place_called s (Text (Some n)) = refl
+place_called s Reference = refl
+place_called s (Named w) = refl
+place_called s (SequenceOf e bound) = place_called s e
+place_called s (EncapsulationOf e) = place_called s e
+
+pub params_names : (s : Scope) (ps : List Param) → (add_params s ps).0.names ≡ s.names
+unfolding add_params
+params_names s [] = refl
+params_names s (p ∷ ps) = params_names (add_item s p.item).0 ps ∙ item_names s p.item
+
 pub return_more : (s : Scope) (o : Option TypeExpr) → Grown s (add_return s o).0
 return_more s None = within_same
 return_more s (Some e) = place_more s e
@@ -101,6 +116,25 @@ pub return_operations : (s : Scope) (o : Option TypeExpr)
     → (add_return s o).0.table.operations ≡ s.table.operations
 return_operations s None = refl
 return_operations s (Some e) = place_operations s e
+
+pub return_called : (s : Scope) (o : Option TypeExpr)
+    → (add_return s o).0.table.called ≡ s.table.called
+return_called s None = refl
+return_called s (Some e) = place_called s e
+
+-- ---- interfaces
+
+variants_types : (w : List ℕ) (request reply : ℕ) (ids : List (List ℕ)) (t : Table)
+    → (with_variants w request reply ids t).types ≡ t.types
+variants_types w request reply [] t = refl
+variants_types w request reply (id ∷ ids) t =
+    variants_types w request reply ids (with_variant w request reply id t)
+
+-- interfaces are no types
+pub listed_types : (w : List ℕ) (request reply : ℕ) (ids : List (List ℕ)) (t : Table)
+    → (with_listed w request reply ids t).types ≡ t.types
+listed_types w request reply [] t = refl
+listed_types w request reply (id ∷ ids) t = variants_types w request reply (id ∷ ids) t
 
 -- ---- cases
 
@@ -122,20 +156,24 @@ structs_more s a b = within_on (node_more s a) (node_more (with_node s a).0 b)
 
 pub declare_more : (s : Scope) (d : Declaration) → Grown s (declare s d)
 unfolding declare
-declare_more s (Enumeration n names) = search (arith, node_more)
-declare_more s (Structure n is) = struct_more s is
-declare_more s (DeclaredUnion n e cs) =
+declare_more s (Enumeration n id names) = search (arith, node_more)
+declare_more s (Structure n id is) = struct_more s is
+declare_more s (DeclaredUnion n id e cs) =
     let p = place s e in
     let node = node_at (p.0).table p.1 in
     let x = add_cases p.0 node cs in
     let union = node_more x.0 (nodes.union p.1 x.1 (default_from 0 cs)) in
     within_on (place_more s e) (within_on (cases_more p.0 node cs) union)
 declare_more s (DeclaredException n r is) = struct_more s is
-declare_more s (Call o n ps) =
+declare_more s (Call o n ps ids) =
     let t = add_return s o in
     let x = add_params t.0 ps in
-    let structs = structs_more x.0 (nodes.members x.1) (nodes.members (t.1 ++ x.2)) in
-    within_on (return_more s o) (within_on (params_more t.0 ps) structs)
+    let request = nodes.members x.1 in
+    let q = with_node (with_node x.0 request).0 (nodes.members (t.1 ++ x.2)) in
+    let structs = structs_more x.0 request (nodes.members (t.1 ++ x.2)) in
+    subst (Within s.table.types) (sym (listed_types n (size x.0) q.1 ids (q.0).table))
+    (within_on (return_more s o) (within_on (params_more t.0 ps) structs))
+declare_more s (KeyOf text id) = within_same
 
 pub scope_more : (s : Scope) (ds : List Declaration) → Grown s (scope_after s ds)
 scope_more s [] = within_same

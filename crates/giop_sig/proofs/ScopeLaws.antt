@@ -9,6 +9,7 @@ use Rattle.indexmap.specs.IndexMap.{insert_entry}
 use Rattle.giop_sig.proofs.Added.{entry_last, type_added}
 use Rattle.arrayvec.specs.ArrayVec.{ArrayVec}
 use Rattle.giop_sig.specs.declared.types.TypeId.{TypeId}
+use Rattle.giop_sig.specs.Interfaces.{Interfaces}
 use Rattle.giop_sig.specs.Table.{Node, Table}
 use Rattle.giop_sig.specs.Trees.{depth_of, AreFormed}
 use Rattle.giop_sig.specs.HeaderTypes.{TableOf, IsTable}
@@ -98,6 +99,28 @@ pub draft_table : (version : ℕ) (t u v : Table) (es : List (ArrayVec ℕ × Op
 draft_table version t u v es s view same =
     ap (λ w. scope_view version w es) same ∙ ap (λ (x : Scope). record x { table = v }) view
 
+-- a draft of other interfaces
+pub draft_called : (s : Scope) (i : Interfaces) → IsDraft s → length i.names ≤ 1024
+    → IsDraft (record s { table = record (s.table) { interfaces = i } })
+draft_called s i is few = record {
+  scope = record { begins = is.scope.begins; names = is.scope.names };
+  table = record {
+    types = is.table.types;
+    begins = is.table.begins;
+    operations = is.table.operations;
+    exceptions = is.table.exceptions;
+    operations_distinct = is.table.operations_distinct;
+    exceptions_distinct = is.table.exceptions_distinct;
+    operations_few = is.table.operations_few;
+    exceptions_few = is.table.exceptions_few;
+    declared_few = is.table.declared_few;
+    called_few = is.table.called_few;
+    identities = is.table.identities;
+    identities_distinct = is.table.identities_distinct;
+    interfaces_few = few;
+  };
+}
+
 -- a draft that was complete is a catalogue's table
 pub whole : (t : Table) → TableOf AreFormed t → depth_of t.types ≤ 24 → IsTable t
 whole t is shallow = search (arith)
@@ -108,22 +131,21 @@ some_copied (Some x) = refl
 
 -- ---- a name more
 
-none_by : (key : ArrayVec ℕ) (e : ArrayVec ℕ × Option TypeId)
-    (es : List (ArrayVec ℕ × Option TypeId)) (v : Bool) → key_is key e.0 ≡ v
-    → cond v (Some e.1) (lookup (key_is key) es) ≡ None
+none_by : {V : Type 0} (key : ArrayVec ℕ) (e : ArrayVec ℕ × V) (es : List (ArrayVec ℕ × V))
+    (v : Bool) → key_is key e.0 ≡ v → cond v (Some e.1) (lookup (key_is key) es) ≡ None
     → (lookup (key_is key) es ≡ None
-    → list_any (λ (x : ArrayVec ℕ × Option TypeId). key_is key x.0) es ≡ false)
-    → (v || list_any (λ (x : ArrayVec ℕ × Option TypeId). key_is key x.0) es) ≡ false
+    → list_any (λ (x : ArrayVec ℕ × V). key_is key x.0) es ≡ false)
+    → (v || list_any (λ (x : ArrayVec ℕ × V). key_is key x.0) es) ≡ false
 none_by key e es true same h on = absurd cc
 none_by key e es false same h on = on h
 
-none_found : (key : ArrayVec ℕ) (es : List (ArrayVec ℕ × Option TypeId))
+pub none_found : {V : Type 0} (key : ArrayVec ℕ) (es : List (ArrayVec ℕ × V))
     → lookup (key_is key) es ≡ None
-    → list_any (λ (x : ArrayVec ℕ × Option TypeId). key_is key x.0) es ≡ false
+    → list_any (λ (x : ArrayVec ℕ × V). key_is key x.0) es ≡ false
 none_found key [] h = refl
 none_found key (e ∷ es) h = none_by key e es (key_is key e.0) refl h (none_found key es)
 
-none_before : {X Y : Type 0} (f : X → Y) (o : Option X) → option_map f o ≡ None → o ≡ None
+pub none_before : {X Y : Type 0} (f : X → Y) (o : Option X) → option_map f o ≡ None → o ≡ None
 none_before f None e = refl
 none_before f (Some x) e = absurd cc
 

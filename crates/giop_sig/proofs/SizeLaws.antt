@@ -1,14 +1,15 @@
 -- A declaration adds no more types than it has tokens.
-use Rattle.std.proofs.Common.{ℕ, suc, ◌+◌, ◌<◌, ◌≤◌, List, [], ◌∷◌, ◌++◌, length, Option, Some, None, arith}
+use Rattle.std.proofs.Common.{ℕ, suc, ◌+◌, ◌<◌, ◌≤◌, List, [], ◌∷◌, ◌++◌, length, Option, Some, None, ap, arith}
+use Rattle.std.specs.Prelude.{codes}
 use Rattle.std.proofs.lemmas.List.{length-append}
 use Rattle.giop_tokens.specs.declared.marks.Mark.TheVariants as marks
 use Rattle.giop_tokens.specs.Tokens.{Token, word, mark}
 use Rattle.giop_sig.specs.Table.{Node, node_at}
 use Rattle.giop_sig.specs.Table as nodes
-use Rattle.giop_sig.specs.Grammar.{TypeExpr, Text, SequenceOf, EncapsulationOf, spell_most, spell_type, Item, spell_length, spell_item, spell_items, spell_labels, UnionCase, spell_cases, Param, spell_more_params, spell_params, spell_return, Declaration, Enumeration, Structure, DeclaredUnion, DeclaredException, Call, spell, spell_all}
+use Rattle.giop_sig.specs.Grammar.{TypeExpr, Text, SequenceOf, EncapsulationOf, spell_most, spell_type, Item, spell_length, spell_item, spell_items, spell_names, spell_labels, UnionCase, spell_cases, Param, spell_more_params, spell_params, spell_return, spell_interfaces, Declaration, Enumeration, Structure, DeclaredUnion, DeclaredException, Call, KeyOf, spell, spell_all}
 use Rattle.giop_sig.specs.Scopes.{Scope, AddedType, with_node, sequence_node, place, add_array, add_item, add_items, add_cases, default_from, add_params, add_return, declare, scope_after}
-use Rattle.giop_sig.proofs.PlaceLaws.{size}
-use Rattle.giop_sig.proofs.SpellLaws.{most, names, label, labels}
+use Rattle.giop_sig.proofs.PlaceLaws.{size, listed_types}
+use Rattle.giop_sig.proofs.SpellLaws.{most, names, label, labels, interfaces, identity}
 
 one_more : (s : Scope) (n : Node) → size (with_node s n).0 ≤ suc (size s)
 one_more s n = search (arith, length-append)
@@ -91,23 +92,27 @@ returned s (Some e) more = omega (arith, typed s e more)
 declared : (s : Scope) (d : Declaration) (more : List Token)
     → size (declare s d) + length more ≤ size s + length (spell d more)
 unfolding declare
-declared s (Enumeration n ns) more = omega (
+declared s (Enumeration n id ns) more = omega (
   arith,
   one_more s (nodes.enumeration ns),
   names ns (mark marks.Semicolon ∷ more),
+  identity id (mark marks.OpenBrace ∷ spell_names ns (mark marks.Semicolon ∷ more)),
 )
-declared s (Structure n is) more = omega (
+declared s (Structure n id is) more = omega (
   arith,
+  identity id (mark marks.OpenBrace ∷ spell_items is (mark marks.Semicolon ∷ more)),
   items s is (mark marks.Semicolon ∷ more),
   one_more (add_items s is).0 (nodes.members (add_items s is).1),
 )
-declared s (DeclaredUnion n e cs) more =
+declared s (DeclaredUnion n id e cs) more =
     let p = place s e in
     let x = add_cases p.0 (node_at (p.0).table p.1) cs in
     let tail = mark marks.Semicolon ∷ more in
+    let body = mark marks.CloseParenthesis ∷ mark marks.OpenBrace ∷ spell_cases cs tail in
     omega (
       arith,
-      typed s e (mark marks.CloseParenthesis ∷ mark marks.OpenBrace ∷ spell_cases cs tail),
+      identity id (word (codes "switch") ∷ mark marks.OpenParenthesis ∷ spell_type e body),
+      typed s e body,
       cases p.0 (node_at (p.0).table p.1) cs tail,
       one_more x.0 (nodes.union p.1 x.1 (default_from 0 cs)),
     )
@@ -117,18 +122,22 @@ declared s (DeclaredException n r is) more =
       items s is (mark marks.Semicolon ∷ more),
       one_more (add_items s is).0 (nodes.members (add_items s is).1),
     )
-declared s (Call o n ps) more =
+declared s (Call o n ps ids) more =
     let t = add_return s o in
     let x = add_params t.0 ps in
     let q = with_node x.0 (nodes.members x.1) in
-    let tail = mark marks.Semicolon ∷ more in
+    let r = with_node q.0 (nodes.members (t.1 ++ x.2)) in
+    let tail = spell_interfaces ids (mark marks.Semicolon ∷ more) in
     omega (
       arith,
+      interfaces ids (mark marks.Semicolon ∷ more),
+      ap length (listed_types n q.1 r.1 ids (r.0).table),
       returned s o (word n ∷ mark marks.OpenParenthesis ∷ spell_params ps tail),
       params t.0 ps tail,
       one_more x.0 (nodes.members x.1),
       one_more q.0 (nodes.members (t.1 ++ x.2)),
     )
+declared s (KeyOf text id) more = omega arith
 
 -- up to each declaration, no more types than tokens, beside those that were there
 pub types_fewer : (s : Scope) (before : List Declaration) (d : Declaration)

@@ -4,7 +4,7 @@ use Rattle.std.proofs.Common.{ℕ, ◌<◌, ◌≤◌, List, [], ◌∷◌, leng
 use Rattle.giop_tokens.specs.declared.marks.Mark.{Mark}
 use Rattle.giop_tokens.specs.declared.marks.Mark.TheVariants as marks
 use Rattle.giop_tokens.specs.Tokens.{Token, mark}
-use Rattle.giop_sig.specs.Grammar.{TypeExpr, Text, SequenceOf, EncapsulationOf, spell_between, spell_most, spell_type, Item, spell_item, spell_items, spell_more_names, spell_names, Value, Plain, spell_value, Label, Default, Of, spell_label, spell_labels, UnionCase, spell_cases, Param, spell_more_params, spell_params, spell_return, Declaration, Enumeration, Structure, DeclaredUnion, DeclaredException, Call, spell, spell_all}
+use Rattle.giop_sig.specs.Grammar.{TypeExpr, Text, SequenceOf, EncapsulationOf, spell_between, spell_most, spell_type, Item, spell_item, spell_items, spell_more_names, spell_names, Value, Plain, spell_value, Label, Default, Of, spell_label, spell_labels, UnionCase, spell_cases, Param, spell_more_params, spell_params, spell_return, spell_more_interfaces, spell_interfaces, spell_identity, Declaration, Enumeration, Structure, DeclaredUnion, DeclaredException, Call, KeyOf, spell, spell_all}
 
 between : (a b : Mark) (o : Option ℕ) (more : List Token)
     → length more ≤ length (spell_between a b o more)
@@ -70,13 +70,29 @@ returned : (o : Option TypeExpr) (more : List Token) → length more ≤ length 
 returned None more = omega arith
 returned (Some e) more = typed e more
 
+more_interfaces : (ids : List (List ℕ)) (more : List Token)
+    → length more ≤ length (spell_more_interfaces ids more)
+more_interfaces [] more = omega arith
+more_interfaces (id ∷ ids) more = omega (arith, more_interfaces ids more)
+
+pub interfaces : (ids : List (List ℕ)) (more : List Token)
+    → length more ≤ length (spell_interfaces ids more)
+interfaces [] more = omega arith
+interfaces (id ∷ ids) more = omega (arith, more_interfaces ids more)
+
+pub identity : (id : Option (List ℕ)) (more : List Token)
+    → length more ≤ length (spell_identity id more)
+identity None more = omega arith
+identity (Some id) more = omega arith
+
 -- each declaration has tokens
 pub spelled_more : (d : Declaration) (more : List Token) → length more < length (spell d more)
-spelled_more (Enumeration n ns) more = search (arith, names)
-spelled_more (Structure n is) more = search (arith, items)
-spelled_more (DeclaredUnion n e cs) more = search (arith, typed, cases)
+spelled_more (Enumeration n id ns) more = search (arith, identity, names)
+spelled_more (Structure n id is) more = search (arith, identity, items)
+spelled_more (DeclaredUnion n id e cs) more = search (arith, identity, typed, cases)
 spelled_more (DeclaredException n r is) more = search (arith, items)
-spelled_more (Call o n ps) more = search (arith, returned, params)
+spelled_more (Call o n ps ids) more = search (arith, returned, params, interfaces)
+spelled_more (KeyOf text id) more = omega arith
 
 -- as many tokens as declarations, at least
 pub spelled_few : (ds : List Declaration) → length ds ≤ length (spell_all ds)

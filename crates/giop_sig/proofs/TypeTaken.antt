@@ -43,6 +43,9 @@ pub record Grows (s t : Scope) : Type 0 where
   pub operations : t.table.operations ≡ s.table.operations
   pub exceptions : t.table.exceptions ≡ s.table.exceptions
   pub declared : t.table.declared ≡ s.table.declared
+  pub called : t.table.called ≡ s.table.called
+  pub interfaces : t.table.interfaces ≡ s.table.interfaces
+  pub identities : t.table.identities ≡ s.table.identities
 
 pub grows_none : (s : Scope) → Grows s s
 grows_none s = search (arith, append-nil)

@@ -9,16 +9,17 @@ use Rattle.giop_tokens.specs.Tokens.{word, mark, left_of}
 use Rattle.giop_tokens.proofs.ReaderLaws.{bind_ok, ok_is, Takes, mark_takes, keyword_takes}
 use Rattle.giop_sig.specs.Table.{Node, node_at, IsScalarNode, IsFormed}
 use Rattle.giop_sig.specs.Table as nodes
-use Rattle.giop_sig.specs.Grammar.{TypeExpr, DeclaredUnion, spell_type, spell_cases}
+use Rattle.giop_sig.specs.Grammar.{TypeExpr, DeclaredUnion, spell_type, spell_cases, spell_identity}
 use Rattle.giop_sig.specs.Scopes.{Scope, place, with_node, with_named}
 use Rattle.giop_sig.specs.Validity.{OfType, IsDiscriminator, OfCases, OfDeclaration, placed_node}
 use Rattle.giop_sig.specs.ScopeViews.{IsScope}
 use Rattle.giop_sig.specs.Outcomes.{refused}
 use Rattle.giop_sig.specs.TypeReading.{TypeRead}
-use Rattle.giop_sig.specs.ItemReading.{Declared}
+use Rattle.giop_sig.specs.ItemReading.{IdentityRead, Declared}
 use Rattle.giop_sig.specs.UnionReading.{CasesRead, cases_at, union_node, can_switch, switch_at, union_at}
 use Rattle.giop_sig.proofs.TypeTaken.{Grows, grows_on, TakenType, type_takes}
 use Rattle.giop_sig.proofs.ItemTaken.{declared_takes, end_takes}
+use Rattle.giop_sig.proofs.IdentityLaws.{identity_takes}
 use Rattle.giop_sig.proofs.DeclaredLaws.{TakenDeclaration}
 use Rattle.giop_sig.proofs.UnionLaws.{node_stays}
 use Rattle.giop_sig.proofs.UnionReads.{discriminates, below_size}
@@ -82,23 +83,26 @@ unfolding union_at OfDeclaration
 union_takes s whole text x before e =
     let d = bind_ok {A = List ℕ × List ℕ} _ _ x e in
     let n = (d.0).0 in
-    let w = bind_ok {A = List ℕ} _ _ x d.2 in
+    let i = bind_ok {A = IdentityRead} _ _ x d.2 in
+    let w = bind_ok {A = List ℕ} _ _ x i.2 in
     let b = bind_ok {A = List ℕ} _ _ x w.2 in
     let t = bind_ok {A = TypeRead} _ _ x b.2 in
     let q = bind_ok {A = List ℕ} _ _ x t.2 in
     let o = bind_ok {A = List ℕ} _ _ x q.2 in
     let cs = bind_ok {A = CasesRead} _ _ x o.2 in
-    let last = with_named n (with_node (cs.0).0 (union_node (t.0).1 cs.0)) in
+    let last = with_named n (i.0).0 (with_node (cs.0).0 (union_node (t.0).1 cs.0)) in
     let r = end_takes (left_of text) last (cs.0).2 x cs.2 in
     let a = declared_takes s s.table.declared text d.0 d.1 in
+    let u = (identity_takes s (d.0).1 i.0 i.1).took in
     let k = switch_taken s b.0 t.0 t.1 in
     let c = cases_taken (t.0).1 (t.0).0 o.0 cs.0 cs.1 in
     let node = placed_node (place s k.expr) in
     record {
-      declaration = DeclaredUnion n k.expr c.cases;
+      declaration = DeclaredUnion n (i.0).0 k.expr c.cases;
       took = record {
         free = (
           a.free,
+          u.free,
           k.took.free,
           tt,
           tt,
@@ -107,17 +111,18 @@ union_takes s whole text x before e =
         front = λ more m.
             let inner = spell_cases c.cases (mark marks.Semicolon ∷ more) in
             let body = mark marks.CloseParenthesis ∷ mark marks.OpenBrace ∷ inner in
-            before (word n ∷ word (codes "switch") ∷ mark marks.OpenParenthesis ∷ spell_type k.expr
-            body)
-            (a.front (word (codes "switch") ∷ mark marks.OpenParenthesis ∷ spell_type k.expr body)
-            (keyword_takes (codes "switch") (d.0).1 w.0 w.1
+            let chosen = word (codes "switch") ∷ mark marks.OpenParenthesis
+            ∷ spell_type k.expr body in
+            before (word n ∷ spell_identity (i.0).0 chosen)
+            (a.front (spell_identity (i.0).0 chosen) (u.front chosen
+            (keyword_takes (codes "switch") (i.0).1 w.0 w.1
             (mark marks.OpenParenthesis ∷ spell_type k.expr body)
             (mark_takes marks.OpenParenthesis w.0 b.0 b.1 (spell_type k.expr body)
             (k.took.front body
             (mark_takes marks.CloseParenthesis (t.0).2 q.0 q.1 (mark marks.OpenBrace ∷ inner)
             (mark_takes marks.OpenBrace q.0 o.0 o.1 inner
             (c.front (mark marks.Semicolon ∷ more)
-            (mark_takes marks.Semicolon (cs.0).2 x.1 r.rest more m))))))));
+            (mark_takes marks.Semicolon (cs.0).2 x.1 r.rest more m)))))))));
       };
       shallow = r.shallow;
     }

@@ -1,5 +1,5 @@
 -- Reading the spelling of a union, after its word, gives the union or a rule that it breaks.
-use Rattle.std.proofs.Common.{◌≡◌, ℕ, ◌+◌, ◌<◌, Bool, true, false, cond, ltb, List, [], ◌∷◌, ◌++◌, length, Ok, Err, append_assoc, ltb-true, ltb-false, refl, ap, subst, ◌∙◌, arith}
+use Rattle.std.proofs.Common.{◌≡◌, ℕ, ◌+◌, ◌<◌, Bool, true, false, cond, ltb, List, [], ◌∷◌, ◌++◌, length, Option, Ok, Err, append_assoc, ltb-true, ltb-false, refl, ap, subst, ◌∙◌, arith}
 use Rattle.std.specs.Prelude.{codes}
 use Rattle.std.proofs.lemmas.List.{length-append, append-nil, get_or_past}
 use Rattle.giop_cdr.specs.declared.prim.Primitive.TheVariants as prims
@@ -13,17 +13,18 @@ use Rattle.giop_sig.specs.declared.types.Selected.{Selected}
 use Rattle.giop_sig.specs.declared.types.Selected.TheVariants as selecteds
 use Rattle.giop_sig.specs.Table.{Case, Node, node_at}
 use Rattle.giop_sig.specs.Table as nodes
-use Rattle.giop_sig.specs.Grammar.{TypeExpr, Label, UnionCase, DeclaredUnion, spell_item, spell_type, spell_cases}
+use Rattle.giop_sig.specs.Grammar.{TypeExpr, Label, UnionCase, DeclaredUnion, spell_item, spell_type, spell_cases, spell_identity}
 use Rattle.giop_sig.specs.Scopes.{Names, Scope, AddedType, with_node, has_default, labels_of, union_case, place, add_item, add_cases, add_choice_type, default_from, with_named, declare}
 use Rattle.giop_sig.specs.Validity.{Kind, IsDiscriminator, OfType, OfSwitch, OfSome, OfCases, OfDeclaration, placed_node}
 use Rattle.giop_sig.specs.Outcomes.{refused}
 use Rattle.giop_sig.specs.TypeReading.{type_at}
-use Rattle.giop_sig.specs.ItemReading.{declared_at, Declared, type_end_at}
+use Rattle.giop_sig.specs.ItemReading.{declared_at, identity_at, Declared, type_end_at}
 use Rattle.giop_sig.specs.UnionReading.{Cases, chosen, CasesRead, cases_at, union_node, can_switch, switch_at, union_at}
 use Rattle.giop_sig.proofs.PlaceLaws.{size, within_same, within_on, Grown, node_more, place_more, place_names}
 use Rattle.giop_sig.proofs.ReadingLaws.{Out, good, broken, out_bind, out_more, Apart}
 use Rattle.giop_sig.proofs.TypeLaws.{placed, type_reads}
 use Rattle.giop_sig.proofs.ItemLaws.{declared_reads, some_keeps, filled_end, filled_on, end_reads}
+use Rattle.giop_sig.proofs.IdentityLaws.{identity_reads}
 use Rattle.giop_sig.proofs.EnumLaws.{out_as}
 use Rattle.giop_sig.proofs.UnionLaws.{made_cases, made_more, labels_apart, cases_run}
 
@@ -173,22 +174,24 @@ kept_is : (cs : List UnionCase) (p : AddedType) (node : Node) → node_at (p.0).
     → kept_union p.1 (made_cases node p.0 [] [] [] selecteds.Nothing cs) ≡ add_choice_type cs p
 kept_is cs p node same = search (arith, made_is, made_cases)
 
-choice_reads : (n : List ℕ) (switch : TypeExpr) (cases : List UnionCase) (s : Scope) (text : List ℕ)
-    (more : List Token) → OfDeclaration kinds.Syntax s (DeclaredUnion n switch cases)
-    → AreTokens text (word n ∷ word (codes "switch") ∷ mark marks.OpenParenthesis
+choice_reads : (n : List ℕ) (id : Option (List ℕ)) (switch : TypeExpr) (cases : List UnionCase)
+    (s : Scope) (text : List ℕ) (more : List Token)
+    → OfDeclaration kinds.Syntax s (DeclaredUnion n id switch cases)
+    → AreTokens text (word n ∷ spell_identity id (word (codes "switch")
+    ∷ mark marks.OpenParenthesis
     ∷ spell_type switch (mark marks.CloseParenthesis ∷ mark marks.OpenBrace
-    ∷ spell_cases cases (mark marks.Semicolon ∷ more)))
+    ∷ spell_cases cases (mark marks.Semicolon ∷ more))))
     → Out {X = Declared} (λ rest. (
-      with_named n (kept_union (place s switch).1
+      with_named n id (kept_union (place s switch).1
           (made_cases (placed_node (place s switch)) (place s switch).0 [] [] [] selecteds.Nothing
           cases)),
       rest,
-    )) (λ k. OfDeclaration k s (DeclaredUnion n switch cases))
+    )) (λ k. OfDeclaration k s (DeclaredUnion n id switch cases))
     (kept_union (place s switch).1
     (made_cases (placed_node (place s switch)) (place s switch).0 [] [] [] selecteds.Nothing
     cases)).0.table.types more (union_at s text)
 unfolding union_at OfDeclaration
-choice_reads n switch cases s text more free h =
+choice_reads n id switch cases s text more free h =
     let at = left_of text in
     let p = place s switch in
     let node = placed_node p in
@@ -196,55 +199,66 @@ choice_reads n switch cases s text more free h =
     let whole = nodes.union p.1 (m.1).cases (m.1).otherwise in
     let inner = spell_cases cases (mark marks.Semicolon ∷ more) in
     let body = mark marks.CloseParenthesis ∷ mark marks.OpenBrace ∷ inner in
+    let chosen = mark marks.OpenParenthesis ∷ spell_type switch body in
     let made = within_on (made_more node p.0 [] [] [] selecteds.Nothing cases) (node_more m.0 whole)
     in
     out_bind (declared_at s s.table.declared text)
-    (λ d. keyword_at (codes "switch") d.1 >>= λ w. mark_at marks.OpenParenthesis w >>= λ b.
+    (λ d. identity_at s d.1 >>= λ i. keyword_at (codes "switch") i.1
+    >>= λ w. mark_at marks.OpenParenthesis w >>= λ b.
     switch_at s b >>= λ t. mark_at marks.CloseParenthesis t.2
     >>= λ q. mark_at marks.OpenBrace q >>= λ o. cases_at t.1 t.0 o
-    >>= λ cs. type_end_at at d.0 cs.0 (union_node t.1 cs) cs.2)
+    >>= λ cs. type_end_at at d.0 i.0 cs.0 (union_node t.1 cs) cs.2)
     (declared_reads s.table.types s s.table.declared text n
-    (word (codes "switch") ∷ mark marks.OpenParenthesis ∷ spell_type switch body) free.0 h)
+    (spell_identity id (word (codes "switch") ∷ chosen)) free.0 h)
+    (λ d td kd.
+    out_bind (identity_at s d) (λ i. keyword_at (codes "switch") i.1
+    >>= λ w. mark_at marks.OpenParenthesis w >>= λ b.
+    switch_at s b >>= λ t. mark_at marks.CloseParenthesis t.2
+    >>= λ q. mark_at marks.OpenBrace q >>= λ o. cases_at t.1 t.0 o
+    >>= λ cs. type_end_at at n i.0 cs.0 (union_node t.1 cs) cs.2)
+    (identity_reads s.table.types s id d (word (codes "switch")) chosen refl free.1 td)
     (λ a ta ka.
     rw (
-      keyword_again (codes "switch") a (mark marks.OpenParenthesis ∷ spell_type switch body) ta,
+      keyword_again (codes "switch") a chosen ta,
       mark_again marks.OpenParenthesis ta.0 (spell_type switch body) ta.2,
     )
     (out_bind (switch_at s (ta.2).0)
     (λ t. mark_at marks.CloseParenthesis t.2 >>= λ q. mark_at marks.OpenBrace q >>= λ o.
-    cases_at t.1 t.0 o >>= λ cs. type_end_at at n cs.0 (union_node t.1 cs) cs.2)
-    (switch_reads s switch (ta.2).0 body free.1 refl (ta.2).2)
+    cases_at t.1 t.0 o >>= λ cs. type_end_at at n id cs.0 (union_node t.1 cs) cs.2)
+    (switch_reads s switch (ta.2).0 body free.2 refl (ta.2).2)
     (λ b tb kb.
     let below = below_size p.0 p.1 (kb kinds.Label).1 in
     rw (
       mark_again marks.CloseParenthesis b (mark marks.OpenBrace ∷ inner) tb,
       mark_again marks.OpenBrace tb.0 inner tb.2,
     )
-    (out_bind (cases_at p.1 p.0 (tb.2).0) (λ cs. type_end_at at n cs.0 (union_node p.1 cs) cs.2)
+    (out_bind (cases_at p.1 p.0 (tb.2).0) (λ cs. type_end_at at n id cs.0 (union_node p.1 cs) cs.2)
     (cases_reads p.1 node s.names p.0 cases (tb.2).0 (mark marks.Semicolon ∷ more)
-    (place_names s switch) below refl free.4 (tb.2).2)
-    (λ c tc kc. end_reads at (with_named n (with_node m.0 whole))
-    (λ k. OfDeclaration k s (DeclaredUnion n switch cases)) c more tc
-    (λ k. (ka k, (kb k).0, (kb k).1, (kc k).0, (kc k).1)))
-    (λ k w. (w.3, w.4)) (node_more m.0 whole)))
-    (λ k w. (w.1, w.2)) made))
+    (place_names s switch) below refl free.5 (tb.2).2)
+    (λ c tc kc. end_reads at (with_named n id (with_node m.0 whole))
+    (λ k. OfDeclaration k s (DeclaredUnion n id switch cases)) c more tc
+    (λ k. (kd k, ka k, (kb k).0, (kb k).1, (kc k).0, (kc k).1)))
+    (λ k w. (w.4, w.5)) (node_more m.0 whole)))
+    (λ k w. (w.2, w.3)) made))
+    (λ k w. w.1) (within_on (place_more s switch) made))
     (λ k w. w.0) (within_on (place_more s switch) made)
 
 -- what reading gives of a text that begins with a union, after its word
-pub union_reads : (s : Scope) (n : List ℕ) (switch : TypeExpr) (cases : List UnionCase)
-    (text : List ℕ) (more : List Token)
-    → OfDeclaration kinds.Syntax s (DeclaredUnion n switch cases)
-    → AreTokens text (word n ∷ word (codes "switch") ∷ mark marks.OpenParenthesis
+pub union_reads : (s : Scope) (n : List ℕ) (id : Option (List ℕ)) (switch : TypeExpr)
+    (cases : List UnionCase) (text : List ℕ) (more : List Token)
+    → OfDeclaration kinds.Syntax s (DeclaredUnion n id switch cases)
+    → AreTokens text (word n ∷ spell_identity id (word (codes "switch")
+    ∷ mark marks.OpenParenthesis
     ∷ spell_type switch (mark marks.CloseParenthesis ∷ mark marks.OpenBrace
-    ∷ spell_cases cases (mark marks.Semicolon ∷ more)))
-    → Out (λ rest. (declare s (DeclaredUnion n switch cases), rest))
-    (λ k. OfDeclaration k s (DeclaredUnion n switch cases))
-    (declare s (DeclaredUnion n switch cases)).table.types more (union_at s text)
+    ∷ spell_cases cases (mark marks.Semicolon ∷ more))))
+    → Out (λ rest. (declare s (DeclaredUnion n id switch cases), rest))
+    (λ k. OfDeclaration k s (DeclaredUnion n id switch cases))
+    (declare s (DeclaredUnion n id switch cases)).table.types more (union_at s text)
 unfolding declare
-union_reads s n switch cases text more free h =
+union_reads s n id switch cases text more free h =
     let p = place s switch in
     let same = kept_is cases p (placed_node p) refl in
-    out_as (union_at s text) (choice_reads n switch cases s text more free h)
-    (λ rest. ap (λ (q : AddedType). (with_named n q, rest)) same) (λ k w. w) (λ k w. w)
+    out_as (union_at s text) (choice_reads n id switch cases s text more free h)
+    (λ rest. ap (λ (q : AddedType). (with_named n id q, rest)) same) (λ k w. w) (λ k w. w)
     (subst (λ (q : AddedType). Grown (kept_union p.1
     (made_cases (placed_node p) p.0 [] [] [] selecteds.Nothing cases)).0 q.0) same within_same)

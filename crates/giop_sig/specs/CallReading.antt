@@ -1,5 +1,5 @@
 -- Reading operations from left to right (steps).
-use Rattle.std.specs.Prelude.{ℕ, Bool, true, false, if◌then◌else◌, nat_le, List, [], ◌∷◌, ◌++◌, length, Option, Some, None, Result, Ok, Err, codes}
+use Rattle.std.specs.Prelude.{ℕ, ◌+◌, ◌&&◌, not, Bool, true, false, if◌then◌else◌, nat_le, List, [], ◌∷◌, ◌++◌, length, Option, Some, None, Result, Ok, Err, codes}
 use Rattle.std.specs.Option.{is_some}
 use Rattle.std.specs.Str.{bytes_eq}
 use Rattle.giop_tokens.specs.declared.fault.Refusal.{Refusal}
@@ -7,13 +7,15 @@ use Rattle.giop_tokens.specs.declared.fault.SigFaultKind.TheVariants as kinds
 use Rattle.giop_tokens.specs.declared.marks.Mark.TheVariants as marks
 use Rattle.giop_tokens.specs.Tokens.{left_of}
 use Rattle.giop_tokens.specs.Reading.{◌>>=◌}
-use Rattle.giop_tokens.specs.Readers.{misplaced, word_at, mark_at, mark_if, keyword_if}
+use Rattle.giop_tokens.specs.Readers.{misplaced, word_at, mark_at, mark_if, keyword_at, keyword_if, repository_at}
 use Rattle.giop_tokens.specs.Names.{operation_name_at}
 use Rattle.giop_sig.specs.declared.read_calls.Direction.{Direction}
 use Rattle.giop_sig.specs.declared.read_calls.Direction.TheVariants as directions
-use Rattle.giop_sig.specs.Table.{Part, operation_in}
+use Rattle.std.specs.List.{list_any}
+use Rattle.giop_sig.specs.Interfaces.{Interfaces, is_key, number_of, of_text}
+use Rattle.giop_sig.specs.Table.{Part, Table, operation_key, keyed_number, with_entry, with_variant, with_called}
 use Rattle.giop_sig.specs.Table as nodes
-use Rattle.giop_sig.specs.Scopes.{Scope, AddedType, part, with_node, with_call}
+use Rattle.giop_sig.specs.Scopes.{is_third, Scope, AddedType, part, with_node, with_key_of}
 use Rattle.giop_sig.specs.Outcomes.{refused}
 use Rattle.giop_sig.specs.TypeReading.{type_at}
 use Rattle.giop_sig.specs.ItemReading.{ItemRead, item_at, Declared, end_of}
@@ -35,12 +37,13 @@ return_at s text = do
   v ← keyword_if (codes "void") text
   return_after s text v
 
--- the name of an operation; it must be new
+-- the name of an operation; without interfaces in the file it must be new
 unfoldable pub new_operation_at : Scope → List ℕ → Result (List ℕ × List ℕ) Refusal
 new_operation_at s text = do
   n ← operation_name_at text
-  if is_some (operation_in s.table n.0) then Err (refused kinds.Duplicate text)
-      else (if nat_le 4096 (length s.table.operations)
+  if not (is_third s.names) && is_some (keyed_number s.table (operation_key 0 n.0))
+      then Err (refused kinds.Duplicate text)
+      else (if nat_le 4096 s.table.called
       then Err (refused kinds.Limit text) else Ok (n.0, n.1))
 
 -- ---- parameters
@@ -130,9 +133,85 @@ params_at returned s text = do
   c ← mark_if marks.CloseParenthesis text
   params_after returned s text c
 
--- an operation of the two structs of its parameters, the request first
-abbrev pub call_of : List ℕ → List Part → AddedType → Scope
-call_of w reply q = with_call w q.1 (with_node q.0 (nodes.members reply))
+-- ---- interfaces
+
+-- an interface, which may be new
+unfoldable pub interface_at : Interfaces → List ℕ → Result (List ℕ × List ℕ) Refusal
+interface_at i text = do
+  id ← repository_at text
+  if not (list_any (bytes_eq id.0) i.names) && nat_le 1024 (length i.names)
+      then Err (refused kinds.Limit text) else Ok (id.0, id.1)
+
+-- a name, and the structs of its requests and replies
+pub record Called : Type 0 where
+  pub name : List ℕ
+  pub request : ℕ
+  pub reply : ℕ
+
+-- what was read of a list of interfaces
+abbrev pub Variants : Type 0
+Variants = Scope × List ℕ
+
+abbrev pub with_listed_by : (Table → Table) → Scope → Scope
+with_listed_by f s = record s { table = f s.table }
+
+abbrev pub variant_key : Called → Table → List ℕ → List ℕ
+variant_key c t id = operation_key (number_of t.interfaces id + 1) c.name
+
+-- an interface for which the operation's name is new
+unfoldable pub new_variant_at : Called → Table → List ℕ → Result (List ℕ × List ℕ) Refusal
+new_variant_at c t text = do
+  id ← interface_at t.interfaces text
+  if is_some (keyed_number t (variant_key c t id.0)) then Err (refused kinds.Duplicate text)
+      else Ok (id.0, id.1)
+
+-- whether no comma follows, and what follows
+abbrev pub after_comma : List ℕ → Option (List ℕ) → Bool × List ℕ
+after_comma rest None = (true, rest)
+after_comma rest (Some r) = (false, r)
+
+abbrev pub variant_end : Called → List ℕ → Variants → Bool × List ℕ → Bool × Variants
+variant_end c id v x =
+    (x.0, (with_listed_by (with_variant c.name c.request c.reply id) v.0, x.1))
+
+-- an interface of an operation, and the comma after it
+unfoldable pub variant_step : Called → Variants → Result (Bool × Variants) Refusal
+variant_step c v = do
+  id ← new_variant_at c (v.0).table v.1
+  comma ← mark_if marks.Comma id.1
+  Ok (variant_end c id.0 v (after_comma id.1 comma))
+
+abbrev pub too_many_variants : Variants → Refusal
+too_many_variants v = misplaced v.1
+
+-- the operation without interfaces, whose name is at a place
+abbrev pub plain_by : List ℕ → Called → Variants → Result Variants Refusal
+plain_by at c v =
+    if is_some (keyed_number (v.0).table (operation_key 0 c.name))
+    then Err (refused kinds.Duplicate at)
+    else Ok (with_listed_by (with_entry 0 c.name c.request c.reply) v.0, v.1)
+
+abbrev pub listed_by : List ℕ → Called → Variants → Option (List ℕ) → Result Variants Refusal
+listed_by at c v None = plain_by at c v
+listed_by at c v (Some r) = in_steps (variant_step c) too_many_variants (length r) (v.0, r)
+
+-- the interfaces of an operation, whose name is at a place
+unfoldable pub listed_at : List ℕ → Called → Variants → Result Variants Refusal
+listed_at at c v =
+    if is_third (v.0).names then (keyword_if (codes "of") v.1 >>= listed_by at c v)
+    else plain_by at c v
+
+-- the two structs of an operation's parameters, the request first
+abbrev pub structs_of : ParamsRead → AddedType
+structs_of m = with_node (with_node m.0 (nodes.members m.1)).0 (nodes.members m.2)
+
+-- an operation of the two structs of its parameters
+abbrev pub called_of : List ℕ → ParamsRead → Called
+called_of w m =
+    record { name = w; request = length (m.0).table.types; reply = (structs_of m).1 }
+
+abbrev pub counted : Scope → Scope
+counted s = record s { table = with_called s.table }
 
 -- an operation, after its first word
 unfoldable pub operation_at : Scope → List ℕ → Result Declared Refusal
@@ -141,4 +220,22 @@ operation_at s text = do
   n ← new_operation_at t.0 t.2
   o ← mark_at marks.OpenParenthesis n.1
   m ← params_at t.1 t.0 o
-  end_of (left_of t.2) (call_of n.0 m.2 (with_node m.0 (nodes.members m.1))) m.3
+  l ← listed_at t.2 (called_of n.0 m) ((structs_of m).0, m.3)
+  end_of (left_of t.2) (counted l.0) l.1
+
+-- a KEY that is new
+unfoldable pub new_key_at : Scope → List ℕ → Result (List ℕ × List ℕ) Refusal
+new_key_at s text = do
+  k ← repository_at text
+  if not (is_key k.0) then Err (misplaced text)
+      else (if is_some (of_text s.table.interfaces k.0) then Err (refused kinds.Duplicate text)
+      else (if nat_le 16384 (length s.table.interfaces.keys)
+      then Err (refused kinds.Limit text) else Ok (k.0, k.1)))
+
+-- a KEY and its interface, after its first word
+unfoldable pub key_at : Scope → List ℕ → Result Declared Refusal
+key_at s text = do
+  k ← new_key_at s text
+  o ← keyword_at (codes "of") k.1
+  id ← interface_at s.table.interfaces o
+  end_of (left_of text) (with_key_of s k.0 id.0) id.1

@@ -9,7 +9,7 @@ use Rattle.giop_tokens.specs.Readers.{mark_at, mark_if}
 use Rattle.giop_sig.specs.Table as nodes
 use Rattle.giop_sig.specs.Scopes.{is_third, Scope}
 use Rattle.giop_sig.specs.Outcomes.{refused}
-use Rattle.giop_sig.specs.ItemReading.{new_name_at, declared_at, filled_at, Declared, type_end_at}
+use Rattle.giop_sig.specs.ItemReading.{new_name_at, declared_at, filled_at, identity_at, Declared, type_end_at}
 use Rattle.giop_sig.specs.Repeats.{in_steps}
 
 -- enumerators, and what follows them
@@ -49,6 +49,7 @@ names_at third text = do
 unfoldable pub enumeration_at : Scope → List ℕ → Result Declared Refusal
 enumeration_at s text = do
   n ← declared_at s s.table.declared text
-  o ← mark_at marks.OpenBrace n.1
+  i ← identity_at s n.1
+  o ← mark_at marks.OpenBrace i.1
   names ← names_at (is_third s.names) o
-  type_end_at (left_of text) n.0 s (nodes.enumeration names.0) names.1
+  type_end_at (left_of text) n.0 i.0 s (nodes.enumeration names.0) names.1

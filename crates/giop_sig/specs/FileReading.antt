@@ -1,6 +1,6 @@
 -- Reading a signature file from left to right (steps), and which of its refusals is the first
 -- (meaning).
-use Rattle.std.specs.Prelude.{◌≡◌, ◌⊎◌, ℕ, Bool, true, false, if◌then◌else◌, List, length, Result, Ok, Err, codes}
+use Rattle.std.specs.Prelude.{◌≡◌, ◌⊎◌, ℕ, ◌&&◌, Bool, true, false, if◌then◌else◌, List, length, Result, Ok, Err, codes}
 use Rattle.std.specs.Str.{bytes_eq}
 use Rattle.giop_tokens.specs.declared.fault.Refusal.{Refusal}
 use Rattle.giop_tokens.specs.declared.fault.SigFault.{SigFault}
@@ -11,9 +11,9 @@ use Rattle.giop_tokens.specs.Faults.{no_memory}
 use Rattle.giop_tokens.specs.Lines.{fault_of}
 use Rattle.giop_tokens.specs.Readers.{misplaced, word_at, number_at, mark_at, keyword_at, end_at}
 use Rattle.giop_sig.specs.Grammar.{is_version}
-use Rattle.giop_sig.specs.Scopes.{Scope, first_scope}
+use Rattle.giop_sig.specs.Scopes.{is_third, Scope, first_scope}
 use Rattle.giop_sig.specs.ItemReading.{Declared, structure_at, exception_at}
-use Rattle.giop_sig.specs.CallReading.{operation_at}
+use Rattle.giop_sig.specs.CallReading.{operation_at, key_at}
 use Rattle.giop_sig.specs.EnumReading.{enumeration_at}
 use Rattle.giop_sig.specs.UnionReading.{union_at}
 use Rattle.giop_sig.specs.Repeats.{in_steps}
@@ -24,7 +24,9 @@ declaration_after s text w rest =
     (if bytes_eq w (codes "struct") then structure_at s rest else
     (if bytes_eq w (codes "union") then union_at s rest else
     (if bytes_eq w (codes "exception") then exception_at s rest else
-    (if bytes_eq w (codes "operation") then operation_at s rest else Err (misplaced text)))))
+    (if bytes_eq w (codes "operation") then operation_at s rest else
+    (if is_third s.names && bytes_eq w (codes "key") then key_at s rest
+    else Err (misplaced text))))))
 
 unfoldable pub declaration_at : Scope → List ℕ → Result Declared Refusal
 declaration_at s text = do

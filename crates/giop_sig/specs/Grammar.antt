@@ -164,35 +164,61 @@ abbrev pub spell_return : Option TypeExpr → List Token → List Token
 spell_return None more = word (codes "void") ∷ more
 spell_return (Some e) more = spell_type e more
 
+-- ---- the interfaces of an operation
+
+abbrev pub spell_more_interfaces : List (List ℕ) → List Token → List Token
+spell_more_interfaces [] more = more
+spell_more_interfaces (id ∷ ids) more =
+    mark marks.Comma ∷ repository id ∷ spell_more_interfaces ids more
+
+-- repository ids with commas between them, after their word, or nothing
+abbrev pub spell_interfaces : List (List ℕ) → List Token → List Token
+spell_interfaces [] more = more
+spell_interfaces (id ∷ ids) more =
+    word (codes "of") ∷ repository id ∷ spell_more_interfaces ids more
+
 -- ---- declarations
 
+-- the repository id of a type, where it has one
+abbrev pub spell_identity : Option (List ℕ) → List Token → List Token
+spell_identity None more = more
+spell_identity (Some id) more = repository id ∷ more
+
+-- an enum, struct or union: its name, perhaps its repository id, and what is in it
 pub data Declaration : Type 0 where
-  Enumeration : List ℕ → List (List ℕ) → Declaration
-  Structure : List ℕ → List Item → Declaration
+  Enumeration : List ℕ → Option (List ℕ) → List (List ℕ) → Declaration
+  Structure : List ℕ → Option (List ℕ) → List Item → Declaration
   -- its discriminator, its cases
-  DeclaredUnion : List ℕ → TypeExpr → List UnionCase → Declaration
+  DeclaredUnion : List ℕ → Option (List ℕ) → TypeExpr → List UnionCase → Declaration
   -- an exception: its name, its repository id, its members
   DeclaredException : List ℕ → List ℕ → List Item → Declaration
-  -- an operation: what it returns, its name, its parameters
-  Call : Option TypeExpr → List ℕ → List Param → Declaration
+  -- an operation: what it returns, its name, its parameters, and perhaps its interfaces
+  Call : Option TypeExpr → List ℕ → List Param → List (List ℕ) → Declaration
+  -- an object key, or the front of some, and its interface
+  KeyOf : List ℕ → List ℕ → Declaration
 
 abbrev pub spell : Declaration → List Token → List Token
-spell (Enumeration n names) more =
-    word (codes "enum") ∷ word n ∷ mark marks.OpenBrace
-    ∷ spell_names names (mark marks.Semicolon ∷ more)
-spell (Structure n items) more =
-    word (codes "struct") ∷ word n ∷ mark marks.OpenBrace
-    ∷ spell_items items (mark marks.Semicolon ∷ more)
-spell (DeclaredUnion n switch cases) more =
-    word (codes "union") ∷ word n ∷ word (codes "switch") ∷ mark marks.OpenParenthesis
+spell (Enumeration n id names) more =
+    word (codes "enum") ∷ word n ∷ spell_identity id (mark marks.OpenBrace
+    ∷ spell_names names (mark marks.Semicolon ∷ more))
+spell (Structure n id items) more =
+    word (codes "struct") ∷ word n ∷ spell_identity id (mark marks.OpenBrace
+    ∷ spell_items items (mark marks.Semicolon ∷ more))
+spell (DeclaredUnion n id switch cases) more =
+    word (codes "union") ∷ word n ∷ spell_identity id (word (codes "switch")
+    ∷ mark marks.OpenParenthesis
     ∷ spell_type switch (mark marks.CloseParenthesis ∷ mark marks.OpenBrace
-    ∷ spell_cases cases (mark marks.Semicolon ∷ more))
+    ∷ spell_cases cases (mark marks.Semicolon ∷ more)))
 spell (DeclaredException n r items) more =
     word (codes "exception") ∷ word n ∷ repository r ∷ mark marks.OpenBrace
     ∷ spell_items items (mark marks.Semicolon ∷ more)
-spell (Call returned n params) more =
+spell (Call returned n params ids) more =
     word (codes "operation") ∷ spell_return returned
-    (word n ∷ mark marks.OpenParenthesis ∷ spell_params params (mark marks.Semicolon ∷ more))
+    (word n ∷ mark marks.OpenParenthesis
+    ∷ spell_params params (spell_interfaces ids (mark marks.Semicolon ∷ more)))
+spell (KeyOf key id) more =
+    word (codes "key") ∷ repository key ∷ word (codes "of") ∷ repository id
+    ∷ mark marks.Semicolon ∷ more
 
 abbrev pub spell_all : List Declaration → List Token
 spell_all [] = []

@@ -1,6 +1,6 @@
 -- Which built-in types are headers and bodies (GIOP Message Formats), and what holds of a catalogue
 -- as a whole (meaning).
-use Rattle.std.specs.Prelude.{◌≡◌, ℕ, suc, ◌<◌, ◌≤◌, ◌⊎◌, List, [], ◌∷◌, ◌++◌, length, Option, Some, None, slice_get, slice_index_or, codes}
+use Rattle.std.specs.Prelude.{◌≡◌, ℕ, suc, ◌^◌, ◌<◌, ◌≤◌, ◌⊎◌, List, [], ◌∷◌, ◌++◌, length, Option, Some, None, slice_get, slice_index_or, codes}
 use Rattle.std.specs.List.{All}
 use Rattle.std.specs.Option.{option_map}
 use Rattle.giop_cdr.specs.declared.prim.Primitive.TheVariants.{ULong}
@@ -8,7 +8,7 @@ use Rattle.giop_sig.specs.declared.numbers.TheConstants.{SHORT, STRING, IOR, SYS
 use Rattle.giop_sig.specs.declared.types.Fixed.{Fixed}
 use Rattle.giop_sig.specs.declared.types.Fixed.TheVariants as fixeds
 use Rattle.giop_sig.specs.Types.{Plain, Ty, Single, Struct}
-use Rattle.giop_sig.specs.Table.{Node, Operation, Exception, Table, no_operation, no_exception}
+use Rattle.giop_sig.specs.Table.{Node, Operation, Exception, Identity, Table, no_operation, no_exception, no_identity}
 use Rattle.giop_sig.specs.Trees.{AreTypes, tree}
 use Rattle.giop_sig.specs.Builtin.{builtin_types, builtin_table}
 
@@ -68,7 +68,7 @@ IdStandsFirst minor kind = (minor ≡ 2) ⊎ (kind ≡ 2)
 
 -- an operation whose structs are in the table
 pub record IsOperation (types : List Node) (o : Operation) : Type 0 where
-  pub short : length o.name ≤ 128
+  pub short : length o.key ≤ 130
   pub request : o.request < length types
   pub reply : o.reply < length types
 
@@ -76,6 +76,11 @@ pub record IsOperation (types : List Node) (o : Operation) : Type 0 where
 pub record IsException (types : List Node) (e : Exception) : Type 0 where
   pub short : length e.repository ≤ 128
   pub members : e.members < length types
+
+-- a type of the table, with its repository id
+pub record IsIdentity (types : List Node) (e : Identity) : Type 0 where
+  pub short : length e.repository ≤ 128
+  pub type : e.type < length types
 
 -- no two have one name
 abbrev pub AreDistinct : {X : Type 0} → (X → List ℕ) → X → List X → Type 0
@@ -89,11 +94,15 @@ pub record TableOf (Types : List Node → Type 0) (t : Table) : Type 0 where
   pub begins : (more : List Node) × (t.types ≡ builtin_types ++ more)
   pub operations : All (IsOperation t.types) t.operations
   pub exceptions : All (IsException t.types) t.exceptions
-  pub operations_distinct : AreDistinct (λ o. o.name) no_operation t.operations
+  pub operations_distinct : AreDistinct (λ o. o.key) no_operation t.operations
   pub exceptions_distinct : AreDistinct (λ e. e.repository) no_exception t.exceptions
-  pub operations_few : length t.operations ≤ 4096
+  pub operations_few : length t.operations < 2 ^ 32
   pub exceptions_few : length t.exceptions ≤ 4096
   pub declared_few : t.declared ≤ 4096
+  pub called_few : t.called ≤ 4096
+  pub identities : All (IsIdentity t.types) t.identities
+  pub identities_distinct : AreDistinct (λ e. e.repository) no_identity t.identities
+  pub interfaces_few : length t.interfaces.names ≤ 1024
 
 -- the table of a catalogue
 abbrev pub IsTable : Table → Type 0

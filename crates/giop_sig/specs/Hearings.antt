@@ -40,8 +40,6 @@ abbrev pub deaf : Hearing
 deaf = record {
   hears = λ told sign. told;
   selects = λ told. types.Ends;
-  first = None;
-  second = None;
 }
 
 -- how a type's part that tells what follows is heard

@@ -1,16 +1,16 @@
 -- Reading members from left to right: items, structs and exceptions (steps).
-use Rattle.std.specs.Prelude.{ℕ, Bool, true, false, if◌then◌else◌, nat_le, List, [], ◌∷◌, ◌++◌, length, Option, Some, None, Result, Ok, Err}
+use Rattle.std.specs.Prelude.{ℕ, Bool, true, false, if◌then◌else◌, nat_le, List, [], ◌∷◌, ◌++◌, length, Option, Some, None, Result, Ok, Err, option_and_then}
 use Rattle.std.specs.Map.{lookup}
 use Rattle.std.specs.Option.{is_some}
 use Rattle.std.specs.Str.{bytes_eq}
 use Rattle.giop_tokens.specs.declared.fault.Refusal.{Refusal}
 use Rattle.giop_tokens.specs.declared.fault.SigFaultKind.TheVariants as kinds
 use Rattle.giop_tokens.specs.declared.marks.Mark.TheVariants as marks
-use Rattle.giop_tokens.specs.Tokens.{left_of}
+use Rattle.giop_tokens.specs.Tokens.{left_of, next}
 use Rattle.giop_tokens.specs.Reading.{◌>>=◌}
-use Rattle.giop_tokens.specs.Readers.{mark_at, mark_if, repository_at}
+use Rattle.giop_tokens.specs.Readers.{as_repository, mark_at, mark_if, repository_at}
 use Rattle.giop_tokens.specs.Names.{identifier_at}
-use Rattle.giop_sig.specs.Table.{Node, Part, exception_in}
+use Rattle.giop_sig.specs.Table.{Node, Part, exception_in, identified_in}
 use Rattle.giop_sig.specs.Table as nodes
 use Rattle.giop_sig.specs.Trees.{depth_of}
 use Rattle.giop_sig.specs.Scopes.{is_third, Scope, AddedType, add_array, part, with_node, with_named, with_raised}
@@ -100,6 +100,28 @@ filled_at text = do
   c ← mark_if marks.CloseBrace text
   unless_closed text c
 
+-- ---- the repository id of a type
+
+-- the id of a type, where it has one, and what follows
+abbrev pub IdentityRead : Type 0
+IdentityRead = Option (List ℕ) × List ℕ
+
+-- a new id, the first token of the text; nothing where that is another token
+abbrev pub identity_after : Scope → List ℕ → Option (List ℕ) → List ℕ → Result IdentityRead Refusal
+identity_after s text None rest = Ok (None, text)
+identity_after s text (Some id) rest =
+    if is_some (identified_in s.table id) then Err (refused kinds.Duplicate text)
+    else Ok (Some id, rest)
+
+abbrev pub identity_by : Scope → List ℕ → Result IdentityRead Refusal
+identity_by s text = do
+  t ← next text
+  identity_after s text (option_and_then as_repository t.0) t.1
+
+-- the id of a type, where one comes; only in a file of version 3 it may
+unfoldable pub identity_at : Scope → List ℕ → Result IdentityRead Refusal
+identity_at s text = if is_third s.names then identity_by s text else Ok (None, text)
+
 -- ---- the end of a declaration
 
 -- a scope after a declaration, and what follows that
@@ -117,19 +139,21 @@ end_of at s text = do
   r ← mark_at marks.Semicolon text
   if nat_le (depth_of s.table.types) 24 then Ok (s, r) else Err (too_deep at)
 
--- the end of an enum, struct or union, whose type has this node
-abbrev pub type_end_at : ℕ → List ℕ → Scope → Node → List ℕ → Result Declared Refusal
-type_end_at at name s node text = end_of at (with_named name (with_node s node)) text
+-- the end of an enum, struct or union, whose type has this node, and perhaps a repository id
+abbrev pub type_end_at : ℕ → List ℕ → Option (List ℕ) → Scope → Node → List ℕ
+    → Result Declared Refusal
+type_end_at at name id s node text = end_of at (with_named name id (with_node s node)) text
 
 -- ---- declarations of members, each after its first word
 
 unfoldable pub structure_at : Scope → List ℕ → Result Declared Refusal
 structure_at s text = do
   n ← declared_at s s.table.declared text
-  o ← mark_at marks.OpenBrace n.1
+  i ← identity_at s n.1
+  o ← mark_at marks.OpenBrace i.1
   f ← filled_at o
   m ← members_at s f
-  type_end_at (left_of text) n.0 m.0 (nodes.members m.1) m.2
+  type_end_at (left_of text) n.0 i.0 m.0 (nodes.members m.1) m.2
 
 -- a repository id that is new
 unfoldable pub new_repository_at : Scope → List ℕ → Result (List ℕ × List ℕ) Refusal

@@ -1,4 +1,6 @@
+pub mod Kinds
 pub mod Types
+pub mod Interfaces
 pub mod Table
 pub mod Trees
 pub mod Fits
@@ -7,6 +9,7 @@ pub mod UnionCases
 pub mod Views
 pub mod HeaderTypes
 pub mod Entries
+pub mod InterfaceViews
 pub mod Literals
 pub mod RequestList
 pub mod Grammar

@@ -1,8 +1,10 @@
--- The parameters that were read, as contracts see them (state).
-use Rattle.std.specs.Prelude.{map}
+-- The parameters that were read, and an operation's name and structs, as contracts see them (state).
+use Rattle.std.specs.Prelude.{◌≡◌, map}
 use Rattle.giop_sig.specs.declared.read_calls.Parameters.{Parameters}
+use Rattle.giop_sig.specs.declared.read_calls.Called as code
 use Rattle.giop_sig.specs.UnionCases.{part_view}
-use Rattle.giop_sig.specs.CallReading.{ParameterLists}
+use Rattle.giop_sig.specs.Scopes.{Scope}
+use Rattle.giop_sig.specs.CallReading.{ParameterLists, Called}
 
 abbrev pub parameter_lists_view : Parameters → ParameterLists
 parameter_lists_view w =
@@ -11,3 +13,15 @@ parameter_lists_view w =
       request = map part_view w.request.items;
       reply = map part_view w.reply.items;
     }
+
+abbrev pub called_view : code.Called → Called
+called_view c = record {
+  name = c.name.now;
+  request = c.signature.request.0;
+  reply = c.signature.reply.0;
+}
+
+-- a scope with the types and as many operations as before
+pub record KeepsTypes (before s : Scope) : Type 0 where
+  pub types : s.table.types ≡ before.table.types
+  pub called : s.table.called ≡ before.table.called

@@ -4,7 +4,7 @@ use Rattle.std.specs.List.{AllByRecursion}
 use Rattle.std.specs.Option.{option_map}
 use Rattle.arrayvec.specs.ArrayVec.{ArrayVec}
 use Rattle.giop_sig.specs.declared.types.TypeId.{TypeId}
-use Rattle.giop_sig.specs.Table.{Node, Table, IsInner}
+use Rattle.giop_sig.specs.Table.{Node, Table, IsInner, identified_in}
 use Rattle.giop_sig.specs.Builtin.{builtin_types}
 use Rattle.giop_sig.specs.Trees.{AreFormed}
 use Rattle.giop_sig.specs.HeaderTypes.{TableOf}
@@ -33,6 +33,11 @@ pub record IsDeclaredName (types : List Node) (e : List ℕ × Option ℕ) : Typ
 pub record IsScope (s : Scope) : Type 0 where
   pub begins : (more : List Node) × (s.table.types ≡ builtin_types ++ more)
   pub names : AllByRecursion (IsDeclaredName s.table.types) s.names.known
+
+-- a repository id that a type may get, where it gets one
+abbrev pub IsNewIdentity : Table → Option (List ℕ) → Type 0
+IsNewIdentity t None = Unit {0}
+IsNewIdentity t (Some id) = (length id ≤ 128) × (identified_in t id ≡ None)
 
 -- what holds of a draft, in which a type may be too deep until its declaration ends
 pub record IsDraft (s : Scope) : Type 0 where

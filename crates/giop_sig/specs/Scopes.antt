@@ -12,11 +12,12 @@ use Rattle.giop_sig.specs.declared.read_calls.Direction.{Direction}
 use Rattle.giop_sig.specs.declared.read_calls.Direction.TheVariants as directions
 use Rattle.giop_sig.specs.declared.types.Selected.{Selected}
 use Rattle.giop_sig.specs.declared.types.Selected.TheVariants as selecteds
-use Rattle.giop_sig.specs.Table.{Part, Case, Node, Table, node_at, with_type, with_declared, with_operation, with_exception}
+use Rattle.giop_sig.specs.Table.{Part, Case, Node, Identity, Table, node_at, with_type, with_declared, with_called, with_listed, with_exception}
 use Rattle.giop_sig.specs.Table as nodes
+use Rattle.giop_sig.specs.Interfaces.{with_key}
 use Rattle.giop_sig.specs.Builtin.{builtin_table}
 use Rattle.giop_sig.specs.RequestList.{flat}
-use Rattle.giop_sig.specs.Grammar.{TypeExpr, Base, Text, Reference, Named, SequenceOf, EncapsulationOf, Item, Value, Plain, Below, Truth, Enumerator, Label, Default, Of, UnionCase, Param, Declaration, Enumeration, Structure, DeclaredUnion, DeclaredException, Call, SignatureFile}
+use Rattle.giop_sig.specs.Grammar.{TypeExpr, Base, Text, Reference, Named, SequenceOf, EncapsulationOf, Item, Value, Plain, Below, Truth, Enumerator, Label, Default, Of, UnionCase, Param, Declaration, Enumeration, Structure, DeclaredUnion, DeclaredException, Call, KeyOf, SignatureFile}
 
 -- The type names of a file: the file's version, and the names of enums, structs and unions, each
 -- with its type's number, and of exceptions, with none.
@@ -232,9 +233,18 @@ abbrev pub with_name : Scope → List ℕ → Option ℕ → Scope
 with_name s w number =
     record s { names = record (s.names) { known = s.names.known ++ (w, number) ∷ [] } }
 
--- an enum, struct or union of a new name
-abbrev pub with_named : List ℕ → AddedType → Scope
-with_named w p = with_name (record (p.0) { table = with_declared (p.0).table }) w (Some p.1)
+-- a type's repository id after others, where it has one
+abbrev pub onto_identities : List Identity → Option (List ℕ) → ℕ → List Identity
+onto_identities es None number = es
+onto_identities es (Some id) number = es ++ (record { repository = id; type = number }) ∷ []
+
+-- an enum, struct or union of a new name, and perhaps of a new repository id
+abbrev pub with_named : List ℕ → Option (List ℕ) → AddedType → Scope
+with_named w id p = with_name (record (p.0) {
+  table = record (with_declared (p.0).table) {
+    identities = onto_identities (p.0).table.identities id p.1;
+  };
+}) w (Some p.1)
 
 abbrev pub with_raised : List ℕ → List ℕ → AddedType → Scope
 with_raised w repository p =
@@ -243,12 +253,10 @@ with_raised w repository p =
           (record { repository = repository; members = p.1 });
     }) w None
 
-abbrev pub with_call : List ℕ → ℕ → AddedType → Scope
-with_call w request p =
-    record (p.0) {
-      table = with_operation (p.0).table
-          (record { name = w; request = request; reply = p.1 });
-    }
+-- an operation with this list of interfaces
+abbrev pub with_call : List ℕ → List (List ℕ) → ℕ → AddedType → Scope
+with_call w ids request p =
+    record (p.0) { table = with_called (with_listed w request p.1 ids (p.0).table) }
 
 -- a struct of these members
 abbrev pub add_struct_type : Scope × List Part → AddedType
@@ -262,22 +270,29 @@ abbrev pub add_choice_type : List UnionCase → AddedType → AddedType
 add_choice_type cases p = add_union_type p.1 cases (add_cases p.0 (node_at (p.0).table p.1) cases)
 
 -- the two structs of an operation, the request first
-abbrev pub add_call : List ℕ → List Part → AddedParameters → Scope
-add_call w returned x =
-    with_call w (length (x.0).table.types)
+abbrev pub add_call : List ℕ → List (List ℕ) → List Part → AddedParameters → Scope
+add_call w ids returned x =
+    with_call w ids (length (x.0).table.types)
     (add_struct_type ((add_struct_type (x.0, x.1)).0, returned ++ x.2))
 
-abbrev pub add_call_parts : List ℕ → List Param → Scope × List Part → Scope
-add_call_parts w params x = add_call w x.1 (add_params x.0 params)
+abbrev pub add_call_parts : List ℕ → List Param → List (List ℕ) → Scope × List Part → Scope
+add_call_parts w params ids x = add_call w ids x.1 (add_params x.0 params)
+
+abbrev pub with_key_of : Scope → List ℕ → List ℕ → Scope
+with_key_of s text id = record s {
+  table = record (s.table) { interfaces = with_key s.table.interfaces text id };
+}
 
 -- the scope after a declaration
 unfoldable pub declare : Scope → Declaration → Scope
-declare s (Enumeration n names) = with_named n (with_node s (nodes.enumeration names))
-declare s (Structure n items) = with_named n (add_struct_type (add_items s items))
-declare s (DeclaredUnion n switch cases) = with_named n (add_choice_type cases (place s switch))
+declare s (Enumeration n id names) = with_named n id (with_node s (nodes.enumeration names))
+declare s (Structure n id items) = with_named n id (add_struct_type (add_items s items))
+declare s (DeclaredUnion n id switch cases) =
+    with_named n id (add_choice_type cases (place s switch))
 declare s (DeclaredException n repository items) =
     with_raised n repository (add_struct_type (add_items s items))
-declare s (Call returned n params) = add_call_parts n params (add_return s returned)
+declare s (Call returned n params ids) = add_call_parts n params ids (add_return s returned)
+declare s (KeyOf text id) = with_key_of s text id
 
 abbrev pub scope_after : Scope → List Declaration → Scope
 scope_after s [] = s

@@ -1,6 +1,6 @@
 -- The table that a catalogue is: one node for each type, which names the types of its parts by
 -- their numbers, and the operations and exceptions by their names (meaning).
-use Rattle.std.specs.Prelude.{ℕ, ◌+◌, ◌<◌, ◌≤◌, ◌==◌, Bool, false, cond, List, [], ◌∷◌, ◌++◌, length, Option, Some, None, slice_index_or, slice_get, position}
+use Rattle.std.specs.Prelude.{ℕ, ◌+◌, ◌/◌, ◌%◌, ◌<◌, ◌≤◌, ◌==◌, Bool, false, cond, List, [], ◌∷◌, ◌++◌, length, Option, Some, None, slice_index_or, slice_get, position}
 use Rattle.std.specs.Ordering.{int_eq}
 use mathlib.Core.Bool.{beq}
 use Rattle.std.specs.List.{list_any, All}
@@ -12,10 +12,12 @@ use Rattle.giop_cdr.specs.declared.number.Number.{Number}
 use Rattle.giop_cdr.specs.declared.number.Number.TheVariants as numbers
 use Rattle.giop_sig.specs.declared.types.TypeId.{TypeId}
 use Rattle.giop_sig.specs.declared.types.OpId.{OpId}
+use Rattle.giop_sig.specs.declared.types.InterfaceId.{InterfaceId}
 use Rattle.giop_sig.specs.declared.types.Shape.{Shape}
 use Rattle.giop_sig.specs.declared.types.Shape.TheVariants as shapes
 use Rattle.giop_sig.specs.declared.types.Selected.{Selected}
 use Rattle.giop_sig.specs.declared.types.Selected.TheVariants as selecteds
+use Rattle.giop_sig.specs.Interfaces.{Interfaces, number_of, with_interface, of_key}
 
 -- ---- nodes
 
@@ -125,9 +127,14 @@ selected node n = selecteds.Nothing
 
 -- ---- the table
 
--- an operation: its name, and the structs of its requests and of its replies
+-- how an operation is found: by the number of its interface, counted from 1, or 0, and by its name
+abbrev pub operation_key : ℕ → List ℕ → List ℕ
+operation_key interface name = interface / 256 ∷ interface % 256 ∷ name
+
+-- an operation of an interface, or of none, and the structs of its requests and of its replies; one
+-- with a list of interfaces is there for each of them
 pub record Operation : Type 0 where
-  pub name : List ℕ
+  pub key : List ℕ
   pub request : ℕ
   pub reply : ℕ
 
@@ -136,14 +143,22 @@ pub record Exception : Type 0 where
   pub repository : List ℕ
   pub members : ℕ
 
+-- an enum, struct or union that has a repository id: the id, and the number of the type
+pub record Identity : Type 0 where
+  pub repository : List ℕ
+  pub type : ℕ
+
 -- the version is that of the signature file, 1 where there is none; the built-in types come first;
--- declared is how many enums, structs and unions the file added
+-- declared is how many enums, structs and unions the file added, and called how many operations
 pub record Table : Type 0 where
   pub version : ℕ
   pub types : List Node
   pub operations : List Operation
   pub exceptions : List Exception
   pub declared : ℕ
+  pub called : ℕ
+  pub interfaces : Interfaces
+  pub identities : List Identity
 
 abbrev pub node_at : Table → ℕ → Node
 node_at t i = node_in t.types i
@@ -158,16 +173,42 @@ op_id i = record { 0 = i }
 abbrev pub type_id : ℕ → TypeId
 type_id i = record { 0 = i }
 
--- the number of the operation of a name: its place among the operations
-abbrev pub operation_number : Table → List ℕ → Option ℕ
-operation_number t name = position (λ o. bytes_eq name o.name) t.operations
+-- the place of the operation of a key among the operations
+abbrev pub keyed_number : Table → List ℕ → Option ℕ
+keyed_number t key = position (λ o. bytes_eq key o.key) t.operations
 
--- the operation of a name
+-- the number of the operation of a name and no interface
+abbrev pub operation_number : Table → List ℕ → Option ℕ
+operation_number t name = keyed_number t (operation_key 0 name)
+
+-- the operation of a name and no interface
 abbrev pub operation_in : Table → List ℕ → Option OpId
 operation_in t name = option_map op_id (operation_number t name)
 
+abbrev pub or_plain : Option ℕ → Option OpId → Option OpId
+or_plain (Some n) plain = Some (op_id n)
+or_plain None plain = plain
+
+-- the operation of a name and an interface: that which has it in its list, or else that without a
+-- list
+abbrev pub operation_for : Table → List ℕ → Option InterfaceId → Option OpId
+operation_for t name None = operation_in t name
+operation_for t name (Some i) =
+    or_plain (keyed_number t (operation_key (i.0 + 1) name)) (operation_in t name)
+
+abbrev pub interface_id : ℕ → InterfaceId
+interface_id i = record { 0 = i }
+
+-- the interface of an object key
+abbrev pub interface_in : Table → List ℕ → Option InterfaceId
+interface_in t key = option_map interface_id (of_key t.interfaces key)
+
+-- the repository id of an interface
+abbrev pub interface_name : Table → ℕ → List ℕ
+interface_name t i = slice_index_or t.interfaces.names i []
+
 abbrev pub no_operation : Operation
-no_operation = record { name = []; request = 0; reply = 0 }
+no_operation = record { key = []; request = 0; reply = 0 }
 
 abbrev pub operation_at : Table → ℕ → Operation
 operation_at t i = slice_index_or t.operations i no_operation
@@ -183,6 +224,17 @@ abbrev pub exception_in : Table → List ℕ → Option TypeId
 exception_in t repository =
     option_map (members_at t) (position (λ e. bytes_eq repository e.repository) t.exceptions)
 
+abbrev pub no_identity : Identity
+no_identity = record { repository = []; type = 0 }
+
+abbrev pub identity_at : Table → ℕ → TypeId
+identity_at t i = type_id (slice_index_or t.identities i no_identity).type
+
+-- the enum, struct or union with a repository id
+abbrev pub identified_in : Table → List ℕ → Option TypeId
+identified_in t repository =
+    option_map (identity_at t) (position (λ e. bytes_eq repository e.repository) t.identities)
+
 -- ---- what is added to a table
 
 abbrev pub with_type : Table → Node → Table
@@ -193,6 +245,35 @@ with_operation t o = record t { operations = t.operations ++ o ∷ [] }
 
 abbrev pub with_exception : Table → Exception → Table
 with_exception t e = record t { exceptions = t.exceptions ++ e ∷ [] }
+
+-- one operation more is counted
+abbrev pub with_called : Table → Table
+with_called t = record t { called = t.called + 1 }
+
+-- an operation of an interface, by its number, counted from 1, or of none
+abbrev pub with_entry : ℕ → List ℕ → ℕ → ℕ → Table → Table
+with_entry interface name request reply t = with_operation t
+    (record { key = operation_key interface name; request = request; reply = reply })
+
+-- an operation of an interface
+abbrev pub with_variant : List ℕ → ℕ → ℕ → List ℕ → Table → Table
+with_variant name request reply id t =
+    with_entry (number_of t.interfaces id + 1) name request reply
+    (record t { interfaces = with_interface t.interfaces id })
+
+-- an operation of each interface of a list
+abbrev pub with_variants : List ℕ → ℕ → ℕ → List (List ℕ) → Table → Table
+with_variants name request reply [] t = t
+with_variants name request reply (id ∷ ids) t =
+    with_variants name request reply ids (with_variant name request reply id t)
+
+-- an operation of each interface of its list, or of none where it has no list
+abbrev pub with_listed : List ℕ → ℕ → ℕ → List (List ℕ) → Table → Table
+with_listed name request reply [] t = with_entry 0 name request reply t
+with_listed name request reply (id ∷ ids) t = with_variants name request reply (id ∷ ids) t
+
+abbrev pub with_identity : Table → Identity → Table
+with_identity t e = record t { identities = t.identities ++ e ∷ [] }
 
 -- one enum, struct or union more is counted
 abbrev pub with_declared : Table → Table

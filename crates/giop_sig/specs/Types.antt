@@ -4,19 +4,20 @@
 -- label of a signed type is compared
 -- with that number taken in two's complement, so that -1 of a short is selected by the octets of
 -- 65535.
-use Rattle.std.specs.Prelude.{◌≡◌, ℕ, zero, suc, ◌+◌, ◌<◌, max, cond, nat_lt, Bool, List, [], Option, Some, None}
+use Rattle.std.specs.Prelude.{◌≡◌, ℕ, zero, suc, ◌+◌, ◌<◌, max, cond, nat_lt, Bool, codes, List, [], Option, Some, None}
 use Rattle.giop_cdr.specs.declared.prim.Primitive.{Primitive}
 use Rattle.giop_cdr.specs.declared.number.Number.{Number}
 use Rattle.giop_cdr.specs.declared.number.Number.TheVariants as numbers
 use Rattle.giop_cdr.specs.Primitives.{size_of}
 use Rattle.giop_cdr.specs.Numbers.{interpreted_as}
+use Rattle.giop_sig.specs.Kinds.{marked_word}
 use Rattle.giop_sig.specs.declared.types.Selected.{Selected}
 use Rattle.giop_sig.specs.declared.types.Selected.TheVariants.{Nothing}
 use Rattle.giop_sig.specs.declared.types.Shape.{Shape}
 use Rattle.giop_sig.specs.declared.types.Shape.TheVariants as shapes
 
 -- A type of one number: a primitive, an enum of so many names, or a number of four octets with a
--- mark, by which it is heard.
+-- mark, by which it is heard (Kinds).
 pub data Scalar : Type 0 where
   Plain : Primitive → Scalar
   Enum : ℕ → (ℕ → List ℕ) → Scalar
@@ -45,10 +46,12 @@ abbrev pub places_of : Choice → ℕ
 places_of (Cases n) = n
 places_of Tag = 3
 
--- the name of the discriminator, where that is a member
-abbrev pub tag_of : Choice → (ℕ → List ℕ) → Option (List ℕ)
-tag_of (Cases n) names = None
-tag_of Tag names = Some (names 0)
+-- The name of the discriminator, if it has one: a tag has that of a member, and a number with a
+-- mark is the `kind` of a TypeCode.
+abbrev pub tag_of : Choice → Scalar → (ℕ → List ℕ) → Option (List ℕ)
+tag_of (Cases n) (Marked mark) names = Some (codes "kind")
+tag_of (Cases n) scalar names = None
+tag_of Tag scalar names = Some (names 0)
 
 -- ---- what a value tells of what follows it
 
@@ -80,12 +83,10 @@ pub data Sequel : Type 0 where
   Ends : Sequel
   Stops : Sequel
 
--- How a value is heard: what a sign changes, what was told selects, and the names of both parts.
+-- How a value is heard: what a sign changes, and what was told selects.
 pub record Hearing : Type 0 where
   pub hears : Told → Sign → Told
   pub selects : Told → Sequel
-  pub first : Option (List ℕ)
-  pub second : Option (List ℕ)
 
 -- what follows: no part where nothing was told
 abbrev pub sequel : Hearing → Told → Sequel
@@ -132,9 +133,10 @@ name_in (Struct count names parts) i = names i
 name_in (Union choice scalar select names cases) i = names i
 name_in T i = []
 
--- the name of an enum's number
+-- the name of an enum's number, or the word of one with a mark
 abbrev pub enum_name_in : Ty → ℕ → Option (List ℕ)
 enum_name_in (Single (Enum count names)) n = cond (nat_lt n count) (Some (names n)) None
+enum_name_in (Single (Marked mark)) n = marked_word mark n
 enum_name_in T n = None
 
 -- the type of a union's discriminator

@@ -19,7 +19,7 @@ use Rattle.giop_sig.specs.Grammar.{Value, Plain, Below, Truth, Enumerator}
 use Rattle.giop_sig.specs.Scopes.{is_third, Scope, label_number}
 use Rattle.giop_sig.specs.Outcomes.{refused}
 use Rattle.giop_sig.specs.TypeReading.{TypeRead, type_at}
-use Rattle.giop_sig.specs.ItemReading.{declared_at, item_at, filled_at, Declared, type_end_at}
+use Rattle.giop_sig.specs.ItemReading.{declared_at, item_at, filled_at, identity_at, Declared, type_end_at}
 use Rattle.giop_sig.specs.Repeats.{in_steps}
 
 -- ---- a label
@@ -221,10 +221,11 @@ switch_at s text = do
 unfoldable pub union_at : Scope → List ℕ → Result Declared Refusal
 union_at s text = do
   n ← declared_at s s.table.declared text
-  w ← keyword_at (codes "switch") n.1
+  i ← identity_at s n.1
+  w ← keyword_at (codes "switch") i.1
   p ← mark_at marks.OpenParenthesis w
   t ← switch_at s p
   q ← mark_at marks.CloseParenthesis t.2
   o ← mark_at marks.OpenBrace q
   cs ← cases_at t.1 t.0 o
-  type_end_at (left_of text) n.0 cs.0 (union_node t.1 cs) cs.2
+  type_end_at (left_of text) n.0 i.0 cs.0 (union_node t.1 cs) cs.2

@@ -1,7 +1,7 @@
 -- When declarations are valid (docs/FORMATS.md, Signature file): one rule for each kind of refusal
 -- (meaning). The rule of a kind asks something of the names, sizes, lists and labels of a
 -- declaration; where no case below names the kind, it asks nothing.
-use Rattle.std.specs.Prelude.{◌≡◌, ℕ, ◌^◌, ◌<◌, ◌≤◌, ◌==◌, Bool, true, false, List, [], ◌∷◌, ◌++◌, length, map, Option, Some, None}
+use Rattle.std.specs.Prelude.{◌≡◌, ◌⊎◌, ℕ, ◌+◌, ◌^◌, ◌<◌, ◌≤◌, ◌==◌, Bool, true, false, List, [], ◌∷◌, ◌++◌, length, map, Option, Some, None}
 use Rattle.std.specs.List.{list_any}
 use Rattle.std.specs.Map.{lookup}
 use Rattle.std.specs.Str.{bytes_eq}
@@ -12,11 +12,12 @@ use Rattle.giop_tokens.specs.declared.fault.SigFaultKind.{SigFaultKind}
 use Rattle.giop_tokens.specs.declared.fault.SigFaultKind.TheVariants as kinds
 use Rattle.giop_tokens.specs.Names.{is_reserved}
 use Rattle.giop_tokens.specs.Tokens.{AreTokens}
-use Rattle.giop_sig.specs.Table.{Node, node_at, operation_in, exception_in}
+use Rattle.giop_sig.specs.Interfaces.{Interfaces, is_key, number_of, of_text}
+use Rattle.giop_sig.specs.Table.{Part, Node, Table, node_at, operation_key, keyed_number, with_variant, exception_in, identified_in}
 use Rattle.giop_sig.specs.Table as nodes
 use Rattle.giop_sig.specs.Trees.{depth_of}
-use Rattle.giop_sig.specs.Grammar.{TypeExpr, Base, Text, Reference, Named, SequenceOf, EncapsulationOf, Item, Value, Plain, Below, Truth, Enumerator, Label, Default, Of, UnionCase, Param, Declaration, Enumeration, Structure, DeclaredUnion, DeclaredException, Call, SignatureFile, is_version, spell_file}
-use Rattle.giop_sig.specs.Scopes.{Names, has_encapsulations, is_third, Scope, AddedType, first_scope, named, place, label_number, labels_of, declare, scope_after}
+use Rattle.giop_sig.specs.Grammar.{TypeExpr, Base, Text, Reference, Named, SequenceOf, EncapsulationOf, Item, Value, Plain, Below, Truth, Enumerator, Label, Default, Of, UnionCase, Param, Declaration, Enumeration, Structure, DeclaredUnion, DeclaredException, Call, KeyOf, SignatureFile, is_version, spell_file}
+use Rattle.giop_sig.specs.Scopes.{Names, has_encapsulations, is_third, Scope, AddedType, first_scope, AddedParameters, add_struct_type, add_params, add_return, named, place, label_number, labels_of, declare, scope_after}
 
 abbrev pub Kind : Type 0
 Kind = SigFaultKind
@@ -178,11 +179,72 @@ OfRepository kinds.Limit s r = length r ≤ 128
 OfRepository kinds.Duplicate s r = exception_in s.table r ≡ None
 OfRepository k s r = Unit {0}
 
--- the name of an operation
+-- the repository id of an enum, struct or union; only those of a file of version 3 have one
+abbrev pub OfTypeId : Kind → Scope → List ℕ → Type 0
+OfTypeId kinds.Syntax s id = is_third s.names ≡ true
+OfTypeId kinds.Limit s id = length id ≤ 128
+OfTypeId kinds.Duplicate s id = identified_in s.table id ≡ None
+OfTypeId k s id = Unit {0}
+
+abbrev pub OfIdentity : Kind → Scope → Option (List ℕ) → Type 0
+OfIdentity k s None = Unit {0}
+OfIdentity k s (Some id) = OfTypeId k s id
+
+-- the name of an operation, which is new in a file without interfaces
 abbrev pub OfOperation : Kind → Scope → List ℕ → Type 0
-OfOperation kinds.Limit s w = (length w ≤ 128) × (length s.table.operations < 4096)
-OfOperation kinds.Duplicate s w = operation_in s.table w ≡ None
+OfOperation kinds.Limit s w = (length w ≤ 128) × (s.table.called < 4096)
+OfOperation kinds.Duplicate s w =
+    is_third s.names ≡ false → keyed_number s.table (operation_key 0 w) ≡ None
 OfOperation k s w = Unit {0}
+
+-- an interface, which may be new
+abbrev pub OfInterface : Kind → Interfaces → List ℕ → Type 0
+OfInterface kinds.Limit i id =
+    (length id ≤ 128) × ((list_any (bytes_eq id) i.names ≡ true) ⊎ (length i.names < 1024))
+OfInterface k i id = Unit {0}
+
+-- no operation of this key is declared
+abbrev pub OfNewKey : Kind → Table → List ℕ → Type 0
+OfNewKey kinds.Duplicate t key = keyed_number t key ≡ None
+OfNewKey k t key = Unit {0}
+
+-- interfaces of an operation with these structs, after those that are in the table
+unfoldable pub OfVariants : Kind → List ℕ → ℕ → ℕ → List (List ℕ) → Table → Type 0
+OfVariants k w request reply [] t = Unit {0}
+OfVariants k w request reply (id ∷ ids) t =
+    OfInterface k t.interfaces id
+    × OfNewKey k t (operation_key (number_of t.interfaces id + 1) w)
+    × OfVariants k w request reply ids (with_variant w request reply id t)
+
+-- only a file of version 3 has interfaces
+abbrev pub OfThird : Kind → Names → Type 0
+OfThird kinds.Syntax names = is_third names ≡ true
+OfThird k names = Unit {0}
+
+-- the list of an operation's interfaces
+abbrev pub OfList : Kind → Names → List ℕ → ℕ → ℕ → List (List ℕ) → Table → Type 0
+OfList k names w request reply [] t = OfNewKey k t (operation_key 0 w)
+OfList k names w request reply (id ∷ ids) t =
+    OfThird k names × OfVariants k w request reply (id ∷ ids) t
+
+-- the same in the scope behind its structs
+abbrev pub OfListed : Kind → Names → List ℕ → List (List ℕ) → ℕ → AddedType → Type 0
+OfListed k names w ids request p = OfList k names w request p.1 ids (p.0).table
+
+abbrev pub OfStructs : Kind → Names → List ℕ → List (List ℕ) → List Part → AddedParameters → Type 0
+OfStructs k names w ids returned x =
+    OfListed k names w ids (length (x.0).table.types)
+    (add_struct_type ((add_struct_type (x.0, x.1)).0, returned ++ x.2))
+
+abbrev pub OfParts : Kind → Names → List ℕ → List Param → List (List ℕ) → Scope × List Part → Type 0
+OfParts k names w params ids x = OfStructs k names w ids x.1 (add_params x.0 params)
+
+-- a KEY, and its interface
+abbrev pub OfKey : Kind → Names → Interfaces → List ℕ → Type 0
+OfKey kinds.Syntax names i text = (is_third names ≡ true) × (is_key text ≡ true)
+OfKey kinds.Duplicate names i text = of_text i text ≡ None
+OfKey kinds.Limit names i text = (length text ≤ 128) × (length i.keys < 16384)
+OfKey k names i text = Unit {0}
 
 abbrev pub OfReturn : Kind → Names → Option TypeExpr → Type 0
 OfReturn k names None = Unit {0}
@@ -192,20 +254,24 @@ abbrev pub items_of : List Param → List Item
 items_of ps = map (λ p. p.item) ps
 
 unfoldable pub OfDeclaration : Kind → Scope → Declaration → Type 0
-OfDeclaration k s (Enumeration n names) =
-    OfDeclared k s s.table.declared n × OfSome k names
+OfDeclaration k s (Enumeration n id names) =
+    OfDeclared k s s.table.declared n × OfIdentity k s id × OfSome k names
     × OfNames k (is_third s.names) [] names
-OfDeclaration k s (Structure n items) =
-    OfDeclared k s s.table.declared n × OfSome k items × OfItems k s.names 256 [] items
-OfDeclaration k s (DeclaredUnion n switch cases) =
-    OfDeclared k s s.table.declared n × OfType k s.names switch
+OfDeclaration k s (Structure n id items) =
+    OfDeclared k s s.table.declared n × OfIdentity k s id × OfSome k items
+    × OfItems k s.names 256 [] items
+OfDeclaration k s (DeclaredUnion n id switch cases) =
+    OfDeclared k s s.table.declared n × OfIdentity k s id × OfType k s.names switch
     × OfSwitch k (placed_node (place s switch)) × OfSome k cases
     × OfCases k s.names (placed_node (place s switch)) [] [] cases
 OfDeclaration k s (DeclaredException n r items) =
     OfDeclared k s (length s.table.exceptions) n × OfRepository k s r
     × OfItems k s.names 256 [] items
-OfDeclaration k s (Call returned n params) =
+OfDeclaration k s (Call returned n params ids) =
     OfReturn k s.names returned × OfOperation k s n × OfItems k s.names 255 [] (items_of params)
+    × OfParts k s.names n params ids (add_return s returned)
+OfDeclaration k s (KeyOf text id) =
+    OfKey k s.names s.table.interfaces text × OfInterface k s.table.interfaces id
 
 -- ---- the rules, of a declaration after those that made the scope
 

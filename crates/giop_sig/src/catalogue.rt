@@ -4,15 +4,19 @@ ghost use Rattle.std.specs.Option.{option_map};
 ghost use Rattle.giop_sig.specs.Hearings.{HasPart, hearing_in, sequel_of, sign_is, signal_after, told_of};
 ghost use Rattle.giop_sig.specs.Types.{sequel, depth, part_of, name_in, enum_name_in, switch_of, select_in, interpreted_in, shape_in, HasShape, HasMember, HasPlace, IsUnion};
 ghost use Rattle.giop_sig.specs.Fits.{IsFit, IsRoot};
-ghost use Rattle.giop_sig.specs.Table.{node_at, shape_of, part_number, part_at, name_of, name_at, switch_at, selected, operation_in, operation_at, exception_in, IsFormed, with_type, with_declared, with_operation, with_exception};
+ghost use Rattle.giop_sig.specs.Interfaces.{IsInterfaceOf};
+ghost use Rattle.giop_sig.specs.Table.{node_at, shape_of, part_number, part_at, name_of, name_at, switch_at, selected, op_id, operation_key, keyed_number, operation_in, operation_for, interface_in, interface_name, operation_at, exception_in, identified_in, IsFormed, with_type, with_declared, with_operation, with_exception};
 ghost use Rattle.giop_sig.specs.Trees.{tree, tree_at, grow, catalogue_depth};
 ghost use Rattle.giop_sig.specs.HeaderTypes.{header_number, header_type, fixed_number, fixed_type, IdStandsFirst, BeginsWithId, IsTable};
 
 use crate::builtin::{builtin_list, fixed_id, header_id};
 use crate::draft::THIRD_VERSION;
 use crate::entries::{Entry, Types};
+use crate::interfaces::InterfaceTable;
 use crate::part_name::PartName;
-use crate::types::{Counts, Fixed, Following, OpId, Selected, Shape, Sign, Signal, TypeId};
+use crate::types::{
+    Counts, Fixed, Following, InterfaceId, OpId, Selected, Shape, Sign, Signal, TypeId,
+};
 use arrayvec::ArrayVec;
 use giop_cdr::Number;
 use giop_tokens::SigFault;
@@ -28,6 +32,9 @@ const DEPTH_MAX: u8 = 24;
 /// The octets of an operation's name or of a repository id.
 pub(crate) type Name = ArrayVec<u8, 128>;
 
+/// How an operation is found: the number of its interface in two octets, and its name.
+pub(crate) type CallKey = ArrayVec<u8, 130>;
+
 /// The structs of an operation's requests and of its replies.
 #[derive(Clone, Copy)]
 pub(crate) struct Signature {
@@ -39,11 +46,17 @@ pub(crate) struct Signature {
 /// of a signature file. A contract sees the whole `Table`.
 #[derive(Drop)]
 pub struct Catalogue {
-    version: u8,
-    types: Types,
-    operations: IndexMap<Name, Signature>,
-    exceptions: IndexMap<Name, TypeId>,
-    declared: u32,
+    pub(crate) version: u8,
+    pub(crate) types: Types,
+    pub(crate) operations: IndexMap<CallKey, Signature>,
+    pub(crate) exceptions: IndexMap<Name, TypeId>,
+    /// How many enums, structs and unions the file has.
+    pub(crate) declared: u32,
+    /// How many operations it has.
+    pub(crate) called: u32,
+    pub(crate) interfaces: InterfaceTable,
+    /// The enums, structs and unions that have a repository id, by it.
+    pub(crate) identities: IndexMap<Name, TypeId>,
 }
 
 impl Model for Catalogue {
@@ -54,15 +67,16 @@ impl Model for Catalogue {
     ghost Value = { Table };
 
     ghost view = { λ a.
-        table_view a.version a.types a.operations.entries a.exceptions.entries a.declared };
+        table_view a.version a.types a.operations.entries a.exceptions.entries a.declared
+        a.called a.interfaces a.identities.entries };
 
     ghost invariant = { λ a.
         IsTable
-        (table_view a.version a.types a.operations.entries a.exceptions.entries a.declared) };
+        (table_view a.version a.types a.operations.entries a.exceptions.entries a.declared
+        a.called a.interfaces a.identities.entries) };
 }
 
 impl Catalogue {
-    ghost use Rattle.giop_sig.specs.Entries.{table_view};
     ghost use Rattle.giop_sig.specs.Builtin.{builtin_table};
     ghost use Rattle.giop_tokens.specs.Faults.{no_memory};
     ghost use Rattle.giop_sig.specs.Views.{node_view, IsSized};
@@ -79,29 +93,10 @@ impl Catalogue {
             operations: IndexMap::new(alloc),
             exceptions: IndexMap::new(alloc),
             declared: 0,
+            called: 0,
+            interfaces: InterfaceTable::new(alloc),
+            identities: IndexMap::new(alloc),
         })
-    }
-
-    /// The catalogue of a file of a version with these types, operations and exceptions, and of so many enums, structs
-    /// and unions.
-    pub(crate) fn of(
-        version: u8,
-        types: Types,
-        operations: IndexMap<Name, Signature>,
-        exceptions: IndexMap<Name, TypeId>,
-        declared: u32,
-    ) -> Catalogue
-        requires { IsTable
-            (table_view version types operations.entries exceptions.entries declared) }
-        ensures { result ≡ table_view version types operations.entries exceptions.entries declared }
-    {
-        Catalogue {
-            version,
-            types,
-            operations,
-            exceptions,
-            declared,
-        }
     }
 
     /// What holds of every catalogue: it has no body, and is called for its contract.
@@ -135,12 +130,12 @@ impl Catalogue {
     /// How many types, operations and exceptions the signature file has.
     pub fn counts(&self) -> Counts
         ensures types { result.types ≡ self.now.declared }
-        ensures operations { result.operations ≡ length self.now.operations }
+        ensures operations { result.operations ≡ self.now.called }
         ensures exceptions { result.exceptions ≡ length self.now.exceptions }
     {
         Counts {
             types: self.declared,
-            operations: self.operations.len() as u32,
+            operations: self.called,
             exceptions: self.exceptions.len() as u32,
         }
     }
@@ -290,15 +285,65 @@ impl Catalogue {
         fixed_id(fixed)
     }
 
-    /// The operation of a name. It takes no memory; a name of more than 128 octets has none.
+    /// The operation of a name that has no interface. It takes no memory; a name of more than 128 octets has none.
     pub fn operation(&self, name: &[u8]) -> Option<OpId>
         ensures is { result ≡ operation_in self.now name.now }
         ensures known { IfSome result (λ o. o.0 < length self.now.operations) }
     {
+        self.keyed(0, name)
+    }
+
+    /// The operation of a name and an interface: that which has it in its list, or else that without a list. It takes
+    /// no memory.
+    pub fn operation_for(&self, name: &[u8], interface: Option<InterfaceId>) -> Option<OpId>
+        requires { IfSome interface (λ i. i.0 < length self.now.interfaces.names) }
+        ensures is { result ≡ operation_for self.now name.now interface }
+        ensures known { IfSome result (λ o. o.0 < length self.now.operations) }
+    {
+        self.laws();
+        match interface {
+            None => self.operation(name),
+            Some(interface) => match self.keyed(interface.0 + 1, name) {
+                Some(operation) => Some(operation),
+                None => self.operation(name),
+            },
+        }
+    }
+
+    /// The operation of a name, of the interface of a number counted from 1, or of none.
+    fn keyed(&self, interface: u32, name: &[u8]) -> Option<OpId>
+        requires { interface ≤ 1024 }
+        ensures is { result ≡ option_map op_id
+            (keyed_number self.now (operation_key interface name.now)) }
+        ensures known { IfSome result (λ o. o.0 < length self.now.operations) }
+    {
         let operations = &self.operations;
-        let key = key_of(name)?;
-        let place = operations.get_index_of(&key)?;
+        if name.len() > 128 {
+            return None;
+        }
+        let place = operations.get_index_of(&call_key(interface, name))?;
         Some(OpId(place as u32))
+    }
+
+    /// The interface of an object key: that of the KEY which it is, or else of the longest KEY with which it begins. It
+    /// takes no memory; a key of more than 128 octets has none.
+    #[tactic(auto, using(crate::proofs::InterfaceLaws::whose))]
+    pub fn interface(&self, key: &[u8]) -> Option<InterfaceId>
+        ensures is { result ≡ interface_in self.now key.now }
+        ensures whose { IsInterfaceOf self.now.interfaces key.now
+            (option_map (λ i. i.0) result) }
+        ensures known { IfSome result (λ i. i.0 < length self.now.interfaces.names) }
+    {
+        self.interfaces.of_key(key)
+    }
+
+    /// The repository id of an interface.
+    pub fn interface_name(&self, interface: InterfaceId) -> &[u8]
+        requires { interface.0 < length self.now.interfaces.names }
+        ensures is { result.now ≡ interface_name self.now interface.0 }
+        ensures short { length result.now ≤ 128 }
+    {
+        self.interfaces.name(interface)
     }
 
     /// The struct of the exception with a repository id. It takes no memory; an id of more than 128 octets has none.
@@ -310,6 +355,17 @@ impl Catalogue {
         let key = key_of(repository)?;
         let found = exceptions.get_full(&key)?;
         Some(*found.2)
+    }
+
+    /// The enum, struct or union with a repository id. It takes no memory; an id of more than 128 octets has none.
+    pub fn identified(&self, repository: &[u8]) -> Option<TypeId>
+        ensures is { result ≡ identified_in self.now repository.now }
+        ensures known { IfSome result (λ t. t.0 < length self.now.types) }
+    {
+        let identities = &self.identities;
+        let key = key_of(repository)?;
+        let identity = identities.get_full(&key)?;
+        Some(*identity.2)
     }
 
     /// Whether there is an operation of this number.
@@ -381,6 +437,19 @@ impl Catalogue {
             None => unreachable!(),
         }
     }
+}
+
+/// How the operation of a name is found: of the interface of a number counted from 1, or of none.
+pub(crate) fn call_key(interface: u32, name: &[u8]) -> CallKey
+    requires short { length name.now ≤ 128 }
+    requires few { interface ≤ 1024 }
+    ensures { result.items ≡ operation_key interface name.now }
+{
+    let mut key = CallKey::new();
+    key.push((interface / 256) as u8);
+    key.push((interface % 256) as u8);
+    key.try_extend_from_slice(name).unwrap();
+    key
 }
 
 /// The key of a name; None for one of more than 128 octets.

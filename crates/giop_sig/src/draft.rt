@@ -1,19 +1,22 @@
 //! A draft, made from the declarations so far: a catalogue, and the names that later declarations may use.
-ghost use Rattle.std.specs.Prelude.{◌≡◌, ◌<◌, ◌≤◌, length, IfOk, IfErr, IfSome, IfNone, OnOk, None, Ok};
+ghost use Rattle.std.specs.Prelude.{◌≡◌, ◌⊎◌, ◌<◌, ◌≤◌, true, length, IfOk, IfErr, IfSome, IfNone, OnOk, None, Ok};
 ghost use Rattle.std.specs.Option.{option_map, is_some};
 ghost use Rattle.std.specs.Map.{lookup};
 ghost use Rattle.std.specs.Str.{bytes_eq};
 ghost use Rattle.giop_cdr.specs.declared.prim.Primitive.TheVariants as prims;
-ghost use Rattle.giop_sig.specs.Table.{IsFormed, node_at, prim, operation_in, exception_in, with_exception};
+ghost use Rattle.std.specs.List.{list_any};
+ghost use Rattle.giop_sig.specs.Interfaces.{with_interface, of_text};
+ghost use Rattle.giop_sig.specs.Table.{IsFormed, node_at, prim, operation_key, keyed_number, exception_in, identified_in, with_identity, with_called, with_entry, with_exception};
 ghost use Rattle.giop_sig.specs.Trees.{depth_of};
-ghost use Rattle.giop_sig.specs.Scopes.{first_scope, has_encapsulations, is_third, named, with_node, with_name, with_named, with_raised, with_call};
-ghost use Rattle.giop_sig.specs.ScopeViews.{IsDraft, IsKnown, IsKnownType};
+ghost use Rattle.giop_sig.specs.Scopes.{first_scope, has_encapsulations, is_third, named, with_node, with_name, with_named, onto_identities, with_raised, with_key_of};
+ghost use Rattle.giop_sig.specs.ScopeViews.{IsDraft, IsKnown, IsKnownType, IsNewIdentity};
 ghost use Rattle.giop_sig.specs.Outcomes.{Gives};
 ghost use Rattle.giop_sig.specs.Views.{node_view, IsSized};
 
 use crate::builtin::builtin_list;
-use crate::catalogue::{Catalogue, Name, Signature};
+use crate::catalogue::{CallKey, Catalogue, Name, Signature, call_key};
 use crate::entries::{Entry, Types};
+use crate::interfaces::InterfaceTable;
 use crate::parse_stop::ParseStop;
 use crate::types::TypeId;
 use arrayvec::ArrayVec;
@@ -36,10 +39,14 @@ pub(crate) const THIRD_VERSION: u8 = 3;
 pub(crate) struct Draft {
     version: u8,
     types: Types,
-    operations: IndexMap<Name, Signature>,
+    operations: IndexMap<CallKey, Signature>,
     exceptions: IndexMap<Name, TypeId>,
     /// How many enums, structs and unions are declared.
     declared: u32,
+    /// How many operations are declared.
+    called: u32,
+    interfaces: InterfaceTable,
+    identities: IndexMap<Name, TypeId>,
     names: IndexMap<Key, Option<TypeId>>,
 }
 
@@ -52,12 +59,14 @@ impl Model for Draft {
 
     ghost view = { λ a.
         scope_view a.version
-        (table_view a.version a.types a.operations.entries a.exceptions.entries a.declared)
+        (table_view a.version a.types a.operations.entries a.exceptions.entries a.declared
+        a.called a.interfaces a.identities.entries)
         a.names.entries };
 
     ghost invariant = { λ a.
         IsDraft (scope_view a.version
-        (table_view a.version a.types a.operations.entries a.exceptions.entries a.declared)
+        (table_view a.version a.types a.operations.entries a.exceptions.entries a.declared
+        a.called a.interfaces a.identities.entries)
         a.names.entries) };
 }
 
@@ -74,6 +83,9 @@ impl Draft {
             operations: IndexMap::new(alloc),
             exceptions: IndexMap::new(alloc),
             declared: 0,
+            called: 0,
+            interfaces: InterfaceTable::new(alloc),
+            identities: IndexMap::new(alloc),
             names: IndexMap::new(alloc),
         })
     }
@@ -179,11 +191,11 @@ impl Draft {
 
     /// How many operations are declared.
     pub(crate) fn operations_declared(&self) -> u32
-        ensures { result ≡ length self.now.table.operations }
+        ensures { result ≡ self.now.table.called }
     {
         // What holds of every map of names is known of this one once it is read.
         let _names = &self.names;
-        self.operations.len() as u32
+        self.called
     }
 
     /// Whether an exception of this repository id is declared.
@@ -197,15 +209,37 @@ impl Draft {
         self.exceptions.get_index_of(&key).is_some()
     }
 
-    /// Whether an operation of this name is declared.
-    pub(crate) fn has_operation(&self, name: &[u8]) -> bool
-        requires { length name.now ≤ 128 }
-        ensures { result ≡ is_some (operation_in self.now.table name.now) }
+    /// Whether an enum, struct or union of this repository id is declared.
+    pub(crate) fn has_identity(&self, id: &[u8]) -> bool
+        requires { length id.now ≤ 128 }
+        ensures { result ≡ is_some (identified_in self.now.table id.now) }
     {
         // What holds of every map of names is known of this one once it is read.
         let _names = &self.names;
-        let key: Name = ArrayVec::try_from(name).unwrap();
+        let key: Name = ArrayVec::try_from(id).unwrap();
+        self.identities.get_index_of(&key).is_some()
+    }
+
+    /// Whether an operation of this name is declared, of the interface of a number counted from 1, or of none.
+    pub(crate) fn has_operation(&self, interface: u32, name: &[u8]) -> bool
+        requires short { length name.now ≤ 128 }
+        requires few { interface ≤ 1024 }
+        ensures { result ≡ is_some (keyed_number self.now.table
+            (operation_key interface name.now)) }
+    {
+        // What holds of every map of names is known of this one once it is read.
+        let _names = &self.names;
+        let key = call_key(interface, name);
         self.operations.get_index_of(&key).is_some()
+    }
+
+    /// The interfaces of the declarations so far.
+    pub(crate) fn interfaces(&self) -> &InterfaceTable
+        ensures { result.now ≡ self.now.table.interfaces }
+    {
+        // What holds of every map of names is known of this one once it is read.
+        let _names = &self.names;
+        &self.interfaces
     }
 
     /// Adds a name that is new, perhaps a type's.
@@ -222,16 +256,59 @@ impl Draft {
         Ok(())
     }
 
-    /// Declares an enum, struct or union by a new name.
-    pub(crate) fn name_type(&mut self, name: &[u8], t: TypeId) -> Result<(), ParseStop>
+    /// Adds a new repository id of a type.
+    fn add_identity(&mut self, id: &[u8], t: TypeId) -> Result<(), ParseStop>
+        requires identity { length id.now ≤ 128 }
+        requires different { identified_in self.old.table id.now ≡ None }
+        requires known { t.0 < length self.old.table.types }
+        ensures added { OnOk result (self.new ≡ record (self.old) {
+          table = with_identity self.old.table (record { repository = id.now; type = t.0 });
+        }) }
+        ensures err { IfErr result (λ stop. stop ≡ ParseStop.Memory) }
+    {
+        // What holds of every map of names is known of this one once it is read.
+        let _names = &self.names;
+        let key: Name = ArrayVec::try_from(id).unwrap();
+        self.identities.insert(key, t)?;
+        Ok(())
+    }
+
+    /// Adds the repository id of a type, if it has one.
+    fn identify(&mut self, id: Option<&[u8]>, t: TypeId) -> Result<(), ParseStop>
+        requires identity { IsNewIdentity self.old.table (option_map (λ x. x.now) id) }
+        requires known { t.0 < length self.old.table.types }
+        ensures added { OnOk result (self.new ≡ record (self.old) {
+          table = record (self.old.table) {
+            identities =
+                onto_identities self.old.table.identities (option_map (λ x. x.now) id.entry) t.0;
+          };
+        }) }
+        ensures err { IfErr result (λ stop. stop ≡ ParseStop.Memory) }
+    {
+        match id {
+            None => Ok(()),
+            Some(id) => self.add_identity(id, t),
+        }
+    }
+
+    /// Declares an enum, struct or union by a new name, and perhaps by a new repository id.
+    pub(crate) fn name_type(
+        &mut self,
+        name: &[u8],
+        id: Option<&[u8]>,
+        t: TypeId,
+    ) -> Result<(), ParseStop>
         requires short { length name.now ≤ 64 }
         requires new { lookup (bytes_eq name.now) self.old.names.known ≡ None }
         requires few { self.old.table.declared < 4096 }
         requires known { IsKnown self.old.table.types t.0 }
-        ensures added { OnOk result (self.new ≡ with_named name.now (self.old, t.0)) }
+        requires identity { IsNewIdentity self.old.table (option_map (λ x. x.now) id) }
+        ensures added { OnOk result (self.new
+            ≡ with_named name.now (option_map (λ x. x.now) id.entry) (self.old, t.0)) }
         ensures err { IfErr result (λ stop. stop ≡ ParseStop.Memory) }
     {
         self.add_name(name, Some(t))?;
+        self.identify(id, t)?;
         self.declared += 1;
         Ok(())
     }
@@ -276,26 +353,74 @@ impl Draft {
         self.add_exception(repository, t)
     }
 
-    /// Declares an operation by a new name.
-    pub(crate) fn call(
+    /// Adds an operation of the interface of a number counted from 1, or of none.
+    pub(crate) fn add_operation(
         &mut self,
+        interface: u32,
         name: &[u8],
-        request: TypeId,
-        reply: TypeId,
+        signature: Signature,
     ) -> Result<(), ParseStop>
         requires short { length name.now ≤ 128 }
-        requires new { operation_in self.old.table name.now ≡ None }
-        requires few { length self.old.table.operations < 4096 }
-        requires request { request.0 < length self.old.table.types }
-        requires reply { reply.0 < length self.old.table.types }
-        ensures added { OnOk result (self.new ≡ with_call name.now request.0 (self.old, reply.0)) }
+        requires few { interface ≤ 1024 }
+        requires new { keyed_number self.old.table (operation_key interface name.now) ≡ None }
+        requires request { signature.request.0 < length self.old.table.types }
+        requires reply { signature.reply.0 < length self.old.table.types }
+        ensures added { OnOk result (self.new ≡ record (self.old) {
+          table = with_entry interface name.now signature.request.0 signature.reply.0
+              self.old.table;
+        }) }
         ensures err { IfErr result (λ stop. stop ≡ ParseStop.Memory) }
     {
         // What holds of every map of names is known of this one once it is read.
         let _names = &self.names;
-        let key: Name = ArrayVec::try_from(name).unwrap();
-        self.operations.insert(key, Signature { request, reply })?;
+        if self.operations.len() >= u32::MAX as usize {
+            return Err(ParseStop::Memory);
+        }
+        let key = call_key(interface, name);
+        self.operations.insert(key, signature)?;
         Ok(())
+    }
+
+    /// Adds an interface, if it is new.
+    pub(crate) fn add_interface(&mut self, id: &[u8]) -> Result<(), ParseStop>
+        requires short { length id.now ≤ 128 }
+        requires few { (list_any (bytes_eq id.now) self.old.table.interfaces.names ≡ true)
+            ⊎ (length self.old.table.interfaces.names < 1024) }
+        ensures added { OnOk result (self.new ≡ record (self.old) {
+          table = record (self.old.table) {
+            interfaces = with_interface self.old.table.interfaces id.now;
+          };
+        }) }
+        ensures err { IfErr result (λ stop. stop ≡ ParseStop.Memory) }
+    {
+        // What holds of every map of names is known of this one once it is read.
+        let _names = &self.names;
+        self.interfaces.add(id)
+    }
+
+    /// Declares a KEY of an interface.
+    pub(crate) fn add_key(&mut self, text: &[u8], id: &[u8]) -> Result<(), ParseStop>
+        requires short { length text.now ≤ 128 }
+        requires new { of_text self.old.table.interfaces text.now ≡ None }
+        requires identity { length id.now ≤ 128 }
+        requires few { (list_any (bytes_eq id.now) self.old.table.interfaces.names ≡ true)
+            ⊎ (length self.old.table.interfaces.names < 1024) }
+        ensures added { OnOk result (self.new ≡ with_key_of self.old text.now id.now) }
+        ensures err { IfErr result (λ stop. stop ≡ ParseStop.Memory) }
+    {
+        // What holds of every map of names is known of this one once it is read.
+        let _names = &self.names;
+        self.interfaces.add_key(text, id)
+    }
+
+    /// Counts an operation.
+    pub(crate) fn count_operation(&mut self)
+        requires { self.old.table.called < 4096 }
+        ensures { self.new ≡ record (self.old) { table = with_called self.old.table } }
+    {
+        // What holds of every map of names is known of this one once it is read.
+        let _names = &self.names;
+        self.called += 1;
     }
 
     /// The catalogue, if no type is too deep.
@@ -303,12 +428,15 @@ impl Draft {
         requires { depth_of self.table.types ≤ 24 }
         ensures { result ≡ self.table }
     {
-        Catalogue::of(
-            self.version,
-            self.types,
-            self.operations,
-            self.exceptions,
-            self.declared,
-        )
+        Catalogue {
+            version: self.version,
+            types: self.types,
+            operations: self.operations,
+            exceptions: self.exceptions,
+            declared: self.declared,
+            called: self.called,
+            interfaces: self.interfaces,
+            identities: self.identities,
+        }
     }
 }

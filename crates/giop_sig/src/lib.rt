@@ -8,6 +8,8 @@ mod catalogue;
 mod draft;
 mod entries;
 mod fault;
+mod interfaces;
+mod kinds;
 mod labels;
 mod numbers;
 mod parse;
@@ -24,6 +26,9 @@ mod types;
 pub use catalogue::Catalogue;
 pub use fault::{ListFault, ListFaultKind};
 pub use giop_tokens::{SigFault, SigFaultKind};
+pub use kinds::{is_kind, kind_word};
 pub use parse::one_table;
 pub use requests::{Requests, one_list};
-pub use types::{Counts, Fixed, Following, OpId, Selected, Shape, Sign, Signal, TypeId};
+pub use types::{
+    Counts, Fixed, Following, InterfaceId, OpId, Selected, Shape, Sign, Signal, TypeId,
+};

@@ -11,7 +11,7 @@ ghost use Rattle.giop_sig.specs.FileReading.{declaration_at, declarations_step, 
 use crate::catalogue::Catalogue;
 use crate::draft::{Draft, THIRD_VERSION};
 use crate::parse_stop::ParseStop;
-use crate::read_calls::operation_at;
+use crate::read_calls::{key_at, operation_at};
 use crate::read_enums::enumeration;
 use crate::read_items::{exception_at, structure_at};
 use crate::read_unions::union;
@@ -47,6 +47,8 @@ fn declaration_at<'a>(
         exception_at(alloc, draft, rest)
     } else if name == b"operation".as_slice() {
         operation_at(alloc, draft, rest)
+    } else if draft.is_third() && name == b"key".as_slice() {
+        key_at(draft, rest)
     } else {
         Err(ParseStop::Refused(misplaced(text)))
     }

@@ -1,23 +1,32 @@
 //! Reading operations.
-ghost use Rattle.std.specs.Prelude.{◌≡◌, ◌<◌, length, map};
+ghost use Rattle.std.specs.Prelude.{◌≡◌, ◌+◌, ◌<◌, ◌≤◌, length, map, IfOk, OnOk};
+ghost use Rattle.std.specs.Option.{option_map};
+ghost use Rattle.giop_sig.specs.Interfaces.{number_of};
 ghost use Rattle.giop_sig.specs.Outcomes.{Gives};
 ghost use Rattle.giop_sig.specs.UnionCases.{part_view};
-ghost use Rattle.giop_sig.specs.CallReading.{ParameterLists, return_at, new_operation_at, direction_of, direction_at, in_request, in_reply, with_param, param_step, params_run, params_at, operation_at, no_parameters};
+ghost use Rattle.giop_sig.specs.CallReading.{ParameterLists, return_at, new_operation_at, direction_of, direction_at, in_request, in_reply, with_param, param_step, params_run, params_at, Called, interface_at, new_variant_at, after_comma, variant_step, too_many_variants, plain_by, listed_at, new_key_at, key_at, operation_at, no_parameters};
 ghost use Rattle.giop_sig.specs.Scopes.{part};
-ghost use Rattle.giop_sig.specs.ParameterViews.{parameter_lists_view};
+ghost use Rattle.giop_sig.specs.ParameterViews.{parameter_lists_view, called_view, KeepsTypes};
+ghost use Rattle.giop_sig.specs.Repeats.{in_steps};
 
+use crate::catalogue::Signature;
 use crate::draft::Draft;
 use crate::entries::{Entry, PartEntry};
+use crate::interfaces::is_key;
 use crate::parse_stop::ParseStop;
 use crate::read_items::{DECLARED_MAX, add_part, end_of, item_at, part_of};
 use crate::read_types::{refused, type_at};
 use crate::types::TypeId;
 use giop_tokens::{
-    Mark, SigFaultKind, left_of, mark, misplaced, operation_name, starts_with_keyword,
-    starts_with_mark, word,
+    Mark, SigFaultKind, keyword, left_of, mark, misplaced, operation_name, repository_id,
+    starts_with_keyword, starts_with_mark, word,
 };
 use std::alloc::Global;
 
+/// The most interfaces of a file.
+const INTERFACES_MAX: usize = 1_024;
+/// The most KEYs of a file.
+const KEYS_MAX: usize = 16_384;
 /// The most parameters of an operation.
 const PARAMS_MAX: usize = 255;
 
@@ -48,13 +57,13 @@ fn return_at<'a>(
     Ok((returned, rest))
 }
 
-/// The name of an operation; it must be new.
+/// The name of an operation; if the file has no interfaces it must be new.
 #[tactic(auto, unfolding(crate::specs::CallReading::new_operation_at))]
 fn new_operation_at<'a>(draft: &Draft, text: &'a [u8]) -> Result<(&'a [u8], &'a [u8]), ParseStop>
     ensures { Gives (λ x. (x.0.now, x.1.now)) result (new_operation_at draft.now text.now) }
 {
     let (name, rest) = operation_name(text)?;
-    if draft.has_operation(name) {
+    if !draft.is_third() && draft.has_operation(0, name) {
         return Err(ParseStop::Refused(refused(SigFaultKind::Duplicate, text)));
     }
     if draft.operations_declared() >= DECLARED_MAX {
@@ -213,6 +222,181 @@ fn params_run<'a>(
     Err(ParseStop::Refused(refused(SigFaultKind::Limit, rest)))
 }
 
+/// An interface, which may be new.
+#[tactic(auto, unfolding(crate::specs::CallReading::interface_at))]
+fn interface_at<'a>(draft: &Draft, text: &'a [u8]) -> Result<(&'a [u8], &'a [u8]), ParseStop>
+    ensures { Gives (λ x. (x.0.now, x.1.now)) result
+        (interface_at draft.now.table.interfaces text.now) }
+{
+    let (id, rest) = repository_id(text)?;
+    if !draft.interfaces().has(id) && draft.interfaces().len() >= INTERFACES_MAX {
+        return Err(ParseStop::Refused(refused(SigFaultKind::Limit, text)));
+    }
+    Ok((id, rest))
+}
+
+/// The name and the structs of an operation.
+#[derive(Clone, Copy, Drop)]
+struct Called<'a> {
+    name: &'a [u8],
+    signature: Signature,
+}
+
+/// An interface for which an operation's name is new: its number, counted from 1, its repository id, and what follows.
+#[tactic(auto, unfolding(crate::specs::CallReading::new_variant_at))]
+fn new_variant<'a>(
+    draft: &Draft,
+    called: Called<'_>,
+    text: &'a [u8],
+) -> Result<(u32, &'a [u8], &'a [u8]), ParseStop>
+    requires short { length called.name.now ≤ 128 }
+    ensures gives { Gives (λ x. (x.1.now, x.2.now)) result
+        (new_variant_at (called_view called.entry) draft.now.table text.now) }
+    ensures number { IfOk result (λ x.
+        x.0 ≡ number_of draft.now.table.interfaces x.1.now + 1) }
+    ensures few { IfOk result (λ x. x.0 ≤ 1024) }
+{
+    draft.laws();
+    let (id, rest) = interface_at(draft, text)?;
+    let interface = draft.interfaces().number_of(id) + 1;
+    if draft.has_operation(interface, called.name) {
+        return Err(ParseStop::Refused(refused(SigFaultKind::Duplicate, text)));
+    }
+    Ok((interface, id, rest))
+}
+
+/// Whether no comma follows, and what follows.
+fn after_comma<'a>(rest: &'a [u8], comma: Option<&'a [u8]>) -> (bool, &'a [u8])
+    ensures { (result.0, result.1.now)
+        ≡ after_comma rest.now (option_map (λ x. x.now) comma.entry) }
+{
+    match comma {
+        None => (true, rest),
+        Some(after) => (false, after),
+    }
+}
+
+/// An interface of an operation, and the comma after it: whether there was none, and what follows.
+#[tactic(auto, unfolding(crate::specs::CallReading::variant_step))]
+fn variant_step<'a>(
+    draft: &mut Draft,
+    called: Called<'_>,
+    text: &'a [u8],
+) -> Result<(bool, &'a [u8]), ParseStop>
+    requires short { length called.name.now ≤ 128 }
+    requires request { called.signature.request.0 < length draft.old.table.types }
+    requires reply { called.signature.reply.0 < length draft.old.table.types }
+    ensures gives { Gives (λ x. (x.0, (draft.new, x.1.now))) result
+        (variant_step (called_view called.entry) (draft.old, text.now)) }
+    ensures keeps { OnOk result (KeepsTypes draft.old draft.new) }
+{
+    let (interface, id, rest) = new_variant(draft, called, text)?;
+    let comma = starts_with_mark(rest, Mark::Comma)?;
+    draft.add_interface(id)?;
+    draft.add_operation(interface, called.name, called.signature)?;
+    Ok(after_comma(rest, comma))
+}
+
+/// The interfaces of an operation, one at least; what follows them.
+fn variants_at<'a>(
+    draft: &mut Draft,
+    called: Called<'_>,
+    text: &'a [u8],
+) -> Result<&'a [u8], ParseStop>
+    requires short { length called.name.now ≤ 128 }
+    requires request { called.signature.request.0 < length draft.old.table.types }
+    requires reply { called.signature.reply.0 < length draft.old.table.types }
+    ensures gives { Gives (λ x. (draft.new, x.now)) result
+        (in_steps (variant_step (called_view called.entry)) too_many_variants (length text.now)
+        (draft.old, text.now)) }
+    ensures keeps { OnOk result (KeepsTypes draft.old draft.new) }
+{
+    let mut rest = text;
+    for _ in 0..text.len() {
+        let (over, after) = variant_step(draft, called, rest)?;
+        if over {
+            return Ok(after);
+        }
+        rest = after;
+    }
+    Err(ParseStop::Refused(misplaced(rest)))
+}
+
+/// An operation without interfaces, whose name is at a place.
+fn plain_by<'a>(
+    draft: &mut Draft,
+    at: &[u8],
+    called: Called<'_>,
+    text: &'a [u8],
+) -> Result<&'a [u8], ParseStop>
+    requires short { length called.name.now ≤ 128 }
+    requires request { called.signature.request.0 < length draft.old.table.types }
+    requires reply { called.signature.reply.0 < length draft.old.table.types }
+    ensures gives { Gives (λ x. (draft.new, x.now)) result
+        (plain_by at.now (called_view called.entry) (draft.old, text.now)) }
+    ensures keeps { OnOk result (KeepsTypes draft.old draft.new) }
+{
+    if draft.has_operation(0, called.name) {
+        return Err(ParseStop::Refused(refused(SigFaultKind::Duplicate, at)));
+    }
+    draft.add_operation(0, called.name, called.signature)?;
+    Ok(text)
+}
+
+/// The interfaces of an operation, whose name is at a place, if it has some; what follows.
+#[tactic(auto, unfolding(crate::specs::CallReading::listed_at))]
+fn listed_at<'a>(
+    draft: &mut Draft,
+    at: &[u8],
+    called: Called<'_>,
+    text: &'a [u8],
+) -> Result<&'a [u8], ParseStop>
+    requires short { length called.name.now ≤ 128 }
+    requires request { called.signature.request.0 < length draft.old.table.types }
+    requires reply { called.signature.reply.0 < length draft.old.table.types }
+    ensures gives { Gives (λ x. (draft.new, x.now)) result
+        (listed_at at.now (called_view called.entry) (draft.old, text.now)) }
+    ensures keeps { OnOk result (KeepsTypes draft.old draft.new) }
+{
+    if draft.is_third() {
+        if let Some(rest) = starts_with_keyword(text, b"of")? {
+            return variants_at(draft, called, rest);
+        }
+    }
+    plain_by(draft, at, called, text)
+}
+
+/// A KEY that is new.
+#[tactic(auto, unfolding(crate::specs::CallReading::new_key_at))]
+fn new_key_at<'a>(draft: &Draft, text: &'a [u8]) -> Result<(&'a [u8], &'a [u8]), ParseStop>
+    ensures { Gives (λ x. (x.0.now, x.1.now)) result (new_key_at draft.now text.now) }
+{
+    let (key, rest) = repository_id(text)?;
+    if !is_key(key) {
+        return Err(ParseStop::Refused(misplaced(text)));
+    }
+    if draft.interfaces().has_key(key) {
+        return Err(ParseStop::Refused(refused(SigFaultKind::Duplicate, text)));
+    }
+    if draft.interfaces().keys_len() >= KEYS_MAX {
+        return Err(ParseStop::Refused(refused(SigFaultKind::Limit, text)));
+    }
+    Ok((key, rest))
+}
+
+/// A KEY and its interface, after its first word; what follows.
+#[tactic(auto, unfolding(crate::specs::CallReading::key_at))]
+pub(crate) fn key_at<'a>(draft: &mut Draft, text: &'a [u8]) -> Result<&'a [u8], ParseStop>
+    ensures { Gives (λ x. (draft.new, x.now)) result (key_at draft.old text.now) }
+{
+    let at = left_of(text);
+    let (key, rest) = new_key_at(draft, text)?;
+    let rest = keyword(rest, b"of")?;
+    let (id, rest) = interface_at(draft, rest)?;
+    draft.add_key(key, id)?;
+    end_of(draft, at, rest)
+}
+
 /// An operation, after its first word.
 #[tactic(auto, unfolding(crate::specs::CallReading::operation_at))]
 pub(crate) fn operation_at<'a>(
@@ -230,6 +414,11 @@ pub(crate) fn operation_at<'a>(
     let (request, reply, rest) = params_at(alloc, draft, returned, rest)?;
     let q = draft.add(Entry::Members(request))?;
     let r = draft.add(Entry::Members(reply))?;
-    draft.call(name, q, r)?;
+    let signature = Signature {
+        request: q,
+        reply: r,
+    };
+    let rest = listed_at(draft, after, Called { name, signature }, rest)?;
+    draft.count_operation();
     end_of(draft, at, rest)
 }

@@ -8,7 +8,7 @@ use crate::builtin::names_of;
 use crate::draft::Draft;
 use crate::entries::Entry;
 use crate::parse_stop::ParseStop;
-use crate::read_items::{declared_at, filled_at, new_name_at, type_end_at};
+use crate::read_items::{declared_at, filled_at, identity_at, new_name_at, type_end_at};
 use crate::read_types::refused;
 use giop_tokens::{Mark, SigFaultKind, left_of, mark, starts_with_mark};
 use std::alloc::Global;
@@ -79,8 +79,16 @@ pub(crate) fn enumeration<'a>(
     draft.laws();
     let count = draft.types_declared();
     let (name, rest) = declared_at(draft, count, text)?;
+    let (id, rest) = identity_at(draft, rest)?;
     let rest = mark(rest, Mark::OpenBrace)?;
     let (names, rest) = names_at(alloc, draft.is_third(), rest)?;
     let kept = names_of(alloc, names.as_slice())?;
-    type_end_at(draft, left_of(text), name, Entry::Enumeration(kept), rest)
+    type_end_at(
+        draft,
+        left_of(text),
+        name,
+        id,
+        Entry::Enumeration(kept),
+        rest,
+    )
 }

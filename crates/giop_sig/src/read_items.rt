@@ -1,15 +1,16 @@
 //! Reading members: items, structs and exceptions.
 ghost use Rattle.std.specs.Prelude.{◌≡◌, ◌<◌, ◌≤◌, ◌++◌, ◌∷◌, [], length, map, IfSome, None};
 ghost use Rattle.std.specs.Map.{lookup};
+ghost use Rattle.std.specs.Option.{option_map};
 ghost use Rattle.std.specs.Str.{bytes_eq};
 ghost use Rattle.giop_sig.specs.Outcomes.{Gives};
 ghost use Rattle.giop_sig.specs.Scopes.{is_third, part, add_array};
-ghost use Rattle.giop_sig.specs.ScopeViews.{IsKnown};
+ghost use Rattle.giop_sig.specs.ScopeViews.{IsKnown, IsNewIdentity};
 ghost use Rattle.giop_sig.specs.Validity.{is_among};
 ghost use Rattle.giop_sig.specs.UnionCases.{part_view};
 ghost use Rattle.giop_sig.specs.Views.{node_view};
 ghost use Rattle.giop_sig.specs.Table.{IsFormed, TakesOctet};
-ghost use Rattle.giop_sig.specs.ItemReading.{new_name_at, declared_at, item_at, member_step, members_at, filled_at, end_of, type_end_at, structure_at, new_repository_at, exception_at};
+ghost use Rattle.giop_sig.specs.ItemReading.{new_name_at, declared_at, item_at, member_step, members_at, filled_at, identity_at, end_of, type_end_at, structure_at, new_repository_at, exception_at};
 
 use crate::draft::Draft;
 use crate::entries::{Entry, PartEntry};
@@ -18,7 +19,8 @@ use crate::part_name::PartName;
 use crate::read_types::{enclosed_at, refused, type_at};
 use crate::types::TypeId;
 use giop_tokens::{
-    Mark, Refusal, SigFaultKind, identifier, left_of, mark, repository_id, starts_with_mark,
+    Mark, Refusal, SigFaultKind, Token, identifier, left_of, mark, next, repository_id,
+    starts_with_mark,
 };
 use std::alloc::Global;
 
@@ -203,6 +205,28 @@ pub(crate) fn filled_at(text: &[u8]) -> Result<&[u8], ParseStop>
     }
 }
 
+/// The repository id of an enum, struct or union, if it has one; only in a file of version 3 it may.
+#[tactic(auto, unfolding(crate::specs::ItemReading::identity_at))]
+pub(crate) fn identity_at<'a>(
+    draft: &Draft,
+    text: &'a [u8],
+) -> Result<(Option<&'a [u8]>, &'a [u8]), ParseStop>
+    ensures { Gives (λ x. (option_map (λ id. id.now) x.0, x.1.now)) result
+        (identity_at draft.now text.now) }
+{
+    if !draft.is_third() {
+        return Ok((None, text));
+    }
+    let (token, rest) = next(text)?;
+    let Some(Token::Repository(id)) = token else {
+        return Ok((None, text));
+    };
+    if draft.has_identity(id) {
+        return Err(ParseStop::Refused(refused(SigFaultKind::Duplicate, text)));
+    }
+    Ok((Some(id), rest))
+}
+
 /// The end of a declaration whose name is at this place: its mark. The declaration is refused then if it made a type that
 /// is too deep.
 #[tactic(auto, unfolding(crate::specs::ItemReading::end_of))]
@@ -219,11 +243,12 @@ pub(crate) fn end_of<'a>(draft: &Draft, at: usize, text: &'a [u8]) -> Result<&'a
     Ok(rest)
 }
 
-/// The end of an enum, struct or union, whose type is added, by its name; what follows it.
+/// The end of an enum, struct or union, whose type is added, by its name and perhaps its repository id; what follows it.
 pub(crate) fn type_end_at<'a>(
     draft: &mut Draft,
     at: usize,
     name: &[u8],
+    id: Option<&[u8]>,
     entry: Entry,
     text: &'a [u8],
 ) -> Result<&'a [u8], ParseStop>
@@ -233,11 +258,13 @@ pub(crate) fn type_end_at<'a>(
     requires short { length name.now ≤ 64 }
     requires new { lookup (bytes_eq name.now) draft.old.names.known ≡ None }
     requires few { draft.old.table.declared < 4096 }
+    requires identity { IsNewIdentity draft.old.table (option_map (λ x. x.now) id) }
     ensures { Gives (λ x. (draft.new, x.now)) result
-        (type_end_at at name.now draft.old (node_view entry) text.now) }
+        (type_end_at at name.now (option_map (λ x. x.now) id.entry) draft.old (node_view entry)
+        text.now) }
 {
     let t = draft.add(entry)?;
-    draft.name_type(name, t)?;
+    draft.name_type(name, id, t)?;
     end_of(draft, at, text)
 }
 
@@ -254,10 +281,11 @@ pub(crate) fn structure_at<'a>(
     draft.laws();
     let count = draft.types_declared();
     let (name, rest) = declared_at(draft, count, text)?;
+    let (id, rest) = identity_at(draft, rest)?;
     let rest = mark(rest, Mark::OpenBrace)?;
     let rest = filled_at(rest)?;
     let (parts, rest) = members_at(alloc, draft, rest)?;
-    type_end_at(draft, at, name, Entry::Members(parts), rest)
+    type_end_at(draft, at, name, id, Entry::Members(parts), rest)
 }
 
 /// A repository id that is new.

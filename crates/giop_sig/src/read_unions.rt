@@ -14,7 +14,7 @@ use crate::draft::Draft;
 use crate::entries::{CaseEntry, Entry};
 use crate::labels::{LabelValue, label_number, value_at};
 use crate::parse_stop::ParseStop;
-use crate::read_items::{declared_at, filled_at, item_at, part_of, type_end_at};
+use crate::read_items::{declared_at, filled_at, identity_at, item_at, part_of, type_end_at};
 use crate::read_types::{refused, type_at};
 use crate::types::{Selected, TypeId};
 use giop_cdr::{Number, Prim};
@@ -370,6 +370,7 @@ pub(crate) fn union<'a>(
     let at = left_of(text);
     let count = draft.types_declared();
     let (name, rest) = declared_at(draft, count, text)?;
+    let (id, rest) = identity_at(draft, rest)?;
     let rest = keyword(rest, b"switch")?;
     let rest = mark(rest, Mark::OpenParenthesis)?;
     let (switch, rest) = switch_at(alloc, draft, rest)?;
@@ -377,5 +378,5 @@ pub(crate) fn union<'a>(
     let rest = mark(rest, Mark::OpenBrace)?;
     let (cases, rest) = cases_at(alloc, draft, switch, rest)?;
     let entry = entry_of(alloc, switch, cases)?;
-    type_end_at(draft, at, name, entry, rest)
+    type_end_at(draft, at, name, id, entry, rest)
 }

@@ -8,6 +8,10 @@ mod file_rows;
 #[cfg(test)]
 mod file_tests;
 #[cfg(test)]
+mod identity_tests;
+#[cfg(test)]
+mod interface_tests;
+#[cfg(test)]
 mod limit_tests;
 #[cfg(test)]
 mod list_limit_tests;

@@ -43,7 +43,7 @@ unfoldable pub counts_of : Table → RequestTable → Counts
 counts_of C l = record {
   version = C.version;
   types = C.declared;
-  operations = length C.operations;
+  operations = C.called;
   exceptions =
       length C.exceptions;
   ids = length l;

@@ -6,7 +6,6 @@ use Rattle.giop_tokens.specs.Tokens.{gap, is_number, first, next}
 use Rattle.giop_tokens.specs.Names.{is_reserved}
 use Rattle.giop_tokens.specs.Marks.{mark_of}
 use Rattle.giop_sig.specs.CallReading.{direction_of}
-use Rattle.giop_sig.specs.Types.{depth}
 use Rattle.giop_sig.specs.Trees.{tree_at, depth_at, depth_of}
 use Rattle.giop_sig.specs.Builtin.{builtin_types}
 use Rattle.giop_sig.specs.Grammar.{TypeExpr, Base, Item, Param, Declaration, DeclaredException, Call, SignatureFile, spell_file}
@@ -30,14 +29,14 @@ param direction type name ps =
 
 -- an operation of no parameters and no results
 abbrev nop : Declaration
-nop = Call None (codes "nop") []
+nop = Call None (codes "nop") [] []
 
 abbrev file_of : List Declaration → SignatureFile
 file_of declarations = record { version = 1; declarations = declarations }
 
 abbrev put_file : SignatureFile
 put_file = file_of (Call None (codes "put") (param (codes "in") (Base prims.Double) (codes "d") [])
-    ∷ [])
+    [] ∷ [])
 
 -- ---- Each text has fewer than 40 tokens.
 
@@ -70,22 +69,22 @@ put_declared = record {
     short = omega arith;
     tokens = are_tokens 40 put_text (spell_file put_file) refl;
     version = refl;
-    words = ((tt, tt, ((tt, refl, tt), tt)), tt);
+    words = ((tt, tt, ((tt, refl, tt), tt), tt), tt);
   };
   valid = record {
-    known = ((tt, tt, ((tt, tt, tt), tt)), tt);
-    distinct = ((tt, refl, ((tt, refl, tt), tt)), tt);
-    some = ((tt, tt, ((tt, tt, tt), tt)), tt);
-    labels = ((tt, tt, ((tt, tt, tt), tt)), tt);
+    known = ((tt, tt, ((tt, tt, tt), tt), tt), tt);
+    distinct = ((tt, λ old. refl, ((tt, refl, tt), tt), refl), tt);
+    some = ((tt, tt, ((tt, tt, tt), tt), tt), tt);
+    labels = ((tt, tt, ((tt, tt, tt), tt), tt), tt);
     shallow = (lit≤ tt, tt);
-    within = ((tt, (lit≤ tt, lit< tt), ((tt, (lit≤ tt, lit< tt), tt), tt)), tt);
+    within = ((tt, (lit≤ tt, lit< tt), ((tt, (lit≤ tt, lit< tt), tt), tt), tt), tt);
   };
   table = refl;
 }
 
 abbrev bigs_file : SignatureFile
 bigs_file = file_of (Call None (codes "big")
-    (param (codes "in") (Base prims.ULongLong) (codes "n") []) ∷ nop ∷ [])
+    (param (codes "in") (Base prims.ULongLong) (codes "n") []) [] ∷ nop ∷ [])
 
 pub bigs_declared : IsTableOf bigs_text bigs
 unfolding told_with
@@ -95,17 +94,17 @@ bigs_declared = record {
     short = omega arith;
     tokens = are_tokens 40 bigs_text (spell_file bigs_file) refl;
     version = refl;
-    words = ((tt, tt, ((tt, refl, tt), tt)), ((tt, tt, tt), tt));
+    words = ((tt, tt, ((tt, refl, tt), tt), tt), ((tt, tt, tt, tt), tt));
   };
   valid = record {
-    known = ((tt, tt, ((tt, tt, tt), tt)), ((tt, tt, tt), tt));
-    distinct = ((tt, refl, ((tt, refl, tt), tt)), ((tt, refl, tt), tt));
-    some = ((tt, tt, ((tt, tt, tt), tt)), ((tt, tt, tt), tt));
-    labels = ((tt, tt, ((tt, tt, tt), tt)), ((tt, tt, tt), tt));
+    known = ((tt, tt, ((tt, tt, tt), tt), tt), ((tt, tt, tt, tt), tt));
+    distinct = ((tt, λ old. refl, ((tt, refl, tt), tt), refl), ((tt, λ old. refl, tt, refl), tt));
+    some = ((tt, tt, ((tt, tt, tt), tt), tt), ((tt, tt, tt, tt), tt));
+    labels = ((tt, tt, ((tt, tt, tt), tt), tt), ((tt, tt, tt, tt), tt));
     shallow = (lit≤ tt, (lit≤ tt, tt));
     within = (
-      (tt, (lit≤ tt, lit< tt), ((tt, (lit≤ tt, lit< tt), tt), tt)),
-      ((tt, (lit≤ tt, lit< tt), tt), tt),
+      (tt, (lit≤ tt, lit< tt), ((tt, (lit≤ tt, lit< tt), tt), tt), tt),
+      ((tt, (lit≤ tt, lit< tt), tt, tt), tt),
     );
   };
   table = refl;
@@ -116,7 +115,7 @@ asks_file = file_of (DeclaredException (codes "Late") (codes "IDL:Late:1.0")
     (item (Base prims.UShort) (codes "by") ∷ [])
     ∷ Call (Some (Base prims.Long)) (codes "ask")
     (param (codes "in") (Base prims.Long) (codes "a")
-    (param (codes "out") (Base prims.Octet) (codes "b") []))
+    (param (codes "out") (Base prims.Octet) (codes "b") [])) []
     ∷ nop ∷ [])
 
 pub asks_declared : IsTableOf asks_text asks
@@ -129,28 +128,31 @@ asks_declared = record {
     version = refl;
     words = (
       (refl, tt, ((tt, refl, tt), tt)),
-      ((tt, tt, ((tt, refl, tt), ((tt, refl, tt), tt))), ((tt, tt, tt), tt)),
+      ((tt, tt, ((tt, refl, tt), ((tt, refl, tt), tt)), tt), ((tt, tt, tt, tt), tt)),
     );
   };
   valid = record {
     known = (
       (tt, tt, ((tt, tt, tt), tt)),
-      ((tt, tt, ((tt, tt, tt), ((tt, tt, tt), tt))), ((tt, tt, tt), tt)),
+      ((tt, tt, ((tt, tt, tt), ((tt, tt, tt), tt)), tt), ((tt, tt, tt, tt), tt)),
     );
     distinct = (
       (refl, refl, ((tt, refl, tt), tt)),
-      ((tt, refl, ((tt, refl, tt), ((tt, refl, tt), tt))), ((tt, refl, tt), tt)),
+      (
+        (tt, λ old. refl, ((tt, refl, tt), ((tt, refl, tt), tt)), refl),
+        ((tt, λ old. refl, tt, refl), tt),
+      ),
     );
     some = (
       (tt, tt, ((tt, tt, tt), tt)),
       (
-        (tt, tt, ((tt, tt, tt), ((tt, tt, tt), tt))),
-        ((tt, tt, tt), tt),
+        (tt, tt, ((tt, tt, tt), ((tt, tt, tt), tt)), tt),
+        ((tt, tt, tt, tt), tt),
       ),
     );
     labels = (
       (tt, tt, ((tt, tt, tt), tt)),
-      ((tt, tt, ((tt, tt, tt), ((tt, tt, tt), tt))), ((tt, tt, tt), tt)),
+      ((tt, tt, ((tt, tt, tt), ((tt, tt, tt), tt)), tt), ((tt, tt, tt, tt), tt)),
     );
     shallow = (lit≤ tt, (lit≤ tt, (lit≤ tt, tt)));
     within = (
@@ -163,8 +165,9 @@ asks_declared = record {
             (tt, (lit≤ tt, lit< tt), tt),
             ((tt, (lit≤ tt, lit< tt), tt), tt),
           ),
+          tt,
         ),
-        ((tt, (lit≤ tt, lit< tt), tt), tt),
+        ((tt, (lit≤ tt, lit< tt), tt, tt), tt),
       ),
     );
   };

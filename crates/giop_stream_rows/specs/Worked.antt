@@ -1,7 +1,8 @@
 -- How a worked stream is written down: its octets in hexadecimal digits, its lines, and the types
 -- and requests that it is read by (meaning).
 use Rattle.std.specs.Prelude.{◌≡◌, ℕ, ◌+◌, ◌-◌, ◌*◌, ◌==◌, nat_lt, if◌then◌else◌, List, [], ◌∷◌, ◌++◌, length, Some, None, codes}
-use Rattle.giop_sig.specs.Table.{Node, members, Operation, Exception, Table, op_id, operation_number}
+use Rattle.giop_sig.specs.Interfaces.{no_interfaces}
+use Rattle.giop_sig.specs.Table.{Node, members, Operation, Exception, Table, op_id, operation_key, operation_number}
 use Rattle.giop_sig.specs.Builtin.{builtin_types, member}
 use Rattle.giop_sig.specs.Grammar.{SignatureFile}
 use Rattle.giop_sig.specs.Scopes.{table}
@@ -46,7 +47,7 @@ read_by table kept = rules table kept most_open
 -- table; the first is counted from the first type after the built-in ones
 unfoldable pub called : List ℕ → ℕ → Operation
 called name request = record {
-  name = name;
+  key = operation_key 0 name;
   request = length builtin_types + request;
   reply = length builtin_types + request + 1;
 }
@@ -60,6 +61,9 @@ table_of types operations exceptions = record {
       operations;
   exceptions = exceptions;
   declared = 0;
+  called = length operations;
+  interfaces = no_interfaces;
+  identities = [];
 }
 
 -- no declarations

@@ -1,8 +1,10 @@
-use Rattle.std.proofs.Common.{suc, ◌≤◌, refl, sym, ◌∙◌, arith}
+use Rattle.std.proofs.Common.{◌≡◌, suc, ◌≤◌, Some, None, refl, sym, ◌∙◌, arith}
 use Rattle.giop_sig.specs.Trees.{tree, tree_at}
-use Rattle.giop_sig.specs.Types.{Plain, Enum, switch_of}
+use Rattle.giop_sig.specs.Types.{Plain, Enum, Marked, switch_of}
 use Rattle.giop_cdr.specs.Numbers.{num}
 use Rattle.giop_decode.specs.declared.progress.Kind.TheVariants as kinds
+use Rattle.giop_decode.specs.Reading.{wrong}
+use Rattle.giop_decode.proofs.MarkedNumbers.{number_marked}
 use Rattle.giop_decode.proofs.Rooms.{union_of_room}
 use Rattle.giop_decode.proofs.StepLaws.{refused_fits, refused_gives, switch_wrong, union_silent, wrong_boolean, wrong_enum}
 use Rattle.giop_decode.proofs.TransitionLaws.{number_switch, number_enum}
@@ -74,3 +76,44 @@ returns-in-Err-clause-transitions c room coding path at =
     (union_of_room C c.args.of.0 room c.requires.union)
     (sym (c.switch_type.ensures.rooms 24 room) ∙ c.in-Prim.ensures.shape)
     (wrong_boolean c.in-Prim.prim _ bad.0 bad.1))
+
+pub take_selected-requires-in-Marked-clause-number :
+    goal.take_selected-requires-in-Marked-clause-number
+take_selected-requires-in-Marked-clause-number c =
+    let mark = c.in-Marked.mark in
+    let right : wrong (Marked mark) c.from-in-Marked.result ≡ None =
+    rw c.from-in-Marked.ensures c.if-is_unnamed.ensures in
+    number_marked (switch_of (tree c.args.catalogue.now c.args.of.0)) mark c.from-in-Marked.result
+    (rw c.switch_type.ensures.tree at c.in-Marked.ensures.shape) right (omega arith)
+
+pub returns-else-is_unnamed-clause-transitions : goal.returns-else-is_unnamed-clause-transitions
+returns-else-is_unnamed-clause-transitions c room coding path at =
+    let mark = c.in-Marked.mark in
+    let e = c.from-in-Marked.ensures ∙ c.long_of-kind.ensures in
+    let right : wrong (Marked mark) c.from-in-Marked.result ≡ None =
+    rw c.from-in-Marked.ensures c.if-is_unnamed.ensures in
+    rw (← e) (c.take_selected-in-Marked.ensures.transitions
+    (number_marked (switch_of (tree c.args.catalogue.now c.args.of.0)) mark c.from-in-Marked.result
+    (rw c.switch_type.ensures.tree at c.in-Marked.ensures.shape) right (omega arith))
+    room coding path at)
+
+pub returns-then-is_unnamed-clause-fits : goal.returns-then-is_unnamed-clause-fits
+returns-then-is_unnamed-clause-fits c room =
+    let C = c.args.catalogue.now in
+    let T = tree_at C (suc room) c.args.of.0 in
+    let r = c.refused-then-is_unnamed in
+    refused_fits T c.args.of.0 r.result kinds.Enum r.ensures.transition r.ensures.output tt
+    (union_silent T (union_of_room C c.args.of.0 room c.requires.union))
+
+pub returns-then-is_unnamed-clause-transitions : goal.returns-then-is_unnamed-clause-transitions
+returns-then-is_unnamed-clause-transitions c room coding path at =
+    let C = c.args.catalogue.now in
+    let T = tree_at C (suc room) c.args.of.0 in
+    let r = c.refused-then-is_unnamed in
+    let mark = c.in-Marked.mark in
+    let bad : wrong (Marked mark) (num c.args.order c.args.octets.now) ≡ Some kinds.Enum =
+    rw (← c.long_of-kind.ensures) c.if-is_unnamed.ensures in
+    refused_gives T r.result kinds.Enum path at _ r.ensures.transition r.ensures.output
+    (switch_wrong coding path T at (Marked mark) _ kinds.Enum
+    (union_of_room C c.args.of.0 room c.requires.union)
+    (sym (c.switch_type.ensures.rooms 24 room) ∙ c.in-Marked.ensures.shape) bad)

@@ -2,6 +2,7 @@ use Rattle.std.proofs.Common.{length, map, sym, ap, subst, ◌∙◌, arith}
 use Rattle.giop_sig.specs.Table.{IsFormed}
 use Rattle.giop_sig.specs.Table as nodes
 use Rattle.giop_sig.proofs.ItemTaken.{declared_takes}
+use Rattle.giop_sig.proofs.IdentityLaws.{identity_takes}
 use Rattle.giop_sig.proofs.EnumLaws.{all_names_taken}
 use Rattle.giop_sig.proofs.read_enums.enumeration.Goals as goal
 
@@ -23,3 +24,7 @@ pub type_end_at-requires-clause-few : goal.type_end_at-requires-clause-few
 type_end_at-requires-clause-few c =
     let few = (declared_takes c.args.draft.now _ _ _ c.in_ok-name.ensures).few in
     omega (arith, c.types_declared-count.ensures)
+
+pub type_end_at-requires-clause-identity : goal.type_end_at-requires-clause-identity
+type_end_at-requires-clause-identity c =
+    (identity_takes c.args.draft.now _ _ c.in_ok-id.ensures).new

@@ -1,4 +1,5 @@
 use Rattle.std.proofs.Common.{arith}
+use Rattle.giop_sig.proofs.IdentityLaws.{identity_takes, identity_still_new}
 use Rattle.giop_sig.proofs.ItemTaken.{declared_takes, struct_formed, struct_takes, members_grow, still_new}
 use Rattle.giop_sig.proofs.read_items.structure_at.Goals as goal
 
@@ -25,3 +26,9 @@ type_end_at-requires-clause-few c =
     let g = members_grow c.args.draft.now _ _ c.in_ok-parts.ensures in
     let d = declared_takes c.args.draft.now _ _ _ c.in_ok-name.ensures in
     let few = d.few in omega (arith, g.declared, c.types_declared-count.ensures)
+
+pub type_end_at-requires-clause-identity : goal.type_end_at-requires-clause-identity
+type_end_at-requires-clause-identity c =
+    identity_still_new c.args.draft.now c.members_at.new.draft _
+    (members_grow c.args.draft.now _ _ c.in_ok-parts.ensures)
+    (identity_takes c.args.draft.now _ _ c.in_ok-id.ensures).new

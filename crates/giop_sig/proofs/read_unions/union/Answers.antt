@@ -1,6 +1,7 @@
 use Rattle.std.proofs.Common.{length, sym, subst, arith}
 use Rattle.giop_sig.specs.Table.{IsFormed, TakesOctet}
 use Rattle.giop_sig.proofs.ItemTaken.{declared_takes, still_new}
+use Rattle.giop_sig.proofs.IdentityLaws.{identity_takes, identity_still_new}
 use Rattle.giop_sig.proofs.UnionDeclared.{union_formed, union_grows}
 use Rattle.giop_sig.proofs.read_unions.union.Goals as goal
 
@@ -29,3 +30,9 @@ type_end_at-requires-clause-few c =
     let g = union_grows c.args.draft.now _ _ _ _ c.in_ok-switch.ensures c.in_ok-cases.ensures in
     let d = declared_takes c.args.draft.now _ _ _ c.in_ok-name.ensures in
     let few = d.few in omega (arith, g.declared, c.types_declared-count.ensures)
+
+pub type_end_at-requires-clause-identity : goal.type_end_at-requires-clause-identity
+type_end_at-requires-clause-identity c =
+    identity_still_new c.args.draft.now c.cases_at.new.draft _
+    (union_grows c.args.draft.now _ _ _ _ c.in_ok-switch.ensures c.in_ok-cases.ensures)
+    (identity_takes c.args.draft.now _ _ c.in_ok-id.ensures).new

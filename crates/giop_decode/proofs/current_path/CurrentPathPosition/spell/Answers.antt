@@ -1,5 +1,5 @@
 use Rattle.std.proofs.Common.{refl}
-use Rattle.giop_decode.proofs.FieldsRead.{spells_more, spells_here}
+use Rattle.giop_decode.proofs.FieldsRead.{same_switch, spells_more, spells_here}
 use Rattle.giop_decode.proofs.current_path.CurrentPathPosition.spell.Goals as goal
 
 pub returns-then-not-spell_segments : goal.returns-then-not-spell_segments
@@ -16,5 +16,7 @@ returns c =
     rw (← c.self.view_is)
     (spells_here here.head.now.message here.catalogue.now here.head.now.root here.outer.now
     here.switch _ _ _ _ _
+    (same_switch here.catalogue.now here.outer.now here.switch c.laws.ensures c.self.invariant.1
+    c.self.invariant.2)
     c.spell_end.ensures.text c.spell_end.ensures.room c.if-not-spell_segments.ensures refl
     c.put.ensures.text c.put.ensures.room)

@@ -11,10 +11,12 @@ invariant_of-self-2 c =
     let i = c.self.inside in
     let added = c.in_ok-t.ensures.added in
     subst (λ types. IsDraft (scope_view i.version
-    (table_view i.version types i.operations.entries i.exceptions.entries i.declared)
+    (table_view i.version types i.operations.entries i.exceptions.entries i.declared
+    i.called i.interfaces i.identities.entries)
     i.names.entries))
     (sym added)
     (draft_grows (scope_view i.version
-    (table_view i.version i.types i.operations.entries i.exceptions.entries i.declared)
+    (table_view i.version i.types i.operations.entries i.exceptions.entries i.declared
+    i.called i.interfaces i.identities.entries)
     i.names.entries)
     (node_view c.args.entry) c.self.invariant (subst AreFormed added c.laws.ensures))

@@ -1,4 +1,4 @@
-use Rattle.std.proofs.Common.{sym, ap, subst}
+use Rattle.std.proofs.Common.{refl, sym, ap, subst}
 use Rattle.giop_sig.specs.Scopes.{Scope}
 use Rattle.giop_sig.specs.ScopeViews.{IsDraft}
 use Rattle.giop_sig.proofs.Added.{exception_put, exception_added}
@@ -7,24 +7,22 @@ use Rattle.giop_sig.proofs.draft.Draft.add_exception.Goals as goal
 
 pub returns-clause-added : goal.returns-clause-added
 returns-clause-added c =
+    let i = c.self.inside in
     let key = rw c.unwrap-key.ensures at c.try_from.ensures in
-    draft_table c.self.inside.version _ _ _ c.self.inside.names.entries c.args.self.now
-    c.self.view_is
-    (exception_put c.self.inside.version c.self.inside.types c.self.inside.operations.entries
-    c.self.inside.exceptions.entries c.insert.new.self.entries c.self.inside.declared
-    c.args.self.now.table c.unwrap-key.result c.args.t c.args.repository.now
+    draft_table i.version _ _ _ i.names.entries c.args.self.now c.self.view_is
+    (exception_put _ i.exceptions.entries c.insert.new.self.entries c.args.self.now.table
+    c.unwrap-key.result c.args.t c.args.repository.now refl
     (ap (λ (s : Scope). s.table) c.self.view_is) key.0
     c.requires.different c.in_ok-insert.ensures.entries)
 
 pub invariant_of-self-2 : goal.invariant_of-self-2
 invariant_of-self-2 c =
+    let i = c.self.inside in
     let is = subst IsDraft c.self.view_is c.self.invariant in
     let key = rw c.unwrap-key.ensures at c.try_from.ensures in
-    let put = draft_table c.self.inside.version _ _ _ c.self.inside.names.entries c.args.self.now
-    c.self.view_is
-    (exception_put c.self.inside.version c.self.inside.types c.self.inside.operations.entries
-    c.self.inside.exceptions.entries c.insert.new.self.entries c.self.inside.declared
-    c.args.self.now.table c.unwrap-key.result c.args.t c.args.repository.now
+    let put = draft_table i.version _ _ _ i.names.entries c.args.self.now c.self.view_is
+    (exception_put _ i.exceptions.entries c.insert.new.self.entries c.args.self.now.table
+    c.unwrap-key.result c.args.t c.args.repository.now refl
     (ap (λ (s : Scope). s.table) c.self.view_is) key.0
     c.requires.different c.in_ok-insert.ensures.entries) in
     subst IsDraft (sym put) (record {

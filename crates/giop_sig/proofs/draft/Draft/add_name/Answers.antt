@@ -1,6 +1,5 @@
 use Rattle.std.proofs.Common.{sym, subst}
 use Rattle.giop_sig.specs.ScopeViews.{IsDraft}
-use Rattle.giop_sig.specs.Entries.{table_view}
 use Rattle.giop_sig.proofs.ScopeLaws.{number_of_id, put_name, scope_named}
 use Rattle.giop_sig.proofs.draft.Draft.add_name.Goals as goal
 
@@ -8,8 +7,7 @@ pub invariant_of-self-2 : goal.invariant_of-self-2
 invariant_of-self-2 c =
     let key = rw c.unwrap-key.ensures at c.try_from.ensures in
     let put = put_name c.args.self.now c.self.inside.version
-    (table_view c.self.inside.version c.self.inside.types
-    c.self.inside.operations.entries c.self.inside.exceptions.entries c.self.inside.declared)
+    _
     c.self.inside.names.entries c.insert.new.self.entries c.unwrap-key.result
     c.args.t c.args.name.now c.self.view_is key.0 c.requires.new c.in_ok-insert.ensures.entries in
     let is = subst IsDraft c.self.view_is c.self.invariant in
@@ -23,7 +21,6 @@ pub returns-clause-added : goal.returns-clause-added
 returns-clause-added c =
     let key = rw c.unwrap-key.ensures at c.try_from.ensures in
     put_name c.args.self.now c.self.inside.version
-    (table_view c.self.inside.version c.self.inside.types
-    c.self.inside.operations.entries c.self.inside.exceptions.entries c.self.inside.declared)
+    _
     c.self.inside.names.entries c.insert.new.self.entries c.unwrap-key.result c.args.t
     c.args.name.now c.self.view_is key.0 c.requires.new c.in_ok-insert.ensures.entries

@@ -1,6 +1,6 @@
 use Rattle.std.proofs.Common.{sym, ap, ◌∙◌}
 use Rattle.std.specs.Option.{is_some}
-use Rattle.giop_sig.specs.Table.{op_id}
+use Rattle.giop_sig.specs.Table.{op_id, operation_key, keyed_number}
 use Rattle.giop_sig.specs.Scopes.{Scope}
 use Rattle.giop_sig.proofs.Finds.{operation_found}
 use Rattle.giop_sig.proofs.ScopeLaws.{some_map}
@@ -8,8 +8,10 @@ use Rattle.giop_sig.proofs.draft.Draft.has_operation.Goals as goal
 
 pub returns : goal.returns
 returns c =
-    let key = rw c.unwrap-key.ensures at c.try_from.ensures in
+    let name = operation_key c.args.interface c.args.name.now in
     c.is_some.ensures ∙ sym (some_map op_id c.get_index_of.result)
     ∙ ap is_some (operation_found c.self.inside.operations.entries c.args.self.now.table
-    c.unwrap-key.result.items c.args.name.now c.get_index_of.result
-    (ap (λ (s : Scope). s.table.operations) c.self.view_is) key.0 c.get_index_of.ensures.index)
+    c.call_key-key.result.items name c.get_index_of.result
+    (ap (λ (s : Scope). s.table.operations) c.self.view_is) c.call_key-key.ensures
+    c.get_index_of.ensures.index)
+    ∙ some_map op_id (keyed_number c.args.self.now.table name)

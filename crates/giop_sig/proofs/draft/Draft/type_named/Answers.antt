@@ -1,6 +1,5 @@
 use Rattle.std.proofs.Common.{ap, ◌∙◌}
 use Rattle.giop_sig.specs.RequestList.{flat}
-use Rattle.giop_sig.specs.Entries.{table_view}
 use Rattle.giop_sig.proofs.ScopeLaws.{number_of_id, name_typed}
 use Rattle.giop_sig.proofs.draft.Draft.type_named.Goals as goal
 
@@ -10,8 +9,7 @@ returns-in_err-get c =
     ap number_of_id c.from_residual.ensures
     ∙ ap (λ o. number_of_id (flat o)) c.in_err-get.ensures.value
     ∙ name_typed c.args.self.now c.self.inside.version
-    (table_view c.self.inside.version c.self.inside.types
-    c.self.inside.operations.entries c.self.inside.exceptions.entries c.self.inside.declared)
+    _
     c.self.inside.names.entries c.unwrap-key.result
     c.args.name.now c.self.view_is key.0
 
@@ -20,7 +18,6 @@ returns c =
     let key = rw c.unwrap-key.ensures at c.try_from.ensures in
     ap (λ o. number_of_id (flat o)) c.in_ok-get.ensures.value
     ∙ name_typed c.args.self.now c.self.inside.version
-    (table_view c.self.inside.version c.self.inside.types
-    c.self.inside.operations.entries c.self.inside.exceptions.entries c.self.inside.declared)
+    _
     c.self.inside.names.entries c.unwrap-key.result
     c.args.name.now c.self.view_is key.0

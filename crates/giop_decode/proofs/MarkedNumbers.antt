@@ -1,0 +1,68 @@
+-- A number with a mark is a value of its type, unless it is a kind without a word.
+use Rattle.std.proofs.Common.{◌≡◌, ℕ, ◌^◌, ◌<◌, List, [], Some, None, codes, refl}
+use Rattle.giop_cdr.specs.declared.number.Number.TheVariants as numbers
+use Rattle.giop_cdr.specs.declared.prim.Primitive.TheVariants as prims
+use Rattle.giop_decode.specs.declared.progress.Kind.TheVariants as kinds
+use Rattle.giop_decode.specs.ReadResult.{Coding, Fault, Number, PathSegment}
+use Rattle.giop_decode.specs.Reading.{sign_of, wrong}
+use Rattle.giop_decode.specs.ReadingSteps.{after}
+use Rattle.giop_decode.specs.Spelling.{value_text}
+use Rattle.giop_decode.specs.Transitions.{IsNumberOf}
+use Rattle.giop_print.specs.Lines.{kind_line, kind_word, number_text, spaced}
+use Rattle.giop_sig.specs.Kinds.{marked_word}
+use Rattle.giop_sig.specs.Types.{Marked, MarkedNumber, Scalar, Single, Ty, interpreted_by}
+
+abbrev pub number_marked : (T : Ty) (mark n : ℕ) → T ≡ Single (Marked mark) →
+    wrong (Marked mark) n ≡ None → n < 256 ^ 4 → IsNumberOf T (numbers.Unsigned n)
+number_marked T mark n is right within = record {
+  scalar = Marked mark;
+  n = n;
+  is = is;
+  right = right;
+  taken = refl;
+  within = within;
+}
+
+pub marked_wrong : (coding : Coding) (path : List PathSegment) (T : Ty) (at mark n : ℕ) →
+    T ≡ Single (Marked mark) → wrong (Marked mark) n ≡ Some kinds.Enum →
+    after coding path T n at [] ≡ Fault [] at kinds.Enum T
+marked_wrong coding path T at mark n is bad = rw (is, bad) refl
+
+-- its line: of a kind that with its word, and of another that of an unsigned long
+
+same_marked : (scalar : Scalar) (mark : ℕ) → Single scalar ≡ Single (Marked mark) →
+    scalar ≡ Marked mark
+same_marked scalar mark e = cc
+
+same_taken : (mark n m : ℕ) → interpreted_by (Marked mark) n ≡ Some (numbers.Unsigned m) → n ≡ m
+same_taken mark n m e = cc
+
+pub kind_text : (message : ℕ) (path word : List ℕ) (scalar : Scalar) (n m mark : ℕ) →
+    Single scalar ≡ Single (Marked mark) → interpreted_by scalar n ≡ Some (numbers.Unsigned m) →
+    marked_word mark m ≡ Some word →
+    kind_line message path (codes " enum ") word ≡ value_text message path (Number scalar n)
+unfolding kind_line
+kind_text message path word scalar n m mark is taken named =
+    let s = same_marked scalar mark is in
+    let e = same_taken mark n m (rw s at taken) in
+    rw (s, e, named) refl
+
+pub bound_text : (message : ℕ) (path : List ℕ) (scalar : Scalar) (n m mark : ℕ) →
+    Single scalar ≡ Single (Marked mark) → interpreted_by scalar n ≡ Some (numbers.Unsigned m) →
+    marked_word mark m ≡ None →
+    kind_line message path (spaced (kind_word prims.ULong)) (number_text 4 (numbers.Unsigned m))
+    ≡ value_text message path (Number scalar n)
+unfolding kind_line
+bound_text message path scalar n m mark is taken none =
+    let s = same_marked scalar mark is in
+    let e = same_taken mark n m (rw s at taken) in
+    rw (s, e, none) refl
+
+-- and it is heard by its mark
+pub marked_sign : (scalar : Scalar) (n m mark : ℕ) → Single scalar ≡ Single (Marked mark) →
+    interpreted_by scalar n ≡ Some (numbers.Unsigned m) →
+    sign_of (Number scalar n) ≡ Some (MarkedNumber mark m)
+marked_sign scalar n m mark is taken =
+    let s = same_marked scalar mark is in
+    let e = same_taken mark n m (rw s at taken) in
+    rw (s, e) refl

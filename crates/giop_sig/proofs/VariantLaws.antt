@@ -1,0 +1,444 @@
+-- The interfaces of an operation, both ways: reading the spelling of them gives them or a rule that
+-- they break, and the text that was read spells them.
+use Rattle.std.proofs.Common.{◌≡◌, ◌⊎◌, inl, inr, ℕ, zero, suc, ◌<◌, ◌≤◌, Bool, true, false, not, ◌&&◌, cond, leb, List, [], ◌∷◌, length, Option, Some, None, Result, Ok, Err, refl, sym, ap, subst, ◌∙◌, arith}
+use Rattle.std.specs.Prelude.{codes}
+use Rattle.std.specs.List.{list_any}
+use Rattle.std.specs.Option.{is_some}
+use Rattle.std.specs.Str.{bytes_eq}
+use Rattle.std.proofs.lemmas.Bool.{leb-true, leb-false, false≢true}
+use Rattle.giop_tokens.specs.declared.fault.Refusal.{Refusal}
+use Rattle.giop_tokens.specs.declared.fault.SigFaultKind.TheVariants as kinds
+use Rattle.giop_tokens.specs.declared.marks.Mark.TheVariants as marks
+use Rattle.giop_tokens.specs.Tokens.{Token, repository, mark, AreTokens}
+use Rattle.giop_tokens.specs.Reading.{◌>>=◌}
+use Rattle.giop_tokens.specs.Readers.{misplaced, is_the_word, mark_if, keyword_if, repository_at}
+use Rattle.giop_tokens.proofs.ReaderLaws.{if_other, bind_ok, ok_is, Takes, repository_again, repository_few, repository_takes, mark_if_again, mark_if_takes, keyword_if_again, keyword_if_takes}
+use Rattle.giop_sig.specs.Interfaces.{Interfaces, is_key, of_text}
+use Rattle.giop_sig.specs.Table.{Node, Table, operation_key, keyed_number, with_entry, with_variant, with_variants, with_listed}
+use Rattle.giop_sig.specs.Grammar.{spell_more_interfaces, spell_interfaces}
+use Rattle.giop_sig.specs.Scopes.{Names, is_third, Scope}
+use Rattle.giop_sig.specs.Validity.{Kind, OfInterface, OfNewKey, OfVariants, OfThird, OfList}
+use Rattle.giop_sig.specs.Outcomes.{refused}
+use Rattle.giop_sig.specs.CallReading.{interface_at, Called, Variants, with_listed_by, new_variant_at, after_comma, variant_end, variant_key, variant_step, too_many_variants, plain_by, listed_by, listed_at, new_key_at}
+use Rattle.giop_sig.specs.Repeats.{in_steps}
+use Rattle.giop_sig.proofs.PlaceLaws.{within_same}
+use Rattle.giop_sig.proofs.ReadingLaws.{Out, good, broken, out_bind, out_more, Apart, if_apart, Took}
+use Rattle.giop_sig.proofs.ItemLaws.{some_none}
+use Rattle.giop_sig.proofs.ItemTaken.{none_of, unused, unused_is}
+use Rattle.giop_sig.proofs.TokensFew.{tokens_few}
+
+-- ---- an interface
+
+abbrev pub HasRoom : Interfaces → List ℕ → Type 0
+HasRoom i id = (list_any (bytes_eq id) i.names ≡ true) ⊎ (length i.names < 1024)
+
+interface_keeps : (i : Interfaces) (id : List ℕ) → length id ≤ 128 → HasRoom i id → (k : Kind)
+    → OfInterface k i id
+interface_keeps i id short room kinds.Limit = (short, room)
+interface_keeps i id short room _ = tt
+
+no_room : (i : Interfaces) (id : List ℕ) → list_any (bytes_eq id) i.names ≡ false
+    → leb 1024 (length i.names) ≡ true → HasRoom i id → ⊥
+no_room i id p q (inl known) = absurd (false≢true (sym p ∙ known))
+no_room i id p q (inr few) = let k = leb-true 1024 (length i.names) q in omega arith
+
+abbrev made_interface : List ℕ → List ℕ → List ℕ × List ℕ
+made_interface id rest = (id, rest)
+
+interface_by : (types : List Node) (i : Interfaces) (text id rest : List ℕ) (more : List Token)
+    (a b : Bool) → list_any (bytes_eq id) i.names ≡ a → leb 1024 (length i.names) ≡ b
+    → length id ≤ 128 → AreTokens rest more
+    → Out (made_interface id) (λ k. OfInterface k i id) types more
+    (cond (not a && b) (Err (refused kinds.Limit text)) (Ok (id, rest)))
+interface_by types i text id rest more true b p q short m =
+    good rest m (interface_keeps i id short (inl p))
+interface_by types i text id rest more false true p q short m =
+    broken (refused kinds.Limit text) (inl (λ r. no_room i id p q r.1))
+interface_by types i text id rest more false false p q short m =
+    good rest m (interface_keeps i id short (inr (leb-false 1024 (length i.names) q)))
+
+pub interface_reads : (types : List Node) (i : Interfaces) (text id : List ℕ) (more : List Token)
+    → AreTokens text (repository id ∷ more)
+    → Out (made_interface id) (λ k. OfInterface k i id) types more (interface_at i text)
+unfolding interface_at
+interface_reads types i text id more h =
+    let short = repository_few text (id, h.0) (repository_again text id more h) in
+    rw (repository_again text id more h)
+    (interface_by types i text id h.0 more (list_any (bytes_eq id) i.names)
+    (leb 1024 (length i.names)) refl refl short h.2)
+
+pub record TakenInterface (i : Interfaces) (text : List ℕ) (x : List ℕ × List ℕ) : Type 0 where
+  pub short : length x.0 ≤ 128
+  pub room : HasRoom i x.0
+  pub front : Takes text (repository x.0) x.1
+
+interface_taken_by : (i : Interfaces) (text : List ℕ) (y x : List ℕ × List ℕ) (a b : Bool)
+    → list_any (bytes_eq y.0) i.names ≡ a → leb 1024 (length i.names) ≡ b
+    → repository_at text ≡ Ok y
+    → cond (not a && b) (Err (refused kinds.Limit text)) (Ok (y.0, y.1)) ≡ Ok x
+    → TakenInterface i text x
+interface_taken_by i text y x true b p q r e =
+    subst (TakenInterface i text) (ok_is y x e) (record {
+      short = repository_few text y r;
+      room = inl p;
+      front = repository_takes text y r;
+    })
+interface_taken_by i text y x false true p q r e = absurd cc
+interface_taken_by i text y x false false p q r e =
+    subst (TakenInterface i text) (ok_is y x e) (record {
+      short = repository_few text y r;
+      room = inr (leb-false 1024 (length i.names) q);
+      front = repository_takes text y r;
+    })
+
+pub interface_takes : (i : Interfaces) (text : List ℕ) (x : List ℕ × List ℕ)
+    → interface_at i text ≡ Ok x → TakenInterface i text x
+unfolding interface_at
+interface_takes i text x e =
+    let y = bind_ok _ _ x e in
+    interface_taken_by i text y.0 x (list_any (bytes_eq (y.0).0) i.names)
+    (leb 1024 (length i.names)) refl refl y.1 y.2
+
+-- ---- the interfaces of a list, as they are spelled
+
+new_keeps : (t : Table) (key : List ℕ) → keyed_number t key ≡ None → (k : Kind) → OfNewKey k t key
+new_keeps t key new kinds.Duplicate = new
+new_keeps t key new _ = tt
+
+-- the tokens after an interface and the comma after it
+abbrev after_variant : List (List ℕ) → List Token → List Token
+after_variant [] more = more
+after_variant (id ∷ ids) more = repository id ∷ spell_more_interfaces ids more
+
+abbrev is_last : List (List ℕ) → Bool
+is_last [] = true
+is_last (id ∷ ids) = false
+
+abbrev with_one : Called → List ℕ → Scope → Scope
+with_one c id s = with_listed_by (with_variant c.name c.request c.reply id) s
+
+abbrev made_variant : Called → Scope → List ℕ → List (List ℕ) → List ℕ → Bool × Variants
+made_variant c s id ids rest = (is_last ids, (with_one c id s, rest))
+
+abbrev OfOne : Kind → Called → Table → List ℕ → Type 0
+OfOne k c t id = OfInterface k t.interfaces id × OfNewKey k t (variant_key c t id)
+
+new_by : (c : Called) (s : Scope) (text id rest : List ℕ) (more : List Token) (v : Bool)
+    → is_some (keyed_number s.table (variant_key c s.table id)) ≡ v → AreTokens rest more
+    → ((k : Kind) → OfInterface k s.table.interfaces id)
+    → Out (made_interface id) (λ k. OfOne k c s.table id) s.table.types more
+    (cond v (Err (refused kinds.Duplicate text)) (Ok (id, rest)))
+new_by c s text id rest more true e h keeps =
+    broken (refused kinds.Duplicate text)
+    (λ w. some_none (keyed_number s.table (variant_key c s.table id)) e w.1)
+new_by c s text id rest more false e h keeps = good rest h (λ k. (
+  keeps k,
+  new_keeps s.table (variant_key c s.table id)
+      (none_of (keyed_number s.table (variant_key c s.table id)) e) k,
+))
+
+new_reads : (c : Called) (s : Scope) (text id : List ℕ) (more : List Token)
+    → AreTokens text (repository id ∷ more)
+    → Out (made_interface id) (λ k. OfOne k c s.table id) s.table.types more
+    (new_variant_at c s.table text)
+unfolding new_variant_at
+new_reads c s text id more h =
+    out_bind (interface_at s.table.interfaces text)
+    (λ i. cond (is_some (keyed_number s.table (variant_key c s.table i.0)))
+    (Err (refused kinds.Duplicate text)) (Ok (i.0, i.1)))
+    (interface_reads s.table.types s.table.interfaces text id more h)
+    (λ rest m keeps. new_by c s text id rest more
+    (is_some (keyed_number s.table (variant_key c s.table id))) refl m keeps)
+    (λ k w. w.0) within_same
+
+comma_reads : (c : Called) (s : Scope) (id : List ℕ) (ids : List (List ℕ)) (text rest : List ℕ)
+    (more : List Token) → Apart marks.Comma more → AreTokens rest (spell_more_interfaces ids more)
+    → ((k : Kind) → OfOne k c s.table id)
+    → Out (made_variant c s id ids) (λ k. OfOne k c s.table id) s.table.types
+    (after_variant ids more) (mark_if marks.Comma rest >>= λ comma.
+    Ok (variant_end c id (s, text) (after_comma rest comma)))
+comma_reads c s id [] text rest more apart h keeps =
+    rw (if_apart marks.Comma rest more apart h) (good rest h keeps)
+comma_reads c s id (j ∷ js) text rest more apart h keeps =
+    rw (mark_if_again marks.Comma rest (repository j ∷ spell_more_interfaces js more) h)
+    (good h.0 h.2 keeps)
+
+variant_reads : (c : Called) (s : Scope) (id : List ℕ) (ids : List (List ℕ)) (text : List ℕ)
+    (more : List Token) → Apart marks.Comma more
+    → AreTokens text (repository id ∷ spell_more_interfaces ids more)
+    → Out (made_variant c s id ids) (λ k. OfOne k c s.table id) s.table.types
+    (after_variant ids more) (variant_step c (s, text))
+unfolding variant_step
+variant_reads c s id ids text more apart h =
+    out_bind (new_variant_at c s.table text)
+    (λ i. mark_if marks.Comma i.1
+    >>= λ comma. Ok (variant_end c i.0 (s, text) (after_comma i.1 comma)))
+    (new_reads c s text id (spell_more_interfaces ids more) h)
+    (λ rest m keeps. comma_reads c s id ids text rest more apart m keeps)
+    (λ k w. w) within_same
+
+abbrev made_variants : Called → Scope → List (List ℕ) → List ℕ → Variants
+made_variants c s ids rest =
+    (with_listed_by (with_variants c.name c.request c.reply ids) s, rest)
+
+abbrev then_variants : Called → ℕ → Bool × Variants → Result Variants Refusal
+then_variants c n x =
+    cond x.0 (Ok x.1) (in_steps (variant_step c) too_many_variants n x.1)
+
+variants_reads : (ids : List (List ℕ)) (id : List ℕ) (n : ℕ) (c : Called) (s : Scope)
+    (text : List ℕ) (more : List Token) → length ids < n → Apart marks.Comma more
+    → AreTokens text (repository id ∷ spell_more_interfaces ids more)
+    → Out (made_variants c s (id ∷ ids))
+    (λ k. OfVariants k c.name c.request c.reply (id ∷ ids) s.table) s.table.types more
+    (in_steps (variant_step c) too_many_variants n (s, text))
+unfolding in_steps OfVariants
+variants_reads ids id zero c s text more lt apart h = absurd (omega arith)
+variants_reads [] id (suc n) c s text more lt apart h =
+    out_bind (variant_step c (s, text)) (then_variants c n)
+    (variant_reads c s id [] text more apart h)
+    (λ rest m keeps. good rest m (λ k. ((keeps k).0, (keeps k).1, tt)))
+    (λ k w. (w.0, w.1)) within_same
+variants_reads (j ∷ js) id (suc n) c s text more lt apart h =
+    out_bind (variant_step c (s, text)) (then_variants c n)
+    (variant_reads c s id (j ∷ js) text more apart h)
+    (λ rest m keeps. out_more
+    (variants_reads js j n c (with_one c id s) rest more (omega arith) apart m)
+    (λ k w. ((keeps k).0, (keeps k).1, w)) (λ k w. w.2))
+    (λ k w. (w.0, w.1)) within_same
+
+-- ---- an operation with a list of interfaces, or without
+
+plain_reads : (c : Called) (s : Scope) (at text : List ℕ) (more : List Token) (v : Bool)
+    → is_some (keyed_number s.table (operation_key 0 c.name)) ≡ v → AreTokens text more
+    → Out {X = Variants}
+    (λ rest. (with_listed_by (with_entry 0 c.name c.request c.reply) s, rest))
+    (λ k. OfNewKey k s.table (operation_key 0 c.name)) s.table.types more
+    (cond v (Err (refused kinds.Duplicate at))
+    (Ok (with_listed_by (with_entry 0 c.name c.request c.reply) s, text)))
+plain_reads c s at text more true e h =
+    broken (refused kinds.Duplicate at)
+    (some_none (keyed_number s.table (operation_key 0 c.name)) e)
+plain_reads c s at text more false e h =
+    good text h (new_keeps s.table (operation_key 0 c.name)
+    (none_of (keyed_number s.table (operation_key 0 c.name)) e))
+
+not_of : (text : List ℕ) (more : List Token) → AreTokens text (mark marks.Semicolon ∷ more)
+    → keyword_if (codes "of") text ≡ Ok None
+not_of text more h =
+    if_other (is_the_word (codes "of")) text (mark marks.Semicolon) more h refl
+
+none_by : (c : Called) (s : Scope) (at text : List ℕ) (more : List Token) (v : Bool)
+    → is_third s.names ≡ v → AreTokens text (mark marks.Semicolon ∷ more)
+    → Out {X = Variants}
+    (λ rest. (with_listed_by (with_entry 0 c.name c.request c.reply) s, rest))
+    (λ k. OfNewKey k s.table (operation_key 0 c.name)) s.table.types (mark marks.Semicolon ∷ more)
+    (cond v (keyword_if (codes "of") text >>= listed_by at c (s, text)) (plain_by at c (s, text)))
+none_by c s at text more true e h =
+    rw (not_of text more h)
+    (plain_reads c s at text (mark marks.Semicolon ∷ more)
+    (is_some (keyed_number s.table (operation_key 0 c.name))) refl h)
+none_by c s at text more false e h =
+    plain_reads c s at text (mark marks.Semicolon ∷ more)
+    (is_some (keyed_number s.table (operation_key 0 c.name))) refl h
+
+interfaces_few : (ids : List (List ℕ)) (more : List Token)
+    → length ids ≤ length (spell_more_interfaces ids more)
+interfaces_few [] more = omega arith
+interfaces_few (id ∷ ids) more = omega (arith, interfaces_few ids more)
+
+third_keeps : (names : Names) → is_third names ≡ true → (k : Kind) → OfThird k names
+third_keeps names is kinds.Syntax = is
+third_keeps names is _ = tt
+
+pub listed_reads : (ids : List (List ℕ)) (c : Called) (s : Scope) (at text : List ℕ)
+    (more : List Token) → OfList kinds.Syntax s.names c.name c.request c.reply ids s.table
+    → AreTokens text (spell_interfaces ids (mark marks.Semicolon ∷ more))
+    → Out {X = Variants}
+    (λ rest. (with_listed_by (with_listed c.name c.request c.reply ids) s, rest))
+    (λ k. OfList k s.names c.name c.request c.reply ids s.table) s.table.types
+    (mark marks.Semicolon ∷ more) (listed_at at c (s, text))
+unfolding listed_at
+listed_reads [] c s at text more free h =
+    none_by c s at text more (is_third s.names) refl h
+listed_reads (id ∷ ids) c s at text more free h =
+    let tail = spell_more_interfaces ids (mark marks.Semicolon ∷ more) in
+    let few = tokens_few (repository id ∷ tail) h.0 h.2 in
+    rw (free.0, keyword_if_again (codes "of") text (repository id ∷ tail) h)
+    (out_more (variants_reads ids id (length h.0) c s h.0 (mark marks.Semicolon ∷ more)
+    (omega (arith, few, interfaces_few ids (mark marks.Semicolon ∷ more))) refl h.2)
+    (λ k w. (third_keeps s.names free.0 k, w)) (λ k w. w.1))
+
+-- ---- the interfaces of a text that was read
+
+pub record TakenVariants (c : Called) (text : List ℕ) (s : Scope) (x : Variants) : Type 0 where
+  pub first : List ℕ
+  pub others : List (List ℕ)
+  pub front : (more : List Token) → AreTokens x.1 more
+      → AreTokens text (repository first ∷ spell_more_interfaces others more)
+
+comma_takes : (c : Called) (n : ℕ) (s : Scope) (text : List ℕ) (id : List ℕ × List ℕ)
+    (o : Option (List ℕ)) (x : Variants) → Takes text (repository id.0) id.1
+    → mark_if marks.Comma id.1 ≡ Ok o
+    → then_variants c n (variant_end c id.0 (s, text) (after_comma id.1 o)) ≡ Ok x
+    → ((s : Scope) (text : List ℕ)
+    → in_steps (variant_step c) too_many_variants n (s, text) ≡ Ok x → TakenVariants c text s x)
+    → TakenVariants c text s x
+comma_takes c n s text id None x t h run on =
+    subst (TakenVariants c text s) (ok_is (with_one c id.0 s, id.1) x run) (record {
+      first = id.0;
+      others = [];
+      front = t;
+    })
+comma_takes c n s text id (Some r) x t h run on =
+    let k = on (with_one c id.0 s) r run in
+    record {
+      first = id.0;
+      others = k.first ∷ k.others;
+      front = λ more h2. t (spell_more_interfaces (k.first ∷ k.others) more)
+          (mark_if_takes marks.Comma id.1 r h
+          (repository k.first ∷ spell_more_interfaces k.others more) (k.front more h2));
+    }
+
+-- what the code finds
+pub new_variant_is : (c : Called) (t : Table) (text id rest : List ℕ) (v : Bool)
+    → interface_at t.interfaces text ≡ Ok (id, rest)
+    → is_some (keyed_number t (variant_key c t id)) ≡ v
+    → new_variant_at c t text ≡ cond v (Err (refused kinds.Duplicate text)) (Ok (id, rest))
+unfolding new_variant_at
+new_variant_is c t text id rest v e known = rw (e, known) refl
+
+-- a new operation of an interface
+pub record TakenVariant (c : Called) (t : Table) (text : List ℕ) (x : List ℕ × List ℕ) : Type 0
+  where
+    pub interface : TakenInterface t.interfaces text x
+    pub new : keyed_number t (variant_key c t x.0) ≡ None
+
+new_taken_by : (c : Called) (t : Table) (text : List ℕ) (id x : List ℕ × List ℕ) (v : Bool)
+    → is_some (keyed_number t (variant_key c t id.0)) ≡ v → TakenInterface t.interfaces text id
+    → cond v (Err (refused kinds.Duplicate text)) (Ok (id.0, id.1)) ≡ Ok x
+    → TakenVariant c t text x
+new_taken_by c t text id x true e a is = absurd cc
+new_taken_by c t text id x false e a is =
+    subst (TakenVariant c t text) (ok_is id x is) (record {
+      interface = a;
+      new = none_of (keyed_number t (variant_key c t id.0)) e;
+    })
+
+pub new_variant_takes : (c : Called) (t : Table) (text : List ℕ) (x : List ℕ × List ℕ)
+    → new_variant_at c t text ≡ Ok x → TakenVariant c t text x
+unfolding new_variant_at
+new_variant_takes c t text x e =
+    let id = bind_ok {A = List ℕ × List ℕ} _ _ x e in
+    new_taken_by c t text id.0 x (is_some (keyed_number t (variant_key c t (id.0).0))) refl
+    (interface_takes t.interfaces text id.0 id.1) id.2
+
+variants_take : (n : ℕ) (c : Called) (s : Scope) (text : List ℕ) (x : Variants)
+    → in_steps (variant_step c) too_many_variants n (s, text) ≡ Ok x → TakenVariants c text s x
+unfolding in_steps variant_step
+variants_take zero c s text x e = absurd cc
+variants_take (suc n) c s text x e =
+    let m = bind_ok (variant_step c (s, text)) (then_variants c n) x e in
+    let id = bind_ok {A = List ℕ × List ℕ} _ _ m.0 m.1 in
+    let o = bind_ok (mark_if marks.Comma (id.0).1)
+    (λ comma. Ok (variant_end c (id.0).0 (s, text) (after_comma (id.0).1 comma))) m.0 id.2 in
+    comma_takes c n s text id.0 o.0 x
+    (new_variant_takes c s.table text id.0 id.1).interface.front o.1
+    (ap (then_variants c n)
+    (ok_is (variant_end c (id.0).0 (s, text) (after_comma (id.0).1 o.0)) m.0 o.2) ∙ m.2)
+    (λ s text run. variants_take n c s text x run)
+
+-- only a file of version 3 has such a list
+abbrev pub IsAllowedList : Names → List (List ℕ) → Type 0
+IsAllowedList names [] = Unit {0}
+IsAllowedList names (id ∷ ids) = is_third names ≡ true
+
+pub record TakenListed (names : Names) (text : List ℕ) (x : Variants) : Type 0 where
+  pub ids : List (List ℕ)
+  pub took : Took (spell_interfaces ids) (IsAllowedList names ids) text x.1
+
+plain_taken : (c : Called) (s : Scope) (at text : List ℕ) (v : Bool) (x : Variants)
+    → cond v (Err (refused kinds.Duplicate at))
+    (Ok (with_listed_by (with_entry 0 c.name c.request c.reply) s, text)) ≡ Ok x
+    → TakenListed s.names text x
+plain_taken c s at text true x e = absurd cc
+plain_taken c s at text false x e =
+    subst (TakenListed s.names text)
+    (ok_is (with_listed_by (with_entry 0 c.name c.request c.reply) s, text) x e) (record {
+      ids = [];
+      took = record { free = tt; front = λ more m. m };
+    })
+
+listed_taken_by : (c : Called) (s : Scope) (at text : List ℕ) (o : Option (List ℕ)) (x : Variants)
+    → is_third s.names ≡ true → keyword_if (codes "of") text ≡ Ok o
+    → listed_by at c (s, text) o ≡ Ok x → TakenListed s.names text x
+listed_taken_by c s at text None x third h e =
+    plain_taken c s at text (is_some (keyed_number s.table (operation_key 0 c.name))) x e
+listed_taken_by c s at text (Some r) x third h e =
+    let k = variants_take (length r) c s r x e in
+    record {
+      ids = k.first ∷ k.others;
+      took = record {
+        free = third;
+        front = λ more m. keyword_if_takes (codes "of") text r h
+            (repository k.first ∷ spell_more_interfaces k.others more) (k.front more m);
+      };
+    }
+
+listed_by_third : (c : Called) (s : Scope) (at text : List ℕ) (v : Bool) (x : Variants)
+    → is_third s.names ≡ v
+    → cond v (keyword_if (codes "of") text >>= listed_by at c (s, text)) (plain_by at c (s, text))
+    ≡ Ok x → TakenListed s.names text x
+listed_by_third c s at text true x third e =
+    let o = bind_ok (keyword_if (codes "of") text) (listed_by at c (s, text)) x e in
+    listed_taken_by c s at text o.0 x third o.1 o.2
+listed_by_third c s at text false x third e =
+    plain_taken c s at text (is_some (keyed_number s.table (operation_key 0 c.name))) x e
+
+pub listed_takes : (c : Called) (s : Scope) (at text : List ℕ) (x : Variants)
+    → listed_at at c (s, text) ≡ Ok x → TakenListed s.names text x
+unfolding listed_at
+listed_takes c s at text x e = listed_by_third c s at text (is_third s.names) x refl e
+
+variants_free : (w : List ℕ) (request reply : ℕ) (ids : List (List ℕ)) (t : Table)
+    → OfVariants kinds.Syntax w request reply ids t
+unfolding OfVariants
+variants_free w request reply [] t = tt
+variants_free w request reply (id ∷ ids) t =
+    (tt, tt, variants_free w request reply ids (with_variant w request reply id t))
+
+-- a list that is allowed has its words
+pub list_free : (names : Names) (w : List ℕ) (request reply : ℕ) (ids : List (List ℕ)) (t : Table)
+    → IsAllowedList names ids → OfList kinds.Syntax names w request reply ids t
+list_free names w request reply [] t allowed = tt
+list_free names w request reply (id ∷ ids) t allowed =
+    (allowed, variants_free w request reply (id ∷ ids) t)
+
+-- ---- the KEY of a text that was read
+
+pub record TakenKey (s : Scope) (text : List ℕ) (x : List ℕ × List ℕ) : Type 0 where
+  pub is : is_key x.0 ≡ true
+  pub short : length x.0 ≤ 128
+  pub new : of_text s.table.interfaces x.0 ≡ None
+  pub front : Takes text (repository x.0) x.1
+
+new_key_by : (s : Scope) (text : List ℕ) (y x : List ℕ × List ℕ) (v : Bool) → is_key y.0 ≡ v
+    → repository_at text ≡ Ok y
+    → cond (not v) (Err (misplaced text)) (unused (is_some (of_text s.table.interfaces y.0))
+    (leb 16384 (length s.table.interfaces.keys)) text y) ≡ Ok x → TakenKey s text x
+new_key_by s text y x true is r e =
+    let u = unused_is (is_some (of_text s.table.interfaces y.0))
+    (leb 16384 (length s.table.interfaces.keys)) text y x e in
+    subst (TakenKey s text) u.0 (record {
+      is = is;
+      short = repository_few text y r;
+      new = none_of (of_text s.table.interfaces y.0) u.1;
+      front = repository_takes text y r;
+    })
+new_key_by s text y x false is r e = absurd cc
+
+pub new_key_takes : (s : Scope) (text : List ℕ) (x : List ℕ × List ℕ) → new_key_at s text ≡ Ok x
+    → TakenKey s text x
+unfolding new_key_at
+new_key_takes s text x e =
+    let y = bind_ok _ _ x e in
+    new_key_by s text y.0 x (is_key (y.0).0) refl y.1 y.2
