@@ -1,8 +1,9 @@
 #!/bin/sh
-# Octets a second and peak memory of the dumper, beside xxd and a limit, over eight streams:
+# Octets a second and peak memory of the dumper, beside xxd and a limit, over nine streams:
 # bench/run.sh [OCTETS [DUMPER]]
 #   mixed      messages of every type, without a signature file
 #   typed      calls of about 380 octets whose parameters are typed
+#   anys       events with anys of structs, strings, numbers and truth values, by --types
 #   fragments  calls with octet sequences of 262,144 octets, in Fragments
 #   openers    sixteen calls at a time, whose Fragments come in turn
 #   many       the same with 4,096 calls at a time, by --open 4096
@@ -14,8 +15,8 @@
 # each figure is the best of these runs: by the clock, and by the processor time that the program took, which says more
 # on a machine that does other work too.
 #
-# The limit is bench/limit.c, a plain C program that writes the same lines over all of these streams but mixed, and
-# knows nothing else. It is compiled where a C compiler for x86-64 is there; where none is, that is said and its rows
+# The limit is bench/limit.c, a plain C program that writes the same lines over all of these streams but mixed and anys,
+# and knows nothing else. It is compiled where a C compiler for x86-64 is there; where none is, that is said and its rows
 # are left out. Over a short stream of each sort its lines are compared with the dumper's.
 set -eu
 
@@ -60,9 +61,10 @@ figures() {
     ' "$work/$1.runs"
 }
 
-for name in mixed typed fragments openers many large doubles captured; do
+for name in mixed typed anys fragments openers many large doubles captured; do
     case $name in
         mixed) set -- ;;
+        anys) set -- --types "$top/bench/anys.sig" ;;
         captured) set -- --signatures "$top/examples/naming.sig" ;;
         many) set -- --signatures "$top/bench/calls.sig" --open 4096 ;;
         *) set -- --signatures "$top/bench/calls.sig" ;;
@@ -75,8 +77,10 @@ for name in mixed typed fragments openers many large doubles captured; do
     size=$(wc -c <"$work/stream")
     open=16
     [ "$name" != many ] || open=4096
-    beside=$limit
-    [ "$name" != mixed ] || beside=
+    case $name in
+        mixed | anys) beside= ;;
+        *) beside=$limit ;;
+    esac
     [ -z "$beside" ] || compared "$@" || { echo "$name: the limit has other lines than the dumper" >&2; exit 1; }
     rm -f "$work"/*.runs
     for _ in 1 2 3 4 5; do

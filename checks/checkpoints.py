@@ -77,7 +77,7 @@ def damaged(checkpoint: bytes) -> Iterator[Tuple[str, bytes, Tuple[str, ...]]]:
         words = next((words for end, words in FIRST_REFUSALS if at < end), ("state", "length", ""))
         yield f"octet {at}", wrong, words
         yield f"the first {at} octets", checkpoint[:at], ("length",) if at < 96 else ("length", "state")
-    for layout, word in ((1, "version"), (2, "state"), (4, "version")):
+    for layout, word in ((1, "version"), (2, "state"), (4, "version"), (5, "version")):
         yield f"layout {layout}", checkpoint[:11] + bytes([layout]) + checkpoint[12:], (word,)
     for most in (0, 4097):
         yield f"room for {most}", checkpoint[:80] + most.to_bytes(4, "big") + checkpoint[84:], ("state",)

@@ -1,4 +1,4 @@
-"""Streams made by seeds from the examples and from messages with encapsulations: these are taken in any order, and octets
+"""Streams made by seeds from the examples and from messages with encapsulations and anys: these are taken in any order, and octets
 of them changed, left out, put in and repeated. Of each the program writes the text that the reference reads in the whole
 stream, and the same text however its reads are cut, and in parts, each gone on from where the one before it was saved; and a
 front of it when the stream ends early. It ends with status 0 or 1, its total line is right, and it makes as many requests for
@@ -17,6 +17,7 @@ from concurrent.futures import ThreadPoolExecutor
 from pathlib import Path
 from typing import Dict, List, Sequence, Tuple
 
+import described
 import encapsulated
 from failing import CHECKPOINT, EXAMPLES, PROGRAM, SECONDS, Case, Differences, Ended, checkpoint_of, run
 from rows import FOLDER, TOUR, TOUR_TYPES, TOUR_WORDS
@@ -36,12 +37,16 @@ THIRD.write_text(
         (EXAMPLES / "features.sig").read_text().replace("signatures 2;", "signatures 3;", 1),
     )
 )
+ANYS = Path(FOLDER.name, "anys.sig")
+ANYS.write_text(described.DESCRIBED)
 TYPES = [
     (),
     ("--signatures", str(EXAMPLES / "naming.sig"), "--requests", str(EXAMPLES / "naming.req")),
     TOUR_WORDS,
     ("--signatures", str(EXAMPLES / "features.sig")),
     ("--types", str(THIRD)),
+    ("--types", str(ANYS)),
+    ("--types", str(ANYS), "--open", "2"),
     (*TOUR_TYPES, "--open", "1"),
     ("--signatures", str(EXAMPLES / "naming.sig"), "--open", "4096"),
 ]
@@ -57,7 +62,7 @@ def messages() -> List[bytes]:
     """The messages, each with its header."""
     streams = [(EXAMPLES / name).read_bytes() for name in ("naming.giop", "naming-replies.giop")]
     streams.append(TOUR)
-    found = encapsulated.messages()
+    found = encapsulated.messages() + described.messages(60)
     for stream in streams:
         while len(stream) >= 12 and stream.startswith(b"GIOP"):
             size = 12 + int.from_bytes(stream[8:12], ORDERS[stream[6] & 1])

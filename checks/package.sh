@@ -60,7 +60,7 @@ gzip -cd "$root/usr/share/man/man1/giopdump.1.gz" | grep -q '^.Dt GIOPDUMP'
 echo 'interface Clock { long now(in string zone); };' > "$folder/clock.idl"
 omniidl -bgiopdump_signatures "$folder/clock.idl" > "$folder/clock.sig"
 grep -qx 'operation long now(in string zone);' "$folder/clock.sig"
-giopdump --signatures "$folder/clock.sig" examples/naming.giop > "$folder/lines"
+giopdump --types "$folder/clock.sig" examples/naming.giop > "$folder/lines"
 rm -r "$folder"
 echo "$(basename "$0" .sh): $(giopdump --version), $(giopcap --version), $(find "$root/usr/share/doc/giopdump" -type f | wc -l) documents"
 END

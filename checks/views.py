@@ -143,6 +143,22 @@ def values_of(lines: Sequence[str]) -> List[Leaf]:
     return told
 
 
+def kept_of(lines: Sequence[str]) -> List[str]:
+    """The lines of one message's values without those that are left out of TypeCodes (docs/FORMATS.md, JSON)."""
+    kept: List[str] = []
+    parameters = ""
+    for line in lines:
+        path, kind, text = [*line.split(" ", 2), "", ""][:3]
+        below = path[len(parameters) :] if parameters and path.startswith(parameters) else "no"
+        is_head = not below and kind in ("encapsulation", "order")
+        if below[:1] in ("", ".", "[") and not is_head and below not in (".id", ".name"):
+            continue
+        if kind == "enum" and path.endswith(".kind") and text.startswith("tk_"):
+            parameters = path[:-5] + ".parameters"
+        kept.append(line)
+    return kept
+
+
 def is_told(found: List[Leaf], wanted: List[Leaf]) -> bool:
     """Whether an object has the values that lines tell, at their paths and in their order, and no other."""
     return len(found) == len(wanted) and all(
@@ -177,9 +193,10 @@ EVENTS: Dict[str, Callable[[List[str]], Dict[str, Any]]] = {
 }
 
 
-def check_json(lines: Sequence[str]) -> int:
-    """The JSON of a dump has what its lines have, and nothing else; gives how many values there are."""
-    found = objects(lines)
+def check_json(lines: Sequence[str], *asked: str) -> int:
+    """The JSON of a dump has what its lines have, of TypeCodes without --types a part, and nothing else; gives how many values
+    there are."""
+    found = objects(lines, *asked)
     left = {(made.get("stream", 0), made["message"]): made for made in found if "message" in made}
     assert len(left) == sum("message" in made for made in found) == sum(" start " in line for line in lines)
     told: Dict[Tuple[int, int], Dict[str, Any]] = {key: {} for key in left}
@@ -206,6 +223,8 @@ def check_json(lines: Sequence[str]) -> int:
             told[initial]["fragments"] = told[initial].get("fragments", 0) + 1
             octets[initial] += octets.pop(key)
         over.update([key] if word in ("end", "fault", "cancelled") else [])
+    if "--types" not in asked:
+        values = {key: kept_of(told) for key, told in values.items()}
     for key, made in left.items():
         has = [leaf for name in VALUES if name in made for leaf in leaves({name: made.pop(name)})]
         assert is_told(has, values_of(values[key])), (key, has, values[key])
@@ -363,7 +382,7 @@ def main() -> int:
         dumps = [dump_of(seed * WOVEN + number, known) for number in range(WOVEN)]
         for place, dump in enumerate([dumps[0], capture_of(draw, dumps)]):
             lines += len(dump)
-            values += check_json(dump)
+            values += check_json(dump) + check_json(dump, "--types")
             parts += check_parts(dump)
             messages += check_counts(dump)
             arrows += check_chart(dump, picture=seed < 10) if seed < 40 else 0

@@ -1,41 +1,68 @@
-signatures 1;
+signatures 3;
 
 // Written by giopdump_signatures from CosNotifyChannelAdmin.idl.
-// whole: 114 operations, 17 exceptions, 7 types; by half: 12 operations; left out: 18 operations, 4 exceptions.
+// whole: 138 operations, 21 exceptions, 18 types; by half: 6 operations; left out: 0 operations, 0 exceptions.
 
 // Every object
 operation boolean _is_a(in string logical_type_id);
 operation boolean _non_existent();
 
 // CosNotification::QoSAdmin (CosNotification.idl:137)
-// left out: exception CosNotification::UnsupportedQoS (CosNotification.idl:64): member qos_err: needs CosNotification::PropertyError
-// left out: CosNotification::QoSAdmin::get_qos (CosNotification.idl:139): return value: needs CosNotification::Property
-// left out: CosNotification::QoSAdmin::set_qos (CosNotification.idl:141): parameter qos: needs CosNotification::Property
-// left out: CosNotification::QoSAdmin::validate_qos (CosNotification.idl:144): parameter required_qos: needs CosNotification::Property
+enum QoSError_code "IDL:omg.org/CosNotification/QoSError_code:1.0" {
+  UNSUPPORTED_PROPERTY,
+  UNAVAILABLE_PROPERTY,
+  UNSUPPORTED_VALUE,
+  UNAVAILABLE_VALUE,
+  BAD_PROPERTY,
+  BAD_TYPE,
+  BAD_VALUE
+};
+struct PropertyRange "IDL:omg.org/CosNotification/PropertyRange:1.0" { any low_val; any high_val; };
+struct PropertyError "IDL:omg.org/CosNotification/PropertyError:1.0" {
+  QoSError_code code;
+  string name;
+  PropertyRange available_range;
+};
+exception UnsupportedQoS "IDL:omg.org/CosNotification/UnsupportedQoS:1.0" {
+  sequence<PropertyError> qos_err;
+};
+struct Property "IDL:omg.org/CosNotification/Property:1.0" { string name; any value; };
+operation sequence<Property> get_qos();
+operation void set_qos(in sequence<Property> qos);
+struct NamedPropertyRange "IDL:omg.org/CosNotification/NamedPropertyRange:1.0" {
+  string name;
+  PropertyRange range;
+};
+operation void validate_qos(
+  in sequence<Property> required_qos,
+  out sequence<NamedPropertyRange> available_qos
+);
 
 // CosNotification::AdminPropertiesAdmin (CosNotification.idl:168)
-// left out: exception CosNotification::UnsupportedAdmin (CosNotification.idl:65): member admin_err: needs CosNotification::PropertyError
-// left out: CosNotification::AdminPropertiesAdmin::get_admin (CosNotification.idl:170): return value: needs CosNotification::Property
-// left out: CosNotification::AdminPropertiesAdmin::set_admin (CosNotification.idl:172): parameter admin: needs CosNotification::Property
+exception UnsupportedAdmin "IDL:omg.org/CosNotification/UnsupportedAdmin:1.0" {
+  sequence<PropertyError> admin_err;
+};
+operation sequence<Property> get_admin();
+operation void set_admin(in sequence<Property> admin);
 
 // CosEventComm::PushConsumer (CosEventComm.idl:16)
 exception Disconnected "IDL:omg.org/CosEventComm/Disconnected:1.0" { };
-// left out: CosEventComm::PushConsumer::push (CosEventComm.idl:17): parameter data: any
+operation void push(in any data);
 operation void disconnect_push_consumer();
 
 // CosEventComm::PushSupplier (CosEventComm.idl:21)
 operation void disconnect_push_supplier();
 
 // CosEventComm::PullSupplier (CosEventComm.idl:25)
-// left out: CosEventComm::PullSupplier::pull (CosEventComm.idl:26): return value: any
-// left out: CosEventComm::PullSupplier::try_pull (CosEventComm.idl:27): return value: any
+operation any pull();
+operation any try_pull(out boolean has_event);
 operation void disconnect_pull_supplier();
 
 // CosEventComm::PullConsumer (CosEventComm.idl:32)
 operation void disconnect_pull_consumer();
 
 // CosNotifyComm::NotifyPublish (CosNotifyComm.idl:19)
-struct EventType { string domain_name; string type_name; };
+struct EventType "IDL:omg.org/CosNotification/EventType:1.0" { string domain_name; string type_name; };
 exception InvalidEventType "IDL:omg.org/CosNotifyComm/InvalidEventType:1.0" { EventType type; };
 operation void offer_change(in sequence<EventType> added, in sequence<EventType> removed);
 
@@ -43,75 +70,101 @@ operation void offer_change(in sequence<EventType> added, in sequence<EventType>
 operation void subscription_change(in sequence<EventType> added, in sequence<EventType> removed);
 
 // CosNotifyComm::StructuredPushConsumer (CosNotifyComm.idl:57)
-// left out: CosNotifyComm::StructuredPushConsumer::push_structured_event (CosNotifyComm.idl:59): parameter notification: needs CosNotification::StructuredEvent
+struct FixedEventHeader "IDL:omg.org/CosNotification/FixedEventHeader:1.0" {
+  EventType event_type;
+  string event_name;
+};
+struct EventHeader "IDL:omg.org/CosNotification/EventHeader:1.0" {
+  FixedEventHeader fixed_header;
+  sequence<Property> variable_header;
+};
+struct StructuredEvent "IDL:omg.org/CosNotification/StructuredEvent:1.0" {
+  EventHeader header;
+  sequence<Property> filterable_data;
+  any remainder_of_body;
+};
+operation void push_structured_event(in StructuredEvent notification);
 operation void disconnect_structured_push_consumer();
 
 // CosNotifyComm::StructuredPullConsumer (CosNotifyComm.idl:67)
 operation void disconnect_structured_pull_consumer();
 
 // CosNotifyComm::StructuredPullSupplier (CosNotifyComm.idl:71)
-// left out: CosNotifyComm::StructuredPullSupplier::pull_structured_event (CosNotifyComm.idl:73): return value: needs CosNotification::StructuredEvent
-// left out: CosNotifyComm::StructuredPullSupplier::try_pull_structured_event (CosNotifyComm.idl:76): return value: needs CosNotification::StructuredEvent
+operation StructuredEvent pull_structured_event();
+operation StructuredEvent try_pull_structured_event(out boolean has_event);
 operation void disconnect_structured_pull_supplier();
 
 // CosNotifyComm::StructuredPushSupplier (CosNotifyComm.idl:84)
 operation void disconnect_structured_push_supplier();
 
 // CosNotifyComm::SequencePushConsumer (CosNotifyComm.idl:88)
-// left out: CosNotifyComm::SequencePushConsumer::push_structured_events (CosNotifyComm.idl:90): parameter notifications: needs CosNotification::StructuredEvent
+operation void push_structured_events(in sequence<StructuredEvent> notifications);
 operation void disconnect_sequence_push_consumer();
 
 // CosNotifyComm::SequencePullConsumer (CosNotifyComm.idl:98)
 operation void disconnect_sequence_pull_consumer();
 
 // CosNotifyComm::SequencePullSupplier (CosNotifyComm.idl:102)
-// the return value: rest (needs CosNotification::StructuredEvent)
-operation void pull_structured_events(in long max_number);
-// the return value: rest (needs CosNotification::StructuredEvent)
-operation void try_pull_structured_events(in long max_number);
+operation sequence<StructuredEvent> pull_structured_events(in long max_number);
+operation sequence<StructuredEvent> try_pull_structured_events(in long max_number, out boolean has_event);
 operation void disconnect_sequence_pull_supplier();
 
 // CosNotifyComm::SequencePushSupplier (CosNotifyComm.idl:117)
 operation void disconnect_sequence_push_supplier();
 
 // CosNotifyFilter::Filter (CosNotifyFilter.idl:61)
-struct ConstraintExp { sequence<EventType> event_types; string constraint_expr; };
+struct ConstraintExp "IDL:omg.org/CosNotifyFilter/ConstraintExp:1.0" {
+  sequence<EventType> event_types;
+  string constraint_expr;
+};
 exception InvalidConstraint "IDL:omg.org/CosNotifyFilter/InvalidConstraint:1.0" { ConstraintExp constr; };
 exception ConstraintNotFound "IDL:omg.org/CosNotifyFilter/ConstraintNotFound:1.0" { long id; };
 exception UnsupportedFilterableData "IDL:omg.org/CosNotifyFilter/UnsupportedFilterableData:1.0" { };
 exception CallbackNotFound "IDL:omg.org/CosNotifyFilter/CallbackNotFound:1.0" { };
 operation string _get_constraint_grammar();
-struct ConstraintInfo { ConstraintExp constraint_expression; long constraint_id; };
+struct ConstraintInfo "IDL:omg.org/CosNotifyFilter/ConstraintInfo:1.0" {
+  ConstraintExp constraint_expression;
+  long constraint_id;
+};
 operation sequence<ConstraintInfo> add_constraints(in sequence<ConstraintExp> constraint_list);
 operation void modify_constraints(in sequence<long> del_list, in sequence<ConstraintInfo> modify_list);
 operation sequence<ConstraintInfo> get_constraints(in sequence<long> id_list);
 operation sequence<ConstraintInfo> get_all_constraints();
 operation void remove_all_constraints();
 operation void destroy();
-// parameter filterable_data of the request: rest (any)
 // what follows in the reply: rest (unequal parameters: CosNotifyFilter::MappingFilter::match (CosNotifyFilter.idl:133))
-operation boolean match();
-// parameter filterable_data of the request: rest (needs CosNotification::StructuredEvent)
+operation boolean match(in any filterable_data);
 // what follows in the reply: rest (unequal parameters: CosNotifyFilter::MappingFilter::match_structured (CosNotifyFilter.idl:137))
-operation boolean match_structured();
-// parameter filterable_data of the request: rest (needs CosNotification::Property)
+operation boolean match_structured(in StructuredEvent filterable_data);
 // what follows in the reply: rest (unequal parameters: CosNotifyFilter::MappingFilter::match_typed (CosNotifyFilter.idl:142))
-operation boolean match_typed();
+operation boolean match_typed(in sequence<Property> filterable_data);
 operation long attach_callback(in Object callback);
 operation void detach_callback(in long callback);
 operation sequence<long> get_callbacks();
 
 // CosNotifyFilter::MappingFilter (CosNotifyFilter.idl:105)
-// left out: exception CosNotifyFilter::InvalidValue (CosNotifyFilter.idl:59): member value: any
+exception InvalidValue "IDL:omg.org/CosNotifyFilter/InvalidValue:1.0" { ConstraintExp constr; any value; };
 // _get_constraint_grammar (CosNotifyFilter.idl:107) travels like CosNotifyFilter::Filter::_get_constraint_grammar (CosNotifyFilter.idl:63)
-// left out: CosNotifyFilter::MappingFilter::_get_value_type (CosNotifyFilter.idl:109): return value: TypeCode
-// left out: CosNotifyFilter::MappingFilter::_get_default_value (CosNotifyFilter.idl:111): return value: any
-// left out: CosNotifyFilter::MappingFilter::add_mapping_constraints (CosNotifyFilter.idl:113): parameter pair_list: needs CosNotifyFilter::MappingConstraintPair
-// parameter modify_list of the request: rest (needs CosNotifyFilter::MappingConstraintInfo)
-operation void modify_mapping_constraints(in sequence<long> del_list);
-// the return value: rest (needs CosNotifyFilter::MappingConstraintInfo)
-operation void get_mapping_constraints(in sequence<long> id_list);
-// left out: CosNotifyFilter::MappingFilter::get_all_mapping_constraints (CosNotifyFilter.idl:127): return value: needs CosNotifyFilter::MappingConstraintInfo
+operation TypeCode _get_value_type();
+operation any _get_default_value();
+struct MappingConstraintPair "IDL:omg.org/CosNotifyFilter/MappingConstraintPair:1.0" {
+  ConstraintExp constraint_expression;
+  any result_to_set;
+};
+struct MappingConstraintInfo "IDL:omg.org/CosNotifyFilter/MappingConstraintInfo:1.0" {
+  ConstraintExp constraint_expression;
+  long constraint_id;
+  any value;
+};
+operation sequence<MappingConstraintInfo> add_mapping_constraints(
+  in sequence<MappingConstraintPair> pair_list
+);
+operation void modify_mapping_constraints(
+  in sequence<long> del_list,
+  in sequence<MappingConstraintInfo> modify_list
+);
+operation sequence<MappingConstraintInfo> get_mapping_constraints(in sequence<long> id_list);
+operation sequence<MappingConstraintInfo> get_all_mapping_constraints();
 operation void remove_all_mapping_constraints();
 // destroy (CosNotifyFilter.idl:131) travels like CosNotifyFilter::Filter::destroy (CosNotifyFilter.idl:82)
 // match (CosNotifyFilter.idl:133) travels like CosNotifyFilter::Filter::match (CosNotifyFilter.idl:84) as far as that has types
@@ -121,8 +174,7 @@ operation void remove_all_mapping_constraints();
 // CosNotifyFilter::FilterFactory (CosNotifyFilter.idl:149)
 exception InvalidGrammar "IDL:omg.org/CosNotifyFilter/InvalidGrammar:1.0" { };
 operation Object create_filter(in string constraint_grammar);
-// parameter default_value of the request: rest (any)
-operation Object create_mapping_filter(in string constraint_grammar);
+operation Object create_mapping_filter(in string constraint_grammar, in any default_value);
 
 // CosNotifyFilter::FilterAdmin (CosNotifyFilter.idl:167)
 exception FilterNotFound "IDL:omg.org/CosNotifyFilter/FilterNotFound:1.0" { };
@@ -160,7 +212,7 @@ operation Object for_suppliers();
 // destroy (CosEventChannelAdmin.idl:56) travels like CosNotifyFilter::Filter::destroy (CosNotifyFilter.idl:82)
 
 // CosNotifyChannelAdmin::ProxyConsumer (CosNotifyChannelAdmin.idl:49)
-enum ProxyType {
+enum ProxyType "IDL:omg.org/CosNotifyChannelAdmin/ProxyType:1.0" {
   PUSH_ANY,
   PULL_ANY,
   PUSH_STRUCTURED,
@@ -172,9 +224,17 @@ enum ProxyType {
 };
 operation ProxyType _get_MyType();
 operation Object _get_MyAdmin();
-enum ObtainInfoMode { ALL_NOW_UPDATES_OFF, ALL_NOW_UPDATES_ON, NONE_NOW_UPDATES_OFF, NONE_NOW_UPDATES_ON };
+enum ObtainInfoMode "IDL:omg.org/CosNotifyChannelAdmin/ObtainInfoMode:1.0" {
+  ALL_NOW_UPDATES_OFF,
+  ALL_NOW_UPDATES_ON,
+  NONE_NOW_UPDATES_OFF,
+  NONE_NOW_UPDATES_ON
+};
 operation sequence<EventType> obtain_subscription_types(in ObtainInfoMode mode);
-// left out: CosNotifyChannelAdmin::ProxyConsumer::validate_event_qos (CosNotifyChannelAdmin.idl:57): parameter required_qos: needs CosNotification::Property
+operation void validate_event_qos(
+  in sequence<Property> required_qos,
+  out sequence<NamedPropertyRange> available_qos
+);
 
 // CosNotifyChannelAdmin::ProxySupplier (CosNotifyChannelAdmin.idl:66)
 // _get_MyType (CosNotifyChannelAdmin.idl:68) travels like CosNotifyChannelAdmin::ProxyConsumer::_get_MyType (CosNotifyChannelAdmin.idl:51)
@@ -184,7 +244,7 @@ operation void _set_priority_filter(in Object value);
 operation Object _get_lifetime_filter();
 operation void _set_lifetime_filter(in Object value);
 operation sequence<EventType> obtain_offered_types(in ObtainInfoMode mode);
-// left out: CosNotifyChannelAdmin::ProxySupplier::validate_event_qos (CosNotifyChannelAdmin.idl:77): parameter required_qos: needs CosNotification::Property
+// validate_event_qos (CosNotifyChannelAdmin.idl:77) travels like CosNotifyChannelAdmin::ProxyConsumer::validate_event_qos (CosNotifyChannelAdmin.idl:57)
 
 // CosNotifyChannelAdmin::ProxyPushConsumer (CosNotifyChannelAdmin.idl:86)
 operation void connect_any_push_supplier(in Object push_supplier);
@@ -239,10 +299,16 @@ operation void connect_sequence_push_consumer(in Object push_consumer);
 
 // CosNotifyChannelAdmin::ConsumerAdmin (CosNotifyChannelAdmin.idl:274)
 exception ProxyNotFound "IDL:omg.org/CosNotifyChannelAdmin/ProxyNotFound:1.0" { };
-// left out: exception CosNotifyChannelAdmin::AdminLimitExceeded (CosNotifyChannelAdmin.idl:268): member admin_property_err: needs CosNotifyChannelAdmin::AdminLimit
+struct AdminLimit "IDL:omg.org/CosNotifyChannelAdmin/AdminLimit:1.0" { string name; any value; };
+exception AdminLimitExceeded "IDL:omg.org/CosNotifyChannelAdmin/AdminLimitExceeded:1.0" {
+  AdminLimit admin_property_err;
+};
 operation long _get_MyID();
 operation Object _get_MyChannel();
-enum InterFilterGroupOperator { AND_OP, OR_OP };
+enum InterFilterGroupOperator "IDL:omg.org/CosNotifyChannelAdmin/InterFilterGroupOperator:1.0" {
+  AND_OP,
+  OR_OP
+};
 operation InterFilterGroupOperator _get_MyOperator();
 // _get_priority_filter (CosNotifyChannelAdmin.idl:281) travels like CosNotifyChannelAdmin::ProxySupplier::_get_priority_filter (CosNotifyChannelAdmin.idl:71)
 // _set_priority_filter (CosNotifyChannelAdmin.idl:281) travels like CosNotifyChannelAdmin::ProxySupplier::_set_priority_filter (CosNotifyChannelAdmin.idl:71)
@@ -251,7 +317,11 @@ operation InterFilterGroupOperator _get_MyOperator();
 operation sequence<long> _get_pull_suppliers();
 operation sequence<long> _get_push_suppliers();
 operation Object get_proxy_supplier(in long proxy_id);
-enum ClientType { ANY_EVENT, STRUCTURED_EVENT, SEQUENCE_EVENT };
+enum ClientType "IDL:omg.org/CosNotifyChannelAdmin/ClientType:1.0" {
+  ANY_EVENT,
+  STRUCTURED_EVENT,
+  SEQUENCE_EVENT
+};
 operation Object obtain_notification_pull_supplier(in ClientType ctype, out long proxy_id);
 operation Object obtain_notification_push_supplier(in ClientType ctype, out long proxy_id);
 // destroy (CosNotifyChannelAdmin.idl:301) travels like CosNotifyFilter::Filter::destroy (CosNotifyFilter.idl:82)
@@ -282,21 +352,13 @@ operation sequence<long> get_all_supplieradmins();
 
 // CosNotifyChannelAdmin::EventChannelFactory (CosNotifyChannelAdmin.idl:374)
 exception ChannelNotFound "IDL:omg.org/CosNotifyChannelAdmin/ChannelNotFound:1.0" { };
-// parameter initial_qos of the request: rest (needs CosNotification::Property)
-operation Object create_channel(out long id);
+operation Object create_channel(
+  in sequence<Property> initial_qos,
+  in sequence<Property> initial_admin,
+  out long id
+);
 operation sequence<long> get_all_channels();
 operation Object get_event_channel(in long id);
 
 // Exceptions that no interface above declares or raises
 exception DuplicateConstraintID "IDL:omg.org/CosNotifyFilter/DuplicateConstraintID:1.0" { long id; };
-
-// Types that can't be said, or that need one
-// left out: CosNotification::Property (CosNotification.idl:18): member value: any
-// left out: CosNotification::PropertyRange (CosNotification.idl:36): member low_val: any
-// left out: CosNotification::NamedPropertyRange (CosNotification.idl:41): member range: needs CosNotification::PropertyRange
-// left out: CosNotification::EventHeader (CosNotification.idl:73): member variable_header: needs CosNotification::Property
-// left out: CosNotification::StructuredEvent (CosNotification.idl:78): member header: needs CosNotification::EventHeader
-// left out: CosNotifyFilter::MappingConstraintInfo (CosNotifyFilter.idl:40): member value: any
-// left out: CosNotifyFilter::MappingConstraintPair (CosNotifyFilter.idl:33): member result_to_set: any
-// left out: CosNotification::PropertyError (CosNotification.idl:57): member available_range: needs CosNotification::PropertyRange
-// left out: CosNotifyChannelAdmin::AdminLimit (CosNotifyChannelAdmin.idl:263): member value: any

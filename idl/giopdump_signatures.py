@@ -8,6 +8,7 @@ shown as rest, never as wrong values. What has no type at all is left out. Comme
 error what is whole, what is by half and what is left out.
 
 -Wbonly=Module::Interface takes one interface and what it inherits; it may be given more than once.
+-Wbversion=1 and -Wbversion=2 write a file of that version of the language, which has no form for an any.
 
 The work is done in three steps, in the modules of `giopdump_idl`: `Translator` turns omniidl's declarations into the
 types of `model` or refuses them, `Selection` decides which operations and exceptions are written, and `Sheet` names the
@@ -18,6 +19,7 @@ from __future__ import annotations
 
 import sys
 from collections import Counter
+from dataclasses import dataclass
 from typing import List, Sequence
 
 from giopdump_idl import VERSION
@@ -29,7 +31,11 @@ from omniidl import idlast
 
 PROGRAM = "giopdump_signatures"
 
-WORDS = "  -Wbonly=<Module::Interface>  Write one interface and what it inherits (may be given more than once)"
+VERSIONS = ("1", "2", "3")  # of the signature language
+
+WORDS = """\
+  -Wbonly=<Module::Interface>  Write one interface and what it inherits (may be given more than once)
+  -Wbversion=<1, 2 or 3>       Write this version of the language (3 if it isn't given; any and TypeCode want it)"""
 usage_string = f"{PROGRAM} {VERSION}\n\n{WORDS}"  # what omniidl -u prints
 
 
@@ -56,15 +62,26 @@ def summary(selection: Selection) -> str:
     return "".join(lines)
 
 
-def wanted_interfaces(arguments: Sequence[str]) -> List[str]:
-    """The interfaces that -Wbonly names."""
-    only: List[str] = []
+@dataclass
+class Wanted:
+    """What the arguments ask for: interfaces, all if there are none, and a version of the language."""
+
+    interfaces: List[str]
+    version: int = 3
+
+
+def wanted(arguments: Sequence[str]) -> Wanted:
+    """What -Wbonly and -Wbversion name."""
+    asked = Wanted([])
     for argument in arguments:
-        word, equals, name = argument.partition("=")
-        if word != "only" or not equals or not name:
+        word, _, name = argument.partition("=")
+        if word == "only" and name:
+            asked.interfaces.append(name)
+        elif word == "version" and name in VERSIONS:
+            asked.version = int(name)
+        else:
             sys.exit(f"{PROGRAM}: unknown argument {shown(argument)}; there is\n{WORDS}")
-        only.append(name)
-    return only
+    return asked
 
 
 _runs: List[str] = []
@@ -76,9 +93,10 @@ def run(tree: idlast.AST, arguments: Sequence[str]) -> None:
     if len(_runs) > 1:
         sys.exit(f"{PROGRAM}: give one IDL file; one that includes others has their operations too")
     sys.setrecursionlimit(max(sys.getrecursionlimit(), 100000))
-    only = wanted_interfaces(arguments)
-    selection = Selection(tree, only)
-    text = Sheet(selection.sections).text(tree.file(), only, "; ".join(counts(selection)))
+    asked = wanted(arguments)
+    selection = Selection(tree, asked.interfaces, asked.version)
+    sheet = Sheet(selection.sections, asked.version)
+    text = sheet.text(tree.file(), asked.interfaces, "; ".join(counts(selection)))
     if len(text) > MOST_OCTETS:
         sys.exit(f"{PROGRAM}: {len(text)} octets, {MOST_OCTETS} at most: choose interfaces with -Wbonly")
     sys.stdout.write(text)

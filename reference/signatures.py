@@ -7,7 +7,22 @@ import re
 from dataclasses import dataclass, field
 from typing import Callable, Dict, List, Optional, Set, Tuple, TypeVar
 
-from .types import BASE, IOR, Array, Encapsulation, Enum, Members, Octets, Series, String, Struct, Type, Union
+from .types import (
+    BASE,
+    IOR,
+    Any,
+    Array,
+    Encapsulation,
+    Enum,
+    Members,
+    Octets,
+    Series,
+    String,
+    Struct,
+    Type,
+    TypeCode,
+    Union,
+)
 
 TOKENS = re.compile(r'//[^\n]*|[ \t\r\n]+|(-?\w+|"[^"]*"|[{}()<>\[\],;:])')
 Made = TypeVar("Made")
@@ -172,6 +187,9 @@ class Parser:
             value = self.type()
             self.wanted(">")
             return Encapsulation(value)
+        if self.table.version == 3 and word in ("any", "TypeCode"):
+            code = TypeCode(self.table.identified)
+            return Any(code) if word == "any" else code
         return IOR if word == "Object" else BASE.get(word) or self._declared[word]
 
     def bound(self, begin: str, end: str) -> Optional[int]:

@@ -21,6 +21,7 @@ from .types import (
     String,
     Struct,
     Type,
+    Untyped,
 )
 
 KINDS = "Request Reply CancelRequest LocateRequest LocateReply CloseConnection MessageError Fragment".split()
@@ -311,7 +312,10 @@ class Reading:
                 self._call(heard)
         if header.kind in (REQUEST, REPLY):
             self.header_ends.append(self._header_end(heard))
-            self._body(*self._body_of(heard))
+            try:
+                self._body(*self._body_of(heard))
+            except Untyped:
+                pass  # what follows is the message's rest
         elif header.kind == LOCATE_REPLY and self._known.table.version == 3:
             self._located(heard["locate_status"])
         return self._rest()
@@ -363,12 +367,12 @@ class Reading:
         if body is SYSTEM_EXCEPTION:
             self._raise([member.read(reader, f"{path}.{name}") for name, member in SYSTEM_EXCEPTION.members][0])
             return
-        value = body.read(reader, path) if body else None
+        value = reader.value(body, path) if body else None
         if path == "exception" and isinstance(value, bytes):
             self._raise(value)
             exception = self._known.table.exceptions.get(value)
             if exception:
-                exception.read(reader, "body")
+                reader.value(exception, "body")
 
     def _located(self, status: Read) -> None:
         """The body of a LocateReply, which follows its header at once, if its status has one."""

@@ -3,12 +3,15 @@
 from __future__ import annotations
 
 from dataclasses import dataclass
+from functools import cached_property
 from typing import Callable, Dict, List, Optional, Sequence, Tuple, Union as Either
 
 from .encoding import HEADER, ORDERS, Order
 
 PIECE = 32
-Read = Either[int, bytes, None]  # what a reading gives: a number, the octets of a string, or nothing
+ROOM = 24  # how many parts of a value may be in each other
+# what a reading gives: a number, the octets of a string, the type that a TypeCode names, or nothing
+Read = Either[int, bytes, "Type", None]
 
 
 class Fault(Exception):
@@ -22,6 +25,10 @@ class Fault(Exception):
 
 class Over(Exception):
     """The octets of a message are over, and a value isn't complete."""
+
+
+class Untyped(Exception):
+    """What follows has a type that isn't known, or one for which there is no room."""
 
 
 def escaped(octets: bytes) -> str:
@@ -43,6 +50,7 @@ class Reader:
         self.order = order
         self.tell = tell
         self.at = HEADER
+        self.parts = 0  # that have begun and not ended
         self._aligned_from = 0
         self._end: Optional[int] = None  # of the encapsulations that it stands in, the one that ends first
 
@@ -86,8 +94,16 @@ class Reader:
             octets = self.take(min(PIECE, end - self.at))
             self.tell(self.at, f"{path} rest @{offset} {octets.hex()}")
 
-    def encapsulation(self, path: str, value: Type) -> None:
-        """An encapsulation: its length, its byte order, a value, and what is left."""
+    def value(self, of: Type, path: str) -> Read:
+        """A value of a type, which is one part more until it ends."""
+        self.parts += 1
+        try:
+            return of.read(self, path)
+        finally:
+            self.parts -= 1
+
+    def encapsulation(self, path: str, value: Type) -> Read:
+        """An encapsulation: its length, its byte order, a value, and what is left. It gives what the value does."""
         length = self.number(4)
         outside = (self.order, self._aligned_from, self._end)
         end = self.at + length
@@ -99,16 +115,25 @@ class Reader:
             raise Fault("encap-order", self.at)
         self.order = ORDERS[flag]
         self.tell(self.at, f"{path} order {self.order}")
-        value.read(self, path)
+        read: Read = None
+        try:
+            read = self.value(value, path)
+        except Untyped:
+            pass  # what is left of it is its rest
         self.rest(path, end)
         self.order, self._aligned_from, self._end = outside
+        return read
 
 
 class Type:
-    """A type. `read` reads a value, whose lines have this path."""
+    """A type. `read` reads a value, whose lines have this path; `depth` is how many of its parts may be in each other."""
 
     def read(self, reader: Reader, path: str) -> Read:
         raise NotImplementedError
+
+    @cached_property
+    def depth(self) -> int:
+        return 1
 
 
 @dataclass(frozen=True)
@@ -204,11 +229,16 @@ class Series(Type):
     element: Type
     bound: Optional[int] = None
 
-    def read(self, reader: Reader, path: str) -> None:
+    def read(self, reader: Reader, path: str) -> int:
         count = counted(reader, self.bound)
         reader.tell(reader.at, f"{path} count {count}")
         for place in range(count):
-            self.element.read(reader, f"{path}[{place}]")
+            reader.value(self.element, f"{path}[{place}]")
+        return count
+
+    @cached_property
+    def depth(self) -> int:
+        return 1 + self.element.depth
 
 
 def counted(reader: Reader, bound: Optional[int]) -> int:
@@ -228,7 +258,11 @@ class Array(Type):
 
     def read(self, reader: Reader, path: str) -> None:
         for place in range(self.count):
-            self.element.read(reader, f"{path}[{place}]")
+            reader.value(self.element, f"{path}[{place}]")
+
+    @cached_property
+    def depth(self) -> int:
+        return 1 + self.element.depth
 
 
 Members = Sequence[Tuple[str, Type]]
@@ -242,7 +276,11 @@ class Struct(Type):
 
     def read(self, reader: Reader, path: str) -> None:
         for name, member in self.members:
-            member.read(reader, f"{path}.{name}")
+            reader.value(member, f"{path}.{name}")
+
+    @cached_property
+    def depth(self) -> int:
+        return 1 + max((member.depth for _, member in self.members), default=0)
 
 
 @dataclass(frozen=True)
@@ -272,7 +310,12 @@ class Union(Type):
         assert isinstance(value, int)
         case = self.cases.get(value, self.default)
         if case is not None:
-            case[1].read(reader, f"{path}.{case[0]}")
+            reader.value(case[1], f"{path}.{case[0]}")
+
+    @cached_property
+    def depth(self) -> int:
+        cases = [*self.cases.values(), *([self.default] if self.default else [])]
+        return 1 + max((case.depth for _, case in cases), default=1)
 
 
 @dataclass(frozen=True)
@@ -281,8 +324,12 @@ class Encapsulation(Type):
 
     value: Type
 
-    def read(self, reader: Reader, path: str) -> None:
-        reader.encapsulation(path, self.value)
+    def read(self, reader: Reader, path: str) -> Read:
+        return reader.encapsulation(path, self.value)
+
+    @cached_property
+    def depth(self) -> int:
+        return 1 + self.value.depth
 
 
 @dataclass(frozen=True)
@@ -297,13 +344,17 @@ class Tagged(Type):
     def read(self, reader: Reader, path: str) -> None:
         number = ULONG.read(reader, f"{path}.{self.number}")
         data = Encapsulation(self.value) if number == self.known else Octets()
-        data.read(reader, f"{path}.{self.data}")
+        reader.value(data, f"{path}.{self.data}")
+
+    @cached_property
+    def depth(self) -> int:
+        return 2 + self.value.depth
 
 
 OCTET, SHORT = Integer("octet", 1, False), Integer("short", 2, True)
-USHORT, ULONG = Integer("ushort", 2, False), Integer("ulong", 4, False)
+USHORT, ULONG, LONG = Integer("ushort", 2, False), Integer("ulong", 4, False), Integer("long", 4, True)
 BASE: Dict[str, Type] = {
-    "octet": OCTET, "short": SHORT, "ushort": USHORT, "ulong": ULONG, "long": Integer("long", 4, True),
+    "octet": OCTET, "short": SHORT, "ushort": USHORT, "ulong": ULONG, "long": LONG,
     "longlong": Integer("longlong", 8, True), "ulonglong": Integer("ulonglong", 8, False),
     "boolean": Boolean(), "char": Char(), "float": Real("float", 4), "double": Real("double", 8),
 }  # fmt: skip
@@ -317,6 +368,129 @@ IOR_ADDRESS = Struct([("selected_profile_index", ULONG), ("ior", IOR)])
 TARGET = Union(Disposition(3), {0: ("object_key", Octets()), 1: ("profile", TAGGED_PROFILE), 2: ("ior", IOR_ADDRESS)})
 COMPLETED = Enum(("COMPLETED_YES", "COMPLETED_NO", "COMPLETED_MAYBE"))
 SYSTEM_EXCEPTION = Struct([("exception_id", String()), ("minor", ULONG), ("completed", COMPLETED)])
+
+# The kinds of a TypeCode, by their numbers; `indirection` stands apart.
+KINDS = (
+    "null void short long ushort ulong float double boolean char octet any TypeCode Principal objref struct union enum string "
+    "sequence array alias except longlong ulonglong longdouble wchar wstring fixed value value_box native abstract_interface "
+    "local_interface component home event"
+).split()
+INDIRECTION = 0xFFFFFFFF
+ANY, TYPECODE, PRINCIPAL, OBJREF, STRUCT, UNION, ENUM, STRING, SEQUENCE, ARRAY, ALIAS, EXCEPT = range(11, 23)
+WSTRING, FIXED, VALUE, VALUE_BOX, EVENT = 27, 28, 29, 30, 36
+NOTHING = Struct([])  # the value of the kinds null and void
+# The kinds that tell a type or none without parameters.
+BY_KIND: Dict[int, Optional[Type]] = {
+    **{kind: BASE[word] for kind, word in enumerate(KINDS) if word in BASE},
+    0: NOTHING, 1: NOTHING, PRINCIPAL: Octets(), 25: None, 26: None,
+}  # fmt: skip
+IDENTIFIED = {STRUCT: Struct, UNION: Union, ENUM: Enum}
+
+
+@dataclass(frozen=True)
+class TypeCode(Type):
+    """A TypeCode. Reading one gives the type that it names, where the types with these repository ids are declared."""
+
+    identified: Dict[bytes, Type]
+
+    def read(self, reader: Reader, path: str) -> Read:
+        kind = reader.number(4)
+        if kind >= len(KINDS) and kind != INDIRECTION:
+            raise Fault("enum", reader.at)
+        word = "indirection" if kind == INDIRECTION else f"tk_{KINDS[kind]}"
+        reader.tell(reader.at, f"{path}.kind enum {word}")
+        if kind in BY_KIND:
+            return BY_KIND[kind]
+        if kind in (ANY, TYPECODE):
+            return Any(self) if kind == ANY else self
+        if kind in (STRING, WSTRING):
+            ULONG.read(reader, f"{path}.bound")
+            return String() if kind == STRING else None
+        if kind == INDIRECTION:
+            LONG.read(reader, f"{path}.offset")
+            return None
+        return self.parameters(reader, kind, f"{path}.parameters")
+
+    def parameters(self, reader: Reader, kind: int, path: str) -> Read:
+        """The parameters of the other kinds: told in full where there is room for TypeCodes of members, else octets."""
+        if kind == FIXED:
+            return reader.value(Struct([("digits", USHORT), ("scale", SHORT)]), path)
+        if reader.parts - 1 + 8 <= ROOM:
+            return reader.value(Encapsulation(Parameters(kind, self)), path)
+        Octets().read(reader, path)
+        return IOR if kind == OBJREF else None
+
+    @cached_property
+    def depth(self) -> int:
+        return 3
+
+
+@dataclass(frozen=True)
+class Parameters(Type):
+    """What stands in the encapsulation of a TypeCode's parameters, up to where the members named end."""
+
+    kind: int
+    code: TypeCode
+
+    def read(self, reader: Reader, path: str) -> Read:
+        if self.kind in (SEQUENCE, ARRAY):
+            element = reader.value(self.code, f"{path}.element")
+            ULONG.read(reader, f"{path}.{'bound' if self.kind == SEQUENCE else 'length'}")
+            return sequence_of(element) if self.kind == SEQUENCE else None
+        known = self.code.identified.get(String().read(reader, f"{path}.id"))
+        String().read(reader, f"{path}.name")
+        if not isinstance(known, IDENTIFIED.get(self.kind, ())):
+            known = None
+        if self.kind in (ALIAS, VALUE_BOX):
+            content = reader.value(self.code, f"{path}.{'type' if self.kind == ALIAS else 'boxed'}")
+            return content if self.kind == ALIAS else None
+        if self.kind == UNION:
+            reader.value(self.code, f"{path}.discriminator")
+            LONG.read(reader, f"{path}.default_used")
+            return known
+        if self.kind == ENUM:
+            count = reader.value(Series(String()), f"{path}.enumerators")
+            return known if isinstance(known, Enum) and len(known.names) == count else None
+        if self.kind in (STRUCT, EXCEPT, VALUE, EVENT):
+            count = self.members(reader, path)
+            return known if isinstance(known, Struct) and len(known.members) == count else None
+        return IOR if self.kind == OBJREF else None
+
+    def members(self, reader: Reader, path: str) -> Read:
+        """The members of a struct or an exception, or what a value type has; it gives their count."""
+        member = [("name", String()), ("type", self.code)]
+        if self.kind in (VALUE, EVENT):
+            SHORT.read(reader, f"{path}.modifier")
+            reader.value(self.code, f"{path}.base")
+            member.append(("visibility", SHORT))
+        return reader.value(Series(Struct(member)), f"{path}.members")
+
+
+def sequence_of(element: Read) -> Optional[Type]:
+    """The type that a sequence's TypeCode names, by what its element's names."""
+    if not isinstance(element, Type) or element is NOTHING or isinstance(element, (Octets, Series)):
+        return None
+    return Octets() if element is OCTET else Series(element)
+
+
+@dataclass(frozen=True)
+class Any(Type):
+    """A TypeCode, and a value of the type that it names."""
+
+    code: TypeCode
+
+    def read(self, reader: Reader, path: str) -> None:
+        named = reader.value(self.code, f"{path}.type")
+        if named is NOTHING:
+            return
+        if not isinstance(named, Type) or reader.parts + named.depth > ROOM:
+            raise Untyped
+        reader.value(named, f"{path}.value")
+
+    @cached_property
+    def depth(self) -> int:
+        return 4
+
 
 # The names of a status in 1.0 and 1.1, and those that 1.2 has more.
 REPLY_STATUS = ("NO_EXCEPTION", "USER_EXCEPTION", "SYSTEM_EXCEPTION", "LOCATION_FORWARD")

@@ -79,6 +79,17 @@ class Scalar:
 
 
 @dataclass(frozen=True)
+class Described:
+    """An `any`, which says of which type its value is, or a `TypeCode`, which describes a type: by their words."""
+
+    word: str
+
+    @property
+    def depth(self) -> int:
+        return 4 if self.word == "any" else 3
+
+
+@dataclass(frozen=True)
 class Text:
     """A string; a bound of 0 is none."""
 
@@ -127,10 +138,12 @@ class Item:
 
 @dataclass(eq=False)
 class Declared:
-    """A declaration with a name of its own in the signature file."""
+    """A declaration with a name of its own in the signature file. Its repository id is empty if it has none that can be
+    written."""
 
     scoped: Tuple[str, ...]
     place: Place
+    repository_id: str
 
     @property
     def parts(self) -> Sequence[Type]:
@@ -182,9 +195,8 @@ class Union(Declared):
 
 @dataclass(eq=False)
 class Raised(Declared):
-    """An exception with its repository id."""
+    """An exception."""
 
-    repository_id: str
     members: Tuple[Item, ...]
 
     @property
@@ -192,7 +204,7 @@ class Raised(Declared):
         return [member.type for member in self.members]
 
 
-Type = Either[Scalar, Text, Reference, Series, Array, Enum, Struct, Union]
+Type = Either[Scalar, Described, Text, Reference, Series, Array, Enum, Struct, Union]
 
 
 @dataclass(frozen=True)

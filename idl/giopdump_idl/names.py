@@ -10,7 +10,7 @@ from .model import MOST_NAME, Declared
 RESERVED = frozenset(
     "signatures enum struct union switch case default true false exception operation void in out inout string "
     "Object sequence octet char boolean short ushort long ulong longlong ulonglong float double return "
-    "encapsulation".split()
+    "encapsulation any TypeCode wchar wstring fixed longdouble".split()
 )
 
 

@@ -19,6 +19,7 @@ from .translator import Translator
 UNEQUAL = "equal names, unequal parameters"
 UNEQUAL_IDS = "equal repository ids, unequal members"
 MOST_NAMED = 8  # interfaces that one comment names
+MOST_REFUSED = 64  # types that have a comment of their own
 
 
 @dataclass
@@ -160,8 +161,8 @@ class Selection:
     """Decides what is written, in order: sections of entries, and the counts: what is whole, what is by half, which is
     written as far as it has types, and what is left out. An operation counts wherever it is declared."""
 
-    def __init__(self, tree: idlast.AST, only: Sequence[str]) -> None:
-        self.translator = Translator()
+    def __init__(self, tree: idlast.AST, only: Sequence[str], version: int) -> None:
+        self.translator = Translator(version)
         self.sections: List[Tuple[str, List[Entry]]] = []
         self.whole: Counter[str] = Counter()
         self.by_half: Counter[str] = Counter()
@@ -176,6 +177,8 @@ class Selection:
         self._settle(parts)
         for part in parts:
             self._place(part)
+        if version == 3:
+            self._identify(tree)
         refused = self._refusals()
         if refused:
             self.sections.append(("Types that can't be said, or that need one", refused))
@@ -288,13 +291,38 @@ class Selection:
             return refusal
         return made
 
+    def _identify(self, tree: idlast.AST) -> None:
+        """Adds the other types that have a repository id, by which the value of an any is known."""
+        entries: List[Entry] = []
+        for decl in walk(tree.declarations()):
+            if not isinstance(decl, (idlast.Enum, idlast.Struct, idlast.Union)):
+                continue
+            try:
+                found = self._new([self.translator.declared(decl, decl.scopedName())])
+                at_most(self.whole["type"] + len(found), MOST_DECLARATIONS, "types")
+            except Unsayable:
+                continue  # it is told with the others
+            self._placed.update(found)
+            self.whole["type"] += len(found)
+            entries.extend(found)
+        if entries:
+            self.sections.append(("Types that only an any may have", entries))
+
     def _refusals(self) -> List[Entry]:
-        """Comments on the types that were refused."""
-        refused = self.translator.refused.items()
-        return [f"left out: {spelled(scoped)} ({place}): {why.text}" for scoped, (place, why) in refused]
+        """Comments on the types that were refused, on the first of them if they are many."""
+        refused = [
+            f"left out: {spelled(scoped)} ({place}): {why.text}"
+            for scoped, (place, why) in self.translator.refused.items()
+        ]
+        more = [f"left out: {len(refused) - MOST_REFUSED} more types"] if len(refused) > MOST_REFUSED else []
+        return [*refused[:MOST_REFUSED], *more]
 
     def _new_types(self, made: Either[Operation, Raised]) -> List[Declared]:
         """The declarations that something needs and that aren't there yet, each after those that it needs."""
+        return self._new(made.parts if isinstance(made, Raised) else made.types)
+
+    def _new(self, types: Iterable[Type]) -> List[Declared]:
+        """The declarations in these types that aren't there yet, each after those that it needs."""
         found: Dict[Declared, None] = {}
 
         def visit(each: Type) -> None:
@@ -305,7 +333,7 @@ class Selection:
                     visit(part)
                 found[each] = None
 
-        for part in made.parts if isinstance(made, Raised) else made.types:
+        for part in types:
             visit(part)
         return list(found)
 

@@ -3,9 +3,25 @@
 from __future__ import annotations
 
 import os
+from collections import Counter
 from typing import Sequence, Tuple
 
-from .model import Array, Declared, Enum, Item, Operation, Raised, Reference, Scalar, Series, Struct, Text, Type, Union
+from .model import (
+    Array,
+    Declared,
+    Described,
+    Enum,
+    Item,
+    Operation,
+    Raised,
+    Reference,
+    Scalar,
+    Series,
+    Struct,
+    Text,
+    Type,
+    Union,
+)
 from .names import names_for
 from .selection import Entry
 from .shown import shown
@@ -16,15 +32,18 @@ class Sheet:
 
     WIDTH = 110
 
-    def __init__(self, sections: Sequence[Tuple[str, Sequence[Entry]]]) -> None:
+    def __init__(self, sections: Sequence[Tuple[str, Sequence[Entry]]], version: int) -> None:
         self._sections = sections
-        self._names = names_for([each for _, entries in sections for each in entries if isinstance(each, Declared)])
+        self._version = version
+        declared = [each for _, entries in sections for each in entries if isinstance(each, Declared)]
+        self._names = names_for(declared)
+        self._ids = Counter(each.repository_id for each in declared if not isinstance(each, Raised))
 
     def text(self, source: str, only: Sequence[str], counts: str) -> str:
         """The whole signature file; its head says how much of the source is in it."""
         wanted = f", of it {' and '.join(only)}" if only else ""
         origin = f"Written by giopdump_signatures from {os.path.basename(source)}{wanted}."
-        lines = ["signatures 1;", "", comment(origin), comment(f"{counts}.")]
+        lines = [f"signatures {self._version};", "", comment(origin), comment(f"{counts}.")]
         for title, entries in self._sections:
             lines += ["", comment(title)] + [self._entry(entry) for entry in entries]
         return "\n".join(lines) + "\n"
@@ -37,7 +56,7 @@ class Sheet:
             result = "void" if entry.result is None else self._type(entry.result)
             parameters = [f"{each.direction} {self._item(each.item)}" for each in entry.parameters]
             return self._laid_out(f"operation {result} {entry.name}(", parameters, ", ", ");", "")
-        name = self._names[entry]
+        name = self._names[entry] + self._identity(entry)
         if isinstance(entry, Enum):
             return self._laid_out(f"enum {name} {{", entry.names, ", ", "};", " ")
         if isinstance(entry, Union):
@@ -45,8 +64,13 @@ class Sheet:
             return self._laid_out(f"union {name} switch ({self._type(entry.switch)}) {{", cases, " ", "};", " ")
         assert isinstance(entry, (Struct, Raised))
         members = [f"{self._item(member)};" for member in entry.members]
-        kind = f'exception {name} "{entry.repository_id}"' if isinstance(entry, Raised) else f"struct {name}"
-        return self._laid_out(f"{kind} {{", members, " ", "};", " ")
+        kind = "exception" if isinstance(entry, Raised) else "struct"
+        return self._laid_out(f"{kind} {name} {{", members, " ", "};", " ")
+
+    def _identity(self, entry: Declared) -> str:
+        """The repository id of an exception, and in version 3 of a type, unless another type has it too."""
+        is_written = self._version == 3 and self._ids[entry.repository_id] == 1 and entry.repository_id
+        return f' "{entry.repository_id}"' if is_written or isinstance(entry, Raised) else ""
 
     def _laid_out(self, head: str, parts: Sequence[str], between: str, tail: str, space: str) -> str:
         """Head, parts and tail on one line, or a part a line."""
@@ -63,7 +87,7 @@ class Sheet:
 
     def _type(self, made: Type) -> str:
         """A type as it stands in a declaration."""
-        if isinstance(made, Scalar):
+        if isinstance(made, (Scalar, Described)):
             return made.word
         if isinstance(made, Text):
             return f"string<{made.bound}>" if made.bound else "string"

@@ -8,7 +8,7 @@ from omniidl import idlast, idltype
 
 from .model import (
     MOST_ENUMERATORS, MOST_LABELS, MOST_MEMBERS, MOST_NESTING, MOST_OPERATION_NAME, MOST_PARAMETERS, RETURNED, Array,
-    Case, Enum, Item, Operation, Place, Raised, Reference, Scalar, Series, Slot, Struct, Text, TooDeep, Type, Union,
+    Case, Described, Enum, Item, Operation, Place, Raised, Reference, Scalar, Series, Slot, Struct, Text, TooDeep, Type, Union,
     Unsayable, at_most, checked_depth, spelled,
 )  # fmt: skip
 from .names import fresh_names
@@ -27,10 +27,11 @@ SCALARS: Dict[int, str] = {
     idltype.tk_double: "double",
 }
 
+# Types whose values say of which type they are, or describe one.
+DESCRIBED: Dict[int, str] = {idltype.tk_any: "any", idltype.tk_TypeCode: "TypeCode"}
+
 # What the signature language has no form for, in IDL's words.
 FORMLESS: Dict[int, str] = {
-    idltype.tk_any: "any",
-    idltype.tk_TypeCode: "TypeCode",
     idltype.tk_Principal: "Principal",
     idltype.tk_longdouble: "long double",
     idltype.tk_wchar: "wchar",
@@ -49,9 +50,10 @@ DIRECTIONS = ("in", "out", "inout")  # by omniidl's numbers
 
 
 class Translator:
-    """Turns omniidl's types and declarations into ours, each declaration once."""
+    """Turns omniidl's types and declarations into ours of a version of the language, each declaration once."""
 
-    def __init__(self) -> None:
+    def __init__(self, version: int) -> None:
+        self._version = version
         self.refused: Dict[Tuple[str, ...], Tuple[Place, Unsayable]] = {}
         self._made: Dict[Tuple[str, ...], Type] = {}
         self._begun: Set[Tuple[str, ...]] = set()
@@ -86,6 +88,10 @@ class Translator:
         kind = idl.kind()
         if kind in SCALARS:
             return Scalar(SCALARS[kind])
+        if kind in DESCRIBED and self._version == 3:
+            return Described(DESCRIBED[kind])
+        if kind in DESCRIBED:
+            raise Unsayable(DESCRIBED[kind])
         if kind in FORMLESS:
             raise Unsayable(FORMLESS[kind])
         if kind == idltype.tk_string:
@@ -111,7 +117,7 @@ class Translator:
             return made
         if made not in self._around:
             name = f"{word_of(made.element)}_x{made.length}"
-            self._around[made] = Struct((name,), Place("", 0), (Item("v", made),))
+            self._around[made] = Struct((name,), Place("", 0), "", (Item("v", made),))
         return self._around[made]
 
     def declared(self, decl: idlast.Decl, scoped_name: Sequence[str]) -> Type:
@@ -151,14 +157,14 @@ class Translator:
         """An enum."""
         wishes = [each.identifier() for each in sorted(decl.enumerators(), key=lambda each: int(each.value()))]
         at_most(len(wishes), MOST_ENUMERATORS, "enumerators")
-        return Enum(tuple(decl.scopedName()), Place.of(decl), tuple(fresh_names(wishes)))
+        return Enum(tuple(decl.scopedName()), Place.of(decl), written_id(decl), tuple(fresh_names(wishes)))
 
     def struct(self, decl: idlast.Struct) -> Struct:
         """A struct."""
         members = self.items(decl.members())
         if not members:
             raise Unsayable("struct without members")
-        return Struct(tuple(decl.scopedName()), Place.of(decl), members)
+        return Struct(tuple(decl.scopedName()), Place.of(decl), written_id(decl), members)
 
     def items(self, members: Iterable[idlast.Member]) -> Tuple[Item, ...]:
         """The members of a struct or an exception; a declarator is one of them."""
@@ -188,7 +194,7 @@ class Translator:
         at_most(sum(len(case.labels()) for case in decl.cases()), MOST_LABELS, "labels")
         names = fresh_names(case.declarator().identifier() for case in decl.cases())
         cases = tuple(self.case(name, switch, case) for name, case in zip(names, decl.cases()))
-        return Union(tuple(decl.scopedName()), Place.of(decl), switch, cases)
+        return Union(tuple(decl.scopedName()), Place.of(decl), written_id(decl), switch, cases)
 
     def case(self, name: str, switch: Type, case: idlast.UnionCase) -> Case:
         """One case of a union."""
@@ -199,10 +205,9 @@ class Translator:
 
     def raised(self, decl: idlast.Exception) -> Raised:
         """An exception."""
-        repository_id = decl.repoId()
-        octets_fit = all("!" <= each <= "~" and each != '"' for each in repository_id)
-        if not 1 <= len(repository_id) <= MOST_OPERATION_NAME or not octets_fit:
-            raise Unsayable("repository id", f"its repository id {repository_id!r} can't be written")
+        repository_id = written_id(decl)
+        if not repository_id:
+            raise Unsayable("repository id", f"its repository id {decl.repoId()!r} can't be written")
         made = Raised(tuple(decl.scopedName()), Place.of(decl), repository_id, self.items(decl.members()))
         checked_depth(made.depth)
         return made
@@ -252,9 +257,16 @@ class Translator:
         return Operation.of(name, slots)
 
 
+def written_id(decl: idlast.Decl) -> str:
+    """The repository id of a declaration; empty where it can't be written."""
+    repository_id: str = decl.repoId()
+    octets_fit = all("!" <= each <= "~" and each != '"' for each in repository_id)
+    return repository_id if 1 <= len(repository_id) <= MOST_OPERATION_NAME and octets_fit else ""
+
+
 def word_of(made: Type) -> str:
     """A word for a type, which the name of a struct of ours begins with."""
-    if isinstance(made, Scalar):
+    if isinstance(made, (Scalar, Described)):
         return made.word
     if isinstance(made, Text):
         return "string"

@@ -1,4 +1,4 @@
-signatures 1;
+signatures 3;
 
 // Written by giopdump_signatures from arrays.idl.
 // whole: 9 operations, 1 exception, 8 types; by half: 0 operations; left out: 0 operations, 0 exceptions.
@@ -15,9 +15,9 @@ struct long_x3_x2 { long_x3 v[2]; };
 operation long_x3_x2 all(in long one[3], inout long_x3 two[2]);
 operation sequence<long_x3, 7> flat(in sequence<long_x3_x2> many);
 struct short_x3 { short v[3]; };
-struct Point { long x; long y; long ring[3]; };
-struct Square { short_x3 at[2]; Point corners[4]; octet raw[5]; octet sum[16]; };
-union Either switch (boolean) { case true: long one[3]; case false: long_x3 two[2]; };
+struct Point "IDL:A/Point:1.0" { long x; long y; long ring[3]; };
+struct Square "IDL:A/Square:1.0" { short_x3 at[2]; Point corners[4]; octet raw[5]; octet sum[16]; };
+union Either "IDL:A/Either:1.0" switch (boolean) { case true: long one[3]; case false: long_x3 two[2]; };
 operation void cube(in Square s, out Either e, in string n[2]);
 struct octet_x16 { octet v[16]; };
 operation octet_x16 _get_check();

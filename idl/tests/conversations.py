@@ -191,7 +191,7 @@ m8 end
 """,
 )
 
-# An any is a TypeCode, here of a basic type and so one ulong, and the value after it: rest, padding and all.
+# What stands here for a wstring are any octets: they have no form, and are rest, padding and all.
 HALF = Conversation(
     "half",
     [

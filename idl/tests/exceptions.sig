@@ -1,4 +1,4 @@
-signatures 1;
+signatures 3;
 
 // Written by giopdump_signatures from exceptions.idl.
 // whole: 3 operations, 6 exceptions, 0 types; by half: 0 operations; left out: 0 operations, 0 exceptions.

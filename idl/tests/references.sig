@@ -1,4 +1,4 @@
-signatures 1;
+signatures 3;
 
 // Written by giopdump_signatures from references.idl.
 // whole: 5 operations, 0 exceptions, 1 type; by half: 0 operations; left out: 0 operations, 0 exceptions.
@@ -8,7 +8,7 @@ operation boolean _is_a(in string logical_type_id);
 operation boolean _non_existent();
 
 // R::Sooner (references.idl:7)
-struct Ahead { Object who; Object any_one; };
+struct Ahead "IDL:R/Ahead:1.0" { Object who; Object any_one; };
 operation Object next(in sequence<Object> many, in Ahead one);
 
 // R::Later (references.idl:8)

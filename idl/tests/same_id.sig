@@ -1,4 +1,4 @@
-signatures 1;
+signatures 3;
 
 // Written by giopdump_signatures from same_id.idl.
 // whole: 3 operations, 1 exception, 0 types; by half: 0 operations; left out: 0 operations, 2 exceptions.

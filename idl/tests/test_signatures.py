@@ -9,7 +9,7 @@ import sys
 import tempfile
 import unittest
 from pathlib import Path
-from typing import Callable, Dict, List
+from typing import Callable, Dict, List, Tuple
 
 HERE = Path(__file__).resolve().parent
 REPOSITORY = HERE.parent.parent
@@ -19,7 +19,7 @@ sys.path.insert(0, str(HERE))
 
 from conversations import CONVERSATIONS  # noqa: E402
 
-ARGUMENTS: Dict[str, List[str]] = {"only": ["-Wbonly=O::Wanted"]}
+ARGUMENTS: Dict[str, List[str]] = {"first": ["-Wbversion=1"], "only": ["-Wbonly=O::Wanted"]}
 
 
 def omniidl(*words: str, cwd: Path = HERE) -> subprocess.CompletedProcess[str]:
@@ -47,7 +47,7 @@ def refusal_of(signatures: str) -> str:
     """What the dumper says against a signature file; nothing where it takes it."""
     with tempfile.TemporaryDirectory() as folder:
         path = with_files({"f.sig": signatures.encode()}, folder)["f.sig"]
-        done = dump("--signatures", path, "/dev/null")
+        done = dump("--types", path, "/dev/null")
         return done.stderr if done.returncode else ""
 
 
@@ -75,7 +75,9 @@ class Texts(unittest.TestCase):
     def test_names_in_comments_are_single_lines(self) -> None:
         done = omniidl("left_out.idl")
         for line in done.stdout.splitlines():
-            self.assertTrue(line == "" or line.startswith(("//", "signatures", "operation", "exception")), line)
+            self.assertTrue(
+                line == "" or line.startswith(("//", "signatures", "operation", "exception", "struct", "  ", "}")), line
+            )
 
 
 class Errors(unittest.TestCase):
@@ -85,11 +87,10 @@ class Errors(unittest.TestCase):
         self.assertEqual(
             omniidl("left_out.idl").stderr.splitlines()[-3:],
             [
-                "giopdump_signatures: whole: 4 operations, 1 exception, 0 types",
+                "giopdump_signatures: whole: 9 operations, 2 exceptions, 4 types",
                 "giopdump_signatures: by half: 0 operations",
-                "giopdump_signatures: left out: 13 operations, 1 exception (1 for TypeCode, 1 for abstract interface, "
-                "5 for any, 1 for fixed, 1 for long double, 1 for type within itself, 2 for value type, 1 for wchar, "
-                "1 for wstring)",
+                "giopdump_signatures: left out: 8 operations, 0 exceptions (1 for abstract interface, 1 for fixed, "
+                "1 for long double, 1 for type within itself, 2 for value type, 1 for wchar, 1 for wstring)",
             ],
         )
 
@@ -98,9 +99,9 @@ class Errors(unittest.TestCase):
             omniidl("half_equal.idl").stderr.splitlines()[-3:],
             [
                 "giopdump_signatures: whole: 2 operations, 0 exceptions, 1 type",
-                "giopdump_signatures: by half: 16 operations (4 for any, 12 for equal names, unequal parameters)",
-                "giopdump_signatures: left out: 6 operations, 0 exceptions (2 for any, 4 for equal names, unequal "
-                "parameters)",
+                "giopdump_signatures: by half: 16 operations (12 for equal names, unequal parameters, 4 for wstring)",
+                "giopdump_signatures: left out: 6 operations, 0 exceptions (4 for equal names, unequal "
+                "parameters, 2 for wstring)",
             ],
         )
 
@@ -109,6 +110,7 @@ class Errors(unittest.TestCase):
             (["-Wbonly=O::Nobody", "only.idl"], "there is no interface O::Nobody"),
             (["-Wbonly=", "only.idl"], "unknown argument only="),
             (["-Wball", "only.idl"], "unknown argument all"),
+            (["-Wbversion=4", "only.idl"], "unknown argument version=4"),
             (["-Wbonly=O::\x1b[2J\n", "only.idl"], "there is no interface O::\\x1b[2J\\x0a\n"),
             (["-Wb\u00e9", "only.idl"], "unknown argument \\xc3\\xa9; there is\n"),
             (["no_such_file.idl"], "does not exist"),
@@ -204,10 +206,10 @@ class Limits(unittest.TestCase):
                 self.assertEqual(refusal in text, refused)
                 self.assertEqual(bool(re.search(r"(?m)^operation void o\(in long x\);$", text)), not refused)
                 self.assertRegex(text, r"(?m)^operation void p\(in ")
-                self.assertLess(len(text), 1500)
+                self.assertLess(len(text), 10000)
 
     def test_a_name_of_many_interfaces(self) -> None:
-        kinds = ("long", "string", "double", "any")
+        kinds = ("long", "string", "double", "wstring")
         rows = [(f"I{n}", kinds[n % 4]) for n in range(146)]
         idl = " ".join(f"interface {name} {{ void f(in {kind} x); long g(in {kind} x); }};" for name, kind in rows)
         text = self.converted(idl)
@@ -253,7 +255,7 @@ class Conversations(unittest.TestCase):
                     },
                     folder,
                 )
-                dumped = dump("--signatures", paths["sig"], "--requests", paths["req"], paths["giop"])
+                dumped = dump("--types", paths["sig"], "--requests", paths["req"], paths["giop"])
                 self.assertEqual(dumped.returncode, 0, dumped.stderr)
                 told = dumped.stdout.splitlines()
                 lines = [line for line in told if not re.match(r"m\d+ (start|header)|total", line)]
@@ -312,13 +314,14 @@ class Examples(unittest.TestCase):
             self.assertNotRegex(done.stdout, r"(?m)^m\d+ (rest|fault|unfinished)")
 
     def test_each(self) -> None:
-        for idl, example in (
-            ("CosNaming", "naming"),
-            ("CosEventComm", "event"),
-            ("CosNotifyChannelAdmin", "notification"),
-        ):
-            with self.subTest(idl):
-                done = omniidl(f"{idl}.idl", cwd=IDL / "COS")
+        rows: List[Tuple[Path, str, List[str]]] = [
+            (IDL / "COS/CosNaming.idl", "naming", ["-Wbversion=1"]),
+            (REPOSITORY / "examples/event.idl", "event", []),
+            (IDL / "COS/CosNotifyChannelAdmin.idl", "notification", []),
+        ]
+        for idl, example, words in rows:
+            with self.subTest(example):
+                done = omniidl(*words, idl.name, cwd=idl.parent)
                 self.assertEqual(done.stdout, (REPOSITORY / f"examples/{example}.sig").read_text())
 
 

@@ -1,15 +1,18 @@
 -- How many parts that are begun and not ended fit in a type, one in the other.
-use Rattle.std.proofs.Common.{ℕ, zero, suc, ◌<◌, ◌≤◌, max, List, [], ◌∷◌, length, arith, ◌⊎◌, inl, inr}
-use Rattle.std.proofs.lemmas.Bool.{cases_lt}
+use Rattle.std.proofs.Common.{◌≡◌, ℕ, zero, suc, ◌<◌, ◌≤◌, ◌==◌, Bool, true, false, cond, refl, max, List, [], ◌∷◌, length, arith, ◌⊎◌, inl, inr}
+use Rattle.std.proofs.lemmas.Bool.{cases_lt, eqb-false}
 use Rattle.giop_decode.specs.declared.decoder.Decoder.{Decoder}
 use Rattle.giop_decode.specs.Fits.{FitsIn, HasParts, HasCase, IsEncapsulation, IsLed}
 use Rattle.giop_decode.specs.DecoderState.{Fits}
 use Rattle.giop_decode.specs.ReadResult.{OpenPart, Part, Member, Inside, Leaf, Telling}
+use Rattle.giop_decode.specs.Transitions.{leaf_of, open_parts}
 use Rattle.giop_decode.proofs.Going.{length_places}
+use Rattle.giop_decode.proofs.StoredChain.{fits_few}
 use Rattle.giop_sig.proofs.PartLaws.{depth_is}
 use Rattle.giop_sig.proofs.Unled.{HasNoLed, room_none}
+use Rattle.giop_sig.specs.HeaderTypes.{ArePlain, IsTable}
 use Rattle.giop_sig.specs.Table.{Table}
-use Rattle.giop_sig.specs.Trees.{depth_of}
+use Rattle.giop_sig.specs.Trees.{catalogue_depth, depth_of, tree}
 use Rattle.giop_sig.specs.Types.{Encapsulation, places_of, Ty, Struct, Union, Sequence, Array, part_of, depth, most, Led}
 
 most_at : (n i : ℕ) (f : ℕ → ℕ) → i < n → f i ≤ most n f
@@ -76,6 +79,25 @@ fits_shallow (Telling U told ∷ ps) T leaf none fits = search
 fits_shallow (Inside U coding end ∷ ps) T leaf none fits = search
     (arith, fits_shallow ps (part_of T 0) leaf (case_none T 0 none) fits.1, inside_shallower)
 
--- They are fewer than the types of a table are deep.
-pub fits_depth : (C : Table) (d : Decoder) → Fits C d → length d.outer.items < depth_of C.types
-fits_depth C d h = search (arith, length_places, fits_shallow, depth_is, room_none)
+plain_depth : (C : Table) (d : Decoder) → ArePlain C.types → Fits C d
+    → length d.outer.items < depth_of C.types
+plain_depth C d plain h =
+    omega (
+      arith,
+      length_places C 24 h.here d.outer.items,
+      fits_shallow (open_parts C h.here d.outer.items) (tree C h.root)
+          (leaf_of C d.outer.items h.leaf d.carry d.piece.items) (room_none C plain 24 h.root)
+          h.fits,
+      depth_is C h.root plain h.known_root,
+    )
+
+depth_by : (C : Table) (d : Decoder) (third : Bool) → (C.version == 3) ≡ third →
+    IsTable C → Fits C d → length d.outer.items < cond third 24 (depth_of C.types)
+depth_by C d true e laws h = fits_few C d h
+depth_by C d false e laws h =
+    plain_depth C d (laws.anys.plain (λ is. eqb-false C.version 3 e is)) h
+
+-- Those of a decoder are fewer than the types of its table are deep.
+pub fits_depth : (C : Table) (d : Decoder) → IsTable C → Fits C d
+    → length d.outer.items < catalogue_depth C
+fits_depth C d laws h = depth_by C d (C.version == 3) refl laws h

@@ -11,17 +11,17 @@ use Rattle.giop_decode.specs.Heard.{AreHeard, IsSign}
 use Rattle.giop_decode.specs.ReadResult.{Line, OpenPart, PathSegment, Telling}
 use Rattle.giop_decode.specs.Reading.{sign_of}
 use Rattle.giop_decode.specs.ReadingSteps.{heard_in, heard_parts, path_in, segment_in}
-use Rattle.giop_decode.specs.Transitions.{AreKnown, IsOutput, IsWithinAs, Link, StandAt, frames_after, is_inside, is_some_order, is_some_stage, holds_one, tells_one, number_after, number_of, open_part, open_parts, part_as, part_index, parts_in_room, signal_by, stage_after, stage_of, ticked, ticked_by, tree_in, within_by}
+use Rattle.giop_decode.specs.Transitions.{AreKnown, IsOutput, IsWithinAs, LinkIn, StandAt, frames_after, is_inside, is_some_order, is_some_stage, holds_one, tells_one, number_after, number_of, open_part, open_parts, part_as, part_index, parts_in_room, signal_by, stage_after, stage_of, ticked, ticked_by, tree_in, within_by}
 use Rattle.giop_decode.proofs.Surrounding.{IsCounted, free_ticked, get_at, heard_in_open, unheard, untelling}
 use Rattle.giop_decode.proofs.Counting.{free_ticked_by}
 use Rattle.giop_decode.proofs.Rooms.{in_frames}
-use Rattle.giop_sig.proofs.Unled.{none_heard}
+use Rattle.giop_sig.proofs.HearingLaws.{told_after_sign}
 use Rattle.giop_sig.specs.declared.types.Sign.{Sign}
 use Rattle.giop_sig.specs.declared.types.Signal.{Signal}
 use Rattle.giop_sig.specs.declared.types.Signal.TheVariants as signals
 use Rattle.giop_sig.specs.Hearings.{hearing_in as hearing_of, sign_is, signal_after}
-use Rattle.giop_sig.specs.Table.{Table, part_number}
-use Rattle.giop_sig.specs.Trees.{tree_at}
+use Rattle.giop_sig.specs.Table.{Table}
+use Rattle.giop_sig.specs.Trees.{part_number_in, tree_at}
 use Rattle.giop_sig.specs.Types.{Ty}
 
 -- a signal by its stage and its number
@@ -46,7 +46,7 @@ module _ (C : Table) (sign : Sign) where
   part_heard l of room here (Some stage) inside i count e =
       let T = tree_at C room of in
       rw (e, again (signal_after C of (signal_by stage i) sign))
-      (ap (Telling T) (none_heard C room of (signal_by stage i) sign))
+      (ap (Telling T) (told_after_sign C room of (signal_by stage i) sign))
 
   pub parts_heard : (l : Line) (room here : ℕ) (frames : List Frame) →
       sign_of l.value ≡ Some (sign_is sign) →
@@ -133,13 +133,14 @@ module _ (C : Table) (sign : Sign) where
   index_heard of None inside i = refl
   index_heard of (Some stage) inside i = refl
 
-  link_heard : (root inner : ℕ) (frames : List Frame) → Link C root frames inner →
-      Link C root (frames_after C sign frames) inner
-  link_heard root inner [] h = h
-  link_heard root inner (f ∷ frames) h = (
+  link_heard : (room root inner : ℕ) (frames : List Frame) → LinkIn C room root frames inner →
+      LinkIn C room root (frames_after C sign frames) inner
+  link_heard room root inner [] h = h
+  link_heard room root inner (f ∷ frames) h = (
     h.0,
     rw (index_heard f.of.0 f.told f.inside f.index)
-        (link_heard (part_number C root (part_index f.told f.inside f.index)) inner frames h.1),
+        (link_heard (pred room)
+        (part_number_in C (pred room) root (part_index f.told f.inside f.index)) inner frames h.1),
   )
 
 -- a frame that hears is one of the table
@@ -207,7 +208,7 @@ module _ (C : Table) (frames : List Frame) (of : ℕ) (output : Output) (piece :
     same = length_heard C sign frames;
     inside = rw (tells_heard C sign frames, holds_heard C sign frames) refl;
     stand = λ at h. stand_heard C sign at frames known h;
-    link = λ root inner h. link_heard C sign root inner frames h;
+    link = λ root inner h. link_heard C sign 24 root inner frames h;
   }
 
 -- what lines say wherever there is room they say in these frames

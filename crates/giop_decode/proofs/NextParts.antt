@@ -11,7 +11,7 @@ use Rattle.giop_decode.specs.Segments.{frame_text, frames_text}
 use Rattle.giop_decode.specs.Spelling.{lines_text, path_text, value_text}
 use Rattle.giop_print.specs.Line.{headed}
 use Rattle.giop_print.specs.Lines.{kind_line, kind_word, number_text, spaced}
-use Rattle.giop_sig.specs.Types.{HasPlace, Plain, Scalar, Single, Ty, interpreted_by, part_of, shape_in}
+use Rattle.giop_sig.specs.Types.{HasPlace, IsUnion, Plain, Scalar, Single, Ty, interpreted_by, part_of, shape_in}
 use Rattle.giop_cdr.specs.declared.prim.Primitive.{Primitive}
 use Rattle.giop_cdr.specs.declared.prim.Primitive.TheVariants as prims
 use Rattle.giop_decode.specs.declared.decoder.Decoder.{Decoder}
@@ -43,7 +43,7 @@ use Rattle.giop_decode.proofs.HeardFrames.{heard_free}
 use Rattle.giop_decode.proofs.Surrounding.{unheard, ahead_by, around_unless_ended, behind_stopped, free_coding_by, free_ended, free_first, free_ticked, front_gone, push_more, untelling, outside_pop, places_ticked}
 use Rattle.giop_decode.proofs.TransitionsInFrames.{around_done}
 use Rattle.giop_decode.proofs.FieldsRead.{headed_is, path_spelled}
-use Rattle.giop_decode.proofs.Linking.{link_pop, link_push}
+use Rattle.giop_decode.proofs.Linking.{link_next, link_pop}
 use Rattle.giop_decode.proofs.Noting.{stopped_silent}
 use Rattle.giop_decode.proofs.Passing.{last_says, passed_broken, passed_some}
 use Rattle.giop_decode.proofs.Segments.{said_one}
@@ -55,8 +55,8 @@ use Rattle.giop_decode.specs.Noted.{ends_in_string}
 use Rattle.giop_print.specs.Output.{OutLog, Wrote, WroteFront}
 use Rattle.giop_print.specs.Paths.{root_word}
 use Rattle.giop_sig.specs.Table.{Table}
-use Rattle.giop_decode.proofs.Rooms.{place_in_room}
-use Rattle.giop_sig.specs.Trees.{tree_at}
+use Rattle.giop_decode.proofs.Rooms.{counted_bare, place_in_room}
+use Rattle.giop_sig.specs.Trees.{tree, tree_at}
 use Rattle.giop_sig.specs.declared.types.TypeId.{TypeId}
 
 first_none : (o : Option ℕ) → first_of o None ≡ o
@@ -169,6 +169,11 @@ module _ (C : Table) (d : Decoder) (of : TypeId) (frame : Frame) (f : Fits C d)
     place_next room below =
         place_in_room C (24 - length (frames_above d.outer.items)) room frame.of.0 (frame.index + 1)
         (rw add-one (follows below).placed)
+
+    -- a type with another part is no union
+    pub bare_next : frame.index + 1 < frame.count → IsUnion (shape_in (tree C frame.of.0)) → ⊥
+    bare_next below = counted_bare (tree C frame.of.0) frame.index frame.count
+        (popped_frame.within 24) (omega (arith, below))
 
 module _ (C : Table) (d : Decoder) (part : PartAhead) (f : Fits C d)
     (h : IsPartAhead C d part) where
@@ -373,8 +378,10 @@ module _ (C : Table) (d : Decoder) (part : PartAhead) (f : Fits C d)
                 (ap (λ p. p.items) n.piece ∙ no_piece C d part.of octets part.count f h.leaf);
             link = λ root leaf link is. subst (λ l. Link C root new.outer.items (leaf_type l))
                 (at_next leaf is)
-                (link_push C root above new.outer.items part.frame.of.0 next.0 (next_of part.frame)
-                refl n.outer (rw (none, quiet) follower.number)
+                (link_next C root above new.outer.items part.frame.of.0 next.0 (next_of part.frame)
+                refl n.outer 24
+                (bare_next C d part.of part.frame f h.leaf h.outside h.outer follower.below)
+                (rw (none, quiet) follower.number)
                 (link_pop C root d.outer.items above part.frame part.of.0 h.outer link));
             going = tt;
             offset = λ leaf is.

@@ -8,7 +8,8 @@ use Rattle.giop_print.specs.declared.path.Root.{Root}
 use Rattle.giop_sig.specs.Fits.{IsFit}
 use Rattle.giop_sig.specs.Table.{Table}
 use Rattle.giop_decode.specs.Transitions.{IsWithin}
-use Rattle.giop_sig.specs.Trees.{depth_of, tree_at}
+use Rattle.giop_sig.specs.HeaderTypes.{IsTable}
+use Rattle.giop_sig.specs.Trees.{catalogue_depth, tree_at}
 use Rattle.giop_sig.specs.Types.{Scalar, Ty, part_of, width}
 use Rattle.giop_decode.specs.declared.decoder.Decoder.{Decoder}
 use Rattle.giop_decode.specs.DecoderState.{Fits}
@@ -148,8 +149,9 @@ text_both message root order T at s xs ys = runs.text_both message root order T 
 
 -- The parts of a decoder that are begun and not ended are fewer than the types of the table are
 -- deep.
-pub fits_depth : (C : Table) (d : Decoder) → Fits C d → length d.outer.items < depth_of C.types
-fits_depth C d fits = depths.fits_depth C d fits
+pub fits_depth : (C : Table) (d : Decoder) → IsTable C → Fits C d →
+    length d.outer.items < catalogue_depth C
+fits_depth C d laws fits = depths.fits_depth C d laws fits
 
 -- a frame of a part of a type in one room is of one in each
 pub within_in_room : (C : Table) (a b of : ℕ) (inside : Option Order) (i count : ℕ) →

@@ -3,15 +3,15 @@ use Rattle.std.proofs.Common.{◌≡◌, ℕ, suc, ◌-◌, ◌<◌, List, lengt
 use Rattle.giop_decode.specs.declared.frame.Frame.{Frame}
 use Rattle.giop_decode.specs.declared.frame.Stage.{Stage}
 use Rattle.giop_cdr.specs.declared.number.Number.{Number as Taken}
-use Rattle.giop_decode.specs.Fits.{HasLeadingNumber, IsEncapsulation, IsLed}
-use Rattle.giop_decode.specs.Transitions.{IsNumberOf, IsUncounted, IsWithin, IsWithinAs}
+use Rattle.giop_decode.specs.Fits.{HasLeadingNumber, HasParts, IsEncapsulation, IsLed}
+use Rattle.giop_decode.specs.Transitions.{IsNumberOf, IsUncounted, IsWhole, IsWithin, IsWithinAs}
 use Rattle.giop_cdr.specs.declared.order.Order.{Order}
 use Rattle.giop_sig.proofs.PartLaws.{fit_room, has_shape_room, shape_room, switch_same}
 use Rattle.giop_sig.specs.Fits.{IsFit}
 use Rattle.giop_sig.specs.HeaderTypes.{IsTable}
 use Rattle.giop_sig.specs.Table.{Table}
 use Rattle.giop_sig.specs.Trees.{tree, tree_at}
-use Rattle.giop_sig.specs.Types.{Cases, Encapsulation, Enum, HasMember, HasPlace, HasShape, IsUnion, Led, Marked, Plain, Single, Tag, Ty, Union, shape_in, switch_of}
+use Rattle.giop_sig.specs.Types.{Array, Cases, Encapsulation, Enum, HasMember, HasPlace, HasShape, IsUnion, Led, Marked, Plain, Sequence, Single, Struct, Tag, Ty, Union, shape_in, switch_of}
 use Rattle.giop_sig.specs.declared.types.Shape.{Shape}
 use Rattle.giop_sig.specs.declared.types.Shape.TheVariants as shapes
 
@@ -50,6 +50,46 @@ place_in_room C a b of i has = subst (λ s. HasPlace s i) (shape_room C a b of) 
 pub union_in_room : (C : Table) (a b of : ℕ) → IsUnion (shape_in (tree_at C a of)) →
     IsUnion (shape_in (tree_at C b of))
 union_in_room C a b of is = subst IsUnion (shape_room C a b of) is
+
+-- so what is none in one room is none
+pub bare_in_room : (C : Table) (a of : ℕ) → (IsUnion (shape_in (tree_at C a of)) → ⊥) →
+    IsUnion (shape_in (tree C of)) → ⊥
+bare_in_room C a of none is = none (union_in_room C 24 a of is)
+
+-- such a type begins with its first part, has so many parts, is an encapsulation, or begins with a
+-- part that tells what follows
+
+pub whole_bare : (T : Ty) (count : ℕ) (told : Option Stage) → IsWhole T count told →
+    IsUnion (shape_in T) → ⊥
+whole_bare (Struct n names parts) count told is union = union
+whole_bare (Array n T) count told is union = union
+whole_bare (Led h F parts) count told is union = union
+whole_bare T count told is union = is
+
+pub parts_bare : (T : Ty) (count : ℕ) → HasParts T count → IsUnion (shape_in T) → ⊥
+parts_bare (Struct n names parts) count is union = union
+parts_bare (Array n T) count is union = union
+parts_bare (Sequence bound T) count is union = union
+parts_bare T count is union = is
+
+pub held_bare : (T : Ty) → IsEncapsulation T → IsUnion (shape_in T) → ⊥
+held_bare (Encapsulation T) is union = union
+held_bare T is union = is
+
+pub led_bare : (T : Ty) → IsLed T → IsUnion (shape_in T) → ⊥
+led_bare (Led h F parts) is union = union
+led_bare T is union = is
+
+uncounted : (s : Shape) → IsUnion s → IsUncounted s
+uncounted (shapes.Union count) is = tt
+uncounted shapes.Tagged is = tt
+uncounted s is = absurd is
+
+-- or its parts are counted
+pub counted_bare : (T : Ty) (i count : ℕ) → IsWithin None i count T → 0 < count →
+    IsUnion (shape_in T) → ⊥
+counted_bare T i count within some union =
+    let e = within.2 (uncounted (shape_in T) union) in absurd (omega (arith, some, e))
 
 -- and an encapsulation is
 pub held_in_room : (C : Table) (a b of : ℕ) → IsEncapsulation (tree_at C a of) →

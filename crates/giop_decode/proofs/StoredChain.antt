@@ -1,28 +1,32 @@
 -- The test of a restored decoder is exact: it passes exactly if the decoder fits the table; how
 -- many parts that are begun fit in a type.
-use Rattle.std.proofs.Common.{◌≡◌, ℕ, zero, suc, pred, ◌+◌, ◌-◌, ◌*◌, ◌<◌, ◌≤◌, List, [], ◌∷◌, length, Option, Some, None, refl, sym, subst, arith}
-use Rattle.std.specs.Prelude.{IfSome}
+use Rattle.std.proofs.Common.{◌≡◌, ◌∙◌, ap, drop, get_or, take, ℕ, zero, suc, true, pred, ◌+◌, ◌-◌, ◌*◌, ◌<◌, ◌≤◌, List, [], ◌∷◌, length, Option, Some, None, refl, sym, subst, arith}
+use Rattle.std.specs.Prelude.{Bool, IfSome, IsTrue, ◌↔◌}
+use Rattle.std.proofs.Math.Seq.{take-length}
 use Rattle.giop_cdr.specs.declared.order.Order.{Order}
 use Rattle.giop_decode.specs.declared.decoder.Decoder.{Decoder}
 use Rattle.giop_decode.specs.declared.frame.Frame.{Frame}
 use Rattle.giop_decode.specs.declared.frame.Stage.{Stage}
 use Rattle.giop_decode.specs.declared.leaf.Leaf.{Leaf as Innermost}
 use Rattle.giop_decode.specs.FrameChain.{HasFrame, HasFrameAs, HasPart, LeafFits, Chained, Chains, root_of}
-use Rattle.giop_decode.specs.Fits.{FitsIn, IsEncapsulation}
+use Rattle.giop_decode.specs.Fits.{CanFollow, FitsIn, HasCase, IsEncapsulation}
 use Rattle.giop_decode.specs.DecoderState.{Fits}
 use Rattle.giop_decode.specs.ReadResult.{OpenPart, Leaf}
-use Rattle.giop_decode.specs.Transitions.{IsUncounted, parts_in_room, part_as, part_in, part_index, open_part_in, HaveOctetsLeft, AreKnown, IsWithin, IsWithinAs, Link, StandAt, leaf_by, leaf_type}
+use Rattle.giop_decode.specs.Transitions.{IsUncounted, parts_in_room, part_as, part_in, part_index, open_part_in, HaveOctetsLeft, AreKnown, IsWithin, IsWithinAs, Link, LinkIn, StandAt, leaf_by, leaf_type}
 use Rattle.giop_decode.proofs.Around.{fit_room}
 use Rattle.giop_decode.proofs.Going.{length_places}
 use Rattle.giop_decode.proofs.Starting.{fit_some}
 use Rattle.giop_decode.proofs.Leaving.{leaf_at}
 use Rattle.giop_sig.specs.Fits.{IsFit, IsEmptyStruct}
 use Rattle.giop_sig.specs.HeaderTypes.{IsTable}
-use Rattle.giop_sig.specs.Table.{Table, part_number}
-use Rattle.giop_sig.specs.Trees.{tree, tree_at}
+use Rattle.giop_sig.specs.Hearings.{hearing_in}
+use Rattle.giop_sig.specs.Table.{Table}
+use Rattle.giop_sig.specs.Trees.{follows, part_number_in, tree, tree_at}
 use Rattle.giop_decode.proofs.Rooms.{place_in_room, within_as_in_room}
-use Rattle.giop_sig.specs.Types.{Cases, Tag, Encapsulation, Ty, Single, Text, Octets, Struct, Union, Sequence, Array, HasPlace, part_of, shape_in, Led}
-use Rattle.giop_sig.proofs.PartLaws.{PartIs, part_is, root_is}
+use Rattle.giop_sig.specs.Types.{Cases, Tag, Encapsulation, Enum, Marked, Plain, Ty, Single, Text, Octets, Struct, Union, Sequence, Array, HasPlace, HasShape, Hearing, Is, part_of, shape_in, Led}
+use Rattle.giop_sig.specs.declared.types.Shape.TheVariants as shapes
+use Rattle.giop_sig.proofs.HearingLaws.{follows_known, follows_led, led_follows}
+use Rattle.giop_sig.proofs.PartLaws.{part_in_is, part_in_known, root_is, shape_room}
 
 -- ---- one open part
 
@@ -147,22 +151,134 @@ record ChainFits (C : Table) (room left here id : ℕ) (frames : List Frame) (le
       (leaf_by (tree_at C left (leaf_type leaf)) leaf carry piece)
   ahead : HaveOctetsLeft frames
   known_outer : AreKnown C frames
-  link : Link C id frames (leaf_type leaf)
+  link : LinkIn C room id frames (leaf_type leaf)
+
+-- what can follow is a type of the table
+follow_part : (T : Ty) (i count : ℕ) → shape_in T ≡ shapes.Led → HasPart T i count →
+    CanFollow (hearing_in T) i
+follow_part (Led h F parts) i count led has = has.0
+follow_part (Single (Plain p)) i count led has = absurd has.0
+follow_part (Single (Enum n names)) i count led has = absurd has.0
+follow_part (Single (Marked mark)) i count led has = absurd has.0
+follow_part (Union (Cases n) scalar select names cases) i count led has = absurd cc
+follow_part (Union Tag scalar select names cases) i count led has = absurd cc
+follow_part T i count led has = absurd cc
+
+follow_known : (C : Table) (room id i : ℕ) → shape_in (tree_at C (suc room) id) ≡ shapes.Led →
+    CanFollow (hearing_in (tree_at C (suc room) id)) i → i ≤ length C.types
+follow_known C room id zero led can = absurd can
+follow_known C room id (suc k) led can =
+    let below = follows_known C room k (led_follows C room id led can.0 k can.1) in
+    omega (arith, below)
+
+-- so is a case
+
+case_follow : (T : Ty) (i : ℕ) → shape_in T ≡ shapes.Led → HasCase T i → CanFollow (hearing_in T) i
+case_follow (Led h F parts) i led has = has
+case_follow (Union (Cases n) scalar select names cases) i led has = absurd cc
+case_follow (Union Tag scalar select names cases) i led has = absurd cc
+case_follow T i led has = absurd has
+
+pub case_known : (C : Table) (room id i : ℕ) → HasCase (tree_at C (suc room) id) i →
+    shape_in (tree C id) ≡ shapes.Led → i ≤ length C.types
+case_known C room id i has led =
+    let here = shape_room C (suc room) 24 id ∙ led in
+    follow_known C room id i here (case_follow (tree_at C (suc room) id) i here has)
+
+-- and what the table says can follow does
+
+pub can_start : (h : Hearing) (i : ℕ) → CanFollow h i → 0 < i
+can_start h zero can = absurd can
+can_start h (suc k) can = omega arith
+
+pub can_follows : (C : Table) (room id i : ℕ) → shape_in (tree_at C (suc room) id) ≡ shapes.Led →
+    CanFollow (hearing_in (tree_at C (suc room) id)) i → follows C room (i - 1) ≡ true
+can_follows C room id zero led can = absurd can
+can_follows C room id (suc k) led can =
+    let less : suc k - 1 ≡ k = omega arith in
+    rw less (led_follows C room id led can.0 k can.1)
+
+pub follows_can : (C : Table) (room id i : ℕ) → shape_in (tree_at C (suc room) id) ≡ shapes.Led →
+    0 < i → follows C room (i - 1) ≡ true → CanFollow (hearing_in (tree_at C (suc room) id)) i
+follows_can C room id zero led some is = absurd (omega arith)
+follows_can C room id (suc k) led some is =
+    let less : suc k - 1 ≡ k = omega arith in
+    (Is k, follows_led C room id led k (rw less at is))
+
+pub part_led : (T : Ty) (i count : ℕ) → HasShape T shapes.Led → count ≡ 0 →
+    CanFollow (hearing_in T) i → HasPart T i count
+part_led T i count h none can = rw h.3 (rw h.3 at can, none)
+
+pub led_part : (T : Ty) (i count : ℕ) → HasShape T shapes.Led → HasPart T i count →
+    CanFollow (hearing_in T) i × (count ≡ 0)
+led_part T i count h has = rw h.3 (rw h.3 at has)
+
+-- so a frame is of a part that is
+pub frame_known : (C : Table) (room id : ℕ) (told : Option Stage) (inside : Option Order)
+    (i count : ℕ) → HasFrameAs told inside (tree_at C (suc room) id) i count →
+    shape_in (tree C id) ≡ shapes.Led → part_index told inside i ≤ length C.types
+frame_known C room id None None i count has led =
+    let here = shape_room C (suc room) 24 id ∙ led in
+    follow_known C room id i here (follow_part (tree_at C (suc room) id) i count here has)
+frame_known C room id None (Some order) i count has led = omega arith
+frame_known C room id (Some stage) inside i count has led = omega arith
+
+-- and of one that is there
+pub frame_there : (C : Table) (room id : ℕ) (told : Option Stage) (inside : Option Order)
+    (i count : ℕ) → HasFrameAs told inside (tree_at C (suc room) id) i count →
+    HasPlace (shape_in (tree C id)) (part_index told inside i)
+frame_there C room id told inside i count has =
+    place_in_room C (suc room) 24 id (part_index told inside i)
+    (frame_place_as told inside (tree_at C (suc room) id) i count has)
+
+-- frames of which there is a first one
+pub first_rest : (frames : List Frame) (d : Frame) → 1 ≤ length frames →
+    frames ≡ get_or frames 0 d ∷ take (length frames - 1) (drop 1 frames)
+first_rest [] d some = absurd (omega arith)
+first_rest (f ∷ frames) d some =
+    let e : length (f ∷ frames) - 1 ≡ length frames = omega arith in
+    ap (λ fs. f ∷ fs) (sym (ap (λ n. take n frames) e ∙ take-length frames))
+
+-- one frame of a chain, and those after it
+pub chained_more : (C : Table) (room left id part : ℕ) (frames rest : List Frame) (f : Frame)
+    (leaf : Innermost) (goes : Bool) → frames ≡ f ∷ rest → suc left ≡ room → f.of.0 ≡ id →
+    HasFrameAs f.told f.inside (tree_at C (suc left) id) f.index f.count →
+    part ≡ part_number_in C left id (part_index f.told f.inside f.index) →
+    (IsTrue goes ↔ Chained C left part rest leaf) → IsTrue goes ↔ Chained C room id frames leaf
+chained_more C room left id part frames rest f leaf goes is one same has number rests =
+    subst (λ fs. IsTrue goes ↔ Chained C room id fs leaf) (sym is)
+    (subst (λ n. IsTrue goes ↔ Chained C n id (f ∷ rest) leaf) one (
+      λ yes. (
+        same,
+        has,
+        subst (λ p. Chained C left p rest leaf) number (rests.0 yes),
+      ),
+      λ chain. rests.1 (subst (λ p. Chained C left p rest leaf) (sym number) chain.2),
+    ))
 
 -- a part of a type that has room
-module _ (C : Table) (room id i : ℕ) (laws : IsTable C) (known : id < length C.types)
-    (some : 0 < room) (has : HasPlace (shape_in (tree_at C room id)) i) where
-  there : PartIs C id i (part_number C id i)
-  there = part_is C id i laws known (place_in_room C room 24 id i has)
+module _ (C : Table) (room id : ℕ) (f : Frame) (laws : IsTable C) (known : id < length C.types)
+    (some : 0 < room) (has : HasFrameAs f.told f.inside (tree_at C room id) f.index f.count) where
+  abbrev i : ℕ
+  i = part_index f.told f.inside f.index
 
-  below_there : part_number C id i < length C.types
-  below_there = let b = there.below in omega (arith, b)
+  one : suc (pred room) ≡ room
+  one = omega (arith, some)
 
-  same_there : tree_at C (pred room) (part_number C id i) ≡ part_of (tree_at C room id) i
+  place_there : HasPlace (shape_in (tree C id)) i
+  place_there = place_in_room C room 24 id i
+      (frame_place_as f.told f.inside (tree_at C room id) f.index f.count has)
+
+  below_there : part_number_in C (pred room) id i < length C.types
+  below_there = part_in_known C (pred room) id i laws known place_there
+      (frame_known C (pred room) id f.told f.inside f.index f.count
+      (subst (λ n. HasFrameAs f.told f.inside (tree_at C n id) f.index f.count) (sym one) has))
+
+  same_there : tree_at C (pred room) (part_number_in C (pred room) id i)
+      ≡ part_of (tree_at C room id) i
   same_there =
-      let one : suc (pred room) ≡ room = omega (arith, some) in
-      subst (λ n. tree_at C (pred room) (part_number C id i) ≡ part_of (tree_at C n id) i) one
-      (there.same (pred room))
+      subst (λ n. tree_at C (pred room) (part_number_in C (pred room) id i)
+      ≡ part_of (tree_at C n id) i) one (part_in_is C (pred room) id i laws known place_there)
 
 chain_fits : (C : Table) (room left here id : ℕ) (frames : List Frame) (leaf : Innermost)
     (carry piece : List ℕ) → IsTable C → id < length C.types → room ≡ length frames + left →
@@ -179,14 +295,13 @@ chain_fits C room left here id (f ∷ frames) leaf carry piece laws known rooms 
     let i = part_index f.told f.inside f.index in
     let T = tree_at C room id in
     let some : 0 < room = omega (arith, rooms) in
-    let place = frame_place_as f.told f.inside T f.index f.count has in
-    let next = part_number C id i in
+    let next = part_number_in C (pred room) id i in
     let rest = chain_fits C (pred room) left here next frames leaf carry piece laws
-    (below_there C room id i laws known some place) (omega (arith, rooms)) h.2 inner in
+    (below_there C room id f laws known some has) (omega (arith, rooms)) h.2 inner in
     let ps = parts_in_room C (pred room) here frames in
     let inmost = leaf_by (tree_at C left (leaf_type leaf)) leaf carry piece in
     let fits = frame_fits_as f.told here f.inside T f.index f.count ps inmost has
-    (subst (λ (P : Ty). FitsIn P ps inmost) (same_there C room id i laws known some place)
+    (subst (λ (P : Ty). FitsIn P ps inmost) (same_there C room id f laws known some has)
     rest.fits) in
     let is : id ≡ f.of.0 = sym h.0 in
     record {
@@ -215,7 +330,7 @@ fits_chain : (C : Table) (room left here id : ℕ) (frames : List Frame) (leaf :
     (carry piece : List ℕ) → IsTable C → id < length C.types → room ≡ length frames + left →
     FitsIn (tree_at C room id) (parts_in_room C room here frames)
     (leaf_by (tree_at C left (leaf_type leaf)) leaf carry piece) → HaveOctetsLeft frames →
-    AreKnown C frames → Link C id frames (leaf_type leaf) →
+    AreKnown C frames → LinkIn C room id frames (leaf_type leaf) →
     FitsChain C room left id frames leaf carry piece
 fits_chain C room left here id [] leaf carry piece laws known rooms fits ahead are link = record {
   chain = link;
@@ -233,11 +348,11 @@ fits_chain C room left here id (f ∷ frames) leaf carry piece laws known rooms 
     link.0
     (are.0.within room) in
     let u = frame_is f.told here f.inside T f.index f.count ps inmost within ahead.0 there in
-    let place = frame_place_as f.told f.inside T f.index f.count u.has in
     let inner = subst (λ (P : Ty). FitsIn P ps inmost)
-    (sym (same_there C room id i laws known some place)) u.fits in
-    let rest = fits_chain C (pred room) left here (part_number C id i) frames leaf carry piece laws
-    (below_there C room id i laws known some place) (omega (arith, rooms)) inner ahead.1 are.1
+    (sym (same_there C room id f laws known some u.has)) u.fits in
+    let next = part_number_in C (pred room) id i in
+    let rest = fits_chain C (pred room) left here next frames leaf carry piece laws
+    (below_there C room id f laws known some u.has) (omega (arith, rooms)) inner ahead.1 are.1
     link.1 in
     record { chain = (link.0, u.has, rest.chain); inner = rest.inner }
 

@@ -17,7 +17,8 @@ use Rattle.giop_decode.proofs.Around.{around-append, read_none}
 use Rattle.giop_decode.proofs.Beginning.{all_push, part_in_frames, places_push}
 use Rattle.giop_decode.proofs.Going.{TellPopped, held_is, innermost}
 use Rattle.giop_decode.proofs.Leaving.{fit_case}
-use Rattle.giop_decode.proofs.Linking.{link_pop, link_push}
+use Rattle.giop_decode.proofs.Linking.{link_next, link_pop}
+use Rattle.giop_decode.proofs.Rooms.{led_bare}
 use Rattle.giop_decode.proofs.Surrounding.{around_unless_ended, ended_push}
 use Rattle.giop_sig.specs.declared.types.TypeId.{TypeId}
 use Rattle.giop_sig.specs.Fits.{IsFit}
@@ -185,8 +186,9 @@ module _ (C : Table) (old rest : List Frame) (f : Frame) (stage : Stage) (start 
               ∙ (begun_at C coding path at rest new g (Member T (suc i)) (part_of T (suc i))
               P.known_rest to none (here at)
               ∙ ap (begun_in C at new) (sym parted)));
-          link = λ root inner h. link_push C root rest new f.of.0 part g (rw it refl) to
-              (rw (it, inside_none) number) (link_pop C root old rest f inner is h);
+          link = λ root inner h. link_next C root rest new f.of.0 part g (rw it refl) to
+              (24 - length rest) (led_bare T led) (rw (it, inside_none) number)
+              (link_pop C root old rest f inner is h);
         },
         rw to (all_push (IsKnown C) rest g P.known_rest (record {
           known = rw it P.known;

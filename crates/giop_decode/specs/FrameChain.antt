@@ -11,8 +11,8 @@ use Rattle.giop_decode.specs.Noted.{is_header_root}
 use Rattle.giop_decode.specs.Transitions.{leaf_by, leaf_type, tree_in, is_inside, part_index, IsClean, IsWithinAs}
 use Rattle.giop_decode.specs.declared.frame.Stage.{Stage}
 use Rattle.giop_sig.specs.Fits.{IsEmptyStruct}
-use Rattle.giop_sig.specs.Table.{Table, part_number}
-use Rattle.giop_sig.specs.Trees.{tree, tree_at}
+use Rattle.giop_sig.specs.Table.{Table}
+use Rattle.giop_sig.specs.Trees.{part_number_in, tree, tree_at}
 use Rattle.giop_sig.specs.Types.{Ty, Led, Union, places_of}
 
 -- a type has that part among so many; a union's cases are not counted
@@ -43,7 +43,8 @@ abbrev pub Chained : Table → ℕ → ℕ → List Frame → Innermost → Type
 Chained C room id [] leaf = leaf_type leaf ≡ id
 Chained C room id (f ∷ frames) leaf =
     (f.of.0 ≡ id) × HasFrameAs f.told f.inside (tree_at C room id) f.index f.count
-    × Chained C (pred room) (part_number C id (part_index f.told f.inside f.index)) frames leaf
+    × Chained C (pred room)
+    (part_number_in C (pred room) id (part_index f.told f.inside f.index)) frames leaf
 
 abbrev pub root_of : List Frame → Innermost → ℕ
 root_of [] leaf = leaf_type leaf

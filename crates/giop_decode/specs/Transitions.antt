@@ -31,8 +31,8 @@ use Rattle.giop_sig.specs.Hearings.{signal_after, told_of}
 use Rattle.giop_sig.specs.declared.types.Sign.{Sign}
 use Rattle.giop_sig.specs.declared.types.Signal.{Signal}
 use Rattle.giop_sig.specs.declared.types.Signal.TheVariants as signals
-use Rattle.giop_sig.specs.Table.{Table, part_number}
-use Rattle.giop_sig.specs.Trees.{tree_at}
+use Rattle.giop_sig.specs.Table.{Table}
+use Rattle.giop_sig.specs.Trees.{part_number_in, tree_at}
 
 -- ---- frames
 
@@ -143,11 +143,17 @@ part_index None None i = i
 part_index None (Some order) i = 0
 part_index (Some stage) inside i = 0
 
--- each frame is of the part that the one before is at, from the root to the innermost part
+-- each frame is of the part that the one before is at, from the root, which is in so much room, to
+-- the innermost part
+abbrev pub LinkIn : Table → ℕ → ℕ → List Frame → ℕ → Type 0
+LinkIn C room root [] inner = inner ≡ root
+LinkIn C room root (f ∷ frames) inner = (f.of.0 ≡ root)
+    × LinkIn C (pred room)
+    (part_number_in C (pred room) root (part_index f.told f.inside f.index)) frames inner
+
+-- the same in the room of a whole
 abbrev pub Link : Table → ℕ → List Frame → ℕ → Type 0
-Link C root [] inner = inner ≡ root
-Link C root (f ∷ frames) inner = (f.of.0 ≡ root)
-    × Link C (part_number C root (part_index f.told f.inside f.index)) frames inner
+Link C root frames inner = LinkIn C 24 root frames inner
 
 -- a type that begins with its first part: how many it has, or that this one tells what follows
 abbrev pub IsWhole : Ty → ℕ → Option Stage → Type 0

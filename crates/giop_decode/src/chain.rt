@@ -2,10 +2,12 @@
 
 ghost use Rattle.std.specs.Prelude.{◌≡◌, ◌↔◌, ℕ, suc, IsTrue, ◌+◌, ◌-◌, ◌<◌, ◌≤◌, [], length};
 ghost use Rattle.giop_decode.specs.FrameChain.{HasFrame, HasFrameAs, HasPart, LeafFits, Chained, Chains, root_of};
-ghost use Rattle.giop_decode.specs.Fits.{HasLeadingNumber, IsEncapsulation, IsLed};
+ghost use Rattle.giop_decode.specs.Fits.{CanFollow, HasLeadingNumber, IsEncapsulation, IsLed};
 ghost use Rattle.giop_decode.specs.NameBuffer.{FitsName, IsNotedOf, string_offset};
 ghost use Rattle.giop_decode.specs.Transitions.{is_inside, leaf_type, part_index};
+ghost use Rattle.giop_sig.specs.Hearings.{hearing_in};
 ghost use Rattle.giop_sig.specs.Trees.{tree_at};
+ghost use Rattle.giop_sig.specs.Types.{shape_in};
 
 use crate::decoder::Decoder;
 use crate::frame::{Frame, Within, is_empty, is_inside, whole};
@@ -57,7 +59,7 @@ impl Decoder {
             × LeafFits catalogue.now (24 - length self.now.outer.items) leaf self.now.carry
             self.now.piece.items }
     {
-        follow(catalogue, root, self.outer.as_slice(), leaf)
+        follow(catalogue, 24, root, self.outer.as_slice(), leaf)
             && leaf_fits(catalogue, leaf, &self.carry, self.piece.as_slice())
     }
 }
@@ -72,19 +74,22 @@ fn root_of(frames: &[Frame], leaf: Leaf) -> TypeId
     }
 }
 
-/// Whether each frame is of the part that the one before is at, from this type to the innermost part.
-fn follow(catalogue: &Catalogue, of: TypeId, frames: &[Frame], leaf: Leaf) -> bool
-    requires { of.0 < length catalogue.now.types }
-    ensures { (room : ℕ) → IsTrue result ↔ Chained catalogue.now room of.0 frames.now leaf }
+/// Whether each frame is of the part that the one before is at, from this type, which is in so much room, to the innermost
+/// part.
+fn follow(catalogue: &Catalogue, room: u8, of: TypeId, frames: &[Frame], leaf: Leaf) -> bool
+    requires known { of.0 < length catalogue.now.types }
+    requires room { length frames.now < room }
+    ensures { IsTrue result ↔ Chained catalogue.now room of.0 frames.now leaf }
 {
     match frames {
         [] => leaf.of() == of,
         [frame, rest @ ..] => {
-            frame.of == of
-                && has_frame(catalogue, of, *frame)
+            let left = room - 1;
+            is_frame_of(catalogue, left, of, *frame)
                 && follow(
                     catalogue,
-                    catalogue.part(of, part_index(*frame)),
+                    left,
+                    catalogue.part_in(of, part_index(*frame), left),
                     rest,
                     leaf,
                 )
@@ -92,31 +97,42 @@ fn follow(catalogue: &Catalogue, of: TypeId, frames: &[Frame], leaf: Leaf) -> bo
     }
 }
 
-/// Whether a frame can be of a type: of a part of its own, of an encapsulation of which octets are to come, or of a first
-/// part that tells what follows it.
-fn has_frame(catalogue: &Catalogue, of: TypeId, frame: Frame) -> bool
+/// Whether a frame is of a type, whose parts have so much room, and can be.
+fn is_frame_of(catalogue: &Catalogue, left: u8, of: TypeId, frame: Frame) -> bool
     requires { of.0 < length catalogue.now.types }
-    ensures { (n : ℕ) → IsTrue result
-        ↔ HasFrameAs frame.told frame.inside (tree_at catalogue.now n of.0) frame.index
+    ensures { IsTrue result ↔ (frame.of.0 ≡ of.0)
+        × HasFrameAs frame.told frame.inside (tree_at catalogue.now (suc left) of.0) frame.index
+        frame.count }
+{
+    frame.of == of && has_frame(catalogue, left, of, frame)
+}
+
+/// Whether a frame can be of a type: of a part of its own, of an encapsulation of which octets are to come, or of a first
+/// part that tells what follows it. Its parts have so much room.
+fn has_frame(catalogue: &Catalogue, left: u8, of: TypeId, frame: Frame) -> bool
+    requires { of.0 < length catalogue.now.types }
+    ensures { IsTrue result
+        ↔ HasFrameAs frame.told frame.inside (tree_at catalogue.now (suc left) of.0) frame.index
         frame.count }
 {
     match frame.told {
         Some(_) => { is_led(catalogue, of) && frame.inside.is_none() && frame.count == 0 }
-        None => has_own_frame(catalogue, of, frame),
+        None => has_own_frame(catalogue, left, of, frame),
     }
 }
 
 /// The same of a frame that tells nothing.
-fn has_own_frame(catalogue: &Catalogue, of: TypeId, frame: Frame) -> bool
+fn has_own_frame(catalogue: &Catalogue, left: u8, of: TypeId, frame: Frame) -> bool
     requires { of.0 < length catalogue.now.types }
-    ensures { (n : ℕ) → IsTrue result
-        ↔ HasFrame frame.inside (tree_at catalogue.now n of.0) frame.index frame.count }
+    ensures { IsTrue result
+        ↔ HasFrame frame.inside (tree_at catalogue.now (suc left) of.0) frame.index
+        frame.count }
 {
     match frame.inside {
         Some(_) => {
             is_encapsulation(catalogue, of) && 0 < frame.index && frame.index < frame.count
         }
-        None => has_part(catalogue, of, frame.index, frame.count),
+        None => has_part(catalogue, left, of, frame.index, frame.count),
     }
 }
 
@@ -172,10 +188,21 @@ fn is_encapsulation(catalogue: &Catalogue, of: TypeId) -> bool
     }
 }
 
-/// Whether a type has that part among so many.
-fn has_part(catalogue: &Catalogue, of: TypeId, index: u32, count: u32) -> bool
+/// Whether a type can stand in this place after the part that tells it, in this room: none in that part's own place.
+#[tactic(auto, using(crate::proofs::StoredChain::can_start, crate::proofs::StoredChain::can_follows, crate::proofs::StoredChain::follows_can))]
+fn can_follow(catalogue: &Catalogue, left: u8, of: TypeId, place: u32) -> bool
+    requires { shape_in (tree_at catalogue.now (suc left) of.0) ≡ Shape.Led }
+    ensures { IsTrue result
+        ↔ CanFollow (hearing_in (tree_at catalogue.now (suc left) of.0)) place }
+{
+    0 < place && catalogue.follows(TypeId(place - 1), left)
+}
+
+/// Whether a type has that part among so many, which has so much room.
+#[tactic(auto, using(crate::proofs::StoredChain::part_led, crate::proofs::StoredChain::led_part))]
+fn has_part(catalogue: &Catalogue, left: u8, of: TypeId, index: u32, count: u32) -> bool
     requires { of.0 < length catalogue.now.types }
-    ensures { (n : ℕ) → IsTrue result ↔ HasPart (tree_at catalogue.now n of.0) index count }
+    ensures { IsTrue result ↔ HasPart (tree_at catalogue.now (suc left) of.0) index count }
 {
     match catalogue.shape(of) {
         Shape::Members(members) => count == members && index < count,
@@ -189,7 +216,7 @@ fn has_part(catalogue: &Catalogue, of: TypeId, index: u32, count: u32) -> bool
         Shape::Text(_) => false,
         Shape::Octets(_) => false,
         Shape::Marked(_) => false,
-        Shape::Led => false,
+        Shape::Led => count == 0 && can_follow(catalogue, left, of, index),
     }
 }
 

@@ -274,7 +274,8 @@ impl Decoder {
                     inside: None,
                     told: None,
                 });
-                let part = catalogue.part(of, index);
+                let room = 24 - self.outer.len() as u8;
+                let part = catalogue.part_in(of, index, room);
                 self.leaf = Some(Leaf::Number(begin(
                     catalogue,
                     &mut self.outer,

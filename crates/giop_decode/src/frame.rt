@@ -315,6 +315,7 @@ pub(crate) fn is_empty(catalogue: &Catalogue, t: TypeId) -> bool
 /// How many parts a type has that begins with its first part, and what that has told where it tells what follows: None
 /// for a type that begins with a number.
 #[tactic(auto, using(crate::proofs::Shapes::shape_laws))]
+#[inline(always)]
 pub(crate) fn whole(catalogue: &Catalogue, t: TypeId) -> Option<(u32, Option<Stage>)>
     requires { t.0 < length catalogue.now.types }
     ensures whole { IfSome result (λ first.

@@ -6,7 +6,8 @@ ghost use Rattle.arrayvec.specs.ArrayVec.{array_vec_len};
 ghost use Rattle.giop_decode.specs.DecoderState.{Fits};
 ghost use Rattle.giop_decode.specs.Stored.{order_octet, root_octet, leaf_octets, buffer_octet, expects_octet, kept_name, notes_octets, fixed_octets, frame_size, inside_octet, told_octet, frame_octets, frames_octets, own_frame, FrameHasRange, LeafHasRange, NotesHaveRange, HasRange, Stored};
 ghost use Rattle.giop_sig.specs.Table.{Table};
-ghost use Rattle.giop_sig.specs.Trees.{depth_of};
+ghost use Rattle.giop_sig.specs.Trees.{catalogue_depth};
+ghost use Rattle.giop_sig.specs.HeaderTypes.{IsTable};
 
 use crate::decoder::Decoder;
 use crate::frame::{Frame, Stage};
@@ -25,7 +26,7 @@ impl Decoder {
     /// number.
     pub fn store(&self, fixed: &mut [u8; 208], frames: &mut [u8; 576]) -> u8
         ensures few { result ≤ 24 }
-        ensures depth { (C : Table) → Fits C self.now → result ≤ depth_of C.types }
+        ensures depth { (C : Table) → IsTable C → Fits C self.now → result ≤ catalogue_depth C }
         ensures stored { (C : Table) → Fits C self.now →
             Stored self.now fixed.new (take (frame_size * result) frames.new) }
         // The octets after them are unchanged.

@@ -53,7 +53,8 @@ impl Parts {
         path: &[u8],
         value: Value<'_>,
     ) -> Result<(), AllocError> {
-        if self.parts == 1 || !self.at.is_empty() {
+        // A part begins with a value that it has.
+        if self.parts == 1 || !self.at.is_empty() || self.values.leaves_out(options, path, value) {
             return self.values.take(options, path, value);
         }
         let offset = match value {

@@ -7,6 +7,7 @@ mod options;
 mod pieces;
 mod shown;
 mod text;
+mod type_codes;
 mod values;
 
 pub use options::{Characters, Options};

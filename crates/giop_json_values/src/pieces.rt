@@ -1,5 +1,7 @@
 //! The content whose pieces come.
 
+ghost use Rattle.std.specs.Prelude.{◌≡◌};
+
 use giop_lines::{Content, Piece};
 
 /// What a piece is of.
@@ -28,7 +30,9 @@ pub(crate) struct Part<'a> {
 
 impl<'a> Part<'a> {
     /// The piece of a value.
-    pub(crate) fn of(path: &'a [u8], piece: Piece<'a>) -> Part<'a> {
+    pub(crate) fn of(path: &'a [u8], piece: Piece<'a>) -> Part<'a>
+        ensures { result.path.now ≡ path.now }
+    {
         let form = match piece.content {
             Content::Text => Form::Text,
             Content::Octets | Content::WideString | Content::WideChar => Form::Hex,

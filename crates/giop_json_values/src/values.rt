@@ -1,13 +1,15 @@
 //! The values of a message, as members of its object.
 
-ghost use Rattle.std.specs.Prelude.{◌≡◌, ◌++◌, [], None, IsSome, IsTrue, IsFalse, OnOk};
+ghost use Rattle.std.specs.Prelude.{◌≡◌, ◌↔◌, ◌++◌, [], None, IsOk, IsSome, IsTrue, IsFalse, OnOk, false};
 ghost use Rattle.json.specs.Print.{print};
+ghost use Rattle.giop_json_values.specs.TypeCodes.{IsAfter, IsLeftOut, IsTold, is_head};
 
 use crate::frames::{Frames, Key, Shape};
 use crate::options::{Characters, Options};
 use crate::pieces::{Form, Part};
 use crate::shown::Letters;
 use crate::text::{Text, shown_text};
+use crate::type_codes::LastType;
 use giop_lines::Value;
 use std::alloc::{AllocError, Global};
 use std::mem;
@@ -31,21 +33,22 @@ pub struct Values {
     due: Option<Due>,
     due_path: Vec<u8>,
     shown: Letters,
-    // The path of the TypeCode that was read last, if there is one, and of its parameters.
-    parameters: Vec<u8>,
+    last_type: LastType,
     name: String,
 }
 
 impl Values {
     /// No values.
-    pub fn new(alloc: Global) -> Values {
+    pub fn new(alloc: Global) -> Values
+        ensures { result.last_type.parameters.items ≡ [] }
+    {
         Values {
             text: Text::new(Vec::new(alloc)),
             frames: Frames::new(alloc),
             due: None,
             due_path: Vec::new(alloc),
             shown: Letters::new(alloc),
-            parameters: Vec::new(alloc),
+            last_type: LastType::new(alloc),
             name: String::new(alloc),
         }
     }
@@ -95,9 +98,20 @@ impl Values {
     }
 
     /// Forgets what it knows of a message, for the next one.
-    pub fn forget(&mut self) {
-        self.parameters.clear();
+    pub fn forget(&mut self)
+        ensures { self.new.last_type.parameters.items ≡ [] }
+    {
+        self.last_type.forget();
         self.frames.clear();
+    }
+
+    /// Whether a line of a value is left out: one of those that a TypeCode's parameters have by choice alone.
+    #[inline]
+    pub fn leaves_out(&self, options: Options, path: &[u8], value: Value<'_>) -> bool
+        ensures { IsTrue result ↔ IsLeftOut options.has_types
+            self.now.last_type.parameters.items path.now (is_head value.entry) }
+    {
+        self.last_type.leaves_out(options, path, is_head(value))
     }
 
     /// Takes a line of a value.
@@ -107,12 +121,19 @@ impl Values {
         options: Options,
         path: &[u8],
         value: Value<'_>,
-    ) -> Result<(), AllocError> {
+    ) -> Result<(), AllocError>
+        ensures left_out { self.old.due ≡ None
+            → IsLeftOut options.has_types self.old.last_type.parameters.items path.now
+            (is_head value.entry)
+            → IsOk result × (self.new ≡ self.old) }
+        ensures last { OnOk result (IsAfter options.has_types self.old.last_type.parameters.items
+            path.now value.entry self.new.last_type.parameters.items) }
+    {
         if let Value::Piece(piece) = value {
             return self.take_part(options, Part::of(path, piece));
         }
         self.end_content()?;
-        if self.is_left_out(options, path, is_encapsulating(value)) {
+        if self.leaves_out(options, path, value) {
             return Ok(());
         }
         self.take_whole(options, path, value)
@@ -133,7 +154,10 @@ impl Values {
         options: Options,
         path: &[u8],
         value: Value<'_>,
-    ) -> Result<(), AllocError> {
+    ) -> Result<(), AllocError>
+        ensures { OnOk result (IsTold self.old.last_type.parameters.items path.now value.entry
+            self.new.last_type.parameters.items) }
+    {
         let shape = match value {
             Value::Order(_) => return Ok(()),
             Value::Count(_) => Some(Shape::List),
@@ -145,7 +169,7 @@ impl Values {
             return self.frames.open(&mut self.text, key, path, shape);
         }
         if let Value::Enum(name) = value {
-            self.note_type(path, name)?;
+            self.last_type.note(path, name)?;
         }
         if path == b"body".as_slice() && !matches!(value, Value::Named(_, _)) {
             self.frames.open_body(&mut self.text)?;
@@ -159,33 +183,9 @@ impl Values {
         }
     }
 
-    /// Notes the TypeCode whose kind stands at a path.
-    fn note_type(&mut self, path: &[u8], kind: &[u8]) -> Result<(), AllocError> {
-        if kind.starts_with(b"tk_")
-            && let Some(of_type) = path.strip_suffix(b".kind")
-        {
-            self.parameters.clear();
-            self.parameters.extend_from_slice(of_type)?;
-            self.parameters.extend_from_slice(b".parameters")?;
-        }
-        Ok(())
-    }
-
-    /// Whether a value is one of a TypeCode's parameters that are written by choice alone.
-    fn is_left_out(&self, options: Options, path: &[u8], is_encapsulating: bool) -> bool {
-        if options.has_types || self.parameters.is_empty() {
-            return false;
-        }
-        match path.strip_prefix(self.parameters.as_slice()) {
-            None => false,
-            Some([]) => !is_encapsulating,
-            Some(below @ [b'.' | b'[', ..]) => below != b".id".as_slice()
-                && below != b".name".as_slice(),
-            Some(_) => false,
-        }
-    }
-
-    fn take_named(&mut self, key: Key<'_>, number: u32, name: &[u8]) -> Result<(), AllocError> {
+    fn take_named(&mut self, key: Key<'_>, number: u32, name: &[u8]) -> Result<(), AllocError>
+        ensures { self.new.last_type ≡ self.old.last_type }
+    {
         self.text.unsigned(u64::from(number))?;
         let Key::Name(of_number) = key else {
             return Ok(());
@@ -197,7 +197,9 @@ impl Values {
         self.text.octets(name)
     }
 
-    fn take_char(&mut self, options: Options, octets: &[u8]) -> Result<(), AllocError> {
+    fn take_char(&mut self, options: Options, octets: &[u8]) -> Result<(), AllocError>
+        ensures { self.new.last_type ≡ self.old.last_type }
+    {
         self.shown.add(octets, options.characters)?;
         self.shown.end()?;
         self.text.string(self.shown.text())?;
@@ -205,10 +207,16 @@ impl Values {
         Ok(())
     }
 
-    fn take_part(&mut self, options: Options, part: Part<'_>) -> Result<(), AllocError> {
+    fn take_part(&mut self, options: Options, part: Part<'_>) -> Result<(), AllocError>
+        ensures left_out { self.old.due ≡ None
+            → IsLeftOut options.has_types self.old.last_type.parameters.items part.entry.path.now
+            false
+            → IsOk result × (self.new ≡ self.old) }
+        ensures kept { self.new.last_type ≡ self.old.last_type }
+    {
         if !self.is_due(part) {
             self.end_content()?;
-            if self.is_left_out(options, part.path, false) {
+            if self.last_type.leaves_out(options, part.path, false) {
                 return Ok(());
             }
             if part.offset > 0 {
@@ -229,6 +237,7 @@ impl Values {
         ensures more { IsTrue part.entry.more → OnOk result (IsSome self.new.due) }
         ensures open { IsTrue part.entry.more → self.new.text ≡ self.old.text }
         ensures last { IsFalse part.entry.more → OnOk result (self.new.due ≡ None) }
+        ensures kept { self.new.last_type ≡ self.old.last_type }
     {
         self.due = Some(Due {
             form: part.form,
@@ -247,7 +256,9 @@ impl Values {
     }
 
     /// Whether a piece goes on with the content whose next piece is due.
-    fn is_due(&self, part: Part<'_>) -> bool {
+    fn is_due(&self, part: Part<'_>) -> bool
+        ensures { self.now.due ≡ None → result ≡ false }
+    {
         match self.due {
             None => false,
             Some(due) => {
@@ -260,7 +271,9 @@ impl Values {
     }
 
     /// What comes before the text of a content.
-    fn begin(&mut self, part: Part<'_>) -> Result<(), AllocError> {
+    fn begin(&mut self, part: Part<'_>) -> Result<(), AllocError>
+        ensures { self.new.last_type ≡ self.old.last_type }
+    {
         match part.form {
             Form::Rest => {
                 self.frames.resume(&mut self.text, b"")?;
@@ -275,7 +288,9 @@ impl Values {
         }
     }
 
-    fn begin_value(&mut self, part: Part<'_>) -> Result<(), AllocError> {
+    fn begin_value(&mut self, part: Part<'_>) -> Result<(), AllocError>
+        ensures { self.new.last_type ≡ self.old.last_type }
+    {
         if part.path == b"body".as_slice() {
             self.frames.open_body(&mut self.text)?;
         }
@@ -293,7 +308,9 @@ impl Values {
     /// Ends the content whose pieces came, where more of them were due, too.
     #[inline]
     fn end_content(&mut self) -> Result<(), AllocError>
-        ensures { OnOk result (self.new.due ≡ None) }
+        ensures none { OnOk result (self.new.due ≡ None) }
+        ensures same { self.old.due ≡ None → IsOk result × (self.new ≡ self.old) }
+        ensures kept { self.new.last_type ≡ self.old.last_type }
     {
         if self.due.is_none() {
             return Ok(());
@@ -307,7 +324,9 @@ impl Values {
 }
 
 /// Whether a value is what an encapsulation begins with.
-fn is_encapsulating(value: Value<'_>) -> bool {
+fn is_head(value: Value<'_>) -> bool
+    ensures { result ≡ is_head value.entry }
+{
     matches!(value, Value::Encapsulation(_) | Value::Order(_))
 }
 

@@ -8,6 +8,7 @@ use Rattle.giop_print.specs.Text.{hex, hex_number, escaped}
 use Rattle.giop_sig.specs.Types.{places_of, Enum, Ty, Single, Struct, Union, Sequence, Array, Encapsulation, part_of, name_in}
 use Rattle.giop_sig.specs.HeaderTypes.{header_type}
 use Rattle.giop_decode.specs.Noted.{is_text}
+use Rattle.giop_sig.specs.Heard.{first_fronts}
 use Rattle.giop_sig.specs.Interfaces.{no_interfaces}
 use Rattle.giop_sig.specs.Table.{Table, Operation, Exception, members, op_id, operation_key}
 use Rattle.giop_sig.specs.Trees.{tree_at}
@@ -58,6 +59,7 @@ table = record {
   called = 6;
   interfaces = no_interfaces;
   identities = [];
+  fronts = first_fronts;
 }
 
 -- 1 ask, 1 ask, 2 nop, 2 ask

@@ -2,8 +2,9 @@
 //! it is in.
 
 ghost use Rattle.std.specs.Prelude.{◌≡◌, ℕ, ◌*◌, ◌≤◌, take, drop};
+ghost use Rattle.giop_sig.specs.HeaderTypes.{IsTable};
 ghost use Rattle.giop_sig.specs.Table.{Table};
-ghost use Rattle.giop_sig.specs.Trees.{depth_of};
+ghost use Rattle.giop_sig.specs.Trees.{catalogue_depth};
 ghost use Rattle.giop_decode.specs.Stored.{frame_size};
 
 use crate::body_type::BodyTypeId;
@@ -90,8 +91,8 @@ impl Part {
     /// none.
     fn store(&self, decoder: &Decoder, octets: &mut [u8; 208], frames: &mut [u8; 576]) -> u8
         ensures few { result ≤ 24 }
-        ensures depth { (C : Table) (at : ℕ) → FitsPart C at decoder.now self.now →
-            result ≤ depth_of C.types }
+        ensures depth { (C : Table) (at : ℕ) → IsTable C → FitsPart C at decoder.now self.now →
+            result ≤ catalogue_depth C }
         ensures stored { (C : Table) (at : ℕ) → FitsPart C at decoder.now self.now →
             PartStored decoder.now self.now octets.new (take (frame_size * result) frames.new) }
         ensures behind { drop (frame_size * result) frames.new
@@ -126,7 +127,7 @@ impl Message {
     /// it answers the number.
     pub fn store(&self, fixed: &mut [u8; 224], frames: &mut [u8; 576]) -> u8
         ensures few { result ≤ 24 }
-        ensures depth { (C : Table) → Fits C self.now → result ≤ depth_of C.types }
+        ensures depth { (C : Table) → IsTable C → Fits C self.now → result ≤ catalogue_depth C }
         ensures stored { (C : Table) → Fits C self.now →
             Stored self.now fixed.new (take (frame_size * result) frames.new) }
         // The octets after them are unchanged.

@@ -1,20 +1,26 @@
 -- A catalogue stays a table when a type, an operation or an exception is added.
-use Rattle.std.proofs.Common.{◌≡◌, ◌⊎◌, inl, inr, ℕ, zero, suc, ◌+◌, ◌^◌, ◌<◌, ◌≤◌, Bool, true, false, cond, ◌||◌, ltb, List, [], ◌∷◌, ◌++◌, length, map, get_or, Option, Some, None, refl, sym, ap, ◌∙◌, append_assoc, arith}
-use Rattle.std.specs.List.{position, position_or_len, list_any}
+use Rattle.std.proofs.Common.{◌≡◌, ◌⊎◌, inl, inr, ℕ, zero, suc, ◌+◌, ◌^◌, ◌<◌, ◌≤◌, Bool, true, false, cond, ◌||◌, ltb, List, [], ◌∷◌, ◌++◌, length, map, get_or, Option, Some, None, refl, sym, ap, subst, ◌∙◌, append_assoc, arith}
+use Rattle.std.specs.List.{AllByRecursion, position, position_or_len, list_any}
+use Rattle.giop_cdr.specs.declared.prim.Primitive.TheVariants.{Octet}
 use Rattle.std.specs.Option.{option_map}
 use Rattle.std.specs.Str.{bytes_eq}
 use Rattle.std.proofs.Math.Seq.{get_or-append_seam}
 use Rattle.std.proofs.lemmas.Slice.Eq.{bytes_eq-Decides}
 use Rattle.std.proofs.lemmas.Bool.{cases_lt, false≢true, lt-ltb, ltb-true, ltb-false, le-ltb}
 use Rattle.std.proofs.lemmas.List.{length-append, map-append, get_or_append_left}
-use Rattle.std.proofs.lemmas.List.Elements.{All-push}
+use Rattle.std.proofs.lemmas.List.Elements.{All-from_recursion, All-push, recursion_from_All}
 use mathlib.Core.Path.{fun_ext}
 use Rattle.arrayvec.specs.ArrayVec.{ArrayVec}
 use Rattle.indexmap.specs.IndexMap.{insert_entry}
 use Rattle.giop_sig.specs.declared.types.TypeId.{TypeId}
 use Rattle.giop_sig.specs.declared.catalogue.Signature.{Signature}
-use Rattle.giop_sig.specs.Table.{Node, Operation, Exception, Identity, Table, keyed_number, exception_in, members_at, identified_in, identity_at, no_operation, no_exception, no_identity, with_type, with_operation, with_exception, with_identity}
-use Rattle.giop_sig.specs.HeaderTypes.{IsOperation, IsException, IsIdentity, AreDistinct, TableOf}
+use Rattle.giop_sig.specs.Table as nodes
+use Rattle.giop_sig.specs.Table.{Node, Case, TakesOctet, node_in, Operation, Exception, Identity, Table, keyed_number, exception_in, members_at, identified_in, identity_at, no_operation, no_exception, no_identity, with_type, with_operation, with_exception, with_identity}
+use Rattle.giop_sig.specs.Builtin.{builtin_types}
+use Rattle.giop_sig.specs.HeaderTypes.{ArePlain, IsPlain, KnowsAnys, IsOperation, IsException, IsIdentity, AreDistinct, TableOf}
+use Rattle.giop_sig.specs.Trees.{AreFormed, AreWide, IsWide, IsWidePart}
+use Rattle.giop_sig.proofs.Builtins.{wide_plain}
+use Rattle.giop_sig.proofs.Kept.{depth_stays}
 use Rattle.giop_sig.specs.Entries.{operation_view, exception_view, identity_view}
 
 -- ---- a type
@@ -31,16 +37,89 @@ identified_stays : (types : List Node) (n : Node) (e : Identity) → IsIdentity 
     → IsIdentity (types ++ n ∷ []) e
 identified_stays types n e is = search (arith, length-append)
 
-pub type_added : {Types : List Node → Type 0} (t : Table) (n : Node) → TableOf Types t
-    → Types (t.types ++ n ∷ []) → TableOf Types (with_type t n)
-type_added t n laws are = search (
-  arith,
-  append_assoc,
-  call_stays,
-  get_or,
-  raised_stays,
-  identified_stays,
-)
+-- what a TypeCode holds has the same nodes and depths
+wide_part_stays : (types : List Node) (n : Node) (i : ℕ) → AreFormed types → IsWidePart types i
+    → IsWidePart (types ++ n ∷ []) i
+wide_part_stays types n i are is =
+    let same = get_or_append_left types (n ∷ []) (nodes.prim Octet) i is.known in
+    record {
+      known = omega (arith, is.known, length-append types (n ∷ []));
+      takes = subst TakesOctet (sym same) is.takes;
+      shallow = omega (arith, is.shallow, depth_stays types n i are is.known);
+    }
+
+wide_cases_stay : (types : List Node) (n : Node) (cs : List Case) → AreFormed types
+    → AllByRecursion (λ c. IsWidePart types c.part.type) cs
+    → AllByRecursion (λ c. IsWidePart (types ++ n ∷ []) c.part.type) cs
+wide_cases_stay types n [] are all = tt
+wide_cases_stay types n (c ∷ cs) are all =
+    (wide_part_stays types n c.part.type are all.0, wide_cases_stay types n cs are all.1)
+
+wide_stays : (types : List Node) (n node : Node) → AreFormed types → IsWide types node
+    → IsWide (types ++ n ∷ []) node
+wide_stays types n (nodes.typecode wide kind cases) are is =
+    All-from_recursion (λ (c : Case). IsWidePart (types ++ n ∷ []) c.part.type) cases
+    (wide_cases_stay types n cases are
+    (recursion_from_All (λ (c : Case). IsWidePart types c.part.type) cases is))
+wide_stays types n _ are is = tt
+
+wide_added : (types : List Node) (n : Node) (i : ℕ) → AreFormed types → AreWide types → IsPlain n
+    → i < length (types ++ n ∷ []) → (i < length types) ⊎ (length types ≤ i)
+    → IsWide (types ++ n ∷ []) (node_in (types ++ n ∷ []) i)
+wide_added types n i are wide plain lt (inl below) =
+    subst (IsWide (types ++ n ∷ []))
+    (sym (get_or_append_left types (n ∷ []) (nodes.prim Octet) i below))
+    (wide_stays types n (node_in types i) are (wide i below))
+wide_added types n i are wide plain lt (inr above) =
+    let last : length types ≡ i = omega (arith, length-append types (n ∷ [])) in
+    subst (λ k. IsWide (types ++ n ∷ []) (node_in (types ++ n ∷ []) k)) last
+    (subst (IsWide (types ++ n ∷ [])) (sym (get_or-append_seam types n [] (nodes.prim Octet)))
+    (wide_plain (types ++ n ∷ []) n plain))
+
+plain_added : (types : List Node) (n : Node) (i : ℕ) → ArePlain types → IsPlain n
+    → i < length (types ++ n ∷ []) → (i < length types) ⊎ (length types ≤ i)
+    → IsPlain (node_in (types ++ n ∷ []) i)
+plain_added types n i are plain lt (inl below) =
+    subst IsPlain (sym (get_or_append_left types (n ∷ []) (nodes.prim Octet) i below)) (are i below)
+plain_added types n i are plain lt (inr above) =
+    let last : length types ≡ i = omega (arith, length-append types (n ∷ [])) in
+    subst (λ k. IsPlain (node_in (types ++ n ∷ []) k)) last
+    (subst IsPlain (sym (get_or-append_seam types n [] (nodes.prim Octet))) plain)
+
+-- a type that a file declares has nothing to do with an any
+anys_stay : (version : ℕ) (types : List Node) (fronts : List (List ℕ)) (n : Node) → AreFormed types
+    → KnowsAnys version types fronts → IsPlain n → KnowsAnys version (types ++ n ∷ []) fronts
+anys_stay version types fronts n are laws plain = record {
+  plain = λ other i lt. plain_added types n i (laws.plain other) plain lt
+      (cases_lt i (length types));
+  wide = λ i lt. wide_added types n i are laws.wide plain lt (cases_lt i (length types));
+  short = laws.short;
+  few = laws.few;
+}
+
+pub type_added : (t : Table) (n : Node) → TableOf AreFormed t → IsPlain n
+    → AreFormed (t.types ++ n ∷ []) → TableOf AreFormed (with_type t n)
+type_added t n laws plain are = record {
+  types = are;
+  begins = (
+    laws.begins.0 ++ n ∷ [],
+    ap (λ xs. xs ++ n ∷ []) laws.begins.1
+        ∙ append_assoc builtin_types laws.begins.0 (n ∷ []),
+  );
+  operations = λ k d lt. call_stays t.types n (get_or t.operations k d) (laws.operations k d lt);
+  exceptions = λ k d lt. raised_stays t.types n (get_or t.exceptions k d) (laws.exceptions k d lt);
+  operations_distinct = laws.operations_distinct;
+  exceptions_distinct = laws.exceptions_distinct;
+  operations_few = laws.operations_few;
+  exceptions_few = laws.exceptions_few;
+  declared_few = laws.declared_few;
+  called_few = laws.called_few;
+  identities = λ k d lt.
+      identified_stays t.types n (get_or t.identities k d) (laws.identities k d lt);
+  identities_distinct = laws.identities_distinct;
+  interfaces_few = laws.interfaces_few;
+  anys = anys_stay t.version t.types t.fronts n laws.types laws.anys plain;
+}
 
 -- ---- a new key goes last
 
@@ -63,7 +142,8 @@ none_by : (v : Bool) (i : ℕ) → cond v (Some i) None ≡ None → v ≡ false
 none_by true i e = absurd cc
 none_by false i e = refl
 
-none_any : {X : Type 0} (p : X → Bool) (xs : List X) → position p xs ≡ None → list_any p xs ≡ false
+pub none_any : {X : Type 0} (p : X → Bool) (xs : List X) → position p xs ≡ None →
+    list_any p xs ≡ false
 none_any p xs e = search (arith, some_position, none_by, ltb)
 
 pub list_any-map : {X Y : Type 0} (p : Y → Bool) (f : X → Y) (xs : List X)
@@ -173,6 +253,7 @@ operation_added t o laws call new few = record {
   identities = laws.identities;
   identities_distinct = laws.identities_distinct;
   interfaces_few = laws.interfaces_few;
+  anys = laws.anys;
 }
 
 -- the table after a new operation is put
@@ -218,6 +299,7 @@ exception_added t e laws raised new few = record {
   identities = laws.identities;
   identities_distinct = laws.identities_distinct;
   interfaces_few = laws.interfaces_few;
+  anys = laws.anys;
 }
 
 -- the table after a new exception is put
@@ -263,6 +345,7 @@ identity_added t e laws identified new = record {
       (none_before (identity_at t) (position (λ (x : Identity). bytes_eq e.repository x.repository)
       t.identities) new);
   interfaces_few = laws.interfaces_few;
+  anys = laws.anys;
 }
 
 -- the table after a new repository id is put

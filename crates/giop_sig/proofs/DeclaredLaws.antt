@@ -18,7 +18,7 @@ use Rattle.giop_sig.specs.Scopes.{Scope, AddedType, with_node, with_named, with_
 use Rattle.giop_sig.specs.Validity.{Kind, OfSome, OfItems, OfRepository, OfDeclaration}
 use Rattle.giop_sig.specs.Outcomes.{refused}
 use Rattle.giop_sig.specs.ItemReading.{declared_at, members_at, filled_at, IdentityRead, identity_at, Declared, end_of, type_end_at, structure_at, new_repository_at, exception_at, MembersRead}
-use Rattle.giop_sig.proofs.PlaceLaws.{within_same, within_on, Grown, node_more, struct_more}
+use Rattle.giop_sig.proofs.PlaceLaws.{within_same, within_on, Grown, node_more, struct_more, named_more}
 use Rattle.giop_sig.proofs.ReadingLaws.{Out, good, broken, out_bind, if_apart, Took}
 use Rattle.giop_sig.proofs.ItemLaws.{declared_reads, members_reads, some_keeps, filled_end, filled_on, type_apart, some_none, unused_reads, end_reads}
 use Rattle.giop_sig.proofs.IdentityLaws.{identity_reads, IdentityTaken, identity_takes}
@@ -72,6 +72,8 @@ unfolding structure_at declare OfDeclaration
 structure_reads s w id is text more free t =
     let at = left_of text in
     let members = spell_items is (mark marks.Semicolon ∷ more) in
+    let named = named_more w id (add_struct_type (add_items s is)) in
+    let grown = within_on (struct_more s is) named in
     out_bind (declared_at s s.table.declared text)
     (λ n. identity_at s n.1 >>= λ i. mark_at marks.OpenBrace i.1 >>= λ o. filled_at o
     >>= λ f. members_at s f >>= λ m. type_end_at at n.0 i.0 m.0 (nodes.members m.1) m.2)
@@ -87,10 +89,10 @@ structure_reads s w id is text more free t =
     (filled_reads s.table.types is ti.0 (mark marks.Semicolon ∷ more) ti.2)
     (λ b tb kb. closed_reads at s is (with_named w id) (λ k. OfDeclaration k s (Structure w id is))
     b more free.3 tb (λ keeps k. (ka k, ki k, kb k, keeps k))
-    (λ k h. h.3) within_same)
-    (λ k h. h.2) (struct_more s is)))
-    (λ k h. h.1) (struct_more s is))
-    (λ k h. h.0) (struct_more s is)
+    (λ k h. h.3) named)
+    (λ k h. h.2) grown))
+    (λ k h. h.1) grown)
+    (λ k h. h.0) grown
 
 -- ---- what was read
 

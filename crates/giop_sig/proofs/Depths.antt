@@ -1,14 +1,15 @@
 -- The depth of a type, from its shape and the depths of its parts.
-use Rattle.std.proofs.Common.{◌≡◌, ℕ, zero, suc, ◌+◌, ◌<◌, ◌≤◌, max, List, ◌++◌, length, refl, sym, ap, ◌∙◌, ◌⊎◌, inl, inr, arith}
+use Rattle.std.proofs.Common.{◌≡◌, ℕ, zero, suc, ◌+◌, ◌<◌, ◌≤◌, max, List, ◌++◌, length, refl, sym, ap, subst, ◌∙◌, ◌⊎◌, inl, inr, arith}
 use Rattle.std.proofs.lemmas.List.{length-append, get_or_append_left, get_or_past}
 use Rattle.std.proofs.lemmas.Bool.{cases_lt}
 use Rattle.giop_cdr.specs.declared.prim.Primitive.TheVariants.{Octet}
 use Rattle.giop_sig.specs.declared.types.Shape.{Shape}
 use Rattle.giop_sig.specs.declared.types.Shape.TheVariants as shapes
-use Rattle.giop_sig.specs.Types.{Ty, depth, most, HasPlace, IsUnion}
+use Rattle.giop_sig.specs.HeaderTypes.{ArePlain, IsPlain}
+use Rattle.giop_sig.specs.Types.{Ty, Hearing, depth, most, HasInner, IsUnion}
 use Rattle.giop_sig.specs.Table.{Node, Table, node_in, node_at, part_at, type_of, shape_of, IsFormed}
 use Rattle.giop_sig.specs.Table as nodes
-use Rattle.giop_sig.specs.Trees.{grow, tree_at, tree, octet_type, depth_by, depth_at, depth_in, depth_of, part_depth, node_depth, AreFormed}
+use Rattle.giop_sig.specs.Trees.{grow, in_room, any_hearing, tree_at, tree, octet_type, depth_by, depth_at, depth_in, depth_of, part_depth, node_depth, AreFormed}
 use Rattle.giop_sig.proofs.Nodes.{part_grown}
 use Rattle.giop_sig.proofs.Formed.{SameNodes, part_formed, switch_formed}
 
@@ -40,7 +41,7 @@ most_above (suc n) f i lt = most_last n f i (most_above n f i) lt (cases_lt i n)
 
 -- ---- the depth of a shape
 
-pub by_same : (s : Shape) (f g : ℕ → ℕ) → ((k : ℕ) → HasPlace s k → f k ≡ g k)
+pub by_same : (s : Shape) (f g : ℕ → ℕ) → ((k : ℕ) → HasInner s k → f k ≡ g k)
     → depth_by s f ≡ depth_by s g
 by_same (shapes.Members count) f g same = ap (λ n. 1 + n) (most_same count f g same)
 by_same (shapes.Union count) f g same = ap (λ n. 1 + max 1 n) (most_same count f g same)
@@ -48,9 +49,10 @@ by_same shapes.Tagged f g same = ap (λ n. 1 + max 1 n) (most_same 3 f g same)
 by_same (shapes.Sequence bound) f g same = ap (λ n. 1 + n) (same 0 tt)
 by_same (shapes.Array count) f g same = ap (λ n. 1 + n) (same 0 tt)
 by_same shapes.Encapsulation f g same = ap (λ n. 1 + n) (same 0 tt)
+by_same shapes.Led f g same = ap (λ n. 1 + n) (same 0 refl)
 by_same _ f g same = refl
 
-by_more : (s : Shape) (f g : ℕ → ℕ) → ((k : ℕ) → HasPlace s k → f k ≤ g k)
+by_more : (s : Shape) (f g : ℕ → ℕ) → ((k : ℕ) → HasInner s k → f k ≤ g k)
     → depth_by s f ≤ depth_by s g
 by_more (shapes.Members count) f g less = omega (arith, most_more count f g less)
 by_more (shapes.Union count) f g less = omega (arith, most_more count f g less)
@@ -58,16 +60,18 @@ by_more shapes.Tagged f g less = omega (arith, most_more 3 f g less)
 by_more (shapes.Sequence bound) f g less = omega (arith, less 0 tt)
 by_more (shapes.Array count) f g less = omega (arith, less 0 tt)
 by_more shapes.Encapsulation f g less = omega (arith, less 0 tt)
+by_more shapes.Led f g less = omega (arith, less 0 refl)
 by_more _ f g less = omega arith
 
 by_within : (s : Shape) (f : ℕ → ℕ) (b : ℕ) → (IsUnion s → 0 < b)
-    → ((k : ℕ) → HasPlace s k → f k ≤ b) → depth_by s f ≤ suc b
+    → ((k : ℕ) → HasInner s k → f k ≤ b) → depth_by s f ≤ suc b
 by_within (shapes.Members count) f b some each = omega (arith, most_within count f b each)
 by_within (shapes.Union count) f b some each = omega (arith, some tt, most_within count f b each)
 by_within shapes.Tagged f b some each = omega (arith, some tt, most_within 3 f b each)
 by_within (shapes.Sequence bound) f b some each = omega (arith, each 0 tt)
 by_within (shapes.Array count) f b some each = omega (arith, each 0 tt)
 by_within shapes.Encapsulation f b some each = omega (arith, each 0 tt)
+by_within shapes.Led f b some each = omega (arith, each 0 refl)
 by_within _ f b some each = omega arith
 
 by_some : (s : Shape) (f : ℕ → ℕ) → 0 < depth_by s f
@@ -77,10 +81,11 @@ by_some shapes.Tagged f = omega arith
 by_some (shapes.Sequence bound) f = omega arith
 by_some (shapes.Array count) f = omega arith
 by_some shapes.Encapsulation f = omega arith
+by_some shapes.Led f = omega arith
 by_some _ f = omega arith
 
 -- a part is less deep than its whole
-part_less : (f : ℕ → ℕ) (node : Node) (k : ℕ) → HasPlace (shape_of node) k
+part_less : (f : ℕ → ℕ) (node : Node) (k : ℕ) → HasInner (shape_of node) k
     → f (type_of (part_at node k)) < depth_by (shape_of node) (λ i. f (type_of (part_at node i)))
 part_less f (nodes.members parts) k has =
     omega (
@@ -103,31 +108,65 @@ part_less f (nodes.tagged special tag inner other) k has =
 part_less f (nodes.sequence bound element) k has = omega arith
 part_less f (nodes.array count element) k has = omega arith
 part_less f (nodes.encapsulation held) k has = omega arith
+part_less f (nodes.any code) k has = rw has (omega arith)
+part_less f (nodes.typecode wide kind cases) k has =
+    omega (
+      arith,
+      most_above (length cases)
+          (λ i. f (type_of (part_at (nodes.typecode wide kind cases) i))) k has,
+    )
 part_less f _ k has = absurd has
 
 -- ---- the depth of a tree
 
-pub depth_grown : (tree : ℕ → Ty) (node : Node)
-    → depth (grow tree node) ≡ depth_by (shape_of node)
+pub depth_grown : (h : Hearing) (tree : ℕ → Ty) (node : Node) → IsPlain node
+    → depth (grow h tree node) ≡ depth_by (shape_of node)
     (λ i. depth (tree (type_of (part_at node i))))
 unfolding depth
-depth_grown tree (nodes.members parts) =
+depth_grown h tree (nodes.members parts) plain =
     ap (λ n. 1 + n) (most_same (length parts) _ _
-    (λ i lt. ap depth (sym (part_grown tree (nodes.members parts) i lt))))
-depth_grown tree (nodes.union switch cases otherwise) =
+    (λ i lt. ap depth (sym (part_grown h tree (nodes.members parts) i lt))))
+depth_grown h tree (nodes.union switch cases otherwise) plain =
     ap (λ n. 1 + max 1 n) (most_same (length cases) _ _
-    (λ i lt. ap depth (sym (part_grown tree (nodes.union switch cases otherwise) i lt))))
-depth_grown tree (nodes.tagged special tag inner other) = search (arith, max, most_same, part_grown)
-depth_grown tree _ = refl
+    (λ i lt. ap depth (sym (part_grown h tree (nodes.union switch cases otherwise) i lt))))
+depth_grown h tree (nodes.tagged special tag inner other) plain =
+    search (arith, max, most_same, part_grown)
+depth_grown h tree (nodes.marked mark) plain = absurd plain
+depth_grown h tree (nodes.any code) plain = absurd plain
+depth_grown h tree (nodes.typecode wide kind cases) plain = absurd plain
+depth_grown h tree _ plain = refl
 
--- a tree is as deep as its type, reckoned as far down as its room goes
-pub tree_depth : (t : Table) (room i : ℕ) → depth (tree_at t room i) ≡ depth_at t.types (suc room) i
+-- a node that is plain is the same in each room
+pub plain_in : (room : ℕ) (node : Node) → IsPlain node → in_room room node ≡ node
+plain_in room (nodes.typecode wide kind cases) plain = absurd plain
+plain_in room _ plain = refl
+
+plain_by : (types : List Node) (i : ℕ) → ArePlain types → (i < length types) ⊎ (length types ≤ i)
+    → IsPlain (node_in types i)
+plain_by types i are (inl lt) = are i lt
+plain_by types i are (inr le) =
+    subst IsPlain (sym (get_or_past types i (nodes.prim Octet) le)) tt
+
+pub plain_node : (types : List Node) (i : ℕ) → ArePlain types → IsPlain (node_in types i)
+plain_node types i are = plain_by types i are (cases_lt i (length types))
+
+-- a tree without anys is as deep as its type, reckoned as far down as its room goes
+pub tree_depth : (t : Table) (room i : ℕ) → ArePlain t.types
+    → depth (tree_at t room i) ≡ depth_at t.types (suc room) i
 unfolding tree_at depth_at depth
-tree_depth t zero i = depth_grown (λ k. octet_type) (node_at t i)
-    ∙ by_same (shape_of (node_at t i)) _ _ (λ k has. refl)
-tree_depth t (suc room) i = depth_grown (tree_at t room) (node_at t i)
-    ∙ by_same (shape_of (node_at t i)) _ _
-    (λ k has. tree_depth t room (type_of (part_at (node_at t i) k)))
+tree_depth t zero i are =
+    let node = node_at t i in
+    let plain = plain_node t.types i are in
+    ap (λ n. depth (grow (any_hearing t 0) (λ k. octet_type) n)) (plain_in 0 node plain)
+    ∙ depth_grown (any_hearing t 0) (λ k. octet_type) node plain
+    ∙ by_same (shape_of node) _ _ (λ k has. refl)
+tree_depth t (suc room) i are =
+    let node = node_at t i in
+    let plain = plain_node t.types i are in
+    ap (λ n. depth (grow (any_hearing t room) (tree_at t room) n)) (plain_in room node plain)
+    ∙ depth_grown (any_hearing t room) (tree_at t room) node plain
+    ∙ by_same (shape_of node) _ _
+    (λ k has. tree_depth t room (type_of (part_at node k)) are)
 
 -- ---- how far down it is reckoned
 
@@ -144,9 +183,10 @@ deeper types (suc a) zero i le = absurd (omega arith)
 deeper types (suc a) (suc b) i le = by_more (shape_of (node_in types i)) _ _
     (λ k has. deeper types a b (type_of (part_at (node_in types i) k)) (omega arith))
 
--- no tree is deeper than its type
-pub depth_tree : (t : Table) (i : ℕ) → depth (tree t i) ≤ depth_in t.types i
-depth_tree t i = omega (arith, tree_depth t 24 i, deeper t.types 25 (i + 25) i (omega arith))
+-- no tree without anys is deeper than its type
+pub depth_tree : (t : Table) (i : ℕ) → ArePlain t.types → depth (tree t i) ≤ depth_in t.types i
+depth_tree t i are =
+    omega (arith, tree_depth t 24 i are, deeper t.types 25 (i + 25) i (omega arith))
 
 -- no type is deeper than the deepest
 pub depth_within : (types : List Node) (i : ℕ) → i < length types
@@ -187,7 +227,7 @@ depth_parts types i are lt =
 
 -- a part is less deep than its whole
 pub part_shallower : (types : List Node) (i k : ℕ) → AreFormed types → i < length types
-    → HasPlace (shape_of (node_in types i)) k
+    → HasInner (shape_of (node_in types i)) k
     → part_depth types (node_in types i) k < depth_in types i
 part_shallower types i k are lt has =
     omega (arith, depth_parts types i are lt, part_less (depth_in types) (node_in types i) k has)

@@ -21,7 +21,7 @@ use Rattle.giop_sig.specs.Outcomes.{refused}
 use Rattle.giop_sig.specs.ItemReading.{new_name_at, declared_at, identity_at, Declared, type_end_at}
 use Rattle.giop_sig.specs.Repeats.{in_steps}
 use Rattle.giop_sig.specs.EnumReading.{NamesRead, enumerator_at, names_end, names_step, too_many_names, names_at, enumeration_at}
-use Rattle.giop_sig.proofs.PlaceLaws.{Within, within_same, node_more}
+use Rattle.giop_sig.proofs.PlaceLaws.{Within, within_same, node_more, named_more, within_on}
 use Rattle.giop_sig.proofs.ReadingLaws.{lift, Out, good, broken, out_bind, if_apart, Took}
 use Rattle.giop_sig.proofs.IdentityLaws.{identity_reads, identity_takes}
 use Rattle.giop_sig.proofs.ItemTaken.{new_name_takes, declared_takes, filled_takes, end_takes}
@@ -137,6 +137,7 @@ enumeration_reads n id names s text more free h =
     let at = left_of text in
     let node = nodes.enumeration names in
     let tail = spell_names names (mark marks.Semicolon ∷ more) in
+    let grown = within_on (node_more s node) (named_more n id (with_node s node)) in
     out_bind (declared_at s s.table.declared text)
     (λ d. identity_at s d.1 >>= λ i. mark_at marks.OpenBrace i.1
     >>= λ o. names_at (is_third s.names) o
@@ -157,9 +158,9 @@ enumeration_reads n id names s text more free h =
     (λ b tb kb. end_reads at (with_named n id (with_node s node))
     (λ k. OfDeclaration k s (Enumeration n id names)) b more tb
     (λ k. (ka k, ki k, (kb k).0, (kb k).1)))
-    (λ k w. (w.2, w.3)) (node_more s node)))
-    (λ k w. w.1) (node_more s node))
-    (λ k w. w.0) (node_more s node)
+    (λ k w. (w.2, w.3)) grown))
+    (λ k w. w.1) grown)
+    (λ k w. w.0) grown
 
 -- ---- a text that was read
 

@@ -27,7 +27,7 @@ use Rattle.giop_sig.proofs.CallLaws.{operation_reads, operation_takes, key_reads
 use Rattle.giop_sig.proofs.EnumLaws.{enumeration_reads, TakenEnumeration, enumeration_takes}
 use Rattle.giop_sig.proofs.TokensFew.{tokens_few, next_none}
 use Rattle.giop_sig.proofs.SpellLaws.{spelled_few}
-use Rattle.giop_sig.proofs.Builtins.{builtin_are}
+use Rattle.giop_sig.proofs.Builtins.{first_shallow}
 
 -- ---- a declaration
 
@@ -349,7 +349,7 @@ file_shallow latest takes text t e =
     let d = bind_ok {A = Declared} _ scope_of t h.2 in
     subst (λ (s : Scope). depth_of s.table.types ≤ 24) (ok_is (d.0).0 t d.2)
     (declarations_shallow takes (length text) (first_scope (h.0).0) (h.0).1 d.0 d.1
-    builtin_are.shallow)
+    (first_shallow (h.0).0))
 
 -- the version that a file begins with
 record TakenHead (latest : ℕ) (text : List ℕ) (x : ℕ × List ℕ) : Type 0 where

@@ -1,15 +1,18 @@
 -- What reading gives of a signature file, as the contract states it.
-use Rattle.std.proofs.Common.{◌≡◌, ℕ, ◌+◌, ◌^◌, ◌<◌, ◌≤◌, ◌⊎◌, inl, inr, List, [], ◌∷◌, length, Ok, Err, ap, subst, arith}
+use Rattle.std.proofs.Common.{◌≡◌, ℕ, ◌+◌, ◌^◌, ◌<◌, ◌≤◌, ◌⊎◌, inl, inr, true, eqb, leb, List, [], ◌∷◌, length, Ok, Err, ap, subst, arith}
+use Rattle.std.proofs.lemmas.Bool.{eqb-true, leb-true}
 use Rattle.giop_tokens.specs.declared.fault.Refusal.{Refusal}
 use Rattle.giop_tokens.specs.declared.fault.SigFaultKind.TheVariants as kinds
-use Rattle.giop_sig.specs.Grammar.{Declaration, spell_all, SignatureFile, spell_file}
+use Rattle.giop_sig.specs.Grammar.{Declaration, spell_all, SignatureFile, is_version, spell_file}
 use Rattle.giop_sig.specs.Scopes.{Scope, first_scope, declare, scope_after, table}
 use Rattle.giop_sig.specs.Validity.{Kind, IsShallow, Each, Rule, IsValid, SpellsUpTo, IsBroken, Refuses}
 use Rattle.giop_sig.specs.FileReading.{file_at}
 use Rattle.giop_sig.proofs.PlaceLaws.{deepest, size, scope_more}
+use Rattle.giop_sig.proofs.Solid.{both}
 use Rattle.giop_sig.proofs.TokensFew.{tokens_few}
 use Rattle.giop_sig.proofs.SizeLaws.{types_few, types_fewer}
-use Rattle.giop_sig.specs.Builtin.{builtin_types}
+use Rattle.giop_sig.specs.AnyTypes.{first_types}
+use Rattle.giop_sig.proofs.Builtins.{first_few, more_by}
 use Rattle.giop_sig.proofs.FileLaws.{UnionReads, UnionTakes, BrokenIn, FileOut, file_reads, file_takes}
 
 each_shallow : (ds : List Declaration) (s : Scope)
@@ -40,16 +43,37 @@ file_valid union text t file spells e shallow =
       ap (λ (x : Scope). x.table) o.0,
     )
 
+third_latest : (latest version : ℕ) → latest ≤ 3 → is_version latest version ≡ true
+    → eqb version 3 ≡ true → eqb latest 3 ≡ true
+third_latest latest version most is third =
+    let up = both (leb 1 version) (leb version latest) is in
+    let low = leb-true version latest up.1 in
+    let at = eqb-true version 3 third in
+    let same : version ≡ latest = omega arith in
+    subst (λ n. eqb n 3 ≡ true) same third
+
+-- a file of the latest version begins with the most types
+first_up_to : (latest version : ℕ) → latest ≤ 3 → is_version latest version ≡ true
+    → length (first_types version) ≤ length (first_types latest)
+first_up_to latest version most is =
+    more_by (eqb version 3) (eqb latest 3) (third_latest latest version most is)
+
 -- it adds no more types than the text has octets
-pub file_few : (latest : ℕ) → UnionReads → UnionTakes → (text : List ℕ) (t : Scope)
+pub file_few : (latest : ℕ) → UnionReads → UnionTakes → (text : List ℕ) (t : Scope) → latest ≤ 3
     → length text ≤ 1048576
-    → file_at latest text ≡ Ok t → size t ≤ length builtin_types + length text
-file_few latest reads takes text t short e =
+    → file_at latest text ≡ Ok t → size t ≤ length (first_types latest) + length text
+file_few latest reads takes text t most short e =
     let f = file_takes latest reads takes text t short e in
     let s = first_scope (f.0).version in
     let ds = (f.0).declarations in
     let o : FileOut s ds (Ok t) = subst (FileOut s ds) e (file_reads reads text f.0 f.1) in
-    omega (arith, ap size o.0, tokens_few (spell_file f.0) text (f.1).tokens, types_few s ds)
+    omega (
+      arith,
+      ap size o.0,
+      tokens_few (spell_file f.0) text (f.1).tokens,
+      types_few s ds,
+      first_up_to latest (f.0).version most (f.1).version,
+    )
 
 is_broken : (k : Kind) (file : SignatureFile)
     → (b : BrokenIn k (first_scope file.version) file.declarations)
@@ -61,16 +85,15 @@ pub not_too_many : {latest : ℕ} (text : List ℕ) (file : SignatureFile)
     → SpellsUpTo latest text file
     → (b : BrokenIn kinds.Limit (first_scope file.version) file.declarations)
     → size (declare (scope_after (first_scope file.version) b.before) b.broken) < 2 ^ 32
-unfolding builtin_types
 not_too_many text file spells b =
     let s = first_scope file.version in
-    let built : size s ≤ 100 = omega arith in
     let short = spells.short in
     let spelled = ap (λ ds. length (spell_all ds)) b.all in
     omega (
       arith,
       tokens_few (spell_file file) text spells.tokens,
       types_fewer s b.before b.broken b.after,
+      first_few file.version,
     )
 
 limit_broken : (file : SignatureFile)

@@ -1,12 +1,14 @@
 -- A well-formed node: its parts and names, and that it stays well formed in a table that grows.
-use Rattle.std.proofs.Common.{◌≡◌, ℕ, zero, suc, ◌<◌, ◌≤◌, List, [], ◌∷◌, ◌++◌, length, get_or, Option, Some, None, sym, subst, arith}
-use Rattle.std.specs.Prelude.{slice_get, IfSome}
+use Rattle.std.proofs.Common.{◌≡◌, ℕ, zero, suc, ◌<◌, ◌≤◌, Bool, true, false, cond, List, [], ◌∷◌, ◌++◌, length, get_or, Option, Some, None, sym, subst, arith, lit<}
+use Rattle.std.specs.Prelude.{slice_get, IfSome, codes, ◌==◌}
+use Rattle.std.specs.Option.{option_map}
 use Rattle.std.specs.List.{AllByRecursion}
 use Rattle.std.proofs.lemmas.List.{get_or_append_left, length-map}
 use Rattle.std.proofs.lemmas.List.Elements.{recursion_from_All}
 use Rattle.giop_sig.specs.declared.entries.Entry.{Entry}
 use Rattle.giop_sig.specs.declared.entries.Entry.TheVariants as entries
-use Rattle.giop_sig.specs.Types.{HasPlace, HasMember, IsUnion}
+use Rattle.giop_sig.specs.Kinds.{is_kind, kind_word, kind_words, marked_word}
+use Rattle.giop_sig.specs.Types.{HasInner, HasMember, IsUnion}
 use Rattle.giop_sig.specs.Table.{Node, Part, Case, node_in, part_at, type_of, name_of, name_at, switch_at, shape_of, case_part, IsFormed, IsPart, IsInner, IsSwitch}
 use Rattle.giop_sig.specs.Table as nodes
 use Rattle.giop_sig.specs.Views.{node_view, IsSized}
@@ -35,9 +37,31 @@ part_in types n [] i all lt = absurd (omega arith)
 part_in types n (p ∷ ps) zero all lt = search (arith)
 part_in types n (p ∷ ps) (suc i) all lt = part_in types n ps i all.1 (omega arith)
 
+narrow_read : (P : Part → Type 0) (wide : Option ℕ) (cs : List Case) (i : ℕ)
+    → AllByRecursion (λ c. P (nodes.narrow_part wide c.part)) cs
+    → OnPart P (option_map (nodes.narrow_part wide) (case_part (slice_get cs i)))
+narrow_read P wide [] i all = tt
+narrow_read P wide (c ∷ cs) zero all = all.0
+narrow_read P wide (c ∷ cs) (suc i) all = narrow_read P wide cs i all.1
+
+-- what follows a kind of a TypeCode, if there is little room
+narrow_formed : (types : List Node) (n : ℕ) (wide : Option ℕ) {kind : ℕ} (cases : List Case) (i : ℕ)
+    → IsFormed types n (nodes.typecode wide kind cases) → i < length cases
+    → IsPart types n (record {
+      name = name_of (part_at (nodes.typecode wide kind cases) i);
+      type = type_of (part_at (nodes.typecode wide kind cases) i);
+    })
+narrow_formed types n wide {kind} cases i formed has =
+    let there = part_there (nodes.typecode wide kind cases) i has in
+    let is = on_some (IsPart types n) (part_at (nodes.typecode wide kind cases) i) there.0 there.1
+    (narrow_read (IsPart types n) wide cases i
+    (recursion_from_All (λ (c : Case). IsPart types n (nodes.narrow_part wide c.part)) cases
+    formed.2)) in
+    subst (λ o. IsPart types n (record { name = name_of o; type = type_of o })) (sym there.1) is
+
 -- the part at a place is one that the whole can have
 pub part_formed : (types : List Node) (n : ℕ) (node : Node) (i : ℕ) → IsFormed types n node
-    → HasPlace (shape_of node) i → IsInner types n (type_of (part_at node i))
+    → HasInner (shape_of node) i → IsInner types n (type_of (part_at node i))
 part_formed types n (nodes.members parts) i formed has =
     (part_in types n parts i (recursion_from_All (IsPart types n) parts formed.1) has).inner
 part_formed types n (nodes.union switch cases otherwise) i formed has =
@@ -50,6 +74,9 @@ part_formed types n (nodes.sequence bound element) i formed has = formed
 part_formed types n (nodes.array count element) i formed has = formed.1
 part_formed types n (nodes.encapsulation held) i formed has = formed
 part_formed types n (nodes.tagged special tag inner other) i formed has = search (arith, part_in)
+part_formed types n (nodes.any code) i formed has = rw has formed
+part_formed types n (nodes.typecode wide kind cases) i formed has =
+    (narrow_formed types n wide cases i formed has).inner
 part_formed types n _ i formed has = absurd has
 
 -- the names of parts are short
@@ -65,12 +92,15 @@ name_short types n (nodes.union switch cases otherwise) i formed has =
     subst (λ o. length (name_of o) ≤ 64) (sym there.1) is.short
 name_short types n (nodes.tagged special tag inner other) i formed has =
     (part_in types n (tag ∷ inner ∷ other ∷ []) i (formed.1, (formed.2, (formed.3, tt))) has).short
+name_short types n (nodes.typecode wide kind cases) i formed has =
+    (narrow_formed types n wide cases i formed has).short
 name_short types n _ i formed has = absurd has
 
 pub switch_formed : (types : List Node) (n : ℕ) (node : Node) → IsFormed types n node
     → IsUnion (shape_of node) → IsSwitch types n (switch_at node)
 switch_formed types n (nodes.union switch cases otherwise) formed is = formed.0
 switch_formed types n (nodes.tagged special tag inner other) formed is = formed.0
+switch_formed types n (nodes.typecode wide kind cases) formed is = formed.0
 switch_formed types n _ formed is = absurd is
 
 -- the names of an enum are short
@@ -80,6 +110,25 @@ names_short [] n all = tt
 names_short (x ∷ xs) zero all = all.0
 names_short (x ∷ xs) (suc n) all = names_short xs n all.1
 
+kind_short : (v : Bool) (w : Option (List ℕ)) → IfSome w (λ word. length word ≤ 64)
+    → IfSome (cond v w None) (λ word. length word ≤ 64)
+kind_short true w h = h
+kind_short false w h = tt
+
+words_short : AllByRecursion (λ word. length word ≤ 64) kind_words
+words_short = search (arith, lit<)
+
+marked_short : (v : Bool) (n : ℕ)
+    → IfSome (cond v (Some (codes "indirection")) (slice_get kind_words n))
+    (λ word. length word ≤ 64)
+marked_short true n = lit< tt
+marked_short false n = names_short kind_words n words_short
+
+-- and the words of kinds
+word_short : (mark n : ℕ) → IfSome (marked_word mark n) (λ word. length word ≤ 64)
+word_short mark n =
+    kind_short (is_kind mark) (kind_word n) (marked_short (n == 4294967295) n)
+
 pub enum_name_short : (types : List Node) (i : ℕ) (node : Node) (n : ℕ) → IsFormed types i node
     → IfSome (name_at node n) (λ name. length name ≤ 64)
 enum_name_short types i (nodes.enumeration names) n formed = search (
@@ -87,6 +136,7 @@ enum_name_short types i (nodes.enumeration names) n formed = search (
   names_short,
   recursion_from_All,
 )
+enum_name_short types i (nodes.marked mark) n formed = word_short mark n
 enum_name_short types i _ n formed = tt
 
 -- an entry that is formed can be counted
@@ -94,6 +144,7 @@ pub sized : (types : List Node) (n : ℕ) (e : Entry) → IsFormed types n (node
 sized types n (entries.Enumeration names) formed = search (arith, length-map)
 sized types n (entries.Members parts) formed = search (arith, length-map)
 sized types n (entries.Union switch cases otherwise) formed = formed.1
+sized types n (entries.TypeCode code) formed = formed.1
 sized types n _ formed = tt
 
 -- ---- two tables that agree below a number
@@ -127,6 +178,13 @@ formed_moved types others n (nodes.union switch cases otherwise) same formed = s
 formed_moved types others n (nodes.sequence bound element) same formed = search (arith, inner_moved)
 formed_moved types others n (nodes.array count element) same formed = search (arith, inner_moved)
 formed_moved types others n (nodes.encapsulation held) same formed = search (arith, inner_moved)
+formed_moved types others n (nodes.any code) same formed = search (arith, inner_moved)
+formed_moved types others n (nodes.typecode wide kind cases) same formed = search (
+  arith,
+  switch_moved,
+  part_moved,
+  get_or,
+)
 formed_moved types others n (nodes.tagged special tag inner other) same formed = search (
   arith,
   switch_moved,

@@ -93,7 +93,7 @@ pub types_added : (types : List Node) (node : Node) → AreFormed types → leng
 types_added types node are few last = search (arith, length-append, formed_added, cases_lt)
 
 -- the types that were there are as deep as before
-depth_stays : (types : List Node) (node : Node) (i : ℕ) → AreFormed types → i < length types
+pub depth_stays : (types : List Node) (node : Node) (i : ℕ) → AreFormed types → i < length types
     → depth_in types i ≡ depth_in (types ++ node ∷ []) i
 depth_stays types node i are lt =
     depth_moved types (types ++ node ∷ []) (length types) (i + 25) (i + 25) i are.formed

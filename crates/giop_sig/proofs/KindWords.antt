@@ -1,5 +1,5 @@
 -- The words of kinds are names.
-use Rattle.std.proofs.Common.{◌≤◌, ℕ, Bool, true, false, List, length, Option, Some, None, cond, arith}
+use Rattle.std.proofs.Common.{◌≤◌, ℕ, Bool, true, false, List, length, Option, Some, cond, arith}
 use Rattle.std.specs.Prelude.{IfSome, codes}
 use Rattle.std.specs.List.{AllByRecursion}
 use Rattle.giop_sig.proofs.Formed.{names_short}

@@ -153,6 +153,9 @@ values_again (nodes.sequence bound element) v w n above also e f = absurd cc
 values_again (nodes.array count element) v w n above also e f = absurd cc
 values_again (nodes.encapsulation held) v w n above also e f = absurd cc
 values_again (nodes.tagged special tag inner other) v w n above also e f = absurd cc
+values_again (nodes.marked mark) v w n above also e f = absurd cc
+values_again (nodes.any code) v w n above also e f = absurd cc
+values_again (nodes.typecode wide kind cases) v w n above also e f = absurd cc
 
 -- ---- labels and what is kept of them
 

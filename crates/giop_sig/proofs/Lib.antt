@@ -12,7 +12,9 @@ pub mod PartLaws
 pub mod Builtins
 pub mod HeaderLaws
 pub mod Unled
+pub mod HearingLaws
 mod Added
+mod FrontLaws
 mod InterfaceLaws
 mod ListNumbers
 mod ListLines

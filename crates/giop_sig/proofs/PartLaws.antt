@@ -3,16 +3,16 @@
 use Rattle.std.proofs.Common.{arith, ◌≡◌, ℕ, suc, ◌<◌, ◌≤◌, length, refl, sym, ap, subst, ◌∙◌}
 use Rattle.std.proofs.lemmas.Bool.{cases_lt}
 use Rattle.giop_sig.specs.Fits.{IsFit, IsRoot}
-use Rattle.giop_sig.specs.HeaderTypes.{IsTable}
-use Rattle.giop_sig.specs.Table.{Table, node_at, part_number, switch_at}
-use Rattle.giop_sig.specs.Trees.{tree, tree_at, depth_of}
-use Rattle.giop_sig.specs.Types.{Ty, HasPlace, HasShape, IsUnion, depth, part_of, shape_in, switch_of}
+use Rattle.giop_sig.specs.HeaderTypes.{ArePlain, IsTable}
+use Rattle.giop_sig.specs.Table.{Node, Table, name_of, node_at, part_at, part_number, switch_at, type_of}
+use Rattle.giop_sig.specs.Trees.{in_room, part_number_in, tree, tree_at, depth_of}
+use Rattle.giop_sig.specs.Types.{Ty, HasPlace, HasInner, HasShape, IsUnion, depth, part_of, shape_in, switch_of}
 use Rattle.giop_sig.specs.declared.types.Shape.{Shape}
 use Rattle.giop_sig.specs.declared.types.Shape.TheVariants as shapes
 use Rattle.giop_sig.proofs.Depths.{depth_tree, depth_within}
-use Rattle.giop_sig.proofs.Nodes.{has_shape}
+use Rattle.giop_sig.proofs.Nodes.{has_shape, in_name, in_part, shape_place}
 use Rattle.giop_sig.proofs.Solid.{fit_in_room}
-use Rattle.giop_sig.proofs.Tables.{Entered, entered, part_below, part_room, root_entered, shape_at, switch_room}
+use Rattle.giop_sig.proofs.Tables.{Entered, entered, part_below, part_in_room, part_known_in, part_room, root_entered, shape_at, switch_room}
 
 -- the part at a place has a smaller number, and is the tree's part, in one level less room
 pub record PartIs (t : Table) (id i part : ℕ) : Type 0 where
@@ -23,14 +23,51 @@ at_number : (t : Table) (id : ℕ) → IsTable t → id < length t.types → Ent
 at_number t id laws known = search (arith, entered)
 
 pub part_is : (t : Table) (id i : ℕ) → IsTable t → id < length t.types
-    → HasPlace (shape_in (tree t id)) i → PartIs t id i (part_number t id i)
-part_is t id i laws known has = search (arith, at_number, part_below, part_room)
+    → (IsUnion (shape_in (tree t id)) → ⊥) → HasInner (shape_in (tree t id)) i
+    → PartIs t id i (part_number t id i)
+part_is t id i laws known none has =
+    let e = at_number t id laws known in
+    let place = shape_place (shape_in (tree t id)) i has in
+    record {
+      below = part_below t id i (part_number t id i) (node_at t id) e has refl;
+      same = λ room. part_room t id i (part_number t id i) room (node_at t id) e none place refl;
+    }
+
+-- the part at a place, in its room
+pub part_in_is : (t : Table) (room id i : ℕ) → IsTable t → id < length t.types
+    → HasPlace (shape_in (tree t id)) i
+    → tree_at t room (part_number_in t room id i) ≡ part_of (tree_at t (suc room) id) i
+part_in_is t room id i laws known has =
+    part_in_room t id i (part_number_in t room id i) room (node_at t id) (at_number t id laws known)
+    has refl
+
+-- which is a type of the table
+pub part_in_known : (t : Table) (room id i : ℕ) → IsTable t → id < length t.types
+    → HasPlace (shape_in (tree t id)) i
+    → (shape_in (tree t id) ≡ shapes.Led → i ≤ length t.types)
+    → part_number_in t room id i < length t.types
+part_in_known t room id i laws known has led =
+    part_known_in t id i (part_number_in t room id i) room (node_at t id)
+    (at_number t id laws known) has led refl
+
+-- the number of a part of a type that is no union is the same in each room
+pub same_number : (t : Table) (a room id i : ℕ) → (IsUnion (shape_in (tree_at t a id)) → ⊥)
+    → part_number t id i ≡ part_number_in t room id i
+same_number t a room id i none =
+    ap type_of (sym (in_part room (node_at t id) i
+    (λ is. none (subst IsUnion (sym (shape_at t a id)) is))))
+
+-- and so are the names of the parts of each
+pub named_in_room : (room : ℕ) (node : Node) (i : ℕ)
+    → name_of (part_at (in_room room node) i) ≡ name_of (part_at node i)
+named_in_room room node i = in_name room node i
 
 pub root_is : (t : Table) (id : ℕ) → IsTable t → id < length t.types → IsRoot (tree t id)
 root_is t id laws known = search (arith, root_entered, at_number)
 
-pub depth_is : (t : Table) (id : ℕ) → id < length t.types → depth (tree t id) ≤ depth_of t.types
-depth_is t id known = omega (arith, depth_tree t id, depth_within t.types id known)
+pub depth_is : (t : Table) (id : ℕ) → ArePlain t.types → id < length t.types
+    → depth (tree t id) ≤ depth_of t.types
+depth_is t id plain known = omega (arith, depth_tree t id plain, depth_within t.types id known)
 
 -- ---- the same in each room
 
@@ -61,7 +98,7 @@ has_shape_room t a b id s has =
 pub fit_room : (t : Table) (id d a room : ℕ) → IsTable t → IsFit d (tree_at t a id)
     → IsFit (suc (suc room)) (tree_at t room id)
 fit_room t id d a room laws fit =
-    fit_in_room t id d a room laws.types.placed fit (cases_lt id (length t.types))
+    fit_in_room t id d a room laws.types.placed laws.anys.wide fit (cases_lt id (length t.types))
 
 -- a discriminator takes no room
 pub switch_same : (t : Table) (a b id : ℕ) → IsTable t → id < length t.types

@@ -1,11 +1,12 @@
 -- Adding the types of a declaration keeps the names of a scope, and only adds types.
-use Rattle.std.proofs.Common.{◌≡◌, ℕ, ◌≤◌, List, [], ◌∷◌, ◌++◌, length, Option, Some, None, refl, sym, subst, ◌∙◌, arith}
+use Rattle.std.proofs.Common.{◌≡◌, ℕ, ◌≤◌, Bool, true, false, cond, List, [], ◌∷◌, ◌++◌, length, Option, Some, None, refl, sym, subst, ◌∙◌, arith}
+use Rattle.std.specs.Prelude.{nat_lt}
 use Rattle.std.proofs.lemmas.List.{length-append}
-use Rattle.giop_sig.specs.Table.{Node, Table, node_at, with_variant, with_variants, with_listed}
+use Rattle.giop_sig.specs.Table.{Node, Table, node_at, with_type, with_identity, with_variant, with_variants, with_listed}
 use Rattle.giop_sig.specs.Table as nodes
-use Rattle.giop_sig.specs.Trees.{depth_of}
-use Rattle.giop_sig.specs.Grammar.{TypeExpr, Base, Text, Reference, Named, SequenceOf, EncapsulationOf, Item, UnionCase, Param, Declaration, Enumeration, Structure, DeclaredUnion, DeclaredException, Call, KeyOf}
-use Rattle.giop_sig.specs.Scopes.{Scope, AddedType, with_node, place, add_array, add_item, add_items, add_cases, default_from, add_params, add_return, add_struct_type, declare, scope_after}
+use Rattle.giop_sig.specs.Trees.{depth_in, depth_of}
+use Rattle.giop_sig.specs.Grammar.{TypeExpr, Base, Text, Reference, AnyType, CodeType, Named, SequenceOf, EncapsulationOf, Item, UnionCase, Param, Declaration, Enumeration, Structure, DeclaredUnion, DeclaredException, Call, KeyOf}
+use Rattle.giop_sig.specs.Scopes.{Scope, AddedType, with_node, with_id_fronts, with_named, place, add_array, add_item, add_items, add_cases, default_from, add_params, add_return, add_struct_type, declare, scope_after}
 use Rattle.giop_sig.proofs.Depths.{deepest_more}
 
 -- the greatest depth in a scope, and how many types it has
@@ -46,6 +47,8 @@ place_names s (Base p) = refl
 place_names s (Text None) = refl
 place_names s (Text (Some n)) = refl
 place_names s Reference = refl
+place_names s AnyType = refl
+place_names s CodeType = refl
 place_names s (Named w) = refl
 place_names s (SequenceOf e bound) = place_names s e
 place_names s (EncapsulationOf e) = place_names s e
@@ -85,6 +88,8 @@ place_operations s (Base p) = refl
 place_operations s (Text None) = refl
 place_operations s (Text (Some n)) = refl
 place_operations s Reference = refl
+place_operations s AnyType = refl
+place_operations s CodeType = refl
 place_operations s (Named w) = refl
 place_operations s (SequenceOf e bound) = place_operations s e
 place_operations s (EncapsulationOf e) = place_operations s e
@@ -95,6 +100,8 @@ place_called s (Base p) = refl
 place_called s (Text None) = refl
 place_called s (Text (Some n)) = refl
 place_called s Reference = refl
+place_called s AnyType = refl
+place_called s CodeType = refl
 place_called s (Named w) = refl
 place_called s (SequenceOf e bound) = place_called s e
 place_called s (EncapsulationOf e) = place_called s e
@@ -146,6 +153,20 @@ cases_more s node (c ∷ cs) =
 
 -- ---- declarations
 
+sequence_by : (t : Table) (number : ℕ) (v : Bool)
+    → Within t.types (cond v (with_type t (nodes.sequence None number)) t).types
+sequence_by t number true = search (arith, length-append, deepest_more)
+sequence_by t number false = within_same
+
+-- a name adds no type, and a repository id a sequence, at most
+pub named_more : (w : List ℕ) (id : Option (List ℕ)) (p : AddedType)
+    → Grown p.0 (with_named w id p)
+named_more w None p = within_same
+named_more w (Some id) p =
+    let t = (p.0).table in
+    sequence_by (with_id_fronts (with_identity t (record { repository = id; type = p.1 })) id p.1)
+    p.1 (nat_lt (depth_in t.types p.1) 24)
+
 pub struct_more : (s : Scope) (is : List Item) → Grown s (add_struct_type (add_items s is)).0
 struct_more s is =
     let x = add_items s is in within_on (items_more s is) (node_more x.0 (nodes.members x.1))
@@ -156,14 +177,20 @@ structs_more s a b = within_on (node_more s a) (node_more (with_node s a).0 b)
 
 pub declare_more : (s : Scope) (d : Declaration) → Grown s (declare s d)
 unfolding declare
-declare_more s (Enumeration n id names) = search (arith, node_more)
-declare_more s (Structure n id is) = struct_more s is
+declare_more s (Enumeration n id names) =
+    let p = with_node s (nodes.enumeration names) in
+    within_on (node_more s (nodes.enumeration names)) (named_more n id p)
+declare_more s (Structure n id is) =
+    let p = add_struct_type (add_items s is) in
+    within_on (struct_more s is) (named_more n id p)
 declare_more s (DeclaredUnion n id e cs) =
     let p = place s e in
     let node = node_at (p.0).table p.1 in
     let x = add_cases p.0 node cs in
-    let union = node_more x.0 (nodes.union p.1 x.1 (default_from 0 cs)) in
-    within_on (place_more s e) (within_on (cases_more p.0 node cs) union)
+    let union = nodes.union p.1 x.1 (default_from 0 cs) in
+    let q = with_node x.0 union in
+    within_on (place_more s e) (within_on (cases_more p.0 node cs)
+    (within_on (node_more x.0 union) (named_more n id q)))
 declare_more s (DeclaredException n r is) = struct_more s is
 declare_more s (Call o n ps ids) =
     let t = add_return s o in

@@ -1,19 +1,21 @@
 -- The trees of types by their rooms: a discriminator has one tree, and a table that grows keeps its
 -- trees.
-use Rattle.std.proofs.Common.{◌≡◌, ℕ, zero, suc, ◌<◌, List, [], ◌∷◌, length, refl, ap, ◌∙◌, arith}
+use Rattle.std.proofs.Common.{◌≡◌, ℕ, zero, suc, ◌<◌, List, [], ◌∷◌, length, refl, sym, subst, ap, ◌∙◌, arith}
 use mathlib.Core.Path.{fun_ext}
 use Rattle.std.specs.Prelude.{slice_get}
-use Rattle.giop_sig.specs.Types.{Choice, Cases, Tag, Ty, Single, Struct, HasPlace, IsUnion, switch_of}
+use Rattle.giop_sig.specs.HeaderTypes.{IsPlain}
+use Rattle.giop_sig.specs.Types.{Choice, Cases, Tag, Ty, Single, Struct, Sequence, Array, Encapsulation, Hearing, HasInner, IsUnion, switch_of}
 use Rattle.giop_sig.specs.Table.{Node, Part, Case, Table, node_in, node_at, shape_of, part_at, type_of, name_of, switch_at, case_part, IsScalarNode, IsFormed}
 use Rattle.giop_sig.specs.Table as nodes
-use Rattle.giop_sig.specs.Trees.{grow, grown_part, grown_union, union_of, octet_type, scalar_of, tree_at}
+use Rattle.giop_sig.specs.Trees.{any_hearing, grow, grown_part, grown_union, in_room, union_of, octet_type, scalar_of, tree_at}
+use Rattle.giop_sig.proofs.Nodes.{in_shape, in_switch}
 use Rattle.giop_sig.proofs.Formed.{SameNodes, part_formed, switch_formed}
-use Rattle.giop_sig.proofs.Depths.{FormedBelow}
+use Rattle.giop_sig.proofs.Depths.{FormedBelow, plain_in}
 
 -- ---- a node over trees that agree on its parts
 
 abbrev pub SamePart : (ℕ → Ty) → (ℕ → Ty) → Node → Type 0
-SamePart f g node = (k : ℕ) → HasPlace (shape_of node) k
+SamePart f g node = (k : ℕ) → HasInner (shape_of node) k
     → f (type_of (part_at node k)) ≡ g (type_of (part_at node k))
 
 part_same : (f g : ℕ → Ty) (ps : List Part) (i : ℕ)
@@ -39,71 +41,103 @@ union_same f g choice node switch parts =
     ap (λ T. union_of choice node T (λ i. grown_part f (part_at node i))) switch
     ∙ ap (union_of choice node (g (switch_at node))) (fun_ext parts)
 
-pub grow_same : (f g : ℕ → Ty) (node : Node) → SamePart f g node
+pub grow_same : (h k : Hearing) (f g : ℕ → Ty) (node : Node) → IsPlain node → SamePart f g node
     → (IsUnion (shape_of node) → f (switch_at node) ≡ g (switch_at node))
-    → grow f node ≡ grow g node
-grow_same f g (nodes.members parts) same switch =
+    → grow h f node ≡ grow k g node
+grow_same h k f g (nodes.members parts) plain same switch =
     ap (Struct (length parts) (λ i. name_of (slice_get parts i)))
     (fun_ext (λ i. part_same f g parts i same))
-grow_same f g (nodes.union s cases otherwise) same switch =
+grow_same h k f g (nodes.union s cases otherwise) plain same switch =
     union_same f g (Cases (length cases)) (nodes.union s cases otherwise) (switch tt)
     (λ i. case_same f g cases i same)
-grow_same f g (nodes.sequence bound element) same switch = search (arith)
-grow_same f g (nodes.array count element) same switch = search (arith)
-grow_same f g (nodes.encapsulation held) same switch = search (arith)
-grow_same f g (nodes.tagged special tag inner other) same switch =
+grow_same h k f g (nodes.sequence bound element) plain same switch =
+    ap (Sequence bound) (same 0 tt)
+grow_same h k f g (nodes.array count element) plain same switch = ap (Array count) (same 0 tt)
+grow_same h k f g (nodes.encapsulation held) plain same switch = ap Encapsulation (same 0 tt)
+grow_same h k f g (nodes.tagged special tag inner other) plain same switch =
     union_same f g Tag (nodes.tagged special tag inner other) (switch tt)
     (λ i. part_same f g (tag ∷ inner ∷ other ∷ []) i same)
-grow_same f g _ same switch = refl
+grow_same h k f g (nodes.any code) plain same switch = absurd plain
+grow_same h k f g (nodes.typecode wide kind cases) plain same switch = absurd plain
+grow_same h k f g _ plain same switch = refl
 
 -- ---- the discriminator
 
-single_of : (f : ℕ → Ty) (node : Node) → IsScalarNode node
-    → grow f node ≡ Single (scalar_of (grow f node))
-single_of f (nodes.prim p) is = refl
-single_of f (nodes.enumeration names) is = refl
-single_of f _ is = absurd is
+single_of : (h : Hearing) (f : ℕ → Ty) (room : ℕ) (node : Node) → IsScalarNode node
+    → grow h f (in_room room node) ≡ Single (scalar_of (grow h f (in_room room node)))
+single_of h f room (nodes.prim p) is = refl
+single_of h f room (nodes.enumeration names) is = refl
+single_of h f room (nodes.marked mark) is = refl
+single_of h f room _ is = absurd is
 
 -- the type of one number that a union's discriminator has
 pub single_at : (t : Table) (room i : ℕ) → IsScalarNode (node_at t i)
     → tree_at t room i ≡ Single (scalar_of (tree_at t room i))
 unfolding tree_at
-single_at t zero i is = single_of (λ k. octet_type) (node_at t i) is
-single_at t (suc room) i is = single_of (tree_at t room) (node_at t i) is
+single_at t zero i is = single_of (any_hearing t 0) (λ k. octet_type) 0 (node_at t i) is
+single_at t (suc room) i is =
+    single_of (any_hearing t room) (tree_at t room) room (node_at t i) is
 
-scalar_same : (f g : ℕ → Ty) (node : Node) → IsScalarNode node → grow f node ≡ grow g node
-scalar_same f g (nodes.prim p) is = refl
-scalar_same f g (nodes.enumeration names) is = refl
-scalar_same f g _ is = absurd is
+scalar_same : (h k : Hearing) (f g : ℕ → Ty) (a b : ℕ) (node : Node) → IsScalarNode node
+    → grow h f (in_room a node) ≡ grow k g (in_room b node)
+scalar_same h k f g a b (nodes.prim p) is = refl
+scalar_same h k f g a b (nodes.enumeration names) is = refl
+scalar_same h k f g a b (nodes.marked mark) is = refl
+scalar_same h k f g a b _ is = absurd is
 
 -- a type of one number is the same in each room
 pub scalar_room : (t : Table) (a b i : ℕ) → IsScalarNode (node_at t i)
     → tree_at t a i ≡ tree_at t b i
 unfolding tree_at
 scalar_room t zero zero i is = refl
-scalar_room t zero (suc b) i is = scalar_same _ _ (node_at t i) is
-scalar_room t (suc a) zero i is = scalar_same _ _ (node_at t i) is
-scalar_room t (suc a) (suc b) i is = scalar_same _ _ (node_at t i) is
+scalar_room t zero (suc b) i is =
+    scalar_same (any_hearing t 0) (any_hearing t b) (λ k. octet_type) (tree_at t b) 0 b
+    (node_at t i) is
+scalar_room t (suc a) zero i is =
+    scalar_same (any_hearing t a) (any_hearing t 0) (tree_at t a) (λ k. octet_type) a 0
+    (node_at t i) is
+scalar_room t (suc a) (suc b) i is =
+    scalar_same (any_hearing t a) (any_hearing t b) (tree_at t a) (tree_at t b) a b (node_at t i) is
 
-pub switch_grown : (f : ℕ → Ty) (node : Node) → IsUnion (shape_of node)
+switch_in : (h : Hearing) (f : ℕ → Ty) (node : Node) → IsUnion (shape_of node)
     → f (switch_at node) ≡ Single (scalar_of (f (switch_at node)))
-    → f (switch_at node) ≡ switch_of (grow f node)
-switch_grown f (nodes.union switch cases otherwise) is e = e
-switch_grown f (nodes.tagged special tag inner other) is e = e
-switch_grown f _ is e = absurd is
+    → f (switch_at node) ≡ switch_of (grow h f node)
+switch_in h f (nodes.union switch cases otherwise) is e = e
+switch_in h f (nodes.tagged special tag inner other) is e = e
+switch_in h f (nodes.typecode wide kind cases) is e = e
+switch_in h f _ is e = absurd is
+
+pub switch_grown : (h : Hearing) (f : ℕ → Ty) (room : ℕ) (node : Node) → IsUnion (shape_of node)
+    → f (switch_at node) ≡ Single (scalar_of (f (switch_at node)))
+    → f (switch_at node) ≡ switch_of (grow h f (in_room room node))
+switch_grown h f room node is e =
+    let at = in_switch room node in
+    subst (λ k. f k ≡ switch_of (grow h f (in_room room node))) at
+    (switch_in h f (in_room room node) (subst IsUnion (sym (in_shape room node)) is)
+    (subst (λ k. f k ≡ Single (scalar_of (f k))) (sym at) e))
 
 -- ---- a table that grows
 
--- a tree depends on the nodes up to its own alone
-pub tree_moved : (t u : Table) (n room i : ℕ) → FormedBelow t.types n
+abbrev pub PlainBelow : List Node → ℕ → Type 0
+PlainBelow types n = (i : ℕ) → i < n → IsPlain (node_in types i)
+
+-- a tree without anys depends on the nodes up to its own alone
+pub tree_moved : (t u : Table) (n room i : ℕ) → FormedBelow t.types n → PlainBelow t.types n
     → SameNodes t.types u.types n → i < n → tree_at t room i ≡ tree_at u room i
 unfolding tree_at
-tree_moved t u n zero i are same lt = ap (grow (λ k. octet_type)) (same i lt)
-tree_moved t u n (suc room) i are same lt =
-    let node = node_at t i in
-    grow_same (tree_at t room) (tree_at u room) node
-    (λ k has. let below = (part_formed t.types i node k (are i lt) has).below in
-    tree_moved t u n room (type_of (part_at node k)) are same (omega arith))
-    (λ is. let below = (switch_formed t.types i node (are i lt) is).below in
-    tree_moved t u n room (switch_at node) are same (omega arith))
-    ∙ ap (grow (tree_at u room)) (same i lt)
+tree_moved t u n zero i are plain same lt =
+    let one = node_at t i in
+    let a : in_room 0 one ≡ one = plain_in 0 one (plain i lt) in
+    let b : in_room 0 (node_at u i) ≡ one = ap (in_room 0) (sym (same i lt)) ∙ a in
+    rw (a, b) (grow_same (any_hearing t 0) (any_hearing u 0) (λ k. octet_type) (λ k. octet_type) one
+    (plain i lt) (λ k has. refl) (λ is. refl))
+tree_moved t u n (suc room) i are plain same lt =
+    let one = node_at t i in
+    let a : in_room room one ≡ one = plain_in room one (plain i lt) in
+    let b : in_room room (node_at u i) ≡ one = ap (in_room room) (sym (same i lt)) ∙ a in
+    rw (a, b) (grow_same (any_hearing t room) (any_hearing u room) (tree_at t room) (tree_at u room)
+    one (plain i lt)
+    (λ k has. let below = (part_formed t.types i one k (are i lt) has).below in
+    tree_moved t u n room (type_of (part_at one k)) are plain same (omega arith))
+    (λ is. let below = (switch_formed t.types i one (are i lt) is).below in
+    tree_moved t u n room (switch_at one) are plain same (omega arith)))

@@ -12,7 +12,7 @@ use Rattle.giop_sig.specs.declared.types.TypeId.{TypeId}
 use Rattle.giop_sig.specs.Interfaces.{Interfaces}
 use Rattle.giop_sig.specs.Table.{Node, Table}
 use Rattle.giop_sig.specs.Trees.{depth_of, AreFormed}
-use Rattle.giop_sig.specs.HeaderTypes.{TableOf, IsTable}
+use Rattle.giop_sig.specs.HeaderTypes.{IsPlain, KnowsAnys, TableOf, IsTable}
 use Rattle.giop_sig.specs.RequestList.{flat}
 use Rattle.giop_sig.specs.Scopes.{Scope, named, with_node, with_name}
 use Rattle.giop_sig.specs.ScopeViews.{name_view, scope_view, IsKnown, IsKnownType, IsDeclaredName, IsScope, IsDraft}
@@ -87,10 +87,10 @@ pub scope_grows : (s : Scope) (n : Node) → IsScope s → IsScope (with_node s 
 scope_grows s n is = search (arith, append_assoc, names_stay)
 
 -- a draft with a type more
-pub draft_grows : (s : Scope) (n : Node) → IsDraft s → AreFormed (s.table.types ++ n ∷ [])
-    → IsDraft (with_node s n).0
-draft_grows s n is are =
-    record { scope = scope_grows s n is.scope; table = type_added s.table n is.table are }
+pub draft_grows : (s : Scope) (n : Node) → IsDraft s → IsPlain n
+    → AreFormed (s.table.types ++ n ∷ []) → IsDraft (with_node s n).0
+draft_grows s n is plain are =
+    record { scope = scope_grows s n is.scope; table = type_added s.table n is.table plain are }
 
 -- a draft of another table
 pub draft_table : (version : ℕ) (t u v : Table) (es : List (ArrayVec ℕ × Option TypeId))
@@ -118,6 +118,31 @@ draft_called s i is few = record {
     identities = is.table.identities;
     identities_distinct = is.table.identities_distinct;
     interfaces_few = few;
+    anys = is.table.anys;
+  };
+}
+
+-- a draft of other fronts of ids
+pub draft_fronts : (s : Scope) (fs : List (List ℕ)) → IsDraft s
+    → KnowsAnys s.table.version s.table.types fs
+    → IsDraft (record s { table = record (s.table) { fronts = fs } })
+draft_fronts s fs is anys = record {
+  scope = record { begins = is.scope.begins; names = is.scope.names };
+  table = record {
+    types = is.table.types;
+    begins = is.table.begins;
+    operations = is.table.operations;
+    exceptions = is.table.exceptions;
+    operations_distinct = is.table.operations_distinct;
+    exceptions_distinct = is.table.exceptions_distinct;
+    operations_few = is.table.operations_few;
+    exceptions_few = is.table.exceptions_few;
+    declared_few = is.table.declared_few;
+    called_few = is.table.called_few;
+    identities = is.table.identities;
+    identities_distinct = is.table.identities_distinct;
+    interfaces_few = is.table.interfaces_few;
+    anys = anys;
   };
 }
 

@@ -1,18 +1,32 @@
 -- A declaration adds no more types than it has tokens.
-use Rattle.std.proofs.Common.{ℕ, suc, ◌+◌, ◌<◌, ◌≤◌, List, [], ◌∷◌, ◌++◌, length, Option, Some, None, ap, arith}
-use Rattle.std.specs.Prelude.{codes}
+use Rattle.std.proofs.Common.{ℕ, suc, Bool, true, false, cond, ◌+◌, ◌<◌, ◌≤◌, List, [], ◌∷◌, ◌++◌, length, Option, Some, None, ap, arith}
+use Rattle.std.specs.Prelude.{codes, nat_lt}
 use Rattle.std.proofs.lemmas.List.{length-append}
 use Rattle.giop_tokens.specs.declared.marks.Mark.TheVariants as marks
 use Rattle.giop_tokens.specs.Tokens.{Token, word, mark}
-use Rattle.giop_sig.specs.Table.{Node, node_at}
+use Rattle.giop_sig.specs.Table.{Node, Table, node_at, with_type, with_identity}
 use Rattle.giop_sig.specs.Table as nodes
+use Rattle.giop_sig.specs.Trees.{depth_in}
 use Rattle.giop_sig.specs.Grammar.{TypeExpr, Text, SequenceOf, EncapsulationOf, spell_most, spell_type, Item, spell_length, spell_item, spell_items, spell_names, spell_labels, UnionCase, spell_cases, Param, spell_more_params, spell_params, spell_return, spell_interfaces, Declaration, Enumeration, Structure, DeclaredUnion, DeclaredException, Call, KeyOf, spell, spell_all}
-use Rattle.giop_sig.specs.Scopes.{Scope, AddedType, with_node, sequence_node, place, add_array, add_item, add_items, add_cases, default_from, add_params, add_return, declare, scope_after}
+use Rattle.giop_sig.specs.Scopes.{Scope, AddedType, with_node, with_identified, with_id_fronts, add_struct_type, sequence_node, place, add_array, add_item, add_items, add_cases, default_from, add_params, add_return, declare, scope_after}
 use Rattle.giop_sig.proofs.PlaceLaws.{size, listed_types}
 use Rattle.giop_sig.proofs.SpellLaws.{most, names, label, labels, interfaces, identity}
 
 one_more : (s : Scope) (n : Node) → size (with_node s n).0 ≤ suc (size s)
 one_more s n = search (arith, length-append)
+
+sequence_by : (t : Table) (number : ℕ) (v : Bool)
+    → length (cond v (with_type t (nodes.sequence None number)) t).types ≤ suc (length t.types)
+sequence_by t number true = search (arith, length-append)
+sequence_by t number false = omega arith
+
+-- a repository id brings a type, at most
+identified : (t : Table) (id : Option (List ℕ)) (number : ℕ)
+    → length (with_identified t id number).types ≤ suc (length t.types)
+identified t None number = omega arith
+identified t (Some id) number =
+    sequence_by (with_id_fronts (with_identity t (record { repository = id; type = number })) id
+    number) number (nat_lt (depth_in t.types number) 24)
 
 -- a type has one token more than types, at least
 typed : (s : Scope) (e : TypeExpr) (more : List Token)
@@ -95,18 +109,21 @@ unfolding declare
 declared s (Enumeration n id ns) more = omega (
   arith,
   one_more s (nodes.enumeration ns),
+  identified (with_node s (nodes.enumeration ns)).0.table id (size s),
   names ns (mark marks.Semicolon ∷ more),
   identity id (mark marks.OpenBrace ∷ spell_names ns (mark marks.Semicolon ∷ more)),
 )
-declared s (Structure n id is) more = omega (
+declared s (Structure n id is) more = let p = add_struct_type (add_items s is) in omega (
   arith,
   identity id (mark marks.OpenBrace ∷ spell_items is (mark marks.Semicolon ∷ more)),
   items s is (mark marks.Semicolon ∷ more),
   one_more (add_items s is).0 (nodes.members (add_items s is).1),
+  identified (p.0).table id p.1,
 )
 declared s (DeclaredUnion n id e cs) more =
     let p = place s e in
     let x = add_cases p.0 (node_at (p.0).table p.1) cs in
+    let q = with_node x.0 (nodes.union p.1 x.1 (default_from 0 cs)) in
     let tail = mark marks.Semicolon ∷ more in
     let body = mark marks.CloseParenthesis ∷ mark marks.OpenBrace ∷ spell_cases cs tail in
     omega (
@@ -115,6 +132,7 @@ declared s (DeclaredUnion n id e cs) more =
       typed s e body,
       cases p.0 (node_at (p.0).table p.1) cs tail,
       one_more x.0 (nodes.union p.1 x.1 (default_from 0 cs)),
+      identified (q.0).table id q.1,
     )
 declared s (DeclaredException n r is) more =
     omega (

@@ -1,18 +1,22 @@
 -- Every type of a table but the empty struct takes at least one octet, and fits in each room that
 -- is as great as its depth.
-use Rattle.std.proofs.Common.{◌≡◌, ℕ, zero, suc, ◌<◌, ◌≤◌, Bool, true, false, cond, List, [], ◌∷◌, length, Option, Some, None, refl, sym, subst, ◌⊎◌, inl, inr, arith}
+use Rattle.std.proofs.Common.{◌≡◌, ℕ, zero, suc, ◌<◌, ◌≤◌, Bool, true, false, cond, ◌&&◌, List, [], ◌∷◌, length, Option, Some, None, refl, sym, subst, ◌⊎◌, inl, inr, arith}
 use Rattle.std.proofs.lemmas.List.Quantifiers.{position-Some}
 use Rattle.std.proofs.lemmas.List.{get_or_past}
+use Rattle.std.proofs.lemmas.List.Elements.{recursion_from_All}
+use Rattle.std.proofs.lemmas.Bool.{leb-true, ltb-false, ltb-true}
+use Rattle.std.specs.List.{AllByRecursion}
+use Rattle.std.specs.Prelude.{nat_le, nat_lt, slice_get}
 use Rattle.giop_cdr.specs.declared.number.Number.{Number}
 use Rattle.giop_cdr.specs.declared.prim.Primitive.TheVariants.{Octet}
 use Rattle.giop_sig.specs.declared.types.Selected.{Selected}
 use Rattle.giop_sig.specs.declared.types.Selected.TheVariants as selecteds
-use Rattle.giop_sig.specs.Types.{interpreted_by, Ty, HasMember, HasPlace, part_of}
+use Rattle.giop_sig.specs.Types.{interpreted_by, Ty, HasMember, HasInner, Hearing, Told, Untold, Awaits, Offers, Is, Empty, Unknown, Then, Stops, sequel, part_of}
 use Rattle.giop_sig.specs.Fits.{IsFit, IsRoot, IsEmptyStruct}
-use Rattle.giop_sig.specs.Table.{Node, Part, Table, node_at, shape_of, part_at, type_of, switch_at, selected, case_or, IsFormed, IsCaseBelow, TakesOctet}
+use Rattle.giop_sig.specs.Table.{Node, Part, Case, Table, case_part, node_at, node_in, takes_octet, shape_of, part_at, type_of, switch_at, selected, case_or, IsFormed, IsCaseBelow, TakesOctet}
 use Rattle.giop_sig.specs.Table as nodes
-use Rattle.giop_sig.specs.Trees.{grow, octet_type, scalar_of, selected_by, tree_at, tree, depth_in, AreFormed, AreTypes}
-use Rattle.giop_sig.proofs.Nodes.{part_grown}
+use Rattle.giop_sig.specs.Trees.{any_hearing, follows, in_room, wide_room, AreWide, IsWide, IsWidePart, grow, octet_type, scalar_of, selected_by, tree_at, tree, depth_in, AreFormed, AreTypes}
+use Rattle.giop_sig.proofs.Nodes.{case_below, inner_place, part_grown}
 use Rattle.giop_sig.proofs.Formed.{part_formed}
 use Rattle.giop_sig.proofs.Depths.{depth_within, part_shallower, some_depth}
 
@@ -41,6 +45,11 @@ selected_below types n (nodes.tagged special tag inner other) number i formed e 
   arith,
   tag_below,
 )
+selected_below types n (nodes.typecode wide kind cases) number i formed e = search (
+  arith,
+  case_of_below,
+  position-Some,
+)
 selected_below types n _ number i formed e = absurd cc
 
 taken_below : (types : List Node) (n : ℕ) (node : Node) (o : Option Number)
@@ -54,103 +63,259 @@ taken_below types n node (Some number) i formed e = search (arith, selected_belo
 some_part : (p : Part) (ps : List Part) → 0 < length (p ∷ ps)
 some_part p ps = omega arith
 
-abbrev PartsFit : (ℕ → Ty) → Node → ℕ → Type 0
-PartsFit f node d = (k : ℕ) → HasPlace (shape_of node) k → IsFit d (part_of (grow f node) k)
+abbrev PartsFit : Hearing → (ℕ → Ty) → Node → ℕ → Type 0
+PartsFit h f node d =
+    (k : ℕ) → HasInner (shape_of node) k → IsFit d (part_of (grow h f node) k)
 
-grown_fit : (types : List Node) (n : ℕ) (node : Node) (f : ℕ → Ty) (d : ℕ) → IsFormed types n node
-    → TakesOctet node → PartsFit f node d → IsFit (suc d) (grow f node)
+-- what an any selects fits
+abbrev SequelsFit : Hearing → (ℕ → Ty) → ℕ → Type 0
+SequelsFit h f d = (told : Told) (i : ℕ) → sequel h told ≡ Then i → IsFit d (f i)
+
+grown_fit : (types : List Node) (n : ℕ) (node : Node) (h : Hearing) (f : ℕ → Ty) (d room : ℕ)
+    → IsFormed types n node → TakesOctet node → PartsFit h f (in_room room node) d
+    → SequelsFit h f d
+    → IsFit (suc d) (grow h f (in_room room node))
 unfolding IsFit
-grown_fit types n (nodes.members []) f d formed takes parts = absurd takes
-grown_fit types n (nodes.members (p ∷ ps)) f d formed takes parts = (some_part p ps, parts)
-grown_fit types n (nodes.union switch cases otherwise) f d formed takes parts = (
+grown_fit types n (nodes.members []) h f d room formed takes parts sequels = absurd takes
+grown_fit types n (nodes.members (p ∷ ps)) h f d room formed takes parts sequels =
+    (some_part p ps, parts)
+grown_fit types n (nodes.union switch cases otherwise) h f d room formed takes parts sequels = (
   λ k i e. taken_below types n (nodes.union switch cases otherwise)
       (interpreted_by (scalar_of (f switch)) k) i formed e,
   parts,
 )
-grown_fit types n (nodes.sequence bound element) f d formed takes parts = parts 0 tt
-grown_fit types n (nodes.array count element) f d formed takes parts = (formed.0, parts 0 tt)
-grown_fit types n (nodes.encapsulation held) f d formed takes parts = parts 0 tt
-grown_fit types n (nodes.tagged special tag one other) f d formed takes parts = (
+grown_fit types n (nodes.sequence bound element) h f d room formed takes parts sequels = parts 0 tt
+grown_fit types n (nodes.array count element) h f d room formed takes parts sequels =
+    (formed.0, parts 0 tt)
+grown_fit types n (nodes.encapsulation held) h f d room formed takes parts sequels = parts 0 tt
+grown_fit types n (nodes.tagged special tag one other) h f d room formed takes parts sequels = (
   λ k i e. taken_below types n (nodes.tagged special tag one other)
       (interpreted_by (scalar_of (f tag.type)) k) i formed e,
   parts,
 )
-grown_fit types n _ f d formed takes parts = tt
+grown_fit types n (nodes.any code) h f d room formed takes parts sequels = (parts 0 refl, sequels)
+grown_fit types n (nodes.typecode wide kind cases) h f d room formed takes parts sequels = (
+  λ k i e. taken_below types n (nodes.typecode wide kind cases)
+      (interpreted_by (scalar_of (f kind)) k) i formed e,
+  parts,
+)
+grown_fit types n _ h f d room formed takes parts sequels = tt
 
--- a type fits where there is as much room as it is deep
-pub fits : (t : Table) (room i : ℕ) → AreFormed t.types → i < length t.types
+-- ---- what an any selects
+
+pub both : (a b : Bool) → (a && b) ≡ true → (a ≡ true) × (b ≡ true)
+both true b e = (refl, e)
+both false b e = absurd cc
+
+-- what can follow is a type of the table that takes some octet and has room
+pub record CanFollow (t : Table) (room i : ℕ) : Type 0 where
+  pub known : i < length t.types
+  pub takes : TakesOctet (node_at t i)
+  pub shallow : depth_in t.types i ≤ room
+
+pub takes_by : (node : Node) → takes_octet node ≡ true → TakesOctet node
+takes_by (nodes.members []) e = absurd cc
+takes_by _ e = tt
+
+pub can_follow : (t : Table) (room i : ℕ) → follows t room i ≡ true → CanFollow t room i
+can_follow t room i e =
+    let a = both (nat_lt i (length t.types) && takes_octet (node_at t i))
+    (nat_le (depth_in t.types i) room) e in
+    let b = both (nat_lt i (length t.types)) (takes_octet (node_at t i)) a.0 in
+    record {
+      known = ltb-true i (length t.types) b.0;
+      takes = takes_by (node_at t i) b.1;
+      shallow = leb-true (depth_in t.types i) room a.1;
+    }
+
+then_by : (v : Bool) (i k : ℕ) → cond v (Then i) Stops ≡ Then k → (v ≡ true) × (i ≡ k)
+then_by true i k e = (refl, cc)
+then_by false i k e = absurd cc
+
+pub selected_follows : (t : Table) (room : ℕ) (told : Told) (k : ℕ)
+    → sequel (any_hearing t room) told ≡ Then k → CanFollow t room k
+selected_follows t room Untold k e = absurd cc
+selected_follows t room (Awaits octets) k e = absurd cc
+selected_follows t room (Offers i) k e = absurd cc
+selected_follows t room (Is i) k e = let is = then_by (follows t room i) i k e in
+    subst (CanFollow t room) is.1 (can_follow t room i is.0)
+selected_follows t room Empty k e = absurd cc
+selected_follows t room Unknown k e = absurd cc
+
+-- ---- what follows the kind of a TypeCode, if there is room
+
+wide_read : (types : List Node) (cs : List Case) (i : ℕ) (p : Part)
+    → AllByRecursion (λ c. IsWidePart types c.part.type) cs
+    → case_part (slice_get cs i) ≡ Some p → IsWidePart types p.type
+wide_read types [] i p all e = absurd cc
+wide_read types (c ∷ cs) zero p all e = let same : c.part ≡ p = cc in
+    subst (λ (q : Part). IsWidePart types q.type) same all.0
+wide_read types (c ∷ cs) (suc i) p all e = wide_read types cs i p all.1 e
+
+-- a part of a smaller number
+inner_room : (t : Table) (i room k : ℕ) → AreFormed t.types → i < length t.types
+    → depth_in t.types i ≤ suc room → HasInner (shape_of (node_at t i)) k
+    → CanFollow t room (type_of (part_at (node_at t i) k))
+inner_room t i room k are lt le has =
+    let is = part_formed t.types i (node_at t i) k (are.formed i lt) has in
+    let below = is.below in
+    record {
+      known = omega arith;
+      takes = is.takes;
+      shallow = omega (arith, part_shallower t.types i k are lt has);
+    }
+
+code_room : (t : Table) (i room k : ℕ) (wide : Option ℕ) (kind : ℕ) (cases : List Case)
+    → AreFormed t.types → AreWide t.types → i < length t.types → depth_in t.types i ≤ suc room
+    → nodes.typecode wide kind cases ≡ node_at t i → k < length cases
+    → (v : Bool) → nat_lt room wide_room ≡ v
+    → CanFollow t room (type_of (part_at (nodes.typecode (cond v wide None) kind cases) k))
+code_room t i room k wide kind cases are w lt le e has true little =
+    let there = subst (λ n. HasInner (shape_of n) k) e has in
+    subst (λ n. CanFollow t room (type_of (part_at n k))) (sym e)
+    (inner_room t i room k are lt le there)
+code_room t i room k wide kind cases are w lt le e has false much =
+    let p = case_below cases k has in
+    let all = subst (IsWide t.types) (sym e) (w i lt) in
+    let is = wide_read t.types cases k p.0
+    (recursion_from_All (λ (c : Case). IsWidePart t.types c.part.type) cases all) p.1 in
+    let room_is = ltb-false room wide_room much in
+    rw (p.1) (record {
+      known = is.known;
+      takes = is.takes;
+      shallow = omega (arith, is.shallow, room_is);
+    })
+
+part_room : (t : Table) (i room k : ℕ) (node : Node) → AreFormed t.types → AreWide t.types
+    → i < length t.types → depth_in t.types i ≤ suc room → node ≡ node_at t i
+    → HasInner (shape_of (in_room room node)) k
+    → CanFollow t room (type_of (part_at (in_room room node) k))
+part_room t i room k (nodes.typecode wide kind cases) are w lt le e has =
+    code_room t i room k wide kind cases are w lt le e has (nat_lt room wide_room) refl
+part_room t i room k node are w lt le e has =
+    subst (λ n. CanFollow t room (type_of (part_at n k))) (sym e)
+    (inner_room t i room k are lt le (subst (λ n. HasInner (shape_of n) k) e has))
+
+-- a type fits if there is as much room as it is deep
+pub fits : (t : Table) (room i : ℕ) → AreFormed t.types → AreWide t.types → i < length t.types
     → TakesOctet (node_at t i) → depth_in t.types i ≤ room → IsFit room (tree_at t room i)
 unfolding tree_at
-fits t zero i are lt takes le = absurd (omega (arith, some_depth t.types i))
-fits t (suc room) i are lt takes le =
+fits t zero i are w lt takes le = absurd (omega (arith, some_depth t.types i))
+fits t (suc room) i are w lt takes le =
     let node = node_at t i in
-    grown_fit t.types i node (tree_at t room) room (are.formed i lt) takes
-    (λ k has. let is = part_formed t.types i node k (are.formed i lt) has in
-    let below = is.below in
-    let less = part_shallower t.types i k are lt has in
-    subst (IsFit room) (part_grown (tree_at t room) node k has)
-    (fits t room (type_of (part_at node k)) are (omega arith) is.takes (omega arith)))
+    grown_fit t.types i node (any_hearing t room) (tree_at t room) room room (are.formed i lt) takes
+    (λ k has. let is = part_room t i room k node are w lt le refl has in
+    subst (IsFit room) (part_grown (any_hearing t room) (tree_at t room) (in_room room node) k
+    (inner_place (in_room room node) k has))
+    (fits t room (type_of (part_at (in_room room node) k)) are w is.known is.takes is.shallow))
+    (λ told k e. let is = selected_follows t room told k e in
+    fits t room k are w is.known is.takes is.shallow)
 
 octet_fits : IsFit 1 octet_type
 unfolding IsFit
 octet_fits = tt
 
+-- a part in a table, whatever its room
+pub any_room : (t : Table) (i room k : ℕ) (node : Node) → AreFormed t.types → AreWide t.types
+    → i < length t.types → node ≡ node_at t i → HasInner (shape_of (in_room room node)) k
+    → (type_of (part_at (in_room room node) k) < length t.types)
+    × TakesOctet (node_at t (type_of (part_at (in_room room node) k)))
+any_room t i room k (nodes.typecode wide kind cases) are w lt e has =
+    code_known t i k wide kind cases are w lt e has (nat_lt room wide_room)
+  where
+    code_known : (t : Table) (i k : ℕ) (wide : Option ℕ) (kind : ℕ) (cases : List Case)
+        → AreFormed t.types → AreWide t.types → i < length t.types
+        → nodes.typecode wide kind cases ≡ node_at t i → k < length cases → (v : Bool)
+        → (type_of (part_at (nodes.typecode (cond v wide None) kind cases) k) < length t.types)
+        × TakesOctet (node_at t
+        (type_of (part_at (nodes.typecode (cond v wide None) kind cases) k)))
+    code_known t i k wide kind cases are w lt e has true =
+        let is = part_formed t.types i (nodes.typecode wide kind cases) k
+        (subst (IsFormed t.types i) (sym e) (are.formed i lt)) has in
+        let below = is.below in
+        (omega arith, is.takes)
+    code_known t i k wide kind cases are w lt e has false =
+        let p = case_below cases k has in
+        let all = subst (IsWide t.types) (sym e) (w i lt) in
+        let is = wide_read t.types cases k p.0
+        (recursion_from_All (λ (c : Case). IsWidePart t.types c.part.type) cases all) p.1 in
+        rw (p.1) (is.known, is.takes)
+any_room t i room k node are w lt e has =
+    let is = part_formed t.types i node k (subst (IsFormed t.types i) (sym e) (are.formed i lt)) has
+    in
+    let below = is.below in
+    (omega arith, is.takes)
+
 -- a tree that ends where its room does fits too
-pub fit_each : (t : Table) (room i : ℕ) → AreFormed t.types → i < length t.types
+pub fit_each : (t : Table) (room i : ℕ) → AreFormed t.types → AreWide t.types → i < length t.types
     → TakesOctet (node_at t i) → IsFit (suc (suc room)) (tree_at t room i)
 unfolding tree_at
-fit_each t zero i are lt takes =
-    grown_fit t.types i (node_at t i) (λ k. octet_type) 1 (are.formed i lt) takes
-    (λ k has. subst (IsFit 1) (part_grown (λ k. octet_type) (node_at t i) k has) octet_fits)
-fit_each t (suc room) i are lt takes =
+fit_each t zero i are w lt takes =
+    grown_fit t.types i (node_at t i) (any_hearing t 0) (λ k. octet_type) 1 0 (are.formed i lt)
+    takes
+    (λ k has. subst (IsFit 1) (part_grown (any_hearing t 0) (λ k. octet_type)
+    (in_room 0 (node_at t i)) k (inner_place (in_room 0 (node_at t i)) k has)) octet_fits)
+    (λ told k e. octet_fits)
+fit_each t (suc room) i are w lt takes =
     let node = node_at t i in
-    grown_fit t.types i node (tree_at t room) (suc (suc room)) (are.formed i lt) takes
-    (λ k has. let is = part_formed t.types i node k (are.formed i lt) has in
-    let below = is.below in
-    subst (IsFit (suc (suc room))) (part_grown (tree_at t room) node k has)
-    (fit_each t room (type_of (part_at node k)) are (omega arith) is.takes))
+    grown_fit t.types i node (any_hearing t room) (tree_at t room) (suc (suc room)) room
+    (are.formed i lt) takes
+    (λ k has. let is = any_room t i room k node are w lt refl has in
+    subst (IsFit (suc (suc room))) (part_grown (any_hearing t room) (tree_at t room)
+    (in_room room node) k (inner_place (in_room room node) k has))
+    (fit_each t room (type_of (part_at (in_room room node) k)) are w is.0 is.1))
+    (λ told k e. let is = selected_follows t room told k e in
+    fit_each t room k are w is.known is.takes)
 
 -- a type that fits takes some octet
-takes_fit : (f : ℕ → Ty) (node : Node) (d : ℕ) → IsFit d (grow f node) → TakesOctet node
+takes_fit : (h : Hearing) (f : ℕ → Ty) (room : ℕ) (node : Node) (d : ℕ)
+    → IsFit d (grow h f (in_room room node)) → TakesOctet node
 unfolding IsFit
-takes_fit f (nodes.members []) zero fit = absurd fit
-takes_fit f (nodes.members []) (suc d) fit = absurd (omega (arith, fit.0))
-takes_fit f _ d fit = tt
+takes_fit h f room (nodes.members []) zero fit = absurd fit
+takes_fit h f room (nodes.members []) (suc d) fit = absurd (omega (arith, fit.0))
+takes_fit h f room _ d fit = tt
 
 -- what has no number is an octet
 past_fits : (t : Table) (room i : ℕ) → node_at t i ≡ nodes.prim Octet
     → IsFit (suc (suc room)) (tree_at t room i)
 unfolding tree_at IsFit
-past_fits t zero i e = subst (λ node. IsFit 2 (grow (λ k. octet_type) node)) (sym e) tt
+past_fits t zero i e =
+    subst (λ node. IsFit 2 (grow (any_hearing t 0) (λ k. octet_type) (in_room 0 node))) (sym e) tt
 past_fits t (suc room) i e =
-    subst (λ node. IsFit (suc (suc (suc room))) (grow (tree_at t room) node)) (sym e) tt
+    subst (λ node. IsFit (suc (suc (suc room)))
+    (grow (any_hearing t room) (tree_at t room) (in_room room node))) (sym e) tt
 
-pub fit_in_room : (t : Table) (i d a room : ℕ) → AreFormed t.types → IsFit d (tree_at t a i)
+pub fit_in_room : (t : Table) (i d a room : ℕ) → AreFormed t.types → AreWide t.types
+    → IsFit d (tree_at t a i)
     → (i < length t.types) ⊎ (length t.types ≤ i) → IsFit (suc (suc room)) (tree_at t room i)
 unfolding tree_at
-fit_in_room t i d zero room are fit (inl lt) =
-    fit_each t room i are lt (takes_fit (λ k. octet_type) (node_at t i) d fit)
-fit_in_room t i d (suc a) room are fit (inl lt) =
-    fit_each t room i are lt (takes_fit (tree_at t a) (node_at t i) d fit)
-fit_in_room t i d a room are fit (inr le) =
+fit_in_room t i d zero room are w fit (inl lt) =
+    fit_each t room i are w lt
+    (takes_fit (any_hearing t 0) (λ k. octet_type) 0 (node_at t i) d fit)
+fit_in_room t i d (suc a) room are w fit (inl lt) =
+    fit_each t room i are w lt (takes_fit (any_hearing t a) (tree_at t a) a (node_at t i) d fit)
+fit_in_room t i d a room are w fit (inr le) =
     past_fits t room i (get_or_past t.types i (nodes.prim Octet) le)
 
-pub fit_at : (t : Table) (i : ℕ) → AreTypes t.types → i < length t.types
+pub fit_at : (t : Table) (i : ℕ) → AreTypes t.types → AreWide t.types → i < length t.types
     → TakesOctet (node_at t i) → IsFit 24 (tree t i)
-fit_at t i are known takes =
-    fits t 24 i are.placed known takes (omega (arith, depth_within t.types i known, are.shallow))
+fit_at t i are w known takes =
+    fits t 24 i are.placed w known takes
+    (omega (arith, depth_within t.types i known, are.shallow))
 
 takes_or_empty : (node : Node) → TakesOctet node ⊎ (node ≡ nodes.members [])
 takes_or_empty (nodes.members []) = inr refl
 takes_or_empty _ = inl tt
 
-root_by : (t : Table) (i : ℕ) → AreTypes t.types → i < length t.types
+root_by : (t : Table) (i : ℕ) → AreTypes t.types → AreWide t.types → i < length t.types
     → TakesOctet (node_at t i) ⊎ (node_at t i ≡ nodes.members []) → IsRoot (tree t i)
 unfolding tree_at
-root_by t i are known (inl takes) = inl (fit_at t i are known takes)
-root_by t i are known (inr e) =
-    inr (subst (λ node. IsEmptyStruct (grow (tree_at t 23) node)) (sym e) tt)
+root_by t i are w known (inl takes) = inl (fit_at t i are w known takes)
+root_by t i are w known (inr e) =
+    inr (subst (λ node. IsEmptyStruct (grow (any_hearing t 23) (tree_at t 23) (in_room 23 node)))
+    (sym e) tt)
 
 -- each type of a table fits at the root of a message
-pub root_at : (t : Table) (i : ℕ) → AreTypes t.types → i < length t.types → IsRoot (tree t i)
-root_at t i are known = root_by t i are known (takes_or_empty (node_at t i))
+pub root_at : (t : Table) (i : ℕ) → AreTypes t.types → AreWide t.types → i < length t.types
+    → IsRoot (tree t i)
+root_at t i are w known = root_by t i are w known (takes_or_empty (node_at t i))

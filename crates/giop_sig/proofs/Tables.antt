@@ -1,54 +1,85 @@
 -- The entry at a type's number agrees with the table and its tree.
-use Rattle.std.proofs.Common.{◌≡◌, ℕ, zero, suc, ◌<◌, ◌≤◌, List, length, Some, sym, ap, ◌∙◌, subst, arith}
+use Rattle.std.proofs.Common.{◌≡◌, ℕ, zero, suc, ◌<◌, ◌≤◌, List, length, Some, refl, sym, ap, ◌∙◌, subst, arith}
 use Rattle.std.specs.Prelude.{IfSome}
 use Rattle.giop_cdr.specs.declared.number.Number.{Number}
 use Rattle.giop_sig.specs.declared.types.Shape.{Shape}
+use Rattle.giop_sig.specs.declared.types.Shape.TheVariants as shapes
 use Rattle.giop_sig.specs.declared.types.Selected.{Selected}
 use Rattle.giop_sig.specs.declared.types.Selected.TheVariants as selecteds
-use Rattle.giop_sig.specs.Types.{part_of, name_in, enum_name_in, switch_of, select_in, interpreted_in, shape_in, HasShape, HasMember, HasPlace, IsUnion}
+use Rattle.giop_sig.specs.Types.{part_of, name_in, enum_name_in, switch_of, select_in, interpreted_in, shape_in, HasShape, HasMember, HasPlace, HasInner, IsUnion}
 use Rattle.giop_sig.specs.Fits.{IsRoot}
 use Rattle.giop_sig.specs.Table.{Node, Table, node_at, shape_of, part_at, type_of, name_of, name_at, switch_at, selected, IsFormed}
-use Rattle.giop_sig.specs.Trees.{octet_type, tree_at, tree, AreTypes}
+use Rattle.giop_sig.specs.Table as nodes
+use Rattle.giop_sig.specs.Trees.{any_hearing, in_room, octet_type, part_number_in, tree_at, tree, AreTypes, AreWide}
 use Rattle.giop_sig.specs.HeaderTypes.{IsTable}
 use Rattle.giop_sig.proofs.Rooms.{scalar_room, single_at, switch_grown}
-use Rattle.giop_sig.proofs.Nodes.{shape_grown, has_shape, part_grown, name_grown, enum_name_grown, select_grown}
+use Rattle.giop_sig.proofs.Nodes.{in_enum_name, in_name, in_part, in_selected, in_shape, shape_grown, has_shape, part_grown, name_grown, enum_name_grown, select_grown}
 use Rattle.giop_sig.proofs.Formed.{part_formed, name_short, switch_formed, enum_name_short}
-use Rattle.giop_sig.proofs.Solid.{root_at, selected_below}
+use Rattle.giop_sig.proofs.Solid.{any_room, root_at, selected_below}
 
 -- ---- a node and its tree, in each room
 
 pub shape_at : (t : Table) (room i : ℕ) → shape_in (tree_at t room i) ≡ shape_of (node_at t i)
 unfolding tree_at
-shape_at t zero i = shape_grown (λ k. octet_type) (node_at t i)
-shape_at t (suc room) i = shape_grown (tree_at t room) (node_at t i)
+shape_at t zero i = shape_grown (any_hearing t 0) (λ k. octet_type) (in_room 0 (node_at t i))
+    ∙ in_shape 0 (node_at t i)
+shape_at t (suc room) i =
+    shape_grown (any_hearing t room) (tree_at t room) (in_room room (node_at t i))
+    ∙ in_shape room (node_at t i)
 
 pub part_tree_at : (t : Table) (room i k : ℕ) → HasPlace (shape_of (node_at t i)) k
-    → tree_at t room (type_of (part_at (node_at t i) k)) ≡ part_of (tree_at t (suc room) i) k
+    → tree_at t room (part_number_in t room i k) ≡ part_of (tree_at t (suc room) i) k
 unfolding tree_at
-part_tree_at t room i k has = part_grown (tree_at t room) (node_at t i) k has
+part_tree_at t room i k has =
+    part_grown (any_hearing t room) (tree_at t room) (in_room room (node_at t i)) k
+    (subst (λ s. HasPlace s k) (sym (in_shape room (node_at t i))) has)
+
+member_in : (room k : ℕ) (node : Node) → HasMember (shape_of node) k
+    → HasMember (shape_of (in_room room node)) k
+member_in room k node has = subst (λ s. HasMember s k) (sym (in_shape room node)) has
 
 name_tree_at : (t : Table) (room i k : ℕ) → HasMember (shape_of (node_at t i)) k
     → name_of (part_at (node_at t i) k) ≡ name_in (tree_at t room i) k
 unfolding tree_at
-name_tree_at t zero i k has = name_grown (λ k. octet_type) (node_at t i) k has
-name_tree_at t (suc room) i k has = name_grown (tree_at t room) (node_at t i) k has
+name_tree_at t zero i k has =
+    let node = node_at t i in
+    sym (in_name 0 node k) ∙ name_grown (any_hearing t 0) (λ k. octet_type) (in_room 0 node) k
+    (member_in 0 k node has)
+name_tree_at t (suc room) i k has =
+    let node = node_at t i in
+    sym (in_name room node k)
+    ∙ name_grown (any_hearing t room) (tree_at t room) (in_room room node) k
+    (member_in room k node has)
 
 enum_tree_at : (t : Table) (room i n : ℕ)
     → name_at (node_at t i) n ≡ enum_name_in (tree_at t room i) n
 unfolding tree_at
-enum_tree_at t zero i n = enum_name_grown (λ k. octet_type) (node_at t i) n
-enum_tree_at t (suc room) i n = enum_name_grown (tree_at t room) (node_at t i) n
+enum_tree_at t zero i n =
+    let node = node_at t i in
+    sym (in_enum_name 0 node n)
+    ∙ enum_name_grown (any_hearing t 0) (λ k. octet_type) (in_room 0 node) n
+enum_tree_at t (suc room) i n =
+    let node = node_at t i in
+    sym (in_enum_name room node n)
+    ∙ enum_name_grown (any_hearing t room) (tree_at t room) (in_room room node) n
 
 select_tree_at : (t : Table) (room i : ℕ) (number : Number) (n : ℕ)
     → interpreted_in (switch_of (tree_at t room i)) n ≡ Some number
     → selected (node_at t i) number ≡ select_in (tree_at t room i) n
 unfolding tree_at
-select_tree_at t zero i number n e = select_grown (λ k. octet_type) (node_at t i) number n e
-select_tree_at t (suc room) i number n e = select_grown (tree_at t room) (node_at t i) number n e
+select_tree_at t zero i number n e =
+    let node = node_at t i in
+    sym (in_selected 0 node number)
+    ∙ select_grown (any_hearing t 0) (λ k. octet_type) (in_room 0 node) number n e
+select_tree_at t (suc room) i number n e =
+    let node = node_at t i in
+    sym (in_selected room node number)
+    ∙ select_grown (any_hearing t room) (tree_at t room) (in_room room node) number n e
 
 -- the node that was read is the type's
 pub record Entered (t : Table) (i : ℕ) (node : Node) : Type 0 where
   pub types : AreTypes t.types
+  pub wide : AreWide t.types
   pub known : i < length t.types
   pub is : node ≡ node_at t i
 
@@ -56,6 +87,7 @@ pub entered : (view t : Table) (i : ℕ) (node : Node) → IsTable view → view
     → node ≡ node_at view i → Entered t i node
 entered view t i node laws same known is = record {
   types = subst (λ (u : Table). AreTypes u.types) same laws.types;
+  wide = subst (λ (u : Table). AreWide u.types) same laws.anys.wide;
   known = known;
   is = is ∙ ap (λ u. node_at u i) same;
 }
@@ -75,7 +107,7 @@ has_shape_entered t i room node s e is =
     (has_shape (tree_at t room i))
 
 pub root_entered : (t : Table) (i : ℕ) (node : Node) → Entered t i node → IsRoot (tree t i)
-root_entered t i node e = root_at t i e.types e.known
+root_entered t i node e = root_at t i e.types e.wide e.known
 
 -- a place of the tree is one of the node
 pub place_entered : (t : Table) (i k : ℕ) (node : Node) → Entered t i node
@@ -94,21 +126,76 @@ union_entered t i node e is = subst IsUnion (sym (shape_entered t i 24 node e)) 
 
 -- the part at a place
 pub part_below : (t : Table) (i k p : ℕ) (node : Node) → Entered t i node
-    → HasPlace (shape_in (tree t i)) k → p ≡ type_of (part_at node k) → p < i
-part_below t i k p node e has is = let below =
-    (part_formed t.types i node k (formed_at t i node e) (place_entered t i k node e has)).below in
+    → HasInner (shape_in (tree t i)) k → p ≡ type_of (part_at node k) → p < i
+part_below t i k p node e has is =
+    let there = subst (λ s. HasInner s k) (sym (shape_entered t i 24 node e)) has in
+    let below = (part_formed t.types i node k (formed_at t i node e) there).below in
     omega (arith, is)
 
 at_node : (t : Table) (i k p : ℕ) (node : Node) → Entered t i node → p ≡ type_of (part_at node k)
     → p ≡ type_of (part_at (node_at t i) k)
 at_node t i k p node e is = is ∙ ap (λ n. type_of (part_at n k)) e.is
 
+-- a part of any other type than a union is the same in each room
 pub part_room : (t : Table) (i k p room : ℕ) (node : Node) → Entered t i node
+    → (IsUnion (shape_in (tree t i)) → ⊥)
     → HasPlace (shape_in (tree t i)) k → p ≡ type_of (part_at node k)
     → tree_at t room p ≡ part_of (tree_at t (suc room) i) k
-part_room t i k p room node e has is =
+part_room t i k p room node e none has is =
     let there = subst (λ n. HasPlace (shape_of n) k) e.is (place_entered t i k node e has) in
-    ap (tree_at t room) (at_node t i k p node e is) ∙ part_tree_at t room i k there
+    let bare : IsUnion (shape_of (node_at t i)) → ⊥ =
+    λ u. none (subst IsUnion (sym (shape_at t 24 i)) u) in
+    ap (tree_at t room) (at_node t i k p node e is
+    ∙ sym (ap type_of (in_part room (node_at t i) k bare))) ∙ part_tree_at t room i k there
+
+-- a part is a type of the table
+known_in : (t : Table) (i k : ℕ) (node : Node) → IsFormed t.types i node → i < length t.types
+    → HasPlace (shape_of node) k → (shape_of node ≡ shapes.Led → k ≤ length t.types)
+    → type_of (part_at node k) < length t.types
+known_in t i zero (nodes.any code) formed lt has led = let below = formed.below in omega arith
+known_in t i (suc k) (nodes.any code) formed lt has led = omega (arith, led refl)
+known_in t i k node formed lt has led =
+    let below = (part_formed t.types i node k formed has).below in omega arith
+
+pub part_known : (t : Table) (i k p : ℕ) (node : Node) → Entered t i node
+    → HasPlace (shape_in (tree t i)) k
+    → (shape_in (tree t i) ≡ shapes.Led → k ≤ length t.types) → p ≡ type_of (part_at node k)
+    → p < length t.types
+part_known t i k p node e has led is =
+    omega (
+      arith,
+      is,
+      known_in t i k node (formed_at t i node e) e.known (place_entered t i k node e has)
+          (λ l. led (sym (shape_entered t i 24 node e) ∙ l)),
+    )
+
+room_known : (t : Table) (i k room : ℕ) (node : Node) → Entered t i node
+    → HasPlace (shape_of node) k → (shape_of node ≡ shapes.Led → k ≤ length t.types)
+    → type_of (part_at (in_room room node) k) < length t.types
+room_known t i k room (nodes.typecode wide kind cases) e has led =
+    (any_room t i room k (nodes.typecode wide kind cases) e.types.placed e.wide e.known e.is has).0
+room_known t i k room node e has led =
+    known_in t i k node (formed_at t i node e) e.known has led
+
+pub part_known_in : (t : Table) (i k p room : ℕ) (node : Node) → Entered t i node
+    → HasPlace (shape_in (tree t i)) k
+    → (shape_in (tree t i) ≡ shapes.Led → k ≤ length t.types)
+    → p ≡ type_of (part_at (in_room room node) k) → p < length t.types
+part_known_in t i k p room node e has led is =
+    omega (
+      arith,
+      is,
+      room_known t i k room node e (place_entered t i k node e has)
+          (λ l. led (sym (shape_entered t i 24 node e) ∙ l)),
+    )
+
+pub part_in_room : (t : Table) (i k p room : ℕ) (node : Node) → Entered t i node
+    → HasPlace (shape_in (tree t i)) k → p ≡ type_of (part_at (in_room room node) k)
+    → tree_at t room p ≡ part_of (tree_at t (suc room) i) k
+part_in_room t i k p room node e has is =
+    let there = subst (λ n. HasPlace (shape_of n) k) e.is (place_entered t i k node e has) in
+    ap (tree_at t room) (is ∙ ap (λ n. type_of (part_at (in_room room n) k)) e.is)
+    ∙ part_tree_at t room i k there
 
 pub name_tree : (t : Table) (i k room : ℕ) (node : Node) (name : List ℕ) → Entered t i node
     → HasMember (shape_in (tree t i)) k → name ≡ name_of (part_at node k)
@@ -146,7 +233,8 @@ switch_room t i s a b node e is at =
     subst (λ n. IsUnion (shape_of n)) e.is (union_entered t i node e is) in
     let scalar = (switch_formed t.types i here (e.types.placed.formed i e.known) union).scalar in
     ap (tree_at t a) (at ∙ ap switch_at e.is) ∙ scalar_room t a b (switch_at here) scalar
-    ∙ switch_grown (tree_at t b) here union (single_at t b (switch_at here) scalar)
+    ∙ switch_grown (any_hearing t b) (tree_at t b) b here union
+    (single_at t b (switch_at here) scalar)
 
 pub select_tree : (t : Table) (i room : ℕ) (node : Node) (number : Number) (s : Selected)
     → Entered t i node → s ≡ selected node number

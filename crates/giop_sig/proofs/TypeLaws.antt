@@ -1,5 +1,5 @@
 -- Reading the spelling of a type gives it, or a rule that it breaks.
-use Rattle.std.proofs.Common.{◌≡◌, ℕ, zero, suc, ◌<◌, ◌≤◌, Bool, true, false, cond, ltb, List, ◌∷◌, length, Option, Some, None, Ok, Err, refl, arith}
+use Rattle.std.proofs.Common.{◌≡◌, ℕ, zero, suc, ◌<◌, ◌≤◌, Bool, true, false, cond, ◌&&◌, ltb, List, ◌∷◌, length, Option, Some, None, Ok, Err, refl, arith}
 use Rattle.std.specs.Prelude.{codes}
 use Rattle.std.specs.Str.{bytes_eq}
 use Rattle.std.proofs.lemmas.Slice.Eq.{bytes_eq-Decides}
@@ -13,9 +13,9 @@ use Rattle.giop_tokens.specs.Reading.{◌>>=◌}
 use Rattle.giop_tokens.specs.Readers.{word_at, mark_at}
 use Rattle.giop_tokens.specs.Names.{is_reserved}
 use Rattle.giop_tokens.proofs.ReaderLaws.{word_again, mark_again}
-use Rattle.giop_sig.specs.Grammar.{TypeExpr, Base, Text, Reference, Named, SequenceOf, EncapsulationOf, base_word, spell_bound, spell_most, spell_type}
+use Rattle.giop_sig.specs.Grammar.{TypeExpr, Base, Text, Reference, AnyType, CodeType, Named, SequenceOf, EncapsulationOf, base_word, spell_bound, spell_most, spell_type}
 use Rattle.giop_sig.specs.Scopes.{Names, has_encapsulations, is_third, Scope, named, base_number, number_or, sequence_node, add_text_type, add_sequence_type, place}
-use Rattle.giop_sig.specs.Validity.{Kind, IsFree, OfTypeName, OfVersion, OfType}
+use Rattle.giop_sig.specs.Validity.{Kind, IsFree, OfTypeName, OfVersion, OfThird, OfType}
 use Rattle.giop_sig.specs.Outcomes.{refused}
 use Rattle.giop_sig.specs.declared.read_types.Opener.TheVariants as openers
 use Rattle.giop_sig.specs.TypeReading.{enclosed_at, most_at, TypeRead, base_of, read_as, text_at, closed_by, found_type, named_type, leaf_after, leaf_at, opener_at, nested_at, type_at}
@@ -39,6 +39,12 @@ is_not third w v free reserved = search (arith, not_by)
 no_base : (third : Bool) (w : List ℕ) → is_reserved third w ≡ false → base_of w ≡ None
 unfolding is_reserved
 no_base third w free = search (arith, is_not)
+
+-- a word of version 3 is no free name there
+no_later : (third : Bool) (w v : List ℕ) → is_reserved third w ≡ false
+    → is_reserved true v ≡ true → (third && bytes_eq w v) ≡ false
+no_later true w v free reserved = is_not true w v free reserved
+no_later false w v free reserved = refl
 
 base_word_of : (p : Primitive) → base_of (base_word p) ≡ Some (base_number p)
 base_word_of prims.Octet = refl
@@ -138,6 +144,8 @@ name_reads left s w text more free h =
       no_base third w free,
       is_not third w (codes "string") free refl,
       is_not third w (codes "Object") free refl,
+      no_later third w (codes "any") free refl,
+      no_later third w (codes "TypeCode") free refl,
     ) (named_reads s text w h.0 more free h.2)
 
 -- what closes a sequence, after its element
@@ -154,6 +162,10 @@ closed_reads s e o rest more m keeps apart =
     (λ r n bound. rw (mark_again marks.CloseAngle r more n)
     (good n.0 n.2 (λ k. (keeps k, bound k))))
     (λ k w. w.1) (node_more (place s e).0 (sequence_node o (place s e).1))
+
+pub third_keeps : (names : Names) → is_third names ≡ true → (k : Kind) → OfThird k names
+third_keeps names third kinds.Syntax = third
+third_keeps names third _ = tt
 
 version_keeps : (names : Names) → has_encapsulations names ≡ true → (k : Kind) → OfVersion k names
 version_keeps names has kinds.Syntax = has
@@ -213,6 +225,20 @@ nested_reads (suc left) s Reference text more lt free apart h =
     rw (leaf_first left s text (codes "Object") h.0
     (word_again text (codes "Object") more h) refl refl)
     (good h.0 h.2 (λ k. tt))
+nested_reads (suc left) s AnyType text more lt free apart h =
+    rw (
+      leaf_first left s text (codes "any") h.0
+          (word_again text (codes "any") more h) refl refl,
+      free,
+    )
+    (good h.0 h.2 (λ k. third_keeps s.names free k))
+nested_reads (suc left) s CodeType text more lt free apart h =
+    rw (
+      leaf_first left s text (codes "TypeCode") h.0
+          (word_again text (codes "TypeCode") more h) refl refl,
+      free,
+    )
+    (good h.0 h.2 (λ k. third_keeps s.names free k))
 nested_reads (suc left) s (Named w) text more lt free apart h =
     name_reads left s w text more free h
 nested_reads (suc left) s (SequenceOf e o) text more lt free apart h =

@@ -1,5 +1,5 @@
 -- A type that was read: the text that was read spells it, and it can be a part of others.
-use Rattle.std.proofs.Common.{◌≡◌, ℕ, zero, suc, ◌<◌, Bool, true, false, cond, eqb, ltb, List, [], ◌∷◌, ◌++◌, length, Option, Some, None, Result, Ok, Err, append_assoc, refl, sym, subst, lit<, arith}
+use Rattle.std.proofs.Common.{◌≡◌, ℕ, zero, suc, ◌<◌, Bool, true, false, cond, ◌&&◌, eqb, ltb, List, [], ◌∷◌, ◌++◌, length, Option, Some, None, Result, Ok, Err, append_assoc, refl, sym, subst, lit<, arith}
 use Rattle.std.specs.Prelude.{codes}
 use Rattle.std.specs.List.{AllByRecursion}
 use Rattle.std.specs.Map.{lookup}
@@ -12,7 +12,7 @@ use Rattle.giop_cdr.specs.declared.prim.Primitive.TheVariants as prims
 use Rattle.giop_tokens.specs.declared.fault.Refusal.{Refusal}
 use Rattle.giop_tokens.specs.declared.fault.SigFaultKind.TheVariants as kinds
 use Rattle.giop_tokens.specs.declared.marks.Mark.TheVariants as marks
-use Rattle.giop_sig.specs.declared.numbers.TheConstants.{IOR, BUILTIN_LEN}
+use Rattle.giop_sig.specs.declared.numbers.TheConstants.{IOR, TYPE_CODE, ANY, BUILTIN_LEN, THIRD_LEN}
 use Rattle.giop_tokens.specs.Tokens.{Token, word, mark, AreTokens}
 use Rattle.giop_tokens.specs.Readers.{misplaced, word_at, mark_at}
 use Rattle.giop_tokens.specs.Reading.{◌>>=◌}
@@ -21,15 +21,16 @@ use Rattle.giop_tokens.proofs.ReaderLaws.{bind_ok, ok_is, Takes, word_takes, mar
 use Rattle.giop_sig.specs.Table.{Node, node_in, TakesOctet}
 use Rattle.giop_sig.specs.Table as nodes
 use Rattle.giop_sig.specs.Builtin.{builtin_types}
+use Rattle.giop_sig.specs.AnyTypes.{third_types, first_types}
 use Rattle.giop_sig.specs.RequestList.{flat}
-use Rattle.giop_sig.specs.Grammar.{TypeExpr, Base, Text, Reference, Named, SequenceOf, EncapsulationOf, base_word, spell_most, spell_type}
+use Rattle.giop_sig.specs.Grammar.{TypeExpr, Base, Text, Reference, AnyType, CodeType, Named, SequenceOf, EncapsulationOf, base_word, spell_most, spell_type}
 use Rattle.giop_sig.specs.declared.read_types.Opener.{Opener}
 use Rattle.giop_sig.specs.declared.read_types.Opener.TheVariants as openers
 use Rattle.giop_sig.specs.Scopes.{Names, has_encapsulations, is_third, Scope, AddedType, named, base_number, with_node, sequence_node, add_text_type, add_sequence_type, add_encapsulation_type}
 use Rattle.giop_sig.specs.Validity.{OfType}
 use Rattle.giop_sig.specs.ScopeViews.{IsKnown, IsDeclaredName, IsScope}
 use Rattle.giop_sig.specs.Outcomes.{refused}
-use Rattle.giop_sig.specs.TypeReading.{TypeRead, most_at, base_of, read_as, text_at, closed_by, found_type, named_type, leaf_after, leaf_at, Opened, opened_by, opener_after, opener_at, type_after, nested_at, type_at}
+use Rattle.giop_sig.specs.TypeReading.{TypeRead, most_at, base_of, read_as, text_at, closed_by, found_type, named_type, is_later, leaf_after, leaf_at, Opened, opened_by, opener_after, opener_at, type_after, nested_at, type_at}
 use Rattle.giop_sig.proofs.SizeTaken.{enclosed_takes, most_takes, bound_free}
 use Rattle.giop_sig.proofs.ScopeLaws.{known_stays, scope_grows}
 use Rattle.giop_sig.proofs.ReadingLaws.{Took}
@@ -83,11 +84,38 @@ pub record TakenType (s : Scope) (text : List ℕ) (x : TypeRead) : Type 0 where
   pub grows : Grows s x.0
   pub sound : IsScope s → Sound (x.0, x.1)
 
-built : (types more : List Node) (k : ℕ) → types ≡ builtin_types ++ more → k < BUILTIN_LEN
-    → TakesOctet (node_in builtin_types k) → IsKnown types k
+known_after : (types more : List Node) (version k : ℕ) → types ≡ first_types version ++ more
+    → IsKnown (first_types version) k → IsKnown types k
+known_after types more version k e is =
+    subst (λ ns. IsKnown ns k) (sym e) (known_stays (first_types version) more k is)
+
+first_by : (k : ℕ) (v : Bool) → k < BUILTIN_LEN → TakesOctet (node_in builtin_types k)
+    → IsKnown (cond v (builtin_types ++ third_types) builtin_types) k
 unfolding builtin_types
-built types more k e lt takes = subst (λ ns. IsKnown ns k) (sym e)
-    (known_stays builtin_types more k (record { below = lt; takes = takes }))
+first_by k true lt takes =
+    known_stays builtin_types third_types k (record { below = lt; takes = takes })
+first_by k false lt takes = record { below = lt; takes = takes }
+
+built : (types more : List Node) (version k : ℕ) → types ≡ first_types version ++ more
+    → k < BUILTIN_LEN → TakesOctet (node_in builtin_types k) → IsKnown types k
+built types more version k e lt takes =
+    known_after types more version k e (first_by k (eqb version 3) lt takes)
+
+-- the types that a file of version 3 begins with beside them
+third_by : (k : ℕ) (v : Bool) → v ≡ true → k < THIRD_LEN
+    → TakesOctet (node_in (builtin_types ++ third_types) k)
+    → IsKnown (cond v (builtin_types ++ third_types) builtin_types) k
+unfolding builtin_types third_types
+third_by k true e lt takes = record { below = lt; takes = takes }
+third_by k false e lt takes = absurd cc
+
+third_known : (s : Scope) (k : ℕ) → IsScope s → is_third s.names ≡ true → k < THIRD_LEN
+    → TakesOctet (node_in (builtin_types ++ third_types) k) → Sound (s, k)
+third_known s k is third lt takes = record {
+  scope = is;
+  known = known_after s.table.types (is.begins).0 s.names.version k (is.begins).1
+      (third_by k (eqb s.names.version 3) third lt takes);
+}
 
 same_known : (s : Scope) (k : ℕ) → IsScope s → k < BUILTIN_LEN
     → TakesOctet (node_in builtin_types k) → Sound (s, k)
@@ -211,9 +239,49 @@ named_took : (s : Scope) (text w rest : List ℕ) (x : TypeRead) → Takes text 
 unfolding named_type
 named_took s text w rest x t e = search (arith, named_by, ltb)
 
+later_is : (w v : List ℕ) (third : Bool) → (third && bytes_eq w v) ≡ true
+    → (third ≡ true) × (w ≡ v)
+later_is w v true e = (refl, (bytes_eq-Decides w v).0 e)
+later_is w v false e = absurd cc
+
+later_by : (s : Scope) (text w rest : List ℕ) (x : TypeRead) → Takes text (word w) rest
+    → (a b : Bool) → is_later s w (codes "any") ≡ a → is_later s w (codes "TypeCode") ≡ b
+    → cond a (Ok (s, ANY, rest)) (cond b (Ok (s, TYPE_CODE, rest)) (named_type s text w rest))
+    ≡ Ok x → TakenType s text x
+unfolding OfType builtin_types third_types
+later_by s text w rest x t true b p q e =
+    let is = later_is w (codes "any") (is_third s.names) p in
+    subst (TakenType s text) (ok_is (s, ANY, rest) x e) (record {
+      expr = AnyType;
+      took = record {
+        free = is.0;
+        front = subst (λ v. Takes text (word v) rest) is.1 t;
+      };
+      grows = grows_none s;
+      sound = λ h. third_known s ANY h is.0 (lit< tt) tt;
+    })
+later_by s text w rest x t false true p q e =
+    let is = later_is w (codes "TypeCode") (is_third s.names) q in
+    subst (TakenType s text) (ok_is (s, TYPE_CODE, rest) x e) (record {
+      expr = CodeType;
+      took = record {
+        free = is.0;
+        front = subst (λ v. Takes text (word v) rest) is.1 t;
+      };
+      grows = grows_none s;
+      sound = λ h. third_known s TYPE_CODE h is.0 (lit< tt) tt;
+    })
+later_by s text w rest x t false false p q e = search (arith, named_took)
+
+-- a type by a word of version 3, or by its name
+abbrev later_or_named : Scope → List ℕ → List ℕ → List ℕ → Result TypeRead Refusal
+later_or_named s text w rest =
+    cond (is_later s w (codes "any")) (Ok (s, ANY, rest))
+    (cond (is_later s w (codes "TypeCode")) (Ok (s, TYPE_CODE, rest)) (named_type s text w rest))
+
 leaf_by : (s : Scope) (text w rest : List ℕ) (x : TypeRead) → Takes text (word w) rest
     → (a b : Bool) → bytes_eq w (codes "string") ≡ a → bytes_eq w (codes "Object") ≡ b
-    → cond a (text_at s rest) (cond b (Ok (s, IOR, rest)) (named_type s text w rest)) ≡ Ok x
+    → cond a (text_at s rest) (cond b (Ok (s, IOR, rest)) (later_or_named s text w rest)) ≡ Ok x
     → TakenType s text x
 unfolding OfType builtin_types
 leaf_by s text w rest x t true b p q e = search (arith, text_took, bytes_eq-Decides)
@@ -228,7 +296,9 @@ leaf_by s text w rest x t false true p q e =
       grows = grows_none s;
       sound = λ is. same_known s IOR is (lit< tt) tt;
     })
-leaf_by s text w rest x t false false p q e = search (arith, named_took)
+leaf_by s text w rest x t false false p q e =
+    later_by s text w rest x t (is_later s w (codes "any")) (is_later s w (codes "TypeCode")) refl
+    refl e
 
 leaf_took : (s : Scope) (text w rest : List ℕ) (x : TypeRead) (o : Option ℕ)
     → Takes text (word w) rest → base_of w ≡ o → leaf_after s text w rest o ≡ Ok x

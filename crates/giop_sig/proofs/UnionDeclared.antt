@@ -52,6 +52,7 @@ switch_taken s text x e = search (arith, bind_ok, cond, switch_by, type_takes)
 discriminator_scalar : (node : Node) → IsDiscriminator node → IsScalarNode node
 discriminator_scalar (nodes.prim p) is = tt
 discriminator_scalar (nodes.enumeration names) is = tt
+discriminator_scalar (nodes.marked m) is = tt
 discriminator_scalar _ is = is
 
 -- a union that was read can be in the table

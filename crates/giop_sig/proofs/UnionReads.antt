@@ -20,7 +20,7 @@ use Rattle.giop_sig.specs.Outcomes.{refused}
 use Rattle.giop_sig.specs.TypeReading.{type_at}
 use Rattle.giop_sig.specs.ItemReading.{declared_at, identity_at, Declared, type_end_at}
 use Rattle.giop_sig.specs.UnionReading.{Cases, chosen, CasesRead, cases_at, union_node, can_switch, switch_at, union_at}
-use Rattle.giop_sig.proofs.PlaceLaws.{size, within_same, within_on, Grown, node_more, place_more, place_names}
+use Rattle.giop_sig.proofs.PlaceLaws.{size, within_same, within_on, Grown, node_more, place_more, place_names, named_more}
 use Rattle.giop_sig.proofs.ReadingLaws.{Out, good, broken, out_bind, out_more, Apart}
 use Rattle.giop_sig.proofs.TypeLaws.{placed, type_reads}
 use Rattle.giop_sig.proofs.ItemLaws.{declared_reads, some_keeps, filled_end, filled_on, end_reads}
@@ -187,9 +187,9 @@ choice_reads : (n : List ℕ) (id : Option (List ℕ)) (switch : TypeExpr) (case
           cases)),
       rest,
     )) (λ k. OfDeclaration k s (DeclaredUnion n id switch cases))
-    (kept_union (place s switch).1
+    (with_named n id (kept_union (place s switch).1
     (made_cases (placed_node (place s switch)) (place s switch).0 [] [] [] selecteds.Nothing
-    cases)).0.table.types more (union_at s text)
+    cases))).table.types more (union_at s text)
 unfolding union_at OfDeclaration
 choice_reads n id switch cases s text more free h =
     let at = left_of text in
@@ -200,8 +200,8 @@ choice_reads n id switch cases s text more free h =
     let inner = spell_cases cases (mark marks.Semicolon ∷ more) in
     let body = mark marks.CloseParenthesis ∷ mark marks.OpenBrace ∷ inner in
     let chosen = mark marks.OpenParenthesis ∷ spell_type switch body in
-    let made = within_on (made_more node p.0 [] [] [] selecteds.Nothing cases) (node_more m.0 whole)
-    in
+    let last = within_on (node_more m.0 whole) (named_more n id (with_node m.0 whole)) in
+    let made = within_on (made_more node p.0 [] [] [] selecteds.Nothing cases) last in
     out_bind (declared_at s s.table.declared text)
     (λ d. identity_at s d.1 >>= λ i. keyword_at (codes "switch") i.1
     >>= λ w. mark_at marks.OpenParenthesis w >>= λ b.
@@ -238,7 +238,7 @@ choice_reads n id switch cases s text more free h =
     (λ c tc kc. end_reads at (with_named n id (with_node m.0 whole))
     (λ k. OfDeclaration k s (DeclaredUnion n id switch cases)) c more tc
     (λ k. (kd k, ka k, (kb k).0, (kb k).1, (kc k).0, (kc k).1)))
-    (λ k w. (w.4, w.5)) (node_more m.0 whole)))
+    (λ k w. (w.4, w.5)) last))
     (λ k w. (w.2, w.3)) made))
     (λ k w. w.1) (within_on (place_more s switch) made))
     (λ k w. w.0) (within_on (place_more s switch) made)
@@ -260,5 +260,6 @@ union_reads s n id switch cases text more free h =
     let same = kept_is cases p (placed_node p) refl in
     out_as (union_at s text) (choice_reads n id switch cases s text more free h)
     (λ rest. ap (λ (q : AddedType). (with_named n id q, rest)) same) (λ k w. w) (λ k w. w)
-    (subst (λ (q : AddedType). Grown (kept_union p.1
-    (made_cases (placed_node p) p.0 [] [] [] selecteds.Nothing cases)).0 q.0) same within_same)
+    (subst (λ (q : AddedType). Grown (with_named n id (kept_union p.1
+    (made_cases (placed_node p) p.0 [] [] [] selecteds.Nothing cases))) (with_named n id q))
+    same within_same)

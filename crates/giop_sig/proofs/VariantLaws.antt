@@ -17,10 +17,11 @@ use Rattle.giop_sig.specs.Interfaces.{Interfaces, is_key, of_text}
 use Rattle.giop_sig.specs.Table.{Node, Table, operation_key, keyed_number, with_entry, with_variant, with_variants, with_listed}
 use Rattle.giop_sig.specs.Grammar.{spell_more_interfaces, spell_interfaces}
 use Rattle.giop_sig.specs.Scopes.{Names, is_third, Scope}
-use Rattle.giop_sig.specs.Validity.{Kind, OfInterface, OfNewKey, OfVariants, OfThird, OfList}
+use Rattle.giop_sig.specs.Validity.{Kind, OfInterface, OfNewKey, OfVariants, OfList}
 use Rattle.giop_sig.specs.Outcomes.{refused}
 use Rattle.giop_sig.specs.CallReading.{interface_at, Called, Variants, with_listed_by, new_variant_at, after_comma, variant_end, variant_key, variant_step, too_many_variants, plain_by, listed_by, listed_at, new_key_at}
 use Rattle.giop_sig.specs.Repeats.{in_steps}
+use Rattle.giop_sig.proofs.TypeLaws.{third_keeps}
 use Rattle.giop_sig.proofs.PlaceLaws.{within_same}
 use Rattle.giop_sig.proofs.ReadingLaws.{Out, good, broken, out_bind, out_more, Apart, if_apart, Took}
 use Rattle.giop_sig.proofs.ItemLaws.{some_none}
@@ -245,10 +246,6 @@ interfaces_few : (ids : List (List ℕ)) (more : List Token)
     → length ids ≤ length (spell_more_interfaces ids more)
 interfaces_few [] more = omega arith
 interfaces_few (id ∷ ids) more = omega (arith, interfaces_few ids more)
-
-third_keeps : (names : Names) → is_third names ≡ true → (k : Kind) → OfThird k names
-third_keeps names is kinds.Syntax = is
-third_keeps names is _ = tt
 
 pub listed_reads : (ids : List (List ℕ)) (c : Called) (s : Scope) (at text : List ℕ)
     (more : List Token) → OfList kinds.Syntax s.names c.name c.request c.reply ids s.table

@@ -7,6 +7,7 @@ use Rattle.giop_cdr.specs.declared.number.Number.TheVariants.{Signed}
 use Rattle.giop_sig.specs.declared.numbers.TheConstants.{OCTET, BOOLEAN, SHORT, USHORT, ULONG, STRING, OCTETS, CODE_SETS, CODE_SETS_DATA, SERVICE_CONTEXT, SERVICE_CONTEXTS, IIOP, IIOP_DATA, TAGGED_PROFILE, TAGGED_PROFILES, IOR, IOR_ADDRESS, TARGET, COMPLETED, RESERVED, REPLY_STATUS, REPLY_STATUS_1_2, LOCATE_STATUS, LOCATE_STATUS_1_2}
 use Rattle.giop_sig.specs.declared.types.Selected.TheVariants.{Refused}
 use Rattle.giop_sig.specs.Interfaces.{no_interfaces}
+use Rattle.giop_sig.specs.Heard.{first_fronts}
 use Rattle.giop_sig.specs.Table.{Part, Case, Node, Table}
 use Rattle.giop_sig.specs.Table as nodes
 
@@ -211,4 +212,5 @@ builtin_table = record {
   called = 0;
   interfaces = no_interfaces;
   identities = [];
+  fronts = first_fronts;
 }

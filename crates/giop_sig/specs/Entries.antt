@@ -16,8 +16,9 @@ abbrev pub identity_view : ArrayVec ℕ × TypeId → Identity
 identity_view e = record { repository = e.0.items; type = e.1.0 }
 
 abbrev pub table_view : ℕ → List Node → List (ArrayVec ℕ × Signature)
-    → List (ArrayVec ℕ × TypeId) → ℕ → ℕ → Interfaces → List (ArrayVec ℕ × TypeId) → Table
-table_view version types operations exceptions declared called interfaces identities =
+    → List (ArrayVec ℕ × TypeId) → ℕ → ℕ → Interfaces → List (ArrayVec ℕ × TypeId)
+    → List (ArrayVec ℕ) → Table
+table_view version types operations exceptions declared called interfaces identities fronts =
     record {
       version = version;
       types = types;
@@ -27,4 +28,5 @@ table_view version types operations exceptions declared called interfaces identi
       called = called;
       interfaces = interfaces;
       identities = map identity_view identities;
+      fronts = map (λ f. f.items) fronts;
     }

@@ -17,6 +17,10 @@ pub data TypeExpr : Type 0 where
   Text : Option ℕ → TypeExpr
   -- an object reference
   Reference : TypeExpr
+  -- a TypeCode and a value of its type
+  AnyType : TypeExpr
+  -- a TypeCode alone
+  CodeType : TypeExpr
   -- an enum, struct or union by its name
   Named : List ℕ → TypeExpr
   SequenceOf : TypeExpr → Option ℕ → TypeExpr
@@ -54,6 +58,8 @@ abbrev pub spell_type : TypeExpr → List Token → List Token
 spell_type (Base p) more = word (base_word p) ∷ more
 spell_type (Text bound) more = word (codes "string") ∷ spell_bound bound more
 spell_type Reference more = word (codes "Object") ∷ more
+spell_type AnyType more = word (codes "any") ∷ more
+spell_type CodeType more = word (codes "TypeCode") ∷ more
 spell_type (Named w) more = word w ∷ more
 spell_type (SequenceOf e bound) more =
     word (codes "sequence") ∷ mark marks.OpenAngle

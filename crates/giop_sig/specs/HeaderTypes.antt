@@ -8,8 +8,9 @@ use Rattle.giop_sig.specs.declared.numbers.TheConstants.{SHORT, STRING, IOR, SYS
 use Rattle.giop_sig.specs.declared.types.Fixed.{Fixed}
 use Rattle.giop_sig.specs.declared.types.Fixed.TheVariants as fixeds
 use Rattle.giop_sig.specs.Types.{Plain, Ty, Single, Struct}
-use Rattle.giop_sig.specs.Table.{Node, Operation, Exception, Identity, Table, no_operation, no_exception, no_identity}
-use Rattle.giop_sig.specs.Trees.{AreTypes, tree}
+use Rattle.giop_sig.specs.Table.{Node, Operation, Exception, Identity, Table, node_in, no_operation, no_exception, no_identity}
+use Rattle.giop_sig.specs.Table as nodes
+use Rattle.giop_sig.specs.Trees.{AreTypes, AreWide, tree}
 use Rattle.giop_sig.specs.Builtin.{builtin_types, builtin_table}
 
 -- the numbers of the header types of each message type, in 1.0, 1.1 and 1.2
@@ -82,11 +83,29 @@ pub record IsIdentity (types : List Node) (e : Identity) : Type 0 where
   pub short : length e.repository ≤ 128
   pub type : e.type < length types
 
+-- a node of a type that no file of version 1 or 2 needs
+abbrev pub IsPlain : Node → Type 0
+IsPlain (nodes.marked mark) = ⊥
+IsPlain (nodes.any code) = ⊥
+IsPlain (nodes.typecode wide kind cases) = ⊥
+IsPlain node = Unit {0}
+
+abbrev pub ArePlain : List Node → Type 0
+ArePlain types = (i : ℕ) → i < length types → IsPlain (node_in types i)
+
 -- no two have one name
 abbrev pub AreDistinct : {X : Type 0} → (X → List ℕ) → X → List X → Type 0
 AreDistinct name_in d xs =
     (i j : ℕ) → i < length xs → j < length xs
     → name_in (slice_index_or xs i d) ≡ name_in (slice_index_or xs j d) → i ≡ j
+
+-- Types and fronts of ids by which the value of an any is known. Only those of version 3 have anys,
+-- TypeCodes and what these are made of.
+pub record KnowsAnys (version : ℕ) (types : List Node) (fronts : List (List ℕ)) : Type 0 where
+  pub plain : (version ≡ 3 → ⊥) → ArePlain types
+  pub wide : AreWide types
+  pub short : All (λ front. length front ≤ 129) fronts
+  pub few : length fronts ≤ 65536
 
 -- a table that begins with the built-in types, within the limits, of types such as are asked for
 pub record TableOf (Types : List Node → Type 0) (t : Table) : Type 0 where
@@ -103,6 +122,7 @@ pub record TableOf (Types : List Node → Type 0) (t : Table) : Type 0 where
   pub identities : All (IsIdentity t.types) t.identities
   pub identities_distinct : AreDistinct (λ e. e.repository) no_identity t.identities
   pub interfaces_few : length t.interfaces.names ≤ 1024
+  pub anys : KnowsAnys t.version t.types t.fronts
 
 -- the table of a catalogue
 abbrev pub IsTable : Table → Type 0

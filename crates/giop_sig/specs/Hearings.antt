@@ -1,23 +1,34 @@
 -- How what a value tells of what follows it is kept, and how a type hears it (meaning).
-use Rattle.std.specs.Prelude.{ℕ, ◌-◌, ◌<◌, ◌++◌, None}
+use Rattle.std.specs.Prelude.{ℕ, ◌-◌, ◌<◌, ◌++◌}
 use Rattle.giop_sig.specs.declared.types.Following.{Following}
 use Rattle.giop_sig.specs.declared.types.Following.TheVariants as followings
 use Rattle.giop_sig.specs.declared.types.Sign.{Sign}
 use Rattle.giop_sig.specs.declared.types.Sign.TheVariants as signs
 use Rattle.giop_sig.specs.declared.types.Signal.{Signal}
 use Rattle.giop_sig.specs.declared.types.Signal.TheVariants as signals
-use Rattle.giop_sig.specs.Table.{Table}
+use Rattle.giop_sig.specs.Heard.{hears}
+use Rattle.giop_sig.specs.Table.{Node, Table, node_at}
+use Rattle.giop_sig.specs.Table as nodes
 use Rattle.giop_sig.specs.Types.{Ty, Led, Hearing, Told, Sequel}
 use Rattle.giop_sig.specs.Types as types
 
 -- what a signal stands for
 abbrev pub told_of : Signal → Told
 told_of signals.Untold = types.Untold
-told_of (signals.Awaits k) = types.Awaits k None
+told_of (signals.Awaits n) = types.Awaits n
 told_of (signals.Offers i) = types.Offers i
 told_of (signals.Is i) = types.Is i
 told_of signals.Empty = types.Empty
 told_of signals.Unknown = types.Unknown
+
+-- and the signal of what was told
+abbrev pub signal_of : Told → Signal
+signal_of types.Untold = signals.Untold
+signal_of (types.Awaits n) = signals.Awaits n
+signal_of (types.Offers i) = signals.Offers i
+signal_of (types.Is i) = signals.Is i
+signal_of types.Empty = signals.Empty
+signal_of types.Unknown = signals.Unknown
 
 -- what a line says by it
 abbrev pub sign_is : Sign → types.Sign
@@ -47,6 +58,10 @@ abbrev pub hearing_in : Ty → Hearing
 hearing_in (Led h F parts) = h
 hearing_in T = deaf
 
--- what a signal becomes by a sign, in a type of a table: types that hear are none yet
+-- what a signal becomes by a sign, in a type of that node: only an any hears
+abbrev pub signal_by_node : Table → Node → Signal → types.Sign → Signal
+signal_by_node C (nodes.any code) told sign = signal_of (hears C (told_of told) sign)
+signal_by_node C node told sign = told
+
 abbrev pub signal_after : Table → ℕ → Signal → Sign → Signal
-signal_after C t told sign = told
+signal_after C t told sign = signal_by_node C (node_at C t) told (sign_is sign)

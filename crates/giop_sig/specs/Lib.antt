@@ -2,9 +2,11 @@ pub mod Kinds
 pub mod Types
 pub mod Interfaces
 pub mod Table
+pub mod Heard
 pub mod Trees
 pub mod Fits
 pub mod Builtin
+pub mod AnyTypes
 pub mod UnionCases
 pub mod Views
 pub mod HeaderTypes

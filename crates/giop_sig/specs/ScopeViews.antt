@@ -5,7 +5,7 @@ use Rattle.std.specs.Option.{option_map}
 use Rattle.arrayvec.specs.ArrayVec.{ArrayVec}
 use Rattle.giop_sig.specs.declared.types.TypeId.{TypeId}
 use Rattle.giop_sig.specs.Table.{Node, Table, IsInner, identified_in}
-use Rattle.giop_sig.specs.Builtin.{builtin_types}
+use Rattle.giop_sig.specs.AnyTypes.{first_types}
 use Rattle.giop_sig.specs.Trees.{AreFormed}
 use Rattle.giop_sig.specs.HeaderTypes.{TableOf}
 use Rattle.giop_sig.specs.Scopes.{Scope}
@@ -29,9 +29,10 @@ pub record IsDeclaredName (types : List Node) (e : List ℕ × Option ℕ) : Typ
   pub short : length e.0 ≤ 64
   pub type : IsKnownType types e.1
 
--- the named types are in the table, and can be parts
+-- the types with which a file of the version begins are in the table, and the named types, which
+-- can be parts
 pub record IsScope (s : Scope) : Type 0 where
-  pub begins : (more : List Node) × (s.table.types ≡ builtin_types ++ more)
+  pub begins : (more : List Node) × (s.table.types ≡ first_types s.names.version ++ more)
   pub names : AllByRecursion (IsDeclaredName s.table.types) s.names.known
 
 -- a repository id that a type may get, where it gets one

@@ -1,23 +1,26 @@
 -- What declarations add: the types, operations and exceptions of a table, and the names that later
 -- declarations may use (docs/FORMATS.md, Signature file; meaning).
-use Rattle.std.specs.Prelude.{ℕ, ◌+◌, ◌==◌, ◌-ℤ◌, Bool, true, false, if◌then◌else◌, nat_le, ℤ, pos, List, [], ◌∷◌, ◌++◌, length, Option, Some, None, codes, position}
+use Rattle.std.specs.Prelude.{ℕ, ◌+◌, ◌==◌, ◌-ℤ◌, Bool, true, false, if◌then◌else◌, cond, nat_le, nat_lt, ℤ, pos, List, [], ◌∷◌, ◌++◌, length, Option, Some, None, codes, position}
 use Rattle.std.specs.Map.{lookup}
 use Rattle.std.specs.Str.{bytes_eq}
 use Rattle.giop_cdr.specs.declared.prim.Primitive.{Primitive}
 use Rattle.giop_cdr.specs.declared.prim.Primitive.TheVariants as prims
 use Rattle.giop_cdr.specs.declared.number.Number.{Number}
 use Rattle.giop_cdr.specs.declared.number.Number.TheVariants as numbers
-use Rattle.giop_sig.specs.declared.numbers.TheConstants.{STRING, IOR}
+use Rattle.giop_sig.specs.declared.numbers.TheConstants.{STRING, IOR, TYPE_CODE, ANY}
 use Rattle.giop_sig.specs.declared.read_calls.Direction.{Direction}
 use Rattle.giop_sig.specs.declared.read_calls.Direction.TheVariants as directions
 use Rattle.giop_sig.specs.declared.types.Selected.{Selected}
 use Rattle.giop_sig.specs.declared.types.Selected.TheVariants as selecteds
-use Rattle.giop_sig.specs.Table.{Part, Case, Node, Identity, Table, node_at, with_type, with_declared, with_called, with_listed, with_exception}
+use Rattle.giop_sig.specs.Heard.{kind_of, with_fronts}
+use Rattle.giop_sig.specs.Trees.{depth_in}
+use Rattle.giop_sig.specs.Table.{Part, Case, Node, Table, node_at, with_type, with_identity, with_declared, with_called, with_listed, with_exception}
 use Rattle.giop_sig.specs.Table as nodes
 use Rattle.giop_sig.specs.Interfaces.{with_key}
 use Rattle.giop_sig.specs.Builtin.{builtin_table}
+use Rattle.giop_sig.specs.AnyTypes.{first_types}
 use Rattle.giop_sig.specs.RequestList.{flat}
-use Rattle.giop_sig.specs.Grammar.{TypeExpr, Base, Text, Reference, Named, SequenceOf, EncapsulationOf, Item, Value, Plain, Below, Truth, Enumerator, Label, Default, Of, UnionCase, Param, Declaration, Enumeration, Structure, DeclaredUnion, DeclaredException, Call, KeyOf, SignatureFile}
+use Rattle.giop_sig.specs.Grammar.{TypeExpr, Base, Text, Reference, AnyType, CodeType, Named, SequenceOf, EncapsulationOf, Item, Value, Plain, Below, Truth, Enumerator, Label, Default, Of, UnionCase, Param, Declaration, Enumeration, Structure, DeclaredUnion, DeclaredException, Call, KeyOf, SignatureFile}
 
 -- The type names of a file: the file's version, and the names of enums, structs and unions, each
 -- with its type's number, and of exceptions, with none.
@@ -42,7 +45,7 @@ pub record Scope : Type 0 where
 abbrev pub first_scope : ℕ → Scope
 first_scope version =
     record {
-      table = record builtin_table { version = version };
+      table = record builtin_table { version = version; types = first_types version };
       names = record { version = version; known = [] };
     }
 
@@ -98,6 +101,8 @@ unfoldable pub place : Scope → TypeExpr → AddedType
 place s (Base p) = (s, base_number p)
 place s (Text bound) = add_text_type s bound
 place s Reference = (s, IOR)
+place s AnyType = (s, ANY)
+place s CodeType = (s, TYPE_CODE)
 place s (Named w) = (s, number_or (named s.names w))
 place s (SequenceOf e bound) = add_sequence_type bound (place s e)
 place s (EncapsulationOf e) = add_encapsulation_type (place s e)
@@ -233,17 +238,27 @@ abbrev pub with_name : Scope → List ℕ → Option ℕ → Scope
 with_name s w number =
     record s { names = record (s.names) { known = s.names.known ++ (w, number) ∷ [] } }
 
--- a type's repository id after others, where it has one
-abbrev pub onto_identities : List Identity → Option (List ℕ) → ℕ → List Identity
-onto_identities es None number = es
-onto_identities es (Some id) number = es ++ (record { repository = id; type = number }) ∷ []
+-- the fronts of a type's repository id
+abbrev pub with_id_fronts : Table → List ℕ → ℕ → Table
+with_id_fronts t id number =
+    record t { fronts = with_fronts (kind_of (node_at t number)) id t.fronts }
+
+-- The sequence of a type, which the any of one has. One that is too deep could follow in none.
+abbrev pub with_sequence : Table → ℕ → Table
+with_sequence t number =
+    cond (nat_lt (depth_in t.types number) 24) (with_type t (nodes.sequence None number)) t
+
+-- a type's repository id, if it has one
+abbrev pub with_identified : Table → Option (List ℕ) → ℕ → Table
+with_identified t None number = t
+with_identified t (Some id) number =
+    with_sequence (with_id_fronts
+    (with_identity t (record { repository = id; type = number })) id number) number
 
 -- an enum, struct or union of a new name, and perhaps of a new repository id
 abbrev pub with_named : List ℕ → Option (List ℕ) → AddedType → Scope
 with_named w id p = with_name (record (p.0) {
-  table = record (with_declared (p.0).table) {
-    identities = onto_identities (p.0).table.identities id p.1;
-  };
+  table = with_declared (with_identified (p.0).table id p.1);
 }) w (Some p.1)
 
 abbrev pub with_raised : List ℕ → List ℕ → AddedType → Scope

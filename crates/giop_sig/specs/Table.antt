@@ -1,6 +1,6 @@
 -- The table that a catalogue is: one node for each type, which names the types of its parts by
 -- their numbers, and the operations and exceptions by their names (meaning).
-use Rattle.std.specs.Prelude.{ℕ, ◌+◌, ◌/◌, ◌%◌, ◌<◌, ◌≤◌, ◌==◌, Bool, false, cond, List, [], ◌∷◌, ◌++◌, length, Option, Some, None, slice_index_or, slice_get, position}
+use Rattle.std.specs.Prelude.{ℕ, zero, suc, nat_lt, ◌+◌, ◌/◌, ◌%◌, ◌<◌, ◌≤◌, ◌==◌, Bool, true, false, cond, List, [], ◌∷◌, ◌++◌, length, Option, Some, None, slice_index_or, slice_get, position}
 use Rattle.std.specs.Ordering.{int_eq}
 use mathlib.Core.Bool.{beq}
 use Rattle.std.specs.List.{list_any, All}
@@ -10,6 +10,8 @@ use Rattle.giop_cdr.specs.declared.prim.Primitive.{Primitive}
 use Rattle.giop_cdr.specs.declared.prim.Primitive.TheVariants as prims
 use Rattle.giop_cdr.specs.declared.number.Number.{Number}
 use Rattle.giop_cdr.specs.declared.number.Number.TheVariants as numbers
+use Rattle.giop_sig.specs.declared.numbers.TheConstants.{OCTETS}
+use Rattle.giop_sig.specs.Kinds.{marked_word}
 use Rattle.giop_sig.specs.declared.types.TypeId.{TypeId}
 use Rattle.giop_sig.specs.declared.types.OpId.{OpId}
 use Rattle.giop_sig.specs.declared.types.InterfaceId.{InterfaceId}
@@ -46,6 +48,13 @@ pub data Node : Type 0 where
   -- a tag that determines what follows it: the special tag; the part of the tag, the part that
   -- follows the special tag, and the part that follows every other tag
   tagged : ℕ → Part → Part → Part → Node
+  -- a number of four octets with a mark
+  marked : ℕ → Node
+  -- an any: the TypeCode that tells the type of its value
+  any : ℕ → Node
+  -- A TypeCode: its kind's type, and what follows each kind. If there is little room, types of the
+  -- first number and greater ones are octets.
+  typecode : Option ℕ → ℕ → List Case → Node
 
 -- the node of a type
 abbrev pub node_in : List Node → ℕ → Node
@@ -62,6 +71,9 @@ shape_of (sequence bound element) = shapes.Sequence bound
 shape_of (array count element) = shapes.Array count
 shape_of (encapsulation held) = shapes.Encapsulation
 shape_of (tagged special tag inner other) = shapes.Tagged
+shape_of (marked mark) = shapes.Marked mark
+shape_of (any code) = shapes.Led
+shape_of (typecode wide kind cases) = shapes.Union (length cases)
 
 abbrev pub case_part : Option Case → Option Part
 case_part None = None
@@ -69,6 +81,19 @@ case_part (Some c) = Some c.part
 
 abbrev pub element_part : ℕ → Part
 element_part element = record { name = []; type = element }
+
+-- a type, or octets in place of one that needs more room
+abbrev pub narrowed : Option ℕ → ℕ → ℕ
+narrowed None type = type
+narrowed (Some wide) type = cond (nat_lt type wide) type OCTETS
+
+abbrev pub narrow_part : Option ℕ → Part → Part
+narrow_part wide p = record { name = p.name; type = narrowed wide p.type }
+
+-- an any has its TypeCode, and a type of each number
+abbrev pub any_part : ℕ → ℕ → Part
+any_part code zero = element_part code
+any_part code (suc i) = element_part i
 
 -- the part at a place; an element, and what an encapsulation holds, is at every place and has no
 -- name
@@ -79,6 +104,9 @@ part_at (sequence bound element) i = Some (element_part element)
 part_at (array count element) i = Some (element_part element)
 part_at (encapsulation held) i = Some (element_part held)
 part_at (tagged special tag inner other) i = slice_get (tag ∷ inner ∷ other ∷ []) i
+part_at (any code) i = Some (any_part code i)
+part_at (typecode wide kind cases) i =
+    option_map (narrow_part wide) (case_part (slice_get cases i))
 part_at node i = None
 
 abbrev pub type_of : Option Part → ℕ
@@ -92,11 +120,13 @@ name_of (Some p) = p.name
 -- the name of an enum's number
 abbrev pub name_at : Node → ℕ → Option (List ℕ)
 name_at (enumeration names) n = slice_get names n
+name_at (marked mark) n = marked_word mark n
 name_at node n = None
 
 abbrev pub switch_at : Node → ℕ
 switch_at (union switch cases otherwise) = switch
 switch_at (tagged special tag inner other) = tag.type
+switch_at (typecode wide kind cases) = kind
 switch_at node = 0
 
 -- ---- selection
@@ -123,6 +153,7 @@ abbrev pub selected : Node → Number → Selected
 selected (union switch cases otherwise) n = case_or (case_with n cases) otherwise
 selected (tagged special tag inner other) n =
     cond (same_number (numbers.Unsigned special) n) (selecteds.Case 1) (selecteds.Case 2)
+selected (typecode wide kind cases) n = case_or (case_with n cases) selecteds.Nothing
 selected node n = selecteds.Nothing
 
 -- ---- the table
@@ -143,7 +174,8 @@ pub record Exception : Type 0 where
   pub repository : List ℕ
   pub members : ℕ
 
--- an enum, struct or union that has a repository id: the id, and the number of the type
+-- An enum, struct or union that has a repository id: the id, and the number of the type. The
+-- sequence of it, without a bound, is the next type.
 pub record Identity : Type 0 where
   pub repository : List ℕ
   pub type : ℕ
@@ -159,6 +191,9 @@ pub record Table : Type 0 where
   pub called : ℕ
   pub interfaces : Interfaces
   pub identities : List Identity
+  -- the fronts of these ids, each after the octet of its kind: in each kind the empty one, and the
+  -- first 32, 64 and 96 octets of those that have more
+  pub fronts : List (List ℕ)
 
 abbrev pub node_at : Table → ℕ → Node
 node_at t i = node_in t.types i
@@ -281,6 +316,11 @@ with_declared t = record t { declared = t.declared + 1 }
 
 -- ---- what holds of a table
 
+-- whether a type takes some octet
+abbrev pub takes_octet : Node → Bool
+takes_octet (members []) = false
+takes_octet node = true
+
 -- a type that takes some octet
 abbrev pub TakesOctet : Node → Type 0
 TakesOctet (members []) = ⊥
@@ -294,6 +334,7 @@ pub record IsInner (types : List Node) (n i : ℕ) : Type 0 where
 abbrev pub IsScalarNode : Node → Type 0
 IsScalarNode (prim p) = Unit {0}
 IsScalarNode (enumeration names) = Unit {0}
+IsScalarNode (marked mark) = Unit {0}
 IsScalarNode node = ⊥
 
 pub record IsSwitch (types : List Node) (n i : ℕ) : Type 0 where
@@ -324,3 +365,8 @@ IsFormed types n (array count element) = (0 < count) × IsInner types n element
 IsFormed types n (encapsulation held) = IsInner types n held
 IsFormed types n (tagged special tag inner other) =
     IsSwitch types n tag.type × IsPart types n tag × IsPart types n inner × IsPart types n other
+IsFormed types n (marked mark) = Unit {0}
+IsFormed types n (any code) = IsInner types n code
+IsFormed types n (typecode wide kind cases) =
+    IsSwitch types n kind × (length cases ≤ 256)
+    × All (λ c. IsPart types n (narrow_part wide c.part)) cases

@@ -1,13 +1,15 @@
 -- The trees of a table's types, and what holds of a table as a whole (meaning).
-use Rattle.std.specs.Prelude.{ℕ, zero, suc, ◌+◌, ◌^◌, ◌<◌, ◌≤◌, ◌==◌, if◌then◌else◌, max, List, [], length, Option, Some, None, slice_index_or, slice_get}
+use Rattle.std.specs.Prelude.{ℕ, zero, suc, ◌+◌, ◌^◌, ◌<◌, ◌≤◌, ◌==◌, ◌&&◌, nat_lt, nat_le, cond, Bool, max, List, [], length, Option, Some, None, slice_index_or, slice_get}
+use Rattle.std.specs.List.{All}
 use Rattle.giop_cdr.specs.declared.prim.Primitive.TheVariants as prims
 use Rattle.giop_cdr.specs.declared.number.Number.{Number}
 use Rattle.giop_sig.specs.declared.types.Shape.{Shape}
 use Rattle.giop_sig.specs.declared.types.Shape.TheVariants as shapes
 use Rattle.giop_sig.specs.declared.types.Selected.{Selected}
 use Rattle.giop_sig.specs.declared.types.Selected.TheVariants.{Nothing}
-use Rattle.giop_sig.specs.Types.{Choice, Cases, Tag, Scalar, Plain, Enum, interpreted_by, Ty, Single, Text, Octets, Struct, Union, Sequence, Array, Encapsulation, most}
-use Rattle.giop_sig.specs.Table.{Part, Node, Table, IsFormed, name_of, node_at, node_in, part_at, shape_of, switch_at, type_of, selected}
+use Rattle.giop_sig.specs.Types.{Choice, Cases, Tag, Scalar, Plain, Enum, interpreted_by, Ty, Single, Text, Octets, Struct, Union, Sequence, Array, Encapsulation, Led, Marked, Hearing, most}
+use Rattle.giop_sig.specs.Heard.{hears, selects}
+use Rattle.giop_sig.specs.Table.{Part, Node, Table, IsFormed, TakesOctet, takes_octet, name_of, node_at, node_in, part_at, shape_of, switch_at, type_of, selected}
 use Rattle.giop_sig.specs.Table as nodes
 
 -- ---- a node, with a tree for each number
@@ -43,40 +45,33 @@ abbrev pub grown_union : (ℕ → Ty) → Choice → Node → Ty
 grown_union tree choice node =
     union_of choice node (tree (switch_at node)) (λ i. grown_part tree (part_at node i))
 
-abbrev pub grow : (ℕ → Ty) → Node → Ty
-grow tree (nodes.prim p) = Single (Plain p)
-grow tree (nodes.enumeration names) =
+-- a node with a tree for each number, and with how what follows a TypeCode is heard
+abbrev pub grow : Hearing → (ℕ → Ty) → Node → Ty
+grow h tree (nodes.prim p) = Single (Plain p)
+grow h tree (nodes.marked mark) = Single (Marked mark)
+grow h tree (nodes.any code) = Led h (tree code) tree
+grow h tree (nodes.typecode wide kind cases) =
+    grown_union tree (Cases (length cases)) (nodes.typecode wide kind cases)
+grow h tree (nodes.enumeration names) =
     Single (Enum (length names) (λ i. name_or (slice_get names i)))
-grow tree (nodes.text bound) = Text bound
-grow tree (nodes.octets bound) = Octets bound
-grow tree (nodes.members parts) =
+grow h tree (nodes.text bound) = Text bound
+grow h tree (nodes.octets bound) = Octets bound
+grow h tree (nodes.members parts) =
     Struct (length parts) (λ i. name_of (slice_get parts i))
     (λ i. grown_part tree (slice_get parts i))
-grow tree (nodes.union switch cases otherwise) =
+grow h tree (nodes.union switch cases otherwise) =
     grown_union tree (Cases (length cases)) (nodes.union switch cases otherwise)
-grow tree (nodes.sequence bound element) = Sequence bound (tree element)
-grow tree (nodes.array count element) = Array count (tree element)
-grow tree (nodes.encapsulation held) = Encapsulation (tree held)
-grow tree (nodes.tagged special tag inner other) =
+grow h tree (nodes.sequence bound element) = Sequence bound (tree element)
+grow h tree (nodes.array count element) = Array count (tree element)
+grow h tree (nodes.encapsulation held) = Encapsulation (tree held)
+grow h tree (nodes.tagged special tag inner other) =
     grown_union tree Tag (nodes.tagged special tag inner other)
 
--- ---- the trees, in so much room
-
--- the tree of the type with a number: so many parts may be in each other beyond the type's own, and
--- those without room are octets
-unfoldable pub tree_at : Table → ℕ → ℕ → Ty
-tree_at t zero i = grow (λ k. octet_type) (node_at t i)
-tree_at t (suc room) i = grow (tree_at t room) (node_at t i)
+-- ---- depth
 
 -- the greatest depth of a type
 abbrev pub greatest_depth : ℕ
 greatest_depth = 24
-
--- the tree in the room that each type of a table has
-abbrev pub tree : Table → ℕ → Ty
-tree t i = tree_at t greatest_depth i
-
--- ---- depth
 
 -- the depth of a shape, of the depths of its parts
 abbrev pub depth_by : Shape → (ℕ → ℕ) → ℕ
@@ -86,6 +81,7 @@ depth_by (shapes.Sequence bound) f = 1 + f 0
 depth_by (shapes.Array count) f = 1 + f 0
 depth_by shapes.Encapsulation f = 1 + f 0
 depth_by shapes.Tagged f = 1 + max 1 (most 3 f)
+depth_by shapes.Led f = 1 + f 0
 depth_by s f = 1
 
 -- the depth of the type with a number, where the parts that are so far down count as leaves
@@ -95,7 +91,8 @@ depth_at types (suc n) i =
     depth_by (shape_of (node_in types i))
     (λ k. depth_at types n (type_of (part_at (node_in types i) k)))
 
--- the depth of a type, whose parts have smaller numbers; of no type less than that of its tree
+-- The depth of a type, whose parts have smaller numbers. What can follow in an any, and what is
+-- octets if there is little room, is counted where it begins.
 abbrev pub depth_in : List Node → ℕ → ℕ
 depth_in types i = depth_at types (i + suc greatest_depth) i
 
@@ -111,17 +108,69 @@ node_depth types node = depth_by (shape_of node) (part_depth types node)
 unfoldable pub depth_of : List Node → ℕ
 depth_of types = most (length types) (depth_in types)
 
+-- ---- the trees, in so much room
+
+-- how much room the parameters of a TypeCode take: an encapsulation, its struct, the members, a
+-- member, and a TypeCode, which has depth 3
+abbrev pub wide_room : ℕ
+wide_room = 7
+
+-- a node in so much room for its parts
+abbrev pub in_room : ℕ → Node → Node
+in_room room (nodes.typecode wide kind cases) =
+    nodes.typecode (cond (nat_lt room wide_room) wide None) kind cases
+in_room room node = node
+
+-- the number of a part's type, in so much room for it
+abbrev pub part_number_in : Table → ℕ → ℕ → ℕ → ℕ
+part_number_in t room id i = type_of (part_at (in_room room (node_at t id)) i)
+
+-- whether a type can follow in an any: there is one of that number, it takes some octet, and it has
+-- room
+abbrev pub follows : Table → ℕ → ℕ → Bool
+follows t room i =
+    nat_lt i (length t.types) && takes_octet (node_at t i) && nat_le (depth_in t.types i) room
+
+-- how an any is heard
+abbrev pub any_hearing : Table → ℕ → Hearing
+any_hearing t room = record { hears = hears t; selects = selects (follows t room) }
+
+-- the tree of the type with a number: so many parts may be in each other beyond the type's own, and
+-- those without room are octets
+unfoldable pub tree_at : Table → ℕ → ℕ → Ty
+tree_at t zero i = grow (any_hearing t 0) (λ k. octet_type) (in_room 0 (node_at t i))
+tree_at t (suc room) i =
+    grow (any_hearing t room) (tree_at t room) (in_room room (node_at t i))
+
+-- the tree in the room that each type of a table has
+abbrev pub tree : Table → ℕ → Ty
+tree t i = tree_at t greatest_depth i
+
 -- ---- tables
 
 -- The depth of a catalogue: that of its deepest type. In version 3 it is the greatest there can be.
 abbrev pub catalogue_depth : Table → ℕ
-catalogue_depth t = if t.version == 3 then 24 else depth_of t.types
+catalogue_depth t = cond (t.version == 3) 24 (depth_of t.types)
 
 -- types of which each part has a smaller number than its whole
 pub record AreFormed (types : List Node) : Type 0 where
   pub few : length types < 2 ^ 32
   pub formed : (i : ℕ) → i < length types
       → IsFormed types i (slice_index_or types i (nodes.prim prims.Octet))
+
+-- a type of the table that is no deeper than a TypeCode's parameters, and takes some octet
+pub record IsWidePart (types : List Node) (i : ℕ) : Type 0 where
+  pub known : i < length types
+  pub takes : TakesOctet (node_in types i)
+  pub shallow : depth_in types i ≤ wide_room
+
+-- what follows the kinds of a TypeCode if there is room for it
+abbrev pub IsWide : List Node → Node → Type 0
+IsWide types (nodes.typecode wide kind cases) = All (λ c. IsWidePart types c.part.type) cases
+IsWide types node = Unit {0}
+
+abbrev pub AreWide : List Node → Type 0
+AreWide types = (i : ℕ) → i < length types → IsWide types (node_in types i)
 
 -- types that can be in a table: none is deeper than 24
 pub record AreTypes (types : List Node) : Type 0 where

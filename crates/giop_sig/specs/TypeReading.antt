@@ -1,5 +1,5 @@
 -- Reading a type from left to right, and what it adds to the scope (steps).
-use Rattle.std.specs.Prelude.{ℕ, zero, suc, Bool, true, false, ◌==◌, if◌then◌else◌, nat_lt, List, [], ◌∷◌, ◌++◌, length, Option, Some, None, Result, Ok, Err, codes}
+use Rattle.std.specs.Prelude.{ℕ, zero, suc, Bool, true, false, ◌&&◌, ◌==◌, if◌then◌else◌, nat_lt, List, [], ◌∷◌, ◌++◌, length, Option, Some, None, Result, Ok, Err, codes}
 use Rattle.std.specs.Str.{bytes_eq}
 use Rattle.giop_tokens.specs.declared.fault.Refusal.{Refusal}
 use Rattle.giop_tokens.specs.declared.fault.SigFaultKind.TheVariants as kinds
@@ -8,7 +8,7 @@ use Rattle.giop_tokens.specs.declared.marks.Mark.TheVariants as marks
 use Rattle.giop_tokens.specs.Reading.{◌>>=◌}
 use Rattle.giop_tokens.specs.Readers.{misplaced, word_at, number_at, mark_at, mark_if}
 use Rattle.giop_tokens.specs.Names.{is_reserved}
-use Rattle.giop_sig.specs.declared.numbers.TheConstants.{IOR}
+use Rattle.giop_sig.specs.declared.numbers.TheConstants.{IOR, TYPE_CODE, ANY}
 use Rattle.giop_sig.specs.declared.read_types.Opener.{Opener}
 use Rattle.giop_sig.specs.declared.read_types.Opener.TheVariants as openers
 use Rattle.giop_sig.specs.Scopes.{has_encapsulations, is_third, Scope, AddedType, named, add_text_type, add_sequence_type, add_encapsulation_type}
@@ -108,11 +108,18 @@ named_type s text w rest =
     (if nat_lt 64 (length w) then Err (refused kinds.Limit text)
     else found_type s text rest (named s.names w))
 
+-- a word that is a type's since version 3
+abbrev pub is_later : Scope → List ℕ → List ℕ → Bool
+is_later s w v = is_third s.names && bytes_eq w v
+
 abbrev pub leaf_after : Scope → List ℕ → List ℕ → List ℕ → Option ℕ → Result TypeRead Refusal
 leaf_after s text w rest (Some base) = Ok (s, base, rest)
 leaf_after s text w rest None =
     if bytes_eq w (codes "string") then text_at s rest else
-    (if bytes_eq w (codes "Object") then Ok (s, IOR, rest) else named_type s text w rest)
+    (if bytes_eq w (codes "Object") then Ok (s, IOR, rest) else
+    (if is_later s w (codes "any") then Ok (s, ANY, rest) else
+    (if is_later s w (codes "TypeCode") then Ok (s, TYPE_CODE, rest)
+    else named_type s text w rest)))
 
 -- a type that has no other in angle brackets
 unfoldable pub leaf_at : Scope → List ℕ → Result TypeRead Refusal

@@ -66,8 +66,8 @@ pub data Sign : Type 0 where
 pub data Told : Type 0 where
   -- nothing
   Untold : Told
-  -- a kind whose repository id comes, and what has come of it, where that is at most 128 octets
-  Awaits : ℕ → Option (List ℕ) → Told
+  -- a kind whose repository id comes, and what has come of it, by the number of both
+  Awaits : ℕ → Told
   -- a type, whose count of members comes
   Offers : ℕ → Told
   -- a type
@@ -211,6 +211,12 @@ HasPlace shapes.Encapsulation i = Unit {0}
 HasPlace shapes.Led i = Unit {0}
 HasPlace shapes.Tagged i = i < 3
 HasPlace s i = ⊥
+
+-- A part in that place has a smaller number than its whole: all parts have, but for what can follow
+-- a part that tells it.
+abbrev pub HasInner : Shape → ℕ → Type 0
+HasInner shapes.Led i = i ≡ 0
+HasInner s i = HasPlace s i
 
 abbrev pub IsUnion : Shape → Type 0
 IsUnion (shapes.Union count) = Unit {0}

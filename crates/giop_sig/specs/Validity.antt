@@ -16,7 +16,7 @@ use Rattle.giop_sig.specs.Interfaces.{Interfaces, is_key, number_of, of_text}
 use Rattle.giop_sig.specs.Table.{Part, Node, Table, node_at, operation_key, keyed_number, with_variant, exception_in, identified_in}
 use Rattle.giop_sig.specs.Table as nodes
 use Rattle.giop_sig.specs.Trees.{depth_of}
-use Rattle.giop_sig.specs.Grammar.{TypeExpr, Base, Text, Reference, Named, SequenceOf, EncapsulationOf, Item, Value, Plain, Below, Truth, Enumerator, Label, Default, Of, UnionCase, Param, Declaration, Enumeration, Structure, DeclaredUnion, DeclaredException, Call, KeyOf, SignatureFile, is_version, spell_file}
+use Rattle.giop_sig.specs.Grammar.{TypeExpr, Base, Text, Reference, AnyType, CodeType, Named, SequenceOf, EncapsulationOf, Item, Value, Plain, Below, Truth, Enumerator, Label, Default, Of, UnionCase, Param, Declaration, Enumeration, Structure, DeclaredUnion, DeclaredException, Call, KeyOf, SignatureFile, is_version, spell_file}
 use Rattle.giop_sig.specs.Scopes.{Names, has_encapsulations, is_third, Scope, AddedType, first_scope, AddedParameters, add_struct_type, add_params, add_return, named, place, label_number, labels_of, declare, scope_after}
 
 abbrev pub Kind : Type 0
@@ -67,10 +67,17 @@ abbrev pub OfVersion : Kind → Names → Type 0
 OfVersion kinds.Syntax names = has_encapsulations names ≡ true
 OfVersion k names = Unit {0}
 
+-- only a file of version 3 has interfaces, anys and TypeCodes
+abbrev pub OfThird : Kind → Names → Type 0
+OfThird kinds.Syntax names = is_third names ≡ true
+OfThird k names = Unit {0}
+
 unfoldable pub OfType : Kind → Names → TypeExpr → Type 0
 OfType k names (Base p) = Unit {0}
 OfType k names (Text bound) = OfBound k bound
 OfType k names Reference = Unit {0}
+OfType k names AnyType = OfThird k names
+OfType k names CodeType = OfThird k names
 OfType k names (Named w) = OfTypeName k names w
 OfType k names (SequenceOf e bound) = OfType k names e × OfBound k bound
 OfType k names (EncapsulationOf e) = OfVersion k names × OfType k names e
@@ -215,11 +222,6 @@ OfVariants k w request reply (id ∷ ids) t =
     OfInterface k t.interfaces id
     × OfNewKey k t (operation_key (number_of t.interfaces id + 1) w)
     × OfVariants k w request reply ids (with_variant w request reply id t)
-
--- only a file of version 3 has interfaces
-abbrev pub OfThird : Kind → Names → Type 0
-OfThird kinds.Syntax names = is_third names ≡ true
-OfThird k names = Unit {0}
 
 -- the list of an operation's interfaces
 abbrev pub OfList : Kind → Names → List ℕ → ℕ → ℕ → List (List ℕ) → Table → Type 0

@@ -1,15 +1,19 @@
 -- The entries of a catalogue's types as contracts see them (state).
-use Rattle.std.specs.Prelude.{◌≡◌, ℕ, ◌<◌, ◌≤◌, List, length, map, slice_index_or}
+use Rattle.std.specs.Prelude.{◌≡◌, ℕ, ◌<◌, ◌≤◌, List, length, map, slice_index_or, Some}
 use Rattle.giop_sig.specs.declared.entries.TagEntry.{TagEntry}
 use Rattle.giop_sig.specs.declared.entries.Entry.{Entry}
 use Rattle.giop_sig.specs.declared.entries.Entry.TheVariants as entries
 use Rattle.giop_sig.specs.declared.entries.EntryWithDepth.{EntryWithDepth}
-use Rattle.giop_sig.specs.Table.{Node, prim, enumeration, text, octets, members, union, sequence, array, encapsulation, tagged}
+use Rattle.giop_sig.specs.declared.entries.TypeCodeEntry.{TypeCodeEntry}
+use Rattle.giop_sig.specs.Table.{Node, prim, enumeration, text, octets, members, union, sequence, array, encapsulation, tagged, marked, any, typecode}
 use Rattle.giop_sig.specs.Trees.{AreFormed, depth_in, depth_of}
 use Rattle.giop_sig.specs.UnionCases.{part_view}
 
 abbrev pub tag_view : TagEntry → Node
 tag_view t = tagged t.special (part_view t.tag) (part_view t.inner) (part_view t.other)
+
+abbrev pub code_view : TypeCodeEntry → Node
+code_view c = typecode (Some c.wide.0) c.kind.0 c.cases
 
 abbrev pub node_view : Entry → Node
 node_view (entries.Prim p) = prim p
@@ -19,6 +23,9 @@ node_view (entries.Octets bound) = octets bound
 node_view (entries.Members parts) = members (map part_view parts.items)
 node_view (entries.Union switch cases otherwise) =
     union switch.0 cases otherwise
+node_view (entries.Marked mark) = marked mark
+node_view (entries.Any code) = any code.0
+node_view (entries.TypeCode code) = code_view code
 node_view (entries.Sequence bound element) = sequence bound element.0
 node_view (entries.Array count element) = array count element.0
 node_view (entries.Encapsulation held) = encapsulation held.0
@@ -29,6 +36,7 @@ abbrev pub IsSized : Entry → Type 0
 IsSized (entries.Enumeration names) = length names.items ≤ 1024
 IsSized (entries.Members parts) = length parts.items ≤ 256
 IsSized (entries.Union switch cases otherwise) = length cases ≤ 256
+IsSized (entries.TypeCode code) = length code.cases ≤ 256
 IsSized entry = Unit {0}
 
 abbrev pub nodes_view : List EntryWithDepth → List Node

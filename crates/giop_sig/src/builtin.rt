@@ -1,22 +1,25 @@
 //! The types that every catalogue begins with.
-ghost use Rattle.std.specs.Prelude.{◌≡◌, ◌<◌, ◌≤◌, length, map, IfOk, IfErr};
+ghost use Rattle.std.specs.Prelude.{◌≡◌, ◌<◌, ◌≤◌, ◌++◌, length, map, IfOk, IfErr};
 ghost use Rattle.std.specs.Option.{option_map};
 ghost use Rattle.giop_sig.specs.Table.{node_in};
 ghost use Rattle.giop_sig.specs.Builtin.{builtin_types};
 ghost use Rattle.giop_sig.specs.HeaderTypes.{header_number, fixed_number};
 ghost use Rattle.giop_sig.specs.Views.{node_view};
 ghost use Rattle.giop_sig.specs.UnionCases.{part_view, case_view};
-ghost use Rattle.giop_sig.specs.Literals.{literal_node, literal_part, literal_case};
+ghost use Rattle.giop_sig.specs.AnyTypes.{first_types, third_types};
+ghost use Rattle.giop_sig.specs.Literals.{literal_node, literal_part, literal_parameters, literal_case};
 
+use crate::any_types::third_literal;
 use crate::cases::UnionCases;
-use crate::entries::{CaseEntry, Entry, PartEntry, TagEntry, Types};
+use crate::draft::THIRD_VERSION;
+use crate::entries::{CaseEntry, Entry, PartEntry, TagEntry, TypeCodeEntry, Types};
 use crate::numbers::{
     BOOLEAN, BUILTIN_LEN, CHAR, CODE_SETS, CODE_SETS_DATA, COMPLETED, DOUBLE, FLOAT, ID_ALONE,
     IIOP, IIOP_DATA, IOR, IOR_ADDRESS, LOCATE_REPLY, LOCATE_REPLY_1_2, LOCATE_REQUEST,
-    LOCATE_REQUEST_1_2, LOCATE_STATUS, LOCATE_STATUS_1_2, LONG, LONGLONG, OCTET, OCTETS, REPLY,
-    REPLY_1_2, REPLY_STATUS, REPLY_STATUS_1_2, REQUEST_1_0, REQUEST_1_1, REQUEST_1_2, RESERVED,
-    SERVICE_CONTEXT, SERVICE_CONTEXTS, SHORT, STRING, SYSTEM_EXCEPTION, TAGGED_PROFILE,
-    TAGGED_PROFILES, TARGET, ULONG, ULONGLONG, USHORT,
+    LOCATE_REQUEST_1_2, LOCATE_STATUS, LOCATE_STATUS_1_2, LONG, LONGLONG, NAMED, OCTET, OCTETS,
+    REPLY, REPLY_1_2, REPLY_STATUS, REPLY_STATUS_1_2, REQUEST_1_0, REQUEST_1_1, REQUEST_1_2,
+    RESERVED, SERVICE_CONTEXT, SERVICE_CONTEXTS, SHORT, STRING, SYSTEM_EXCEPTION, TAGGED_PROFILE,
+    TAGGED_PROFILES, TARGET, THIRD_LEN, ULONG, ULONGLONG, USHORT,
 };
 use crate::part_name::PartName;
 use crate::types::{Fixed, Selected, TypeId};
@@ -38,7 +41,20 @@ pub(crate) enum Literal {
     Encapsulation(u32),
     /// The tag that an encapsulation follows; the parts: the tag, the encapsulation, and the octets of other tags.
     Tagged(u32, Named, Named, Named),
+    Marked(u32),
+    /// The TypeCode that tells the type of the value.
+    Any(u32),
+    /// The type of the kind, and what follows each kind.
+    TypeCode(u32, &'static [Parameters]),
 }
+
+/// What follows some kinds of a TypeCode: the kinds, its name, and the number of its type.
+#[derive(Clone, Copy)]
+pub(crate) struct Parameters(
+    pub(crate) &'static [u32],
+    pub(crate) &'static [u8],
+    pub(crate) u32,
+);
 
 /// A member, with the number of its type.
 #[derive(Clone, Copy)]
@@ -345,6 +361,37 @@ fn part_of(alloc: Global, name: &[u8], number: u32) -> Result<PartEntry, AllocEr
     })
 }
 
+/// Kinds as labels.
+fn kinds_of(alloc: Global, kinds: &[u32]) -> Result<Vec<Number>, AllocError>
+    ensures { IfOk result (λ v. v.items ≡ map Number.Unsigned kinds.now) }
+{
+    let mut labels = Vec::new(alloc);
+    for kind in kinds {
+        labels.push(Number::Unsigned(u64::from(*kind)))?;
+    }
+    Ok(labels)
+}
+
+/// A case of a TypeCode.
+fn parameters_of(alloc: Global, parameters: &Parameters) -> Result<CaseEntry, AllocError>
+    ensures { IfOk result (λ c. case_view c ≡ literal_parameters parameters.now) }
+{
+    let part = part_of(alloc, parameters.1, parameters.2)?;
+    let labels = kinds_of(alloc, parameters.0)?;
+    Ok(CaseEntry { labels, part })
+}
+
+/// The cases of a TypeCode.
+fn all_parameters_of(alloc: Global, all: &[Parameters]) -> Result<Vec<CaseEntry>, AllocError>
+    ensures { IfOk result (λ v. map case_view v.items ≡ map literal_parameters all.now) }
+{
+    let mut cases = Vec::new(alloc);
+    for parameters in all {
+        cases.push(parameters_of(alloc, parameters)?)?;
+    }
+    Ok(cases)
+}
+
 /// The entry of a built-in type.
 fn entry_of(alloc: Global, literal: Literal) -> Result<Entry, AllocError>
     ensures { IfOk result (λ e. node_view e ≡ literal_node literal) }
@@ -368,6 +415,13 @@ fn entry_of(alloc: Global, literal: Literal) -> Result<Entry, AllocError>
             inner: part_of(alloc, inner.0, inner.1)?,
             other: part_of(alloc, other.0, other.1)?,
         }),
+        Literal::Marked(mark) => Entry::Marked(mark),
+        Literal::Any(code) => Entry::Any(TypeId(code)),
+        Literal::TypeCode(kind, parameters) => Entry::TypeCode(TypeCodeEntry {
+            wide: TypeId(NAMED),
+            kind: TypeId(kind),
+            cases: UnionCases::new(alloc, all_parameters_of(alloc, parameters)?)?,
+        }),
     })
 }
 
@@ -382,4 +436,28 @@ pub(crate) fn builtin_list(alloc: Global) -> Result<Types, AllocError>
         types.add(entry)?;
     }
     Ok(types)
+}
+
+/// The table with which a file of version 3 begins.
+#[tactic(auto, unfolding(crate::specs::Builtin::builtin_types, crate::specs::AnyTypes::third_types))]
+pub(crate) fn third_list(alloc: Global) -> Result<Types, AllocError>
+    ensures { IfOk result (λ types. types ≡ builtin_types ++ third_types) }
+{
+    let mut types = builtin_list(alloc)?;
+    for number in BUILTIN_LEN..THIRD_LEN {
+        let entry = entry_of(alloc, third_literal(number))?;
+        types.add(entry)?;
+    }
+    Ok(types)
+}
+
+/// The table with which a file of a version begins.
+pub(crate) fn first_list(alloc: Global, version: u8) -> Result<Types, AllocError>
+    ensures { IfOk result (λ types. types ≡ first_types version) }
+{
+    if version == THIRD_VERSION {
+        third_list(alloc)
+    } else {
+        builtin_list(alloc)
+    }
 }

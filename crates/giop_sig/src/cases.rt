@@ -72,6 +72,7 @@ impl UnionCases {
     }
 
     /// The first case with the number among its labels.
+    #[inline(always)]
     pub(crate) fn find(&self, number: Number) -> Option<u32>
         requires { length self.now ≤ 256 }
         ensures { result ≡ case_with number self.now }

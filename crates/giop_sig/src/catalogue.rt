@@ -1,17 +1,17 @@
 //! The catalogue: the types of a signature file with the built-in ones, and its operations and exceptions by name.
 ghost use Rattle.std.specs.Prelude.{◌≡◌, ℕ, suc, ◌+◌, ◌^◌, ◌<◌, ◌≤◌, ◌++◌, ◌↔◌, codes, drop, nat_le, length, IsTrue, IfSome, IfOk, IfErr, OnOk, OnErr, None, MatchOption};
 ghost use Rattle.std.specs.Option.{option_map};
-ghost use Rattle.giop_sig.specs.Hearings.{HasPart, hearing_in, sequel_of, sign_is, signal_after, told_of};
-ghost use Rattle.giop_sig.specs.Types.{sequel, depth, part_of, name_in, enum_name_in, switch_of, select_in, interpreted_in, shape_in, HasShape, HasMember, HasPlace, IsUnion};
+ghost use Rattle.giop_sig.specs.Types.{sequel, depth, part_of, name_in, enum_name_in, switch_of, select_in, interpreted_in, shape_in, HasShape, HasMember, HasPlace, HasInner, IsUnion};
 ghost use Rattle.giop_sig.specs.Fits.{IsFit, IsRoot};
 ghost use Rattle.giop_sig.specs.Interfaces.{IsInterfaceOf};
 ghost use Rattle.giop_sig.specs.Table.{node_at, shape_of, part_number, part_at, name_of, name_at, switch_at, selected, op_id, operation_key, keyed_number, operation_in, operation_for, interface_in, interface_name, operation_at, exception_in, identified_in, IsFormed, with_type, with_declared, with_operation, with_exception};
-ghost use Rattle.giop_sig.specs.Trees.{tree, tree_at, grow, catalogue_depth};
+ghost use Rattle.giop_sig.specs.Trees.{tree, tree_at, grow, catalogue_depth, depth_in, part_number_in};
 ghost use Rattle.giop_sig.specs.HeaderTypes.{header_number, header_type, fixed_number, fixed_type, IdStandsFirst, BeginsWithId, IsTable};
 
 use crate::builtin::{builtin_list, fixed_id, header_id};
 use crate::draft::THIRD_VERSION;
 use crate::entries::{Entry, Types};
+use crate::fronts::{Front, first_fronts};
 use crate::interfaces::InterfaceTable;
 use crate::part_name::PartName;
 use crate::types::{
@@ -20,7 +20,7 @@ use crate::types::{
 use arrayvec::ArrayVec;
 use giop_cdr::Number;
 use giop_tokens::SigFault;
-use indexmap::IndexMap;
+use indexmap::{IndexMap, IndexSet};
 use std::alloc::Global;
 use std::marker::Model;
 
@@ -57,6 +57,8 @@ pub struct Catalogue {
     pub(crate) interfaces: InterfaceTable,
     /// The enums, structs and unions that have a repository id, by it.
     pub(crate) identities: IndexMap<Name, TypeId>,
+    /// The fronts of these ids, after the octets of their kinds.
+    pub(crate) fronts: IndexSet<Front>,
 }
 
 impl Model for Catalogue {
@@ -68,12 +70,12 @@ impl Model for Catalogue {
 
     ghost view = { λ a.
         table_view a.version a.types a.operations.entries a.exceptions.entries a.declared
-        a.called a.interfaces a.identities.entries };
+        a.called a.interfaces a.identities.entries a.fronts.keys };
 
     ghost invariant = { λ a.
         IsTable
         (table_view a.version a.types a.operations.entries a.exceptions.entries a.declared
-        a.called a.interfaces a.identities.entries) };
+        a.called a.interfaces a.identities.entries a.fronts.keys) };
 }
 
 impl Catalogue {
@@ -87,6 +89,7 @@ impl Catalogue {
         ensures err { IfErr result (λ fault. fault ≡ no_memory) }
     {
         let types = builtin_list(alloc)?;
+        let fronts = first_fronts(alloc)?;
         Ok(Catalogue {
             version: FIRST_VERSION,
             types,
@@ -96,6 +99,7 @@ impl Catalogue {
             called: 0,
             interfaces: InterfaceTable::new(alloc),
             identities: IndexMap::new(alloc),
+            fronts,
         })
     }
 
@@ -168,10 +172,12 @@ impl Catalogue {
     pub fn part(&self, t: TypeId, place: u32) -> TypeId
         requires known { t.0 < length self.now.types }
         requires place { HasPlace (shape_in (tree self.now t.0)) place }
+        requires led { shape_in (tree self.now t.0) ≡ Shape.Led → place ≤ length self.now.types }
         ensures number { result.0 ≡ part_number self.now t.0 place }
-        ensures below { result.0 < t.0 }
-        // A part has one level less room than its whole.
-        ensures rooms { (n : ℕ) →
+        ensures known { result.0 < length self.now.types }
+        ensures below { HasInner (shape_in (tree self.now t.0)) place → result.0 < t.0 }
+        // A part has one level less room than its whole; only those of a union may be others in another room.
+        ensures rooms { (IsUnion (shape_in (tree self.now t.0)) → ⊥) → (n : ℕ) →
             tree_at self.now n result.0 ≡ part_of (tree_at self.now (suc n) t.0) place }
     {
         self.types.entry(t).part(place)
@@ -230,6 +236,7 @@ impl Catalogue {
     }
 
     /// The type of a union's discriminator, or of a tagged type's tag.
+    #[inline(always)]
     pub fn switch_type(&self, t: TypeId) -> TypeId
         requires known { t.0 < length self.now.types }
         requires union { IsUnion (shape_in (tree self.now t.0)) }
@@ -393,26 +400,26 @@ impl Catalogue {
         self.signature(operation).reply
     }
 
-    /// What a value of a type, which begins with a part that tells what follows, has told after a sign in that part.
-    #[tactic(auto, using(crate::proofs::Unled::none_heard))]
-    pub fn hear(&self, t: TypeId, told: Signal, sign: Sign<'_>) -> Signal
+    /// The depth of a type.
+    pub(crate) fn depth_at(&self, t: TypeId) -> u32
         requires { t.0 < length self.now.types }
-        ensures is { result ≡ signal_after self.now t.0 told sign.entry }
-        ensures heard { (n : ℕ) → told_of result
-            ≡ (hearing_in (tree_at self.now n t.0)).hears (told_of told) (sign_is sign.entry) }
+        ensures { result ≡ depth_in self.now.types t.0 }
     {
-        told
+        self.types.depth_at(t)
     }
 
-    /// What follows in a value of a type, which begins with a part that tells it, in this room for what follows.
-    #[tactic(auto, using(crate::proofs::Unled::none_follow))]
-    pub fn following(&self, t: TypeId, told: Signal, room: u8) -> Following
-        requires { t.0 < length self.now.types }
-        ensures is { sequel (hearing_in (tree_at self.now (suc room) t.0)) (told_of told)
-            ≡ sequel_of result }
-        ensures place { HasPart result }
+    /// The type of the part at a place, in this room for it: it is the one of `part`, but for what follows the kind of a
+    /// TypeCode.
+    pub fn part_in(&self, t: TypeId, place: u32, room: u8) -> TypeId
+        requires known { t.0 < length self.now.types }
+        requires place { HasPlace (shape_in (tree self.now t.0)) place }
+        requires led { shape_in (tree self.now t.0) ≡ Shape.Led → place ≤ length self.now.types }
+        ensures number { result.0 ≡ part_number_in self.now room t.0 place }
+        ensures known { result.0 < length self.now.types }
+        ensures tree { tree_at self.now room result.0
+            ≡ part_of (tree_at self.now (suc room) t.0) place }
     {
-        Following::Ends
+        self.types.entry(t).part_in(place, room)
     }
 
     /// The entry of a type.

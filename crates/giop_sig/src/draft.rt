@@ -7,20 +7,22 @@ ghost use Rattle.giop_cdr.specs.declared.prim.Primitive.TheVariants as prims;
 ghost use Rattle.std.specs.List.{list_any};
 ghost use Rattle.giop_sig.specs.Interfaces.{with_interface, of_text};
 ghost use Rattle.giop_sig.specs.Table.{IsFormed, node_at, prim, operation_key, keyed_number, exception_in, identified_in, with_identity, with_called, with_entry, with_exception};
-ghost use Rattle.giop_sig.specs.Trees.{depth_of};
-ghost use Rattle.giop_sig.specs.Scopes.{first_scope, has_encapsulations, is_third, named, with_node, with_name, with_named, onto_identities, with_raised, with_key_of};
+ghost use Rattle.giop_sig.specs.HeaderTypes.{IsPlain};
+ghost use Rattle.giop_sig.specs.Trees.{depth_in, depth_of};
+ghost use Rattle.giop_sig.specs.Scopes.{first_scope, has_encapsulations, is_third, named, with_node, with_name, with_named, with_identified, with_id_fronts, with_sequence, with_raised, with_key_of};
 ghost use Rattle.giop_sig.specs.ScopeViews.{IsDraft, IsKnown, IsKnownType, IsNewIdentity};
 ghost use Rattle.giop_sig.specs.Outcomes.{Gives};
 ghost use Rattle.giop_sig.specs.Views.{node_view, IsSized};
 
-use crate::builtin::builtin_list;
+use crate::builtin::first_list;
 use crate::catalogue::{CallKey, Catalogue, Name, Signature, call_key};
 use crate::entries::{Entry, Types};
+use crate::fronts::{Front, add_fronts, first_fronts};
 use crate::interfaces::InterfaceTable;
 use crate::parse_stop::ParseStop;
 use crate::types::TypeId;
 use arrayvec::ArrayVec;
-use indexmap::IndexMap;
+use indexmap::{IndexMap, IndexSet};
 use std::alloc::Global;
 use std::marker::Model;
 
@@ -29,6 +31,8 @@ pub(crate) type Key = ArrayVec<u8, 64>;
 
 /// The version of a file that may have encapsulations.
 const ENCAPSULATIONS_SINCE: u8 = 2;
+/// The greatest depth of a type.
+const DEPTH_MAX: u32 = 24;
 /// The version that has more reserved words.
 pub(crate) const THIRD_VERSION: u8 = 3;
 
@@ -47,6 +51,7 @@ pub(crate) struct Draft {
     called: u32,
     interfaces: InterfaceTable,
     identities: IndexMap<Name, TypeId>,
+    fronts: IndexSet<Front>,
     names: IndexMap<Key, Option<TypeId>>,
 }
 
@@ -60,13 +65,13 @@ impl Model for Draft {
     ghost view = { λ a.
         scope_view a.version
         (table_view a.version a.types a.operations.entries a.exceptions.entries a.declared
-        a.called a.interfaces a.identities.entries)
+        a.called a.interfaces a.identities.entries a.fronts.keys)
         a.names.entries };
 
     ghost invariant = { λ a.
         IsDraft (scope_view a.version
         (table_view a.version a.types a.operations.entries a.exceptions.entries a.declared
-        a.called a.interfaces a.identities.entries)
+        a.called a.interfaces a.identities.entries a.fronts.keys)
         a.names.entries) };
 }
 
@@ -76,7 +81,8 @@ impl Draft {
         ensures ok { IfOk result (λ draft. draft ≡ first_scope version) }
         ensures err { IfErr result (λ stop. stop ≡ ParseStop.Memory) }
     {
-        let types = builtin_list(alloc)?;
+        let types = first_list(alloc, version)?;
+        let fronts = first_fronts(alloc)?;
         Ok(Draft {
             version,
             types,
@@ -86,6 +92,7 @@ impl Draft {
             called: 0,
             interfaces: InterfaceTable::new(alloc),
             identities: IndexMap::new(alloc),
+            fronts,
             names: IndexMap::new(alloc),
         })
     }
@@ -134,7 +141,9 @@ impl Draft {
 
     /// Adds a type. Want of numbers is want of memory: no text is long enough for so many types.
     pub(crate) fn add(&mut self, entry: Entry) -> Result<TypeId, ParseStop>
-        requires { IsFormed self.old.table.types (length self.old.table.types) (node_view entry) }
+        requires formed { IsFormed self.old.table.types (length self.old.table.types)
+            (node_view entry) }
+        requires plain { IsPlain (node_view entry) }
         ensures { Gives (λ t. (self.new, t.0)) result (Ok (with_node self.old (node_view entry))) }
     {
         // What holds of every map of names is known of this one once it is read.
@@ -273,21 +282,62 @@ impl Draft {
         Ok(())
     }
 
+    /// Adds the fronts of a type's repository id.
+    fn add_id_fronts(&mut self, id: &[u8], t: TypeId) -> Result<(), ParseStop>
+        requires identity { length id.now ≤ 128 }
+        requires known { t.0 < length self.old.table.types }
+        ensures added { OnOk result (self.new ≡ record (self.old) {
+          table = with_id_fronts self.old.table id.now t.0;
+        }) }
+        ensures err { IfErr result (λ stop. stop ≡ ParseStop.Memory) }
+    {
+        // What holds of every map of names is known of this one once it is read.
+        let _names = &self.names;
+        let kind = self.types.entry(t).kind();
+        add_fronts(&mut self.fronts, kind, id)?;
+        Ok(())
+    }
+
+    /// The depth of a type.
+    fn depth_at(&self, t: TypeId) -> u32
+        requires { t.0 < length self.now.table.types }
+        ensures { result ≡ depth_in self.now.table.types t.0 }
+    {
+        // What holds of every map of names is known of this one once it is read.
+        let _names = &self.names;
+        self.types.depth_at(t)
+    }
+
+    /// Adds the sequence of a type, if it is not too deep.
+    fn add_sequence(&mut self, t: TypeId) -> Result<(), ParseStop>
+        requires { IsKnown self.old.table.types t.0 }
+        ensures added { OnOk result (self.new ≡ record (self.old) {
+          table = with_sequence self.old.table t.0;
+        }) }
+        ensures err { IfErr result (λ stop. stop ≡ ParseStop.Memory) }
+    {
+        if self.depth_at(t) < DEPTH_MAX {
+            self.add(Entry::Sequence(None, t))?;
+        }
+        Ok(())
+    }
+
     /// Adds the repository id of a type, if it has one.
     fn identify(&mut self, id: Option<&[u8]>, t: TypeId) -> Result<(), ParseStop>
         requires identity { IsNewIdentity self.old.table (option_map (λ x. x.now) id) }
-        requires known { t.0 < length self.old.table.types }
+        requires known { IsKnown self.old.table.types t.0 }
         ensures added { OnOk result (self.new ≡ record (self.old) {
-          table = record (self.old.table) {
-            identities =
-                onto_identities self.old.table.identities (option_map (λ x. x.now) id.entry) t.0;
-          };
+          table = with_identified self.old.table (option_map (λ x. x.now) id.entry) t.0;
         }) }
         ensures err { IfErr result (λ stop. stop ≡ ParseStop.Memory) }
     {
         match id {
             None => Ok(()),
-            Some(id) => self.add_identity(id, t),
+            Some(id) => {
+                self.add_identity(id, t)?;
+                self.add_id_fronts(id, t)?;
+                self.add_sequence(t)
+            }
         }
     }
 
@@ -437,6 +487,7 @@ impl Draft {
             called: self.called,
             interfaces: self.interfaces,
             identities: self.identities,
+            fronts: self.fronts,
         }
     }
 }

@@ -2,13 +2,18 @@
 ghost use Rattle.std.specs.Prelude.{◌≡◌, ℕ, ◌+◌, ◌^◌, ◌<◌, ◌≤◌, ◌++◌, ◌∷◌, [], length, Some, IfOk, OnOk, OnErr, max};
 ghost use Rattle.std.specs.Option.{option_map};
 ghost use Rattle.giop_sig.specs.Types.{most, HasPlace, HasMember, IsUnion};
-ghost use Rattle.giop_sig.specs.Table.{node_in, IsFormed, shape_of, part_at, type_of, name_of, name_at, switch_at, selected};
-ghost use Rattle.giop_sig.specs.Trees.{depth_in, depth_of, node_depth, part_depth, AreFormed};
+ghost use Rattle.giop_sig.specs.Heard.{has_count, is_sequence_of, kind_of, of_kind};
+ghost use Rattle.giop_sig.specs.Hearings.{signal_of};
+ghost use Rattle.giop_sig.specs.Table.{takes_octet, node_in, IsFormed, shape_of, part_at, type_of, name_of, name_at, switch_at, selected};
+ghost use Rattle.giop_sig.specs.Trees.{in_room, depth_in, depth_of, node_depth, part_depth, AreFormed};
 ghost use Rattle.giop_sig.specs.UnionCases.{part_view};
 
 use crate::cases::UnionCases;
+use crate::fronts::{ENUM_KIND, STRUCT_KIND, UNION_KIND};
+use crate::kinds::kind_word;
+use crate::numbers::OCTETS;
 use crate::part_name::PartName;
-use crate::types::{Selected, Shape, TypeId};
+use crate::types::{Selected, Shape, Signal, TypeId};
 use giop_cdr::{Number, Prim};
 use std::alloc::{AllocError, Global};
 use std::marker::Model;
@@ -91,6 +96,54 @@ pub(crate) enum Entry {
     Encapsulation(TypeId),
     /// A tag, and an encapsulation or octets after it.
     Tagged(TagEntry),
+    /// A number of four octets with a mark.
+    Marked(u32),
+    /// An any: the TypeCode that tells the type of its value.
+    Any(TypeId),
+    /// A TypeCode.
+    TypeCode(TypeCodeEntry),
+}
+
+/// A TypeCode: its kind, and what follows each kind.
+#[derive(Drop)]
+pub(crate) struct TypeCodeEntry {
+    /// Types of this number and greater ones take so much room that they are octets if there is less.
+    pub(crate) wide: TypeId,
+    /// The type of the kind.
+    pub(crate) kind: TypeId,
+    pub(crate) cases: UnionCases,
+}
+
+/// How much room the parameters of a TypeCode take.
+const WIDE_ROOM: u8 = 7;
+
+impl TypeCodeEntry {
+    ghost use Rattle.giop_sig.specs.Views.{code_view};
+
+    /// The type of the case at a place, if there is little room.
+    fn narrow_part(&self, place: u32) -> TypeId
+        requires { place < length self.now.cases }
+        ensures { result.0 ≡ type_of (part_at (code_view self.now) place) }
+    {
+        let part = self.cases.part(place).type_id;
+        if part.0 < self.wide.0 {
+            part
+        } else {
+            TypeId(OCTETS)
+        }
+    }
+
+    /// The type of the case at a place, in this room.
+    fn part_in(&self, place: u32, room: u8) -> TypeId
+        requires { place < length self.now.cases }
+        ensures { result.0 ≡ type_of (part_at (in_room room (code_view self.now)) place) }
+    {
+        if room < WIDE_ROOM {
+            self.narrow_part(place)
+        } else {
+            self.cases.part(place).type_id
+        }
+    }
 }
 
 impl Entry {
@@ -113,6 +166,9 @@ impl Entry {
             Entry::Array(count, _) => Shape::Array(*count),
             Entry::Encapsulation(_) => Shape::Encapsulation,
             Entry::Tagged(_) => Shape::Tagged,
+            Entry::Marked(mark) => Shape::Marked(*mark),
+            Entry::Any(_) => Shape::Led,
+            Entry::TypeCode(code) => Shape::Union(code.cases.len()),
         }
     }
 
@@ -129,7 +185,74 @@ impl Entry {
             Entry::Array(_, element) => *element,
             Entry::Encapsulation(held) => *held,
             Entry::Tagged(tagged) => tagged.part(place).type_id,
+            Entry::Any(code) => { if place == 0 { *code } else { TypeId(place - 1) } }
+            Entry::TypeCode(code) => code.narrow_part(place),
             _ => unreachable!(),
+        }
+    }
+
+    /// The type of the part at a place, in this room for it.
+    pub(crate) fn part_in(&self, place: u32, room: u8) -> TypeId
+        requires { HasPlace (shape_of (node_view self.now)) place }
+        ensures { result.0 ≡ type_of (part_at (in_room room (node_view self.now)) place) }
+    {
+        match self {
+            Entry::TypeCode(code) => code.part_in(place, room),
+            _ => self.part(place),
+        }
+    }
+
+    /// What an id of the type tells, after the octet of a kind.
+    pub(crate) fn told_as(&self, kind: u8, t: TypeId) -> Signal
+        ensures { result ≡ signal_of (of_kind kind t.0 (node_view self.now)) }
+    {
+        match self {
+            Entry::Members(_) if kind == STRUCT_KIND => Signal::Offers(t.0),
+            Entry::Union(_, _, _) if kind == UNION_KIND => Signal::Is(t.0),
+            Entry::Enumeration(_) if kind == ENUM_KIND => Signal::Offers(t.0),
+            _ => Signal::Unknown,
+        }
+    }
+
+    /// The kind of a struct, a union or an enum.
+    pub(crate) fn kind(&self) -> u8
+        ensures { result ≡ kind_of (node_view self.now) }
+    {
+        match self {
+            Entry::Union(_, _, _) => UNION_KIND,
+            Entry::Enumeration(_) => ENUM_KIND,
+            _ => STRUCT_KIND,
+        }
+    }
+
+    /// Whether a struct has so many members, or an enum so many names.
+    pub(crate) fn has_count(&self, count: u32) -> bool
+        ensures { result ≡ has_count count (node_view self.now) }
+    {
+        match self {
+            Entry::Members(parts) => parts.len() == count as usize,
+            Entry::Enumeration(names) => names.len() == count as usize,
+            _ => false,
+        }
+    }
+
+    /// Whether the type is the sequence, without a bound, of another.
+    pub(crate) fn is_sequence_of(&self, element: TypeId) -> bool
+        ensures { result ≡ is_sequence_of element.0 (node_view self.now) }
+    {
+        match self {
+            Entry::Sequence(None, held) => held.0 == element.0,
+            _ => false,
+        }
+    }
+
+    /// Whether a value of the type takes an octet.
+    pub(crate) fn takes_octet(&self) -> bool
+        ensures { result ≡ takes_octet (node_view self.now) }
+    {
+        match self {
+            Entry::Members(parts) => !parts.is_empty(),
+            _ => true,
         }
     }
 
@@ -143,6 +266,7 @@ impl Entry {
             Entry::Members(parts) => &parts[place as usize].name,
             Entry::Union(_, cases, _) => &cases.part(place).name,
             Entry::Tagged(tagged) => &tagged.part(place).name,
+            Entry::TypeCode(code) => &code.cases.part(place).name,
             _ => unreachable!(),
         }
     }
@@ -156,6 +280,7 @@ impl Entry {
                 Some(name) => Some(name.as_slice()),
                 None => None,
             },
+            Entry::Marked(mark) => kind_word(*mark, number),
             _ => None,
         }
     }
@@ -168,6 +293,7 @@ impl Entry {
         match self {
             Entry::Union(switch, _, _) => *switch,
             Entry::Tagged(tagged) => tagged.tag.type_id,
+            Entry::TypeCode(code) => code.kind,
             _ => unreachable!(),
         }
     }
@@ -183,6 +309,10 @@ impl Entry {
                 None => *otherwise,
             },
             Entry::Tagged(tagged) => tagged.select(number),
+            Entry::TypeCode(code) => match code.cases.find(number) {
+                Some(place) => Selected::Case(place),
+                None => Selected::Nothing,
+            },
             _ => Selected::Nothing,
         }
     }
@@ -253,7 +383,7 @@ impl Types {
     }
 
     /// The depth of a type.
-    fn depth_at(&self, t: TypeId) -> u32
+    pub(crate) fn depth_at(&self, t: TypeId) -> u32
         requires { t.0 < length self.now }
         ensures depth { result ≡ depth_in self.now t.0 }
         ensures small { result ≤ length self.now }
@@ -286,7 +416,7 @@ impl Types {
             Shape::Encapsulation => 1 + self.depth_at(entry.part(0)),
             Shape::Tagged => 1 + self.deepest_part(entry, 3).max(1),
             Shape::Marked(_) => 1,
-            Shape::Led => unreachable!(),
+            Shape::Led => 1 + self.depth_at(entry.part(0)),
         }
     }
 

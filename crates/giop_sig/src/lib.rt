@@ -2,12 +2,15 @@
 //! lists.
 #![tactic(auto)]
 
+mod any_types;
 mod builtin;
 mod cases;
 mod catalogue;
 mod draft;
 mod entries;
 mod fault;
+mod fronts;
+mod hearing;
 mod interfaces;
 mod kinds;
 mod labels;
@@ -21,6 +24,7 @@ mod read_items;
 mod read_types;
 mod read_unions;
 mod requests;
+mod told_kinds;
 mod types;
 
 pub use catalogue::Catalogue;

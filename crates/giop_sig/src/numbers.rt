@@ -87,3 +87,91 @@ pub(crate) const LOCATE_REPLY_1_2: u32 = 40;
 
 /// How many built-in types there are.
 pub(crate) const BUILTIN_LEN: u32 = 41;
+
+// The types that a file of version 3 adds to them.
+
+/// The kind of a TypeCode by which its value is known.
+pub(crate) const HEARD_KIND: u32 = 41;
+/// The kind of any other TypeCode.
+pub(crate) const KIND: u32 = 42;
+/// The bound of a sequence by which its value is known.
+pub(crate) const HEARD_BOUND: u32 = 43;
+/// The sequence of references.
+pub(crate) const REFERENCES: u32 = 44;
+/// So much more than the number of a type from char to string has the sequence of it: 45 to 55.
+pub(crate) const SEQUENCES: u32 = 44;
+/// The parameters of a fixed.
+pub(crate) const FIXED_PARAMETERS: u32 = 56;
+/// The TypeCode by which a value is known.
+pub(crate) const HEARD_TYPE_CODE: u32 = 57;
+/// Any other TypeCode.
+pub(crate) const TYPE_CODE: u32 = 58;
+/// The sequence of them.
+pub(crate) const TYPE_CODES: u32 = 59;
+/// An any.
+pub(crate) const ANY: u32 = 60;
+/// The sequence of them.
+pub(crate) const ANYS: u32 = 61;
+
+/// The parameters that an id and a name are.
+pub(crate) const NAMED: u32 = 62;
+/// The encapsulation of them.
+pub(crate) const NAMED_DATA: u32 = 63;
+/// The name and the type of a member.
+pub(crate) const TYPE_MEMBER: u32 = 64;
+/// The sequence of them.
+pub(crate) const TYPE_MEMBERS: u32 = 65;
+/// The parameters of a struct or an exception.
+pub(crate) const STRUCT: u32 = 66;
+/// The encapsulation of them.
+pub(crate) const STRUCT_DATA: u32 = 67;
+/// The parameters of a union, but for its members.
+pub(crate) const UNION: u32 = 68;
+/// The encapsulation of them.
+pub(crate) const UNION_DATA: u32 = 69;
+/// The parameters of an enum.
+pub(crate) const ENUM: u32 = 70;
+/// The encapsulation of them.
+pub(crate) const ENUM_DATA: u32 = 71;
+/// The parameters of a sequence by which its value is known.
+pub(crate) const HEARD_SEQUENCE: u32 = 72;
+/// The encapsulation of them.
+pub(crate) const HEARD_SEQUENCE_DATA: u32 = 73;
+/// The parameters of an array or of any other sequence.
+pub(crate) const SEQUENCE: u32 = 74;
+/// The encapsulation of them.
+pub(crate) const SEQUENCE_DATA: u32 = 75;
+/// The parameters of an array.
+pub(crate) const ARRAY: u32 = 76;
+/// The encapsulation of them.
+pub(crate) const ARRAY_DATA: u32 = 77;
+/// The parameters of an alias by which its value is known.
+pub(crate) const HEARD_ALIAS: u32 = 78;
+/// The encapsulation of them.
+pub(crate) const HEARD_ALIAS_DATA: u32 = 79;
+/// The parameters of any other alias.
+pub(crate) const ALIAS: u32 = 80;
+/// The encapsulation of them.
+pub(crate) const ALIAS_DATA: u32 = 81;
+/// The name, the type and the visibility of a value's member.
+pub(crate) const VALUE_MEMBER: u32 = 82;
+/// The sequence of them.
+pub(crate) const VALUE_MEMBERS: u32 = 83;
+/// The parameters of a value or an event.
+pub(crate) const VALUE: u32 = 84;
+/// The encapsulation of them.
+pub(crate) const VALUE_DATA: u32 = 85;
+/// The parameters of a value box.
+pub(crate) const VALUE_BOX: u32 = 86;
+/// The encapsulation of them.
+pub(crate) const VALUE_BOX_DATA: u32 = 87;
+
+/// How many types a file of version 3 begins with.
+pub(crate) const THIRD_LEN: u32 = 88;
+
+/// The mark of a kind by which a value is known.
+pub(crate) const HEARD_KIND_MARK: u32 = 0;
+/// The mark of a bound by which a value is known.
+pub(crate) const HEARD_BOUND_MARK: u32 = 1;
+/// The mark of any other kind.
+pub(crate) const KIND_MARK: u32 = 2;

@@ -1,6 +1,7 @@
 //! Reading a signature file (docs/FORMATS.md).
 ghost use Rattle.std.specs.Prelude.{◌≡◌, ℕ, List, ◌+◌, ◌<◌, ◌≤◌, ◌↔◌, length, IfOk, IfErr};
 ghost use Rattle.giop_sig.specs.Builtin.{builtin_types};
+ghost use Rattle.giop_sig.specs.AnyTypes.{first_types};
 ghost use Rattle.giop_sig.specs.Grammar.{SignatureFile};
 ghost use Rattle.giop_sig.specs.Scopes.{table};
 ghost use Rattle.giop_sig.specs.Validity.{IsValid, Spells, SpellsUpTo, Refuses};
@@ -160,7 +161,7 @@ impl Catalogue {
         ensures ok { IfOk result (λ c.
             (file : SignatureFile) × SpellsUpTo 3 text.now file × IsValid file
             × (c ≡ table file)) }
-        ensures few { IfOk result (λ c. length c.types ≤ length builtin_types + length text.now) }
+        ensures few { IfOk result (λ c. length c.types ≤ length (first_types 3) + length text.now) }
         ensures err { (file : SignatureFile) → SpellsUpTo 3 text.now file
             → IfErr result (λ f. Refuses f.kind file) }
         ensures long { 1048576 < length text.now → result ≡ Err text_too_long }
@@ -171,12 +172,14 @@ impl Catalogue {
         Catalogue::parse_up_to(alloc, THIRD_VERSION, text)
     }
 
-    /// The same of a file of a version up to one.
+    /// The same of a file of a version up to one, 3 at most.
     fn parse_up_to(alloc: Global, latest: u8, text: &[u8]) -> Result<Catalogue, SigFault>
+        requires { latest ≤ 3 }
         ensures ok { IfOk result (λ c.
             (file : SignatureFile) × SpellsUpTo latest text.now file × IsValid file
             × (c ≡ table file)) }
-        ensures few { IfOk result (λ c. length c.types ≤ length builtin_types + length text.now) }
+        ensures few { IfOk result (λ c.
+            length c.types ≤ length (first_types latest) + length text.now) }
         ensures err { (file : SignatureFile) → SpellsUpTo latest text.now file
             → IfErr result (λ f. Refuses f.kind file) }
         ensures long { 1048576 < length text.now → result ≡ Err text_too_long }

@@ -9,6 +9,7 @@ ghost use Rattle.giop_sig.specs.ScopeViews.{IsKnown, IsNewIdentity};
 ghost use Rattle.giop_sig.specs.Validity.{is_among};
 ghost use Rattle.giop_sig.specs.UnionCases.{part_view};
 ghost use Rattle.giop_sig.specs.Views.{node_view};
+ghost use Rattle.giop_sig.specs.HeaderTypes.{IsPlain};
 ghost use Rattle.giop_sig.specs.Table.{IsFormed, TakesOctet};
 ghost use Rattle.giop_sig.specs.ItemReading.{new_name_at, declared_at, item_at, member_step, members_at, filled_at, identity_at, end_of, type_end_at, structure_at, new_repository_at, exception_at};
 
@@ -254,6 +255,7 @@ pub(crate) fn type_end_at<'a>(
 ) -> Result<&'a [u8], ParseStop>
     requires formed { IsFormed draft.old.table.types (length draft.old.table.types)
         (node_view entry) }
+    requires plain { IsPlain (node_view entry) }
     requires some { TakesOctet (node_view entry) }
     requires short { length name.now ≤ 64 }
     requires new { lookup (bytes_eq name.now) draft.old.names.known ≡ None }

@@ -212,6 +212,12 @@ fn leaf_at<'a>(draft: &mut Draft, text: &'a [u8]) -> Result<(TypeId, &'a [u8]), 
     if name == b"Object".as_slice() {
         return Ok((REFERENCE, rest));
     }
+    if draft.is_third() && name == b"any".as_slice() {
+        return Ok((TypeId(numbers::ANY), rest));
+    }
+    if draft.is_third() && name == b"TypeCode".as_slice() {
+        return Ok((TypeId(numbers::TYPE_CODE), rest));
+    }
     named_type(draft, text, name, rest)
 }
 

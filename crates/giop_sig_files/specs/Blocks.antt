@@ -12,7 +12,8 @@ unfoldable pub is_declared : List ℕ → Bool
 is_declared block =
     begins (codes "operation ") block || begins (codes "exception ") block
     || begins (codes "struct ") block || begins (codes "union ") block
-    || begins (codes "enum ") block || begins (codes "signatures ") block
+    || begins (codes "enum ") block || begins (codes "key ") block
+    || begins (codes "signatures ") block
 
 abbrev pub opens : ℕ → Bool
 opens octet = octet == 123 || octet == 40

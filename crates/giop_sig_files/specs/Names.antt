@@ -39,14 +39,19 @@ unfoldable pub name_behind : List ℕ → ℕ → List ℕ → Option (List ℕ)
 name_behind word stop line =
     if begins word line then word_before stop [] (drop (length word) line) else None
 
--- the name that a line declares: of an operation in front of its parenthesis, of a type or an
--- exception after its word
+-- the name of the type that a line declares, after its word
+abbrev pub declared_type : List ℕ → Option (List ℕ)
+declared_type line =
+    option_or (option_or
+    (name_behind (codes "struct ") 32 line) (name_behind (codes "union ") 32 line))
+    (name_behind (codes "enum ") 32 line)
+
+-- the name that a line declares: of an operation in front of its parenthesis, else after its word
 abbrev pub declared_name : List ℕ → Option (List ℕ)
 declared_name line =
-    option_or (option_or (option_or (option_or
+    option_or (option_or (option_or
     (name_behind (codes "operation ") 40 line) (name_behind (codes "exception ") 32 line))
-    (name_behind (codes "struct ") 32 line)) (name_behind (codes "union ") 32 line))
-    (name_behind (codes "enum ") 32 line)
+    (declared_type line)) (name_behind (codes "key ") 32 line)
 
 -- operations are of a name space of their own
 abbrev pub is_operation : List ℕ → Bool

@@ -23,6 +23,7 @@ pub(crate) fn is_declared(block: &[u8]) -> bool
         || begins(block, b"struct ")
         || begins(block, b"union ")
         || begins(block, b"enum ")
+        || begins(block, b"key ")
         || begins(block, b"signatures ")
 }
 

@@ -1,7 +1,7 @@
 //! The line above that declares the same name.
 
 ghost use Rattle.std.specs.Prelude.{◌≡◌, ◌<◌, ◌≤◌, ℕ, [], IfSome, IfNone, option_map};
-ghost use Rattle.giop_sig_files.specs.Names.{first_line, after_line, line_at, word_before, name_behind, declared_name, is_operation, declare_same, DeclareSame};
+ghost use Rattle.giop_sig_files.specs.Names.{first_line, after_line, line_at, word_before, name_behind, declared_type, declared_name, is_operation, declare_same, DeclareSame};
 
 /// The first line, and what follows it.
 fn first_line(text: &[u8]) -> (&[u8], &[u8])
@@ -53,15 +53,23 @@ fn name_behind<'a>(line: &'a [u8], word: &[u8], stop: u8) -> Option<&'a [u8]>
     }
 }
 
+/// The name of the type that a line declares.
+fn declared_type(line: &[u8]) -> Option<&[u8]>
+    ensures { option_map (λ w. w.now) result ≡ declared_type line.now }
+{
+    name_behind(line, b"struct ", b' ')
+        .or(name_behind(line, b"union ", b' '))
+        .or(name_behind(line, b"enum ", b' '))
+}
+
 /// The name that a line declares.
 fn declared_name(line: &[u8]) -> Option<&[u8]>
     ensures { option_map (λ w. w.now) result ≡ declared_name line.now }
 {
     name_behind(line, b"operation ", b'(')
         .or(name_behind(line, b"exception ", b' '))
-        .or(name_behind(line, b"struct ", b' '))
-        .or(name_behind(line, b"union ", b' '))
-        .or(name_behind(line, b"enum ", b' '))
+        .or(declared_type(line))
+        .or(name_behind(line, b"key ", b' '))
 }
 
 /// Whether a line declares an operation.

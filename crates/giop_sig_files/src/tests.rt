@@ -4,7 +4,7 @@ use crate::{SignatureText, declared_above, joined, place};
 use std::test::Fail;
 
 /// Files and the text that they are read as; `|` stands between files, and a LF after each.
-const JOINED: [(&[&str], &str); 12] = [
+const JOINED: [(&[&str], &str); 13] = [
     (&["signatures 1;"], "signatures 1;"),
     (&["signatures 1;\n"], "signatures 1;\n"),
     (&[""], ""),
@@ -53,6 +53,14 @@ const JOINED: [(&[&str], &str); 12] = [
         ],
         "operation void f(in long a,\n    in long b);\n\n\n\n",
     ),
+    // So is a key.
+    (
+        &[
+            "key \"61*\" of \"A\";\n",
+            "key \"62\"\n    of \"B\";\nkey \"61*\" of \"A\";\n",
+        ],
+        "key \"61*\" of \"A\";\n\nkey \"62\"\n    of \"B\";\n\n",
+    ),
     // Twice in one file is twice.
     (
         &[
@@ -72,7 +80,7 @@ const JOINED: [(&[&str], &str); 12] = [
 ];
 
 /// Lines of a joined text, and the lines above them that declare the same.
-const ABOVE: [(&str, u32, Option<u32>); 11] = [
+const ABOVE: [(&str, u32, Option<u32>); 12] = [
     (
         "operation void f();\noperation long f(in long a);",
         2,
@@ -87,6 +95,7 @@ const ABOVE: [(&str, u32, Option<u32>); 11] = [
     ("operation void f();\noperation long g();", 2, None),
     ("struct f { long x; };\noperation long f();", 2, None),
     ("struct A { long x; };\n\nenum A { x };", 3, Some(1)),
+    ("key \"61\" of \"A\";\nkey \"61\" of \"B\";", 2, Some(1)),
     (
         "exception A \"IDL:A:1.0\" { };\nunion A switch(long) {\n};",
         2,

@@ -4,8 +4,9 @@ use Rattle.std.specs.Prelude.{◌≡◌, ◌≤◌, ◌⊎◌, ℕ, ◌+◌, ◌
 use Rattle.giop_cdr.specs.Numbers.{AreOctets}
 use Rattle.giop_print.specs.declared.sink.OutFault.{OutFault}
 use Rattle.giop_print.specs.Output.{OutLog, Writes}
+use Rattle.giop_sig.specs.HeaderTypes.{IsTable}
 use Rattle.giop_sig.specs.Table.{Table}
-use Rattle.giop_sig.specs.Trees.{depth_of}
+use Rattle.giop_sig.specs.Trees.{catalogue_depth}
 use Rattle.giop_message.specs.declared.message.Message.{Message}
 use Rattle.giop_message.specs.MessageState.{Fits}
 use Rattle.giop_message.specs.Headers.{size}
@@ -87,11 +88,11 @@ abbrev pub standing_of : Option Message → ℕ → RecordKind
 standing_of None id = record_kinds.Over id
 standing_of (Some m) id = record_kinds.Open id
 
--- the entry stores a message that isn't over, in no more frames than the types that it fits are
--- deep
+-- the entry stores a message that isn't over, in no more frames than the catalogue is deep whose
+-- types it fits
 pub record IsHeld (m : Message) (e : Entry) : Type 0 where
   pub stored : Stored m e.message e.frames
-  pub shallow : (C : Table) → Fits C m → e.record_is.frames ≤ depth_of C.types
+  pub shallow : (C : Table) → IsTable C → Fits C m → e.record_is.frames ≤ catalogue_depth C
 
 -- what an entry stores of a message; zeros of one that is over
 abbrev pub IsStored : Option Message → Entry → Type 0
@@ -212,7 +213,7 @@ pub record Saves (result : Result ℕ Stop) (before after : OutLog)
   pub written : StopWrites result before after octets
   pub count : IfOk result (λ n. n ≡ length octets)
   pub size : length octets ≡ FIXED_SIZE + entries_size spells.entries
-  pub within : length octets ≤ checkpoint_limit most (depth_of C.types)
+  pub within : length octets ≤ checkpoint_limit most (catalogue_depth C)
 
 -- ---- octets that are refused
 

@@ -3,8 +3,9 @@
 ghost use Rattle.std.specs.Prelude.{◌≡◌, ◌<◌, ◌≤◌, ◌++◌, ◌+◌, Err, ℕ, List, [], true, false, length, take, drop, IfOk, IfErr, OnOk, OnErr};
 ghost use Rattle.std.specs.List.{concat};
 ghost use Rattle.giop_print.specs.Output.{counted};
+ghost use Rattle.giop_sig.specs.HeaderTypes.{IsTable};
 ghost use Rattle.giop_sig.specs.Table.{Table};
-ghost use Rattle.giop_sig.specs.Trees.{depth_of};
+ghost use Rattle.giop_sig.specs.Trees.{catalogue_depth};
 ghost use Rattle.giop_checkpoint.specs.Refusals.{IsOurs};
 ghost use Rattle.giop_message.specs.Signatures.{RequestTable, Answers};
 ghost use Rattle.giop_message.specs.HeaderEnds.{after_ends};
@@ -316,6 +317,7 @@ impl<'a> Engine<'a> {
         if self.failed {
             return Err(Stop::Failed);
         }
+        self.catalogue.laws();
         match saving::write(&self.framing, self.catalogue, self.requests, out) {
             Ok(count) => Ok(count),
             Err(fault) => Err(Stop::Out(fault)),
@@ -373,8 +375,8 @@ pub fn remaining()
         Spells octets C l n p →
         text (rules C l n) p ++ remaining (rules C l n) p q
         ≡ whole_text (rules C l n) (p ++ q) }
-    // However long the front is, its checkpoint has at most so many octets.
+    // However long the front is, its checkpoint by a catalogue's table has at most so many octets.
     ensures within { (C : Table) (l : RequestTable) (n : ℕ) (octets p : List ℕ) →
-        Spells octets C l n p →
-        length octets ≤ checkpoint_limit n (depth_of C.types) }
+        IsTable C → Spells octets C l n p →
+        length octets ≤ checkpoint_limit n (catalogue_depth C) }
 {}

@@ -1,7 +1,7 @@
 //! Reads a stream on from a checkpoint to its end; and that each stream that an engine holds has a checkpoint.
 
 ghost use Rattle.std.specs.Prelude.{◌≡◌, ◌≢◌, ◌≤◌, ◌++◌, false, ℕ, List, length, IfOk, IfErr};
-ghost use Rattle.giop_sig.specs.Trees.{depth_of};
+ghost use Rattle.giop_sig.specs.Trees.{catalogue_depth};
 ghost use Rattle.giop_stream.specs.Rules.{rules};
 ghost use Rattle.giop_stream.specs.Stream.{final};
 ghost use Rattle.giop_stream.specs.EngineHolds.{AreOf, Holds, StopWrites, rules_of};
@@ -66,7 +66,7 @@ fn feed_to_end<O: Out>(engine: Engine, rest: &[u8], out: &mut O) -> Result<Total
 pub fn has_checkpoint(engine: &Engine)
     ensures { (p : List ℕ) → Holds engine.now p → (octets : List ℕ)
         × Spells octets engine.now.table engine.now.request_table engine.now.most p
-        × (length octets ≤ checkpoint_limit engine.now.most (depth_of engine.now.table.types)) }
+        × (length octets ≤ checkpoint_limit engine.now.most (catalogue_depth engine.now.table)) }
 {
     let _ = engine.save(&mut Sheet::new(&mut []));
 }

@@ -6,8 +6,8 @@ use Rattle.giop_print.specs.declared.path.Root.TheVariants as roots
 use Rattle.giop_octets.specs.Fields.{four, eight}
 use Rattle.giop_sig.specs.Builtin.{builtin_types}
 use Rattle.giop_sig.specs.Fits.{IsFit}
-use Rattle.giop_sig.specs.Table.{type_id, part_number}
-use Rattle.giop_sig.specs.Trees.{tree}
+use Rattle.giop_sig.specs.Table.{type_id}
+use Rattle.giop_sig.specs.Trees.{part_number_in, tree}
 use Rattle.giop_sig.specs.Types.{Ty, part_of}
 use Rattle.giop_decode.specs.declared.decoder.Decoder.{Decoder}
 use Rattle.giop_decode.specs.declared.frame.Frame.{Frame}
@@ -228,13 +228,13 @@ first_held : IsHeld first first_entry
 unfolding kept_messages
 first_held = record {
   stored = first_stored;
-  shallow = λ C h.
-      omega (arith, fits_depth C in_body h);
+  shallow = λ C laws h.
+      omega (arith, fits_depth C in_body laws h);
 }
 
 second_held : IsHeld second second_entry
 unfolding kept_messages
-second_held = record { stored = second_stored; shallow = λ C h. omega arith }
+second_held = record { stored = second_stored; shallow = λ C laws h. omega arith }
 
 first_range : EntryHasRange first_entry
 unfolding kept_messages
@@ -364,7 +364,7 @@ known : parameters < length (bigs.types)
 unfolding told_with kept_messages
 known = ltb-true parameters (length (bigs.types)) refl
 
-is_number : 8 ≡ part_number bigs parameters 0
+is_number : 8 ≡ part_number_in bigs 23 parameters 0
 unfolding told_with kept_messages
 is_number = refl
 

@@ -3,8 +3,9 @@ use Rattle.std.proofs.Common.{◌≡◌, ℕ, suc, ◌+◌, ◌*◌, ◌≤◌, 
 use Rattle.std.specs.List.{AllByRecursion as Each}
 use Rattle.std.proofs.lemmas.List.{length-append}
 use Rattle.std.proofs.Math.Nat.{suc-mul, mul-le-mul_right}
+use Rattle.giop_sig.specs.HeaderTypes.{IsTable}
 use Rattle.giop_sig.specs.Table.{Table}
-use Rattle.giop_sig.specs.Trees.{depth_of}
+use Rattle.giop_sig.specs.Trees.{catalogue_depth}
 use Rattle.giop_message.specs.declared.message.Message.{Message}
 use Rattle.giop_message.specs.Signatures.{RequestTable}
 use Rattle.giop_checkpoint.specs.declared.sizes.TheConstants.{FRAME_SIZE}
@@ -58,26 +59,26 @@ entries_range [] (Some m) (e ∷ f ∷ es) are = search (arith)
 entries_range (slot ∷ slots) own [] are = absurd are
 entries_range (slot ∷ slots) own (e ∷ es) are = (are.0.range, entries_range slots own es are.1)
 
-stored_shallow : (C : Table) (at : ℕ) (m : Option Message) (e : Entry) → EntryHasRange e →
-    IsReady C at m → IsStored m e →
-    e.record_is.frames ≤ depth_of C.types
-stored_shallow C at None e range ready is = search (arith)
-stored_shallow C at (Some m) e range ready is = is.shallow C ready.0
+stored_shallow : (C : Table) (at : ℕ) (m : Option Message) (e : Entry) → IsTable C →
+    EntryHasRange e → IsReady C at m → IsStored m e →
+    e.record_is.frames ≤ catalogue_depth C
+stored_shallow C at None e laws range ready is = search (arith)
+stored_shallow C at (Some m) e laws range ready is = is.shallow C laws ready.0
 
 entries_shallow : (C : Table) (at : ℕ) (slots : List OpenEntry) (own : Option Message)
-    (es : List Entry) → AreEntries slots own es →
+    (es : List Entry) → IsTable C → AreEntries slots own es →
     Each (λ s. IsReady C at s.value.message) slots → IsReady C at own →
-    Each (λ e. e.record_is.frames ≤ depth_of C.types) es
-entries_shallow C at [] None [] are each ready = tt
-entries_shallow C at [] None (e ∷ es) are each ready = absurd are
-entries_shallow C at [] (Some m) [] are each ready = absurd are
-entries_shallow C at [] (Some m) (e ∷ []) are each ready = search (arith)
-entries_shallow C at [] (Some m) (e ∷ f ∷ es) are each ready = search (arith)
-entries_shallow C at (slot ∷ slots) own [] are each ready = absurd are
-entries_shallow C at (slot ∷ slots) own (e ∷ es) are each ready = search (
+    Each (λ e. e.record_is.frames ≤ catalogue_depth C) es
+entries_shallow C at [] None [] laws are each ready = tt
+entries_shallow C at [] None (e ∷ es) laws are each ready = absurd are
+entries_shallow C at [] (Some m) [] laws are each ready = absurd are
+entries_shallow C at [] (Some m) (e ∷ []) laws are each ready = search (arith)
+entries_shallow C at [] (Some m) (e ∷ f ∷ es) laws are each ready = search (arith)
+entries_shallow C at (slot ∷ slots) own [] laws are each ready = absurd are
+entries_shallow C at (slot ∷ slots) own (e ∷ es) laws are each ready = search (
   arith,
   stored_shallow,
-  entries_shallow C at slots own es are.1 each.1 ready,
+  entries_shallow C at slots own es laws are.1 each.1 ready,
 )
 
 one_own : (own : Option Message) → count_own own ≤ 1
@@ -87,11 +88,12 @@ one_own (Some m) = omega arith
 -- ---- a checkpoint
 
 -- the code's fields have a fixed part of 96 octets, a limit that the layout can hold, and messages
--- that fit the table
+-- that fit the table of a catalogue
 pub record HasRoom (layout : Layout) (C : Table) (l : RequestTable) (m : FramingView) : Type 0 where
   pub fixed : length (fixed_octets layout (fixed_of C l m)) ≡ 96
   pub allows : OpenHasRange layout m.slots.slots.most
   pub ready : AreReady C (m.totals.octets + 1) m.slots
+  pub table : IsTable C
 
 pub whole_long : (layout : Layout) (C : Table) (l : RequestTable) (m : FramingView)
     (written : List ℕ) (whole : IsPutWhole layout C l m written) →
@@ -111,18 +113,18 @@ many_within n most w sum few within = search (arith, mul-le-mul_right)
 pub whole_within : (layout : Layout) (C : Table) (l : RequestTable) (m : FramingView) (most : ℕ)
     (written : List ℕ) (whole : IsPutWhole layout C l m written) →
     HasRoom layout C l m → length m.slots.slots.entries ≤ most →
-    96 + entries_size whole.entries ≤ checkpoint_limit most (depth_of C.types)
+    96 + entries_size whole.entries ≤ checkpoint_limit most (catalogue_depth C)
 unfolding checkpoint_limit
 whole_within layout C l m most written whole room few =
     let many = entries_count m.slots.slots.entries (current_of m.slots.owner) whole.entries
     whole.are in
     let shallow = entries_shallow C (m.totals.octets + 1) m.slots.slots.entries
-    (current_of m.slots.owner) whole.entries whole.are
+    (current_of m.slots.owner) whole.entries room.table whole.are
     room.ready.each_ready room.ready.current_ready in
     omega (
       arith,
-      many_within (length whole.entries) most (256 + FRAME_SIZE * depth_of C.types)
+      many_within (length whole.entries) most (256 + FRAME_SIZE * catalogue_depth C)
           (entries_size whole.entries)
           (omega (arith, many, few, one_own (current_of m.slots.owner)))
-          (entries_within (depth_of C.types) whole.entries shallow),
+          (entries_within (catalogue_depth C) whole.entries shallow),
     )

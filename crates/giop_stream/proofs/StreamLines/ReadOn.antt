@@ -5,8 +5,9 @@ use Rattle.std.specs.Prelude.{◌≢◌, Result, Ok, Err, IfOk, IfErr}
 use Rattle.std.proofs.lemmas.Bool.{false≢true}
 use Rattle.giop_print.specs.Output.{OutLog, Wrote}
 use Rattle.giop_print.proofs.Writing.{wrote-append, wrote-front, front-append}
+use Rattle.giop_sig.specs.HeaderTypes.{IsTable}
 use Rattle.giop_sig.specs.Table.{Table}
-use Rattle.giop_sig.specs.Trees.{depth_of}
+use Rattle.giop_sig.specs.Trees.{catalogue_depth}
 use Rattle.giop_message.specs.MessageReader.{IsCausal, IsStreamable}
 use Rattle.giop_message.specs.Signatures.{RequestTable}
 use Rattle.giop_checkpoint.specs.declared.layout.Layout.{Layout}
@@ -98,9 +99,9 @@ unfolding fixed_of counts_of
 spelled_read octets p C l most s = s.is_read
 
 pub spells_within : (octets p : List ℕ) (C : Table) (l : RequestTable) (most : ℕ) →
-    Spells octets C l most p →
-    length octets ≤ checkpoint_limit most (depth_of C.types)
-spells_within octets p C l most s =
+    IsTable C → Spells octets C l most p →
+    length octets ≤ checkpoint_limit most (catalogue_depth C)
+spells_within octets p C l most laws s =
     let whole : IsPutWhole s.layout C l s.memory octets =
     record { entries = s.entries; are = s.entries_are; put = s.octets_are } in
     let room : HasRoom s.layout C l s.memory = record {
@@ -109,6 +110,7 @@ spells_within octets p C l most s =
           (fixed_range octets p C l most s);
       allows = rw s.limit s.allows;
       ready = s.ready;
+      table = laws;
     } in
     let few = few_slots octets p C l most s in
     omega (

@@ -3,8 +3,9 @@ use Rattle.std.specs.Prelude.{◌||◌}
 use Rattle.giop_sig.specs.Trees.{tree_at}
 use Rattle.giop_decode.specs.Transitions.{open_parts, is_inside, is_some_stage, tree_in, within_more, IsKnown}
 use Rattle.giop_decode.proofs.Beginning.{begins, begins_places, all_push, part_in_frames, places_push, whole_placed, whole_within}
+use Rattle.giop_decode.proofs.Rooms.{bare_in_room, whole_bare}
 use Rattle.giop_decode.proofs.Surrounding.{ended_push, more_more, push_more, stand_push}
-use Rattle.giop_decode.proofs.Linking.{first_index, link_push}
+use Rattle.giop_decode.proofs.Linking.{first_index, link_next}
 use Rattle.giop_decode.proofs.frame.begin.Goals as goal
 
 pub loop-count-preserved : goal.loop-count-preserved
@@ -15,12 +16,13 @@ loop-count-preserved c =
     let d = 24 - length old in
     let b = begins d T c.in-Some.count c.in-Some.told c.loop-count.invariant.fit
     (c.in-Some.ensures.whole d) in
+    let bare = whole_bare T c.in-Some.count c.in-Some.told (c.in-Some.ensures.whole d) in
     let e : pred d ≡ 24 - length c.push.new.self.items = omega (arith, c.push.ensures.len) in
     let part = part_in_frames t old c.push.new.self.items c.loop-count.inner.0
     c.part-inner.result.0 0 (omega (arith, c.push.ensures.len)) (omega (arith, b.room))
-    c.part-inner.ensures.rooms in
+    (c.part-inner.ensures.rooms (bare_in_room t d c.loop-count.inner.0 bare)) in
     record {
-      known = omega (arith, c.part-inner.ensures.below, c.loop-count.invariant.known);
+      known = c.part-inner.ensures.known;
       known_outer = rw c.push.ensures.items
           (all_push (IsKnown t) old _ c.loop-count.invariant.known_outer
           (record {
@@ -43,8 +45,8 @@ loop-count-preserved c =
       stand = λ at h. rw c.push.ensures.items
           (stand_push at old _ (c.loop-count.invariant.stand at h) tt);
       leaf = rw part (sym b.leaf ∙ c.loop-count.invariant.leaf);
-      linked = λ root h. link_push t root old c.push.new.self.items c.loop-count.inner.0
-          c.part-inner.result.0 _ refl c.push.ensures.items
+      linked = λ root h. link_next t root old c.push.new.self.items c.loop-count.inner.0
+          c.part-inner.result.0 _ refl c.push.ensures.items d bare
           (rw (first_index c.in-Some.told) c.part-inner.ensures.number)
           (c.loop-count.invariant.linked root h);
     }

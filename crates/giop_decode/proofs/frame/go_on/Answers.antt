@@ -1,21 +1,30 @@
-use Rattle.std.proofs.Common.{◌≡◌, suc, ◌+◌, ◌-◌, ◌<◌, [], ◌∷◌, ◌++◌, length, refl, sym, ap, subst, ◌∙◌, arith, add-one, length-append}
+use Rattle.std.proofs.Common.{◌≡◌, ℕ, List, suc, ◌+◌, ◌-◌, ◌<◌, [], ◌∷◌, ◌++◌, length, refl, sym, ap, subst, ◌∙◌, arith, add-one, length-append}
 use Rattle.giop_decode.specs.ReadResult.{Content, Done, coded}
 use Rattle.giop_decode.specs.Reading.{none_left, rooted}
 use Rattle.giop_decode.specs.NextParts.{frames_above, next_of}
 use Rattle.giop_decode.specs.Heard.{begun_in}
 use Rattle.giop_decode.specs.ReadingSteps.{around}
 use Rattle.giop_decode.specs.Transitions.{part_in, open_parts, tree_in, within_more, is_inside, IsAtMost, IsKnown, StandAt}
-use Rattle.giop_sig.specs.Types.{part_of}
+use Rattle.giop_decode.specs.declared.frame.Frame.{Frame}
+use Rattle.giop_sig.specs.Table.{Table}
+use Rattle.giop_sig.specs.Trees.{tree}
+use Rattle.giop_sig.specs.Types.{IsUnion, part_of, shape_in}
 use Rattle.giop_decode.proofs.Advancing.{rooted_gone}
-use Rattle.giop_decode.proofs.Rooms.{place_in_room}
+use Rattle.giop_decode.proofs.Rooms.{counted_bare, place_in_room}
 use Rattle.giop_decode.proofs.Around.{fit_part}
 use Rattle.giop_decode.proofs.Beginning.{all_push, part_in_frames, places_push}
-use Rattle.giop_decode.proofs.Going.{next_quiet, popped, part_popped, popped_is, held_popped, next_in, goes_next, goes_out, goes_rest, goes_past, part_is, held_is}
+use Rattle.giop_decode.proofs.Going.{PartPopped, next_quiet, popped, part_popped, popped_is, held_popped, next_in, goes_next, goes_out, goes_rest, goes_past, part_is, held_is}
 use Rattle.giop_decode.proofs.Surrounding.{around_gone, most_begun, most_pop, most_replaced, stand_pop, stand_push}
 use Rattle.giop_decode.proofs.Noting.{rest_silent}
-use Rattle.giop_decode.proofs.Linking.{link_push, link_pop}
+use Rattle.giop_decode.proofs.Linking.{link_next, link_pop}
 use Rattle.giop_decode.proofs.Telling.{begun_at, begun_gone}
 use Rattle.giop_decode.proofs.frame.go_on.Goals as goal
+
+-- a type with another part is no union
+next_bare : (C : Table) (rest : List Frame) (f : Frame) {at : ℕ} → PartPopped C at rest f →
+    suc f.index < f.count → IsUnion (shape_in (tree C f.of.0)) → ⊥
+next_bare C rest f p below =
+    counted_bare (tree C f.of.0) f.index f.count (p.within 24) (omega (arith, below))
 
 pub returns-then-left-gt0-clause-stand : goal.returns-then-left-gt0-clause-stand
 returns-then-left-gt0-clause-stand c at h =
@@ -152,7 +161,7 @@ begin-requires-clause-fit c =
     omega (arith, ap length gone, length-append rest (next_of f ∷ [])) in
     let e : p.left ≡ 24 - length c.go_to_next.new.outer.items = omega (arith, p.depth, size) in
     let part = part_in_frames t rest c.go_to_next.new.outer.items f.of.0 c.part-part.result.0
-    (f.index + 1) size p.few c.part-part.ensures.rooms in
+    (f.index + 1) size p.few (c.part-part.ensures.rooms (next_bare t rest f p below)) in
     rw (part, ← e) (fit_part p.left T (f.index + 1) f.count n.fit n.parts (rw add-one below))
 
 pub returns-then-frame-last-clause-stand : goal.returns-then-frame-last-clause-stand
@@ -204,7 +213,7 @@ returns-then-frame-last-clause-next c coding path at =
     omega (arith, ap length gone, length-append rest (next_of f ∷ [])) in
     let parted : tree_in t mid c.part-part.result.0 ≡ P =
     rw add-one at (part_in_frames t rest mid f.of.0 c.part-part.result.0
-    (f.index + 1) size p.few c.part-part.ensures.rooms) in
+    (f.index + 1) size p.few (c.part-part.ensures.rooms (next_bare t rest f p below))) in
     v.same coding path at
     ∙ (ap (rooted none_left) (ap (λ ps. around coding path ps (Done [] at []))
     (ap (open_parts t at) c.in-Some.ensures.some ∙ places_push t 24 at rest f)
@@ -229,8 +238,11 @@ returns-then-frame-last-clause-linked c root inner h =
     let k = popped t _ _ _ _ v.known v.are_open.1 c.in-Some.ensures.some in
     let quiet = next_quiet t f k.known (omega arith) in
     let l = v.linked root inner h in
-    c.begin.ensures.linked root (link_push t root rest c.go_to_next.new.outer.items f.of.0
-    c.part-part.result.0 _ refl gone
+    let p = part_popped t _ _ _ _ v.known v.are_open.1 c.in-Some.ensures.some c.in-None.is quiet in
+    let below : suc f.index < f.count = omega arith in
+    c.begin.ensures.linked root (link_next t root rest c.go_to_next.new.outer.items f.of.0
+    c.part-part.result.0 _ refl gone 24
+    (next_bare t rest f p below)
     (rw (c.in-None.is, quiet) c.part-part.ensures.number)
     (link_pop t root c.loop-frame.outer.items rest f l.0 c.in-Some.ensures.some l.1))
 

@@ -1,11 +1,48 @@
-use Rattle.std.proofs.Common.{◌-◌, refl, subst, arith}
+use Rattle.std.proofs.Common.{◌≡◌, ◌∙◌, ◌-◌, ◌++◌, ◌∷◌, [], List, Bool, true, false, Some, ap, refl, subst}
+use Rattle.std.specs.Prelude.{◌||◌}
+use Rattle.giop_decode.specs.declared.frame.Frame.{Frame}
+use Rattle.giop_decode.specs.declared.frame.Stage.{Stage}
+use Rattle.giop_decode.specs.declared.frame.Within.{Within}
+use Rattle.giop_decode.specs.declared.frame.Within.TheVariants as withins
 use Rattle.giop_decode.specs.NextParts.{frames_above}
-use Rattle.giop_decode.specs.Transitions.{StandAt}
+use Rattle.giop_decode.specs.Transitions.{IsAtMost, StandAt, holds_one, is_inside, is_some_stage, tells_one, within_by}
 use Rattle.giop_decode.proofs.Going.{tell_popped}
+use Rattle.giop_decode.proofs.Rooms.{led_bare}
 use Rattle.giop_decode.proofs.Surrounding.{stand_pop, stand_push}
 use Rattle.giop_decode.proofs.Telling.{ends_told, stops_told, then_told, told_here}
+use Rattle.giop_sig.specs.Trees.{tree}
 use Rattle.giop_sig.specs.Types.{Ends, Stops, Then}
 use Rattle.giop_decode.proofs.frame.part_told.Goals as goal
+
+or_true : (b : Bool) → b || true ≡ true
+or_true true = refl
+or_true false = refl
+
+-- frames of which the last tells what follows ask for the most that there is
+
+told_last : (rest : List Frame) (f : Frame) (stage : Stage) → f.told ≡ Some stage →
+    tells_one (rest ++ f ∷ []) ≡ true
+told_last [] f stage e = rw e refl
+told_last (g ∷ rest) f stage e =
+    ap (λ b. is_some_stage g.told || b) (told_last rest f stage e) ∙ or_true (is_some_stage g.told)
+
+most_any : (x most : Within) → IsAtMost withins.Telling most → IsAtMost x most
+most_any withins.Nothing most h = tt
+most_any withins.Encapsulation withins.Telling h = tt
+most_any withins.Telling withins.Telling h = tt
+most_any x withins.Nothing h = absurd h
+most_any x withins.Encapsulation h = absurd h
+
+pub returns-in-Then-clause-most : goal.returns-in-Then-clause-most
+returns-in-Then-clause-most c most h =
+    let items = c.args.outer.now.items in
+    let rest = frames_above items in
+    let f = c.args.frame in
+    let all = rest ++ f ∷ [] in
+    let there = subst (λ fs. IsAtMost (is_inside fs) most) c.requires.innermost h in
+    most_any (is_inside c.replace.new.outer.items) most
+    (subst (λ x. IsAtMost x most)
+    (ap (λ b. within_by b (holds_one all)) (told_last rest f c.args.told c.requires.told)) there)
 
 pub returns-in-Then-clause-part : goal.returns-in-Then-clause-part
 returns-in-Then-clause-part c =
@@ -23,7 +60,8 @@ returns-in-Then-clause-part c =
     (rw c.signal.ensures at c.in-Then.ensures.is) in
     (then_told C items rest f c.args.told start is c.requires.told P c.in-Then.place
     c.replace.new.outer.items _ c.part.result.0 c.in-Then.ensures.place s to refl
-    (omega (arith, c.part.ensures.below, P.known)) c.part.ensures.number c.part.ensures.rooms).0
+    c.part.ensures.known c.part.ensures.number
+    (c.part.ensures.rooms (led_bare (tree C f.of.0) (P.within 24).0))).0
 
 pub returns-in-Then-clause-known : goal.returns-in-Then-clause-known
 returns-in-Then-clause-known c =
@@ -41,7 +79,8 @@ returns-in-Then-clause-known c =
     (rw c.signal.ensures at c.in-Then.ensures.is) in
     (then_told C items rest f c.args.told start is c.requires.told P c.in-Then.place
     c.replace.new.outer.items _ c.part.result.0 c.in-Then.ensures.place s to refl
-    (omega (arith, c.part.ensures.below, P.known)) c.part.ensures.number c.part.ensures.rooms).1
+    c.part.ensures.known c.part.ensures.number
+    (c.part.ensures.rooms (led_bare (tree C f.of.0) (P.within 24).0))).1
 
 pub returns-in-Then-clause-stand : goal.returns-in-Then-clause-stand
 returns-in-Then-clause-stand c at h =

@@ -1,7 +1,6 @@
 use Rattle.std.proofs.Common.{◌≡◌, ap, sym, ◌∙◌}
 use Rattle.giop_decode.proofs.MarkedNumbers.{bound_text, kind_text}
 use Rattle.giop_decode.specs.Segments.{PathView}
-use Rattle.giop_sig.specs.Table.{Table}
 use Rattle.giop_decode.proofs.line.number_line.Goals as goal
 
 pub returns-in-Some-kind_word : goal.returns-in-Some-kind_word

@@ -9,18 +9,22 @@ use Rattle.giop_sig.proofs.CallTaken.{call_ready, parts_on, calls_grow, new_oper
 use Rattle.giop_sig.proofs.read_calls.operation_at.Goals as goal
 
 pub add-requires : goal.add-requires
-add-requires c = (call_ready c.args.draft.now _ _ _ _ c.in_ok-returned.ensures
-    c.in_ok-request.ensures c.laws.ensures.scope).request
+add-requires c = record {
+  formed = (call_ready c.args.draft.now _ _ _ _ c.in_ok-returned.ensures
+      c.in_ok-request.ensures c.laws.ensures.scope).request;
+  plain = tt;
+}
 
 pub add-requires-2 : goal.add-requires-2
 add-requires-2 c =
     let request = map part_view c.in_ok-request.request.items in
     let reply = map part_view c.in_ok-request.reply.items in
-    subst (λ (q : AddedType). (length reply ≤ 256) × AreParts q.0 reply)
+    let formed = subst (λ (q : AddedType). (length reply ≤ 256) × AreParts q.0 reply)
     (ok_is _ _ c.in_ok-q.ensures)
     (parts_on c.params_at.new.draft (members request) reply
     (call_ready c.args.draft.now _ _ _ _ c.in_ok-returned.ensures c.in_ok-request.ensures
-    c.laws.ensures.scope).reply)
+    c.laws.ensures.scope).reply) in
+    record { formed = formed; plain = tt }
 
 pub listed_at-requires-clause-short : goal.listed_at-requires-clause-short
 listed_at-requires-clause-short c = (new_operation_takes _ _ _ c.in_ok-name.ensures).short

@@ -6,7 +6,10 @@ use Rattle.giop_sig.proofs.ItemTaken.{declared_takes, struct_formed, exception_g
 use Rattle.giop_sig.proofs.read_items.exception_at.Goals as goal
 
 pub add-requires : goal.add-requires
-add-requires c = struct_formed c.args.draft.now _ _ c.in_ok-parts.ensures c.laws.ensures.scope
+add-requires c = record {
+  formed = struct_formed c.args.draft.now _ _ c.in_ok-parts.ensures c.laws.ensures.scope;
+  plain = tt;
+}
 
 pub raise-requires-clause-short : goal.raise-requires-clause-short
 raise-requires-clause-short c = (declared_takes c.args.draft.now _ _ _ c.in_ok-name.ensures).short

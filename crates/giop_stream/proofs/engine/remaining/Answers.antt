@@ -9,5 +9,5 @@ pub returns : goal.returns
 returns c = record {
   text = λ C l n octets p q s. remains (rules C l n)
       (is_causal (λ number. signatures_of C (by_list l number))) (in_turn C (by_list l)) p q;
-  within = λ C l n octets p s. spells_within octets p C l n s;
+  within = λ C l n octets p laws s. spells_within octets p C l n laws s;
 }

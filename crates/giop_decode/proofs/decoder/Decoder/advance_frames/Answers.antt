@@ -1,4 +1,4 @@
-use Rattle.std.proofs.Common.{[], List, None, ℕ, suc, ◌≡◌, pred, ◌-◌, length, refl, sym, ap, ◌∙◌, arith, append_assoc, ◌∷◌, ◌++◌}
+use Rattle.std.proofs.Common.{[], List, None, ℕ, suc, subst, ◌≡◌, pred, ◌-◌, length, refl, sym, ap, ◌∙◌, arith, append_assoc, ◌∷◌, ◌++◌}
 use Rattle.giop_decode.specs.ReadResult.{LeadingNumber, Part, Member, Short}
 use Rattle.giop_decode.specs.Begins.{start_outer, start_leaf}
 use Rattle.giop_decode.specs.Transitions.{AreKnown, IsKnown, has_ended, is_inside, within_held, within_more, open_part, open_parts, leaf_by, leaf_of, tree_in}
@@ -11,15 +11,16 @@ use Rattle.giop_decode.proofs.Advancing.{rooted_fault, rooted_gone}
 use Rattle.giop_decode.specs.Reading.{none_left, rooted}
 use Rattle.giop_decode.proofs.Surrounding.{around_gone, around_unless_ended, at_most, ended_push, gone_stopped, inside_frame, push_held, push_more, unless_ended, stand_push}
 use Rattle.giop_decode.proofs.Noting.{leaf_inside, unless_ended_inside, stopped_silent}
-use Rattle.giop_decode.proofs.Linking.{link_number, link_push}
-use Rattle.giop_decode.proofs.Rooms.{held_in_room, within_in_room}
-use Rattle.giop_decode.proofs.StoredChain.{inside_place}
+use Rattle.giop_decode.proofs.Linking.{link_next, link_number, link_push}
+use Rattle.giop_decode.proofs.Rooms.{bare_in_room, held_bare, held_in_room, parts_bare, within_in_room}
+use Rattle.giop_decode.proofs.StoredChain.{case_known, inside_place}
 use Rattle.giop_decode.specs.declared.frame.Frame.{Frame}
 use Rattle.giop_decode.proofs.decoder.Decoder.advance_frames.Goals as goal
-use Rattle.giop_sig.specs.Types.{part_of}
+use Rattle.giop_decode.specs.Fits.{HasCase, HasParts, IsEncapsulation}
+use Rattle.giop_sig.specs.Types.{IsUnion, part_of, shape_in}
 use Rattle.giop_sig.specs.Fits.{IsFit}
 use Rattle.giop_sig.specs.Table.{Table}
-use Rattle.giop_sig.specs.Trees.{tree_at}
+use Rattle.giop_sig.specs.Trees.{tree, tree_at}
 
 -- a part of a type that fits, in one frame more
 parted : (C : Table) (old new : List Frame) (of part i : ℕ) →
@@ -29,6 +30,30 @@ parted : (C : Table) (old new : List Frame) (of part i : ℕ) →
 parted C old new of part i fit more parts =
     part_in_frames C old new of part i more
     (omega (arith, fit_room (24 - length old) (tree_in C old of) fit)) parts
+
+-- that of a case, in the room that is left for it
+case_parted : (C : Table) (old new : List Frame) (of part i n : ℕ) →
+    IsFit (24 - length old) (tree_in C old of) → length new ≡ suc (length old) → n ≡ length new →
+    tree_at C (24 - n) part ≡ part_of (tree_at C (suc (24 - n)) of) i →
+    tree_in C new part ≡ part_of (tree_in C old of) i
+case_parted C old new of part i n fit more is parts =
+    let few = fit_room (24 - length old) (tree_in C old of) fit in
+    let left : 24 - n ≡ 24 - length new = omega (arith, is) in
+    let one : suc (24 - n) ≡ 24 - length old = omega (arith, is, more, few) in
+    subst (λ m. tree_at C m part ≡ part_of (tree_in C old of) i) left
+    (subst (λ m. tree_at C (24 - n) part ≡ part_of (tree_at C m of) i) one parts)
+
+-- no union has so many parts, nor is it an encapsulation
+
+opened_bare : (C : Table) (old : List Frame) (of count : ℕ) → HasParts (tree_in C old of) count →
+    IsUnion (shape_in (tree C of)) → ⊥
+opened_bare C old of count kind =
+    bare_in_room C (24 - length old) of (parts_bare (tree_in C old of) count kind)
+
+entered_bare : (C : Table) (old : List Frame) (of : ℕ) → IsEncapsulation (tree_in C old of) →
+    IsUnion (shape_in (tree C of)) → ⊥
+entered_bare C old of kind =
+    bare_in_room C (24 - length old) of (held_bare (tree_in C old of) kind)
 
 pub push-requires : goal.push-requires
 push-requires c = (
@@ -58,8 +83,8 @@ part-part-requires-clause-place c =
     (within_in_room C (24 - length old) 24 c.args.of.0 None 0 c.in-Opened.count
     (parts_within (tree_in C old c.args.of.0) c.in-Opened.count opens.0 opens.1)).0
 
-pub part-part-requires-in-Selected-clause-place : goal.part-part-requires-in-Selected-clause-place
-part-part-requires-in-Selected-clause-place c =
+pub part_in-part-requires-clause-place : goal.part_in-part-requires-clause-place
+part_in-part-requires-clause-place c =
     let C = c.args.catalogue.now in
     let old = c.args.self.now.outer.items in
     let case = rw c.in-Selected.is at c.requires.transition_fits in
@@ -119,9 +144,12 @@ begin-requires-in-Entered-clause-known_outer c =
 pub begin-requires-clause-fit : goal.begin-requires-clause-fit
 begin-requires-clause-fit c =
     let T = tree_in c.args.catalogue.now c.args.self.now.outer.items c.args.of.0 in
+    let kind = rw c.in-Opened.is at c.requires.transition_fits in
     let same_part = parted c.args.catalogue.now c.args.self.now.outer.items
     c.push.new.self.items c.args.of.0 c.part-part.result.0 0 c.requires.fit
-    (omega (arith, c.push.ensures.len)) c.part-part.ensures.rooms in
+    (omega (arith, c.push.ensures.len))
+    (c.part-part.ensures.rooms (opened_bare c.args.catalogue.now c.args.self.now.outer.items
+    c.args.of.0 c.in-Opened.count kind.0)) in
     let opens = rw c.in-Opened.is at c.requires.transition_fits in
     let e : pred (24 - length c.args.self.now.outer.items) ≡ 24 - length c.push.new.self.items =
     omega (arith, c.push.ensures.len) in
@@ -131,10 +159,11 @@ begin-requires-clause-fit c =
 pub begin-requires-in-Selected-clause-fit : goal.begin-requires-in-Selected-clause-fit
 begin-requires-in-Selected-clause-fit c =
     let T = tree_in c.args.catalogue.now c.args.self.now.outer.items c.args.of.0 in
-    let same_part = parted c.args.catalogue.now c.args.self.now.outer.items
-    c.push-in-Selected.new.self.items c.args.of.0 c.part-part-in-Selected.result.0
-    c.in-Selected.index c.requires.fit
-    (omega (arith, c.push-in-Selected.ensures.len)) c.part-part-in-Selected.ensures.rooms in
+    let same_part = case_parted c.args.catalogue.now c.args.self.now.outer.items
+    c.push-in-Selected.new.self.items c.args.of.0 c.part_in-part.result.0
+    c.in-Selected.index c.len.result c.requires.fit
+    (omega (arith, c.push-in-Selected.ensures.len)) c.len.ensures.value
+    c.part_in-part.ensures.tree in
     let case = rw c.in-Selected.is at c.requires.transition_fits in
     let e : pred (24 - length c.args.self.now.outer.items)
     ≡ 24 - length c.push-in-Selected.new.self.items =
@@ -156,9 +185,12 @@ push-requires-in-Entered c = (
 pub begin-requires-in-Entered-clause-fit : goal.begin-requires-in-Entered-clause-fit
 begin-requires-in-Entered-clause-fit c =
     let T = tree_in c.args.catalogue.now c.args.self.now.outer.items c.args.of.0 in
+    let kind = rw c.in-Entered.is at c.requires.transition_fits in
     let same_part = parted c.args.catalogue.now c.args.self.now.outer.items
     c.push-in-Entered.new.self.items c.args.of.0 c.part-part-in-Entered.result.0 0 c.requires.fit
-    (omega (arith, c.push-in-Entered.ensures.len)) c.part-part-in-Entered.ensures.rooms in
+    (omega (arith, c.push-in-Entered.ensures.len))
+    (c.part-part-in-Entered.ensures.rooms (entered_bare c.args.catalogue.now
+    c.args.self.now.outer.items c.args.of.0 kind.0)) in
     let opens = rw c.in-Entered.is at c.requires.transition_fits in
     let e : pred (24 - length c.args.self.now.outer.items)
     ≡ 24 - length c.push-in-Entered.new.self.items =
@@ -193,9 +225,12 @@ pub returns-in-Opened-clause-advances : goal.returns-in-Opened-clause-advances
 returns-in-Opened-clause-advances c coding path at =
     let C = c.args.catalogue.now in
     let T = tree_in C c.args.self.now.outer.items c.args.of.0 in
+    let kind = rw c.in-Opened.is at c.requires.transition_fits in
     let same_part = parted c.args.catalogue.now c.args.self.now.outer.items
     c.push.new.self.items c.args.of.0 c.part-part.result.0 0 c.requires.fit
-    (omega (arith, c.push.ensures.len)) c.part-part.ensures.rooms in
+    (omega (arith, c.push.ensures.len))
+    (c.part-part.ensures.rooms (opened_bare c.args.catalogue.now c.args.self.now.outer.items
+    c.args.of.0 c.in-Opened.count kind.0)) in
     let old = c.args.self.now.outer.items in
     let new = c.begin.new.outer.items in
     let transitions = rw c.in-Opened.is at c.requires.transition_fits in
@@ -227,10 +262,11 @@ pub returns-in-Selected-clause-advances : goal.returns-in-Selected-clause-advanc
 returns-in-Selected-clause-advances c coding path at =
     let C = c.args.catalogue.now in
     let T = tree_in C c.args.self.now.outer.items c.args.of.0 in
-    let same_part = parted c.args.catalogue.now c.args.self.now.outer.items
-    c.push-in-Selected.new.self.items c.args.of.0 c.part-part-in-Selected.result.0
-    c.in-Selected.index c.requires.fit
-    (omega (arith, c.push-in-Selected.ensures.len)) c.part-part-in-Selected.ensures.rooms in
+    let same_part = case_parted c.args.catalogue.now c.args.self.now.outer.items
+    c.push-in-Selected.new.self.items c.args.of.0 c.part_in-part.result.0
+    c.in-Selected.index c.len.result c.requires.fit
+    (omega (arith, c.push-in-Selected.ensures.len)) c.len.ensures.value
+    c.part_in-part.ensures.tree in
     let old = c.args.self.now.outer.items in
     let new = c.begin-in-Selected.new.outer.items in
     let transitions = rw c.in-Selected.is at c.requires.transition_fits in
@@ -262,9 +298,12 @@ pub returns-in-Entered-clause-advances : goal.returns-in-Entered-clause-advances
 returns-in-Entered-clause-advances c coding path at =
     let C = c.args.catalogue.now in
     let T = tree_in C c.args.self.now.outer.items c.args.of.0 in
+    let kind = rw c.in-Entered.is at c.requires.transition_fits in
     let same_part = parted c.args.catalogue.now c.args.self.now.outer.items
     c.push-in-Entered.new.self.items c.args.of.0 c.part-part-in-Entered.result.0 0 c.requires.fit
-    (omega (arith, c.push-in-Entered.ensures.len)) c.part-part-in-Entered.ensures.rooms in
+    (omega (arith, c.push-in-Entered.ensures.len))
+    (c.part-part-in-Entered.ensures.rooms (entered_bare c.args.catalogue.now
+    c.args.self.now.outer.items c.args.of.0 kind.0)) in
     let old = c.args.self.now.outer.items in
     let pushed = c.push-in-Entered.new.self.items in
     let new = c.begin-in-Entered.new.outer.items in
@@ -317,10 +356,12 @@ returns-in-Entered-clause-stand c at pos h =
 pub returns-in-Entered-clause-link : goal.returns-in-Entered-clause-link
 returns-in-Entered-clause-link c root leaf moved h e =
     let C = c.args.catalogue.now in
+    let kind = rw c.in-Entered.is at c.requires.transition_fits in
     link_number C root c.begin-in-Entered.new.outer.items c.begin-in-Entered.result leaf
     (c.begin-in-Entered.ensures.linked root
-    (link_push C root c.args.self.now.outer.items c.push-in-Entered.new.self.items c.args.of.0
-    c.part-part-in-Entered.result.0 _ refl c.push-in-Entered.ensures.items
+    (link_next C root c.args.self.now.outer.items c.push-in-Entered.new.self.items c.args.of.0
+    c.part-part-in-Entered.result.0 _ refl c.push-in-Entered.ensures.items 24
+    (entered_bare C c.args.self.now.outer.items c.args.of.0 kind.0)
     c.part-part-in-Entered.ensures.number h)) e
 
 pub returns-in-Ended-clause-stand : goal.returns-in-Ended-clause-stand
@@ -336,9 +377,12 @@ returns-in-Ended-clause-advances c coding path at =
 pub returns-in-Opened-clause-link : goal.returns-in-Opened-clause-link
 returns-in-Opened-clause-link c root leaf moved h e =
     let C = c.args.catalogue.now in
+    let kind = rw c.in-Opened.is at c.requires.transition_fits in
     link_number C root c.begin.new.outer.items c.begin.result leaf
-    (c.begin.ensures.linked root (link_push C root c.args.self.now.outer.items c.push.new.self.items
-    c.args.of.0 c.part-part.result.0 _ refl c.push.ensures.items c.part-part.ensures.number h))
+    (c.begin.ensures.linked root (link_next C root c.args.self.now.outer.items c.push.new.self.items
+    c.args.of.0 c.part-part.result.0 _ refl c.push.ensures.items 24
+    (opened_bare C c.args.self.now.outer.items c.args.of.0 c.in-Opened.count kind.0)
+    c.part-part.ensures.number h))
     e
 
 pub returns-in-Selected-clause-link : goal.returns-in-Selected-clause-link
@@ -346,9 +390,11 @@ returns-in-Selected-clause-link c root leaf moved h e =
     let C = c.args.catalogue.now in
     link_number C root c.begin-in-Selected.new.outer.items c.begin-in-Selected.result leaf
     (c.begin-in-Selected.ensures.linked root
-    (link_push C root c.args.self.now.outer.items c.push-in-Selected.new.self.items c.args.of.0
-    c.part-part-in-Selected.result.0 _ refl c.push-in-Selected.ensures.items
-    c.part-part-in-Selected.ensures.number h)) e
+    (link_push C root (24 - c.len.result) c.args.self.now.outer.items
+    c.push-in-Selected.new.self.items c.args.of.0 c.part_in-part.result.0 _ refl
+    c.push-in-Selected.ensures.items
+    (omega (arith, c.len.ensures.value, c.push-in-Selected.ensures.len))
+    c.part_in-part.ensures.number h)) e
 
 pub returns-in-More-clause-inside : goal.returns-in-More-clause-inside
 returns-in-More-clause-inside c at lines =
@@ -392,3 +438,14 @@ pub is_inside-self-requires : goal.is_inside-self-requires
 is_inside-self-requires c =
     rw c.as_slice.ensures.value (c.go_on-self.ensures.most
     (rw c.requires.encloses (at_most (is_inside c.args.self.now.outer.items))))
+
+pub part_in-part-requires-clause-led : goal.part_in-part-requires-clause-led
+part_in-part-requires-clause-led c led =
+    let C = c.args.catalogue.now in
+    let old = c.args.self.now.outer.items in
+    let i = c.in-Selected.index in
+    let few = fit_room (24 - length old) (tree_in C old c.args.of.0) c.requires.fit in
+    let one : 24 - length old ≡ suc (23 - length old) = omega (arith, few) in
+    let case = rw c.in-Selected.is at c.requires.transition_fits in
+    case_known C (23 - length old) c.args.of.0 i
+    (subst (λ n. HasCase (tree_at C n c.args.of.0) i) one case) led

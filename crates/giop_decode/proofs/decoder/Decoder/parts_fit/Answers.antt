@@ -10,5 +10,5 @@ returns-then-follow c =
     let inner = rw (c.as_slice-then-follow.ensures.value, one) at
     (c.leaf_fits.ensures (23 - length items)) in
     let chain : Chained c.args.catalogue.now 24 c.args.root.0 items c.args.leaf =
-    rw c.as_slice.ensures.value at ((c.follow.ensures 24).0 c.if-follow.true) in
+    rw c.as_slice.ensures.value at (c.follow.ensures.0 c.if-follow.true) in
     (λ fits. (chain, inner.0 fits), λ h. inner.1 h.1)

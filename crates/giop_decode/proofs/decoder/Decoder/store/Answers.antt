@@ -10,4 +10,4 @@ returns-then-is_full-clause-stored c C fits =
     absurd (grind (arith, nat_tests))
 
 pub returns-clause-depth : goal.returns-clause-depth
-returns-clause-depth c C fits = omega (arith, fits_depth C c.args.self.now fits)
+returns-clause-depth c C laws fits = omega (arith, fits_depth C c.args.self.now laws fits)

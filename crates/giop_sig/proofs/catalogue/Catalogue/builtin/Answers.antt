@@ -5,6 +5,7 @@ pub invariant_of-result : goal.invariant_of-result
 invariant_of-result c =
     rw (
       c.in_ok-types.ensures,
+      c.in_ok-fronts.ensures,
       c.new.ensures.empty,
       c.new-2.ensures.empty,
       c.new-3.ensures,

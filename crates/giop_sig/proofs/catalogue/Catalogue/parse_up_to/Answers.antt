@@ -24,7 +24,7 @@ returns-in-Ok-clause-ok c =
 
 pub returns-in-Ok-clause-few : goal.returns-in-Ok-clause-few
 returns-in-Ok-clause-few c =
-    let few = file_few c.args.latest union_read union_taken c.args.text.now c.in-Ok.draft
+    let few = file_few c.args.latest union_read union_taken c.args.text.now c.in-Ok.draft c.requires
     (let short = c.if-text-gt-TEXT_MAX.false in omega arith) c.in-Ok.ensures in
     omega (arith, few, ap (λ t. length t.types) c.into_catalogue-catalogue.ensures)
 

@@ -1,5 +1,5 @@
 use Rattle.giop_sig.specs.Views.{node_view}
-use Rattle.giop_sig.proofs.Tables.{entered, place_entered, part_below, part_room}
+use Rattle.giop_sig.proofs.Tables.{entered, part_below, part_known, part_room, place_entered}
 use Rattle.giop_sig.proofs.catalogue.Catalogue.part.Goals as goal
 
 pub part-requires : goal.part-requires
@@ -9,16 +9,23 @@ part-requires c =
     place_entered c.args.self.now c.args.t.0 c.args.place (node_view c.entry.result.now) e
     c.requires.place
 
+pub returns-clause-known : goal.returns-clause-known
+returns-clause-known c =
+    let e = entered _ c.args.self.now c.args.t.0 (node_view c.entry.result.now) c.self.invariant
+    c.self.view_is c.requires.known c.entry.ensures.node in
+    part_known c.args.self.now c.args.t.0 c.args.place c.part.result.0
+    (node_view c.entry.result.now) e c.requires.place c.requires.led c.part.ensures
+
 pub returns-clause-below : goal.returns-clause-below
-returns-clause-below c =
+returns-clause-below c inner =
     let e = entered _ c.args.self.now c.args.t.0 (node_view c.entry.result.now) c.self.invariant
     c.self.view_is c.requires.known c.entry.ensures.node in
     part_below c.args.self.now c.args.t.0 c.args.place c.part.result.0
-    (node_view c.entry.result.now) e c.requires.place c.part.ensures
+    (node_view c.entry.result.now) e inner c.part.ensures
 
 pub returns-clause-rooms : goal.returns-clause-rooms
-returns-clause-rooms c = λ n.
+returns-clause-rooms c none n =
     let e = entered _ c.args.self.now c.args.t.0 (node_view c.entry.result.now) c.self.invariant
     c.self.view_is c.requires.known c.entry.ensures.node in
     part_room c.args.self.now c.args.t.0 c.args.place c.part.result.0 n
-    (node_view c.entry.result.now) e c.requires.place c.part.ensures
+    (node_view c.entry.result.now) e none c.requires.place c.part.ensures

@@ -12,11 +12,12 @@ invariant_of-self-2 c =
     let added = c.in_ok-t.ensures.added in
     subst (λ types. IsDraft (scope_view i.version
     (table_view i.version types i.operations.entries i.exceptions.entries i.declared
-    i.called i.interfaces i.identities.entries)
+    i.called i.interfaces i.identities.entries i.fronts.keys)
     i.names.entries))
     (sym added)
     (draft_grows (scope_view i.version
     (table_view i.version i.types i.operations.entries i.exceptions.entries i.declared
-    i.called i.interfaces i.identities.entries)
+    i.called i.interfaces i.identities.entries i.fronts.keys)
     i.names.entries)
-    (node_view c.args.entry) c.self.invariant (subst AreFormed added c.laws.ensures))
+    (node_view c.args.entry) c.self.invariant c.requires.plain
+    (subst AreFormed added c.laws.ensures))

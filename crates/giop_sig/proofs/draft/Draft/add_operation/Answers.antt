@@ -13,7 +13,7 @@ returns-clause-added c =
     let i = c.self.inside in
     draft_table i.version _ _ _ i.names.entries c.args.self.now c.self.view_is
     (operation_put (table_view i.version i.types i.operations.entries i.exceptions.entries
-    i.declared i.called i.interfaces i.identities.entries) i.operations.entries
+    i.declared i.called i.interfaces i.identities.entries i.fronts.keys) i.operations.entries
     c.insert.new.self.entries c.args.self.now.table c.call_key-key.result c.args.signature
     (operation_key c.args.interface c.args.name.now) refl
     (ap (λ (s : Scope). s.table) c.self.view_is) c.call_key-key.ensures
@@ -25,7 +25,7 @@ invariant_of-self-2 c =
     let is = subst IsDraft c.self.view_is c.self.invariant in
     let put = draft_table i.version _ _ _ i.names.entries c.args.self.now c.self.view_is
     (operation_put (table_view i.version i.types i.operations.entries i.exceptions.entries
-    i.declared i.called i.interfaces i.identities.entries) i.operations.entries
+    i.declared i.called i.interfaces i.identities.entries i.fronts.keys) i.operations.entries
     c.insert.new.self.entries c.args.self.now.table c.call_key-key.result c.args.signature
     (operation_key c.args.interface c.args.name.now) refl
     (ap (λ (s : Scope). s.table) c.self.view_is) c.call_key-key.ensures

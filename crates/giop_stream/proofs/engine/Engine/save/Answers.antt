@@ -10,6 +10,7 @@ returns-in-Ok-clause-saves g c p holds =
       allows =
           c.in-Ok.ensures.allows;
       ready = c.self.invariant.1;
+      table = c.laws.ensures;
     } in
     let whole = c.in-Ok.ensures.whole in
     saved_is _ _ p _ _ _ _ (sym c.self.view_is) refl holds whole.is room whole.puts.written
@@ -22,6 +23,7 @@ returns-in-Err-clause-saves g c p holds =
       allows =
           c.in-Err.ensures.allows;
       ready = c.self.invariant.1;
+      table = c.laws.ensures;
     } in
     let whole = c.in-Err.ensures.whole in
     saved_is _ _ p _ _ _ _ (sym c.self.view_is) refl holds whole.is room whole.puts.written tt

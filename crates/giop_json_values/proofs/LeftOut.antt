@@ -1,0 +1,23 @@
+-- What is left out, by what follows the path of a TypeCode's parameters in that of a value.
+use Rattle.std.proofs.Common.{◌≡◌, ◌≢◌, ℕ, Bool, false, List, [], ◌++◌, IsTrue, sym, ◌∙◌, ap}
+use Rattle.std.proofs.lemmas.List.{append_cancel_left}
+use Rattle.giop_json_values.specs.TypeCodes.{IsLeftOut, is_unwanted}
+
+-- nothing is where the path doesn't begin with the other one
+pub away : (has_types head : Bool) (parameters path : List ℕ)
+    → ((rest : List ℕ) → path ≢ parameters ++ rest)
+    → (IsTrue false → IsLeftOut has_types parameters path head)
+    × (IsLeftOut has_types parameters path head → IsTrue false)
+away has_types head parameters path h = (λ e. cc, λ l. absurd (h l.below l.along))
+
+pub along : (has_types head unwanted : Bool) (parameters path below : List ℕ)
+    → has_types ≡ false → parameters ≢ [] → path ≡ parameters ++ below
+    → unwanted ≡ is_unwanted below head
+    → (IsTrue unwanted → IsLeftOut has_types parameters path head)
+    × (IsLeftOut has_types parameters path head → IsTrue unwanted)
+along has_types head unwanted parameters path below s k p u = (
+  λ t. record { below = below; short = s; known = k; along = p; unwanted = sym u ∙ t },
+  λ l. let same : below ≡ l.below
+      = append_cancel_left parameters below l.below (sym p ∙ l.along)
+      in u ∙ ap (λ b. is_unwanted b head) same ∙ l.unwanted,
+)

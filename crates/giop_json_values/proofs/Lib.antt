@@ -1,0 +1,2 @@
+mod LastKind
+mod LeftOut

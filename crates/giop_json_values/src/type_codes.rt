@@ -1,0 +1,74 @@
+//! The TypeCode that came last, by which lines are left out (docs/FORMATS.md, JSON).
+
+ghost use Rattle.std.specs.Prelude.{◌≡◌, ◌↔◌, [], IsTrue, OnOk};
+ghost use Rattle.giop_json_values.specs.TypeCodes.{IsNoted, IsLeftOut, is_unwanted};
+
+use crate::options::Options;
+use std::alloc::{AllocError, Global};
+
+/// The TypeCode whose kind came last.
+#[derive(Drop)]
+pub(crate) struct LastType {
+    // The path of its parameters; empty where none came.
+    parameters: Vec<u8>,
+}
+
+impl LastType {
+    /// None came.
+    pub(crate) fn new(alloc: Global) -> LastType
+        ensures { result.parameters.items ≡ [] }
+    {
+        LastType {
+            parameters: Vec::new(alloc),
+        }
+    }
+
+    /// Forgets it, for the next message.
+    pub(crate) fn forget(&mut self)
+        ensures { self.new.parameters.items ≡ [] }
+    {
+        self.parameters.clear();
+    }
+
+    /// Takes the name of an enum's value at a path, which may be the kind of a TypeCode.
+    pub(crate) fn note(&mut self, path: &[u8], word: &[u8]) -> Result<(), AllocError>
+        ensures { OnOk result (IsNoted self.old.parameters.items path.now word.now
+            self.new.parameters.items) }
+    {
+        if !word.starts_with(b"tk_") {
+            return Ok(());
+        }
+        let Some(of_type) = path.strip_suffix(b".kind") else {
+            return Ok(());
+        };
+        self.parameters.clear();
+        self.parameters.extend_from_slice(of_type)?;
+        self.parameters.extend_from_slice(b".parameters")
+    }
+
+    /// Whether a value at a path is one of its parameters that are written by choice alone; `is_head` says whether an
+    /// encapsulation begins with it.
+    pub(crate) fn leaves_out(&self, options: Options, path: &[u8], is_head: bool) -> bool
+        ensures { IsTrue result
+            ↔ IsLeftOut options.has_types self.now.parameters.items path.now is_head }
+    {
+        if options.has_types || self.parameters.is_empty() {
+            return false;
+        }
+        match path.strip_prefix(self.parameters.as_slice()) {
+            None => false,
+            Some(below) => is_unwanted(below, is_head),
+        }
+    }
+}
+
+/// Whether all is left out that has this after the path of the parameters.
+fn is_unwanted(below: &[u8], is_head: bool) -> bool
+    ensures { result ≡ is_unwanted below.now is_head }
+{
+    match below {
+        [] => !is_head,
+        [b'.' | b'[', ..] => below != b".id".as_slice() && below != b".name".as_slice(),
+        _ => false,
+    }
+}

@@ -1,0 +1,276 @@
+-- What a TypeCode of an any tells, in signals and in what they stand for.
+use Rattle.std.proofs.lemmas.Slice.Eq.{bytes_eq-Decides}
+use Rattle.std.proofs.Common.{◌≡◌, ℕ, zero, suc, ◌+◌, ◌-◌, ◌<◌, ◌≤◌, Bool, true, false, cond, nat_lt, ◌&&◌, take, drop, nat_le, List, [], ◌∷◌, length, map, get_or, Option, Some, None, refl, sym, ap, ◌∙◌, ◌⊎◌, inl, inr, subst, arith}
+use Rattle.std.specs.Prelude.{position, slice_index_or}
+use Rattle.std.specs.Str.{bytes_eq}
+use Rattle.std.specs.List.{All}
+use Rattle.std.specs.Option.{option_map}
+use Rattle.std.proofs.Math.Seq.{take-length}
+use Rattle.std.proofs.lemmas.Bool.{cases_lt, false≢true, ltb-true}
+use Rattle.std.proofs.lemmas.List.{get_or_past}
+use Rattle.std.proofs.lemmas.List.Quantifiers.{position-Some}
+use Rattle.giop_cdr.specs.declared.prim.Primitive.TheVariants.{Octet}
+use Rattle.giop_sig.specs.declared.types.Shape.{Shape}
+use Rattle.giop_sig.specs.declared.types.Shape.TheVariants as shapes
+use Rattle.giop_sig.specs.declared.types.Sign.{Sign as Heard}
+use Rattle.giop_sig.specs.declared.types.Signal.{Signal}
+use Rattle.giop_sig.specs.declared.types.Signal.TheVariants as signals
+use Rattle.giop_sig.specs.HeaderTypes.{IsIdentity, IsTable}
+use Rattle.giop_sig.specs.Heard.{found_as, front_told, hears, id_told, identity_told, next_sequence, selects}
+use Rattle.giop_sig.proofs.Tables.{shape_at}
+use Rattle.giop_sig.specs.Hearings.{deaf, hearing_in, sign_is, signal_after, signal_by_node, signal_of, told_of}
+use Rattle.giop_sig.specs.Table.{Node, Identity, Table, identified_in, identity_at, no_identity, node_at, shape_of, takes_octet}
+use Rattle.giop_sig.specs.Table as nodes
+use Rattle.giop_sig.specs.Trees.{any_hearing, depth_in, follows, grow, in_room, octet_type, tree_at}
+use Rattle.giop_sig.specs.Types.{Sign, Told, Untold, Awaits, Offers, Is, Empty, Unknown, Then, Stops, Hearing, Ty, sequel, shape_in}
+
+-- what was told comes back from its signal
+told_again : (told : Told) → told_of (signal_of told) ≡ told
+told_again Untold = refl
+told_again (Awaits n) = refl
+told_again (Offers i) = refl
+told_again (Is i) = refl
+told_again Empty = refl
+told_again Unknown = refl
+
+-- the signal of what a list tells
+pub listed_signal : (xs : List Told) (k : ℕ) (d : Signal) → k < length xs
+    → get_or (map signal_of xs) k d ≡ signal_of (get_or xs k Unknown)
+listed_signal [] k d lt = absurd (omega arith)
+listed_signal (x ∷ xs) zero d lt = refl
+listed_signal (x ∷ xs) (suc k) d lt = listed_signal xs k d (omega arith)
+
+-- ---- a type of the table
+
+-- how a node of a tree hears
+hearing_grown : (h : Hearing) (f : ℕ → Ty) (room : ℕ) (code : ℕ) (node : Node)
+    → node ≡ nodes.any code → hearing_in (grow h f (in_room room node)) ≡ h
+hearing_grown h f room code node e =
+    subst (λ n. hearing_in (grow h f (in_room room n)) ≡ h) (sym e) refl
+
+pub any_hears : (t : Table) (n i code : ℕ) (told : Told) (sign : Sign)
+    → node_at t i ≡ nodes.any code
+    → (hearing_in (tree_at t n i)).hears told sign ≡ hears t told sign
+unfolding tree_at
+any_hears t zero i code told sign e =
+    ap (λ (h : Hearing). h.hears told sign)
+    (hearing_grown (any_hearing t 0) (λ k. octet_type) 0 code (node_at t i) e)
+any_hears t (suc n) i code told sign e =
+    ap (λ (h : Hearing). h.hears told sign)
+    (hearing_grown (any_hearing t n) (tree_at t n) n code (node_at t i) e)
+
+deaf_grown : (h : Hearing) (f : ℕ → Ty) (room : ℕ) (node : Node)
+    → (shape_of node ≡ shapes.Led → ⊥) → hearing_in (grow h f (in_room room node)) ≡ deaf
+deaf_grown h f room (nodes.any code) other = absurd (other refl)
+deaf_grown h f room (nodes.prim p) other = refl
+deaf_grown h f room _ other = refl
+
+pub deaf_at : (t : Table) (n i : ℕ) → (shape_of (node_at t i) ≡ shapes.Led → ⊥)
+    → hearing_in (tree_at t n i) ≡ deaf
+unfolding tree_at
+deaf_at t zero i other =
+    deaf_grown (any_hearing t 0) (λ k. octet_type) 0 (node_at t i) other
+deaf_at t (suc n) i other = deaf_grown (any_hearing t n) (tree_at t n) n (node_at t i) other
+
+-- only an any is led
+pub led_any : (node : Node) → shape_of node ≡ shapes.Led → (code : ℕ) × (node ≡ nodes.any code)
+led_any (nodes.any code) e = (code, refl)
+led_any (nodes.prim p) e = absurd cc
+led_any (nodes.enumeration names) e = absurd cc
+led_any (nodes.text bound) e = absurd cc
+led_any (nodes.octets bound) e = absurd cc
+led_any (nodes.members parts) e = absurd cc
+led_any (nodes.union switch cases otherwise) e = absurd cc
+led_any (nodes.sequence bound element) e = absurd cc
+led_any (nodes.array count element) e = absurd cc
+led_any (nodes.encapsulation held) e = absurd cc
+led_any (nodes.tagged special tag inner other) e = absurd cc
+led_any (nodes.marked mark) e = absurd cc
+led_any (nodes.typecode wide kind cases) e = absurd cc
+
+-- ---- what an any hears, and what follows
+
+pub heard_any : (t : Table) (i n : ℕ) (told result : Signal) (sign : Heard)
+    → shape_of (node_at t i) ≡ shapes.Led
+    → result ≡ signal_of (hears t (told_of told) (sign_is sign))
+    → told_of result ≡ (hearing_in (tree_at t n i)).hears (told_of told) (sign_is sign)
+heard_any t i n told result sign led is =
+    let any = led_any (node_at t i) led in
+    ap told_of is
+    ∙ told_again (hears t (told_of told) (sign_is sign))
+    ∙ sym (any_hears t n i any.0 (told_of told) (sign_is sign) any.1)
+
+none_by : (t : Table) (node : Node) (told : Signal) (sign : Sign)
+    → (shape_of node ≡ shapes.Led → ⊥) → told ≡ signal_by_node t node told sign
+none_by t (nodes.any code) told sign other = absurd (other refl)
+none_by t _ told sign other = refl
+
+pub after_none : (t : Table) (i : ℕ) (told : Signal) (sign : Heard)
+    → (shape_of (node_at t i) ≡ shapes.Led → ⊥) → told ≡ signal_after t i told sign
+after_none t i told sign other = none_by t (node_at t i) told (sign_is sign) other
+
+pub heard_none : (t : Table) (i n : ℕ) (told : Signal) (sign : Heard)
+    → (shape_of (node_at t i) ≡ shapes.Led → ⊥)
+    → told_of told ≡ (hearing_in (tree_at t n i)).hears (told_of told) (sign_is sign)
+heard_none t i n told sign other =
+    ap (λ (h : Hearing). h.hears (told_of told) (sign_is sign)) (sym (deaf_at t n i other))
+
+pub follow_any : (t : Table) (i room : ℕ) → shape_of (node_at t i) ≡ shapes.Led
+    → hearing_in (tree_at t (suc room) i) ≡ any_hearing t room
+unfolding tree_at
+follow_any t i room led =
+    let any = led_any (node_at t i) led in
+    hearing_grown (any_hearing t room) (tree_at t room) room any.0 (node_at t i) any.1
+
+-- what follows in an any is a type of the table that follows there
+selected_follows : (b : ℕ → Bool) (told : Told) (i : ℕ) → selects b told ≡ Then i → b i ≡ true
+selected_follows b (Is j) i e = by_place (b j) refl e
+  where
+    by_place : (v : Bool) → b j ≡ v → cond v (Then j) Stops ≡ Then i → b i ≡ true
+    by_place true is e = let same : j ≡ i = cc in subst (λ k. b k ≡ true) same is
+    by_place false is e = absurd cc
+selected_follows b Untold i e = absurd cc
+selected_follows b (Awaits n) i e = absurd cc
+selected_follows b (Offers j) i e = absurd cc
+selected_follows b Empty i e = absurd cc
+selected_follows b Unknown i e = absurd cc
+
+pub sequel_follows : (t : Table) (room : ℕ) (told : Told) (i : ℕ)
+    → sequel (any_hearing t room) told ≡ Then i → follows t room i ≡ true
+sequel_follows t room Untold i e = absurd cc
+sequel_follows t room (Is j) i e = selected_follows (follows t room) (Is j) i e
+sequel_follows t room (Awaits n) i e = absurd cc
+sequel_follows t room (Offers j) i e = absurd cc
+sequel_follows t room Empty i e = absurd cc
+sequel_follows t room Unknown i e = absurd cc
+
+pub follows_known : (t : Table) (room i : ℕ) → follows t room i ≡ true → i < length t.types
+follows_known t room i e = by_place (nat_lt i (length t.types)) refl e
+  where
+    by_place : (v : Bool) → nat_lt i (length t.types) ≡ v
+        → v && takes_octet (node_at t i) && nat_le (depth_in t.types i) room ≡ true
+        → i < length t.types
+    by_place true is e = ltb-true i (length t.types) is
+    by_place false is e = absurd cc
+
+-- in a tree
+module _ (t : Table) (room id : ℕ) (led : shape_in (tree_at t (suc room) id) ≡ shapes.Led) where
+  led_hearing : hearing_in (tree_at t (suc room) id) ≡ any_hearing t room
+  led_hearing = follow_any t id room (sym (shape_at t (suc room) id) ∙ led)
+
+  pub led_follows : (told : Told) (i : ℕ)
+      → sequel (hearing_in (tree_at t (suc room) id)) told ≡ Then i → follows t room i ≡ true
+  led_follows told i e =
+      sequel_follows t room told i (ap (λ h. sequel h told) (sym led_hearing) ∙ e)
+
+  pub follows_led : (i : ℕ) → follows t room i ≡ true
+      → sequel (hearing_in (tree_at t (suc room) id)) (Is i) ≡ Then i
+  follows_led i e =
+      ap (λ h. sequel h (Is i)) led_hearing ∙ ap (λ b. cond b (Then i) Stops) e
+
+-- ---- what the code finds
+
+pub not_below : (a b : ℕ) → (a < b → false ≡ true) → b ≤ a
+not_below a b never = by_place (cases_lt a b)
+  where
+    by_place : (a < b) ⊎ (b ≤ a) → b ≤ a
+    by_place (inl lt) = absurd (false≢true (never lt))
+    by_place (inr le) = le
+
+-- no type comes after the last
+pub past_next : (t : Table) (i : ℕ) → length t.types ≤ i + 1
+    → signals.Unknown ≡ signal_of (next_sequence t i)
+past_next t i le =
+    let e : node_at t (i + 1) ≡ nodes.prim Octet =
+    get_or_past t.types (i + 1) (nodes.prim Octet) le in
+    rw e refl
+
+-- an id in an octet of a kind and the octets after it
+pub identity_parts : (t : Table) (octets : List ℕ) → 1 ≤ length octets
+    → identity_told t octets
+    ≡ found_as t (get_or octets 0 0) (identified_in t (take (length octets - 1) (drop 1 octets)))
+identity_parts t [] some = absurd (omega arith)
+identity_parts t (kind ∷ id) some =
+    let e : length (kind ∷ id) - 1 ≡ length id = omega arith in
+    ap (λ xs. found_as t kind (identified_in t xs))
+    (sym (ap (λ n. take n id) e ∙ take-length id))
+
+-- no id and no front is so long
+
+short_by : (octets : List ℕ) (es : List Identity) (k : ℕ) (types : List Node)
+    → All (IsIdentity types) es
+    → position (λ (e : Identity). bytes_eq octets e.repository) es ≡ Some k → length octets ≤ 128
+short_by octets es k types all e =
+    let at = position-Some (λ (e : Identity). bytes_eq octets e.repository) es k no_identity e in
+    let same = (bytes_eq-Decides octets (get_or es k no_identity).repository).0 at.1 in
+    let short = (all k no_identity at.0).short in
+    omega (arith, ap length same, short)
+
+no_id : (t : Table) (id : List ℕ) (o : Option ℕ) → IsTable t → 129 ≤ length id
+    → position (λ (e : Identity). bytes_eq id e.repository) t.identities ≡ o
+    → identified_in t id ≡ None
+no_id t id None laws long e = ap (option_map (identity_at t)) e
+no_id t id (Some k) laws long e =
+    let short = short_by id t.identities k t.types laws.identities e in
+    absurd (omega arith)
+
+long_identity : (t : Table) (octets : List ℕ) → IsTable t → 130 ≤ length octets
+    → identity_told t octets ≡ Unknown
+long_identity t [] laws long = refl
+long_identity t (kind ∷ id) laws long =
+    ap (found_as t kind) (no_id t id (position (λ (e : Identity). bytes_eq id e.repository)
+    t.identities) laws (omega arith) refl)
+
+long_front : (t : Table) (octets : List ℕ) (o : Option ℕ) → IsTable t → 130 ≤ length octets
+    → position (bytes_eq octets) t.fronts ≡ o → front_told o ≡ Unknown
+long_front t octets None laws long e = refl
+long_front t octets (Some n) laws long e =
+    let at = position-Some (bytes_eq octets) t.fronts n [] e in
+    let same = (bytes_eq-Decides octets (slice_index_or t.fronts n [])).0 at.1 in
+    let short = laws.anys.short n [] at.0 in
+    absurd (omega (arith, short, ap length same))
+
+pub too_long : (t : Table) (octets : List ℕ) (more : Bool) → IsTable t → 130 ≤ length octets
+    → signals.Unknown ≡ signal_of (id_told t octets more)
+too_long t octets true laws long =
+    ap signal_of (sym (long_front t octets (position (bytes_eq octets) t.fronts) laws long refl))
+too_long t octets false laws long = ap signal_of (sym (long_identity t octets laws long))
+
+-- a front that has a number
+pub longer_told : (t : Table) (octets : List ℕ) (n : ℕ)
+    → Some n ≡ position (bytes_eq octets) t.fronts
+    → signals.Awaits n ≡ signal_of (id_told t octets true)
+longer_told t octets n is = ap (λ o. signal_of (front_told o)) is
+
+-- ---- every type
+
+led_or : (s : Shape) → (s ≡ shapes.Led) ⊎ (s ≡ shapes.Led → ⊥)
+led_or shapes.Led = inl refl
+led_or (shapes.Prim p) = inr (λ e. absurd cc)
+led_or (shapes.Enumeration n) = inr (λ e. absurd cc)
+led_or (shapes.Text bound) = inr (λ e. absurd cc)
+led_or (shapes.Octets bound) = inr (λ e. absurd cc)
+led_or (shapes.Members n) = inr (λ e. absurd cc)
+led_or (shapes.Union n) = inr (λ e. absurd cc)
+led_or (shapes.Sequence bound) = inr (λ e. absurd cc)
+led_or (shapes.Array n) = inr (λ e. absurd cc)
+led_or shapes.Encapsulation = inr (λ e. absurd cc)
+led_or shapes.Tagged = inr (λ e. absurd cc)
+led_or (shapes.Marked mark) = inr (λ e. absurd cc)
+
+after_by : (t : Table) (i n : ℕ) (told : Signal) (sign : Heard)
+    → (shape_of (node_at t i) ≡ shapes.Led) ⊎ (shape_of (node_at t i) ≡ shapes.Led → ⊥)
+    → told_of (signal_after t i told sign)
+    ≡ (hearing_in (tree_at t n i)).hears (told_of told) (sign_is sign)
+after_by t i n told sign (inl led) =
+    let any = led_any (node_at t i) led in
+    heard_any t i n told (signal_after t i told sign) sign led
+    (ap (λ node. signal_by_node t node told (sign_is sign)) any.1)
+after_by t i n told sign (inr other) =
+    ap told_of (sym (after_none t i told sign other)) ∙ heard_none t i n told sign other
+
+-- what a signal stands for after a sign is what its type hears
+pub told_after_sign : (t : Table) (n i : ℕ) (told : Signal) (sign : Heard)
+    → told_of (signal_after t i told sign)
+    ≡ (hearing_in (tree_at t n i)).hears (told_of told) (sign_is sign)
+told_after_sign t n i told sign = after_by t i n told sign (led_or (shape_of (node_at t i)))

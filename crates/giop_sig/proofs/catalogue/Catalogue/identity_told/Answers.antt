@@ -1,0 +1,20 @@
+use Rattle.std.proofs.Common.{ap, sym, ◌∙◌, get_or}
+use Rattle.giop_sig.specs.Heard.{found_as, of_kind}
+use Rattle.giop_sig.specs.Hearings.{signal_of}
+use Rattle.giop_sig.proofs.HearingLaws.{identity_parts}
+use Rattle.giop_sig.proofs.catalogue.Catalogue.identity_told.Goals as goal
+
+pub returns-in-Some : goal.returns-in-Some
+returns-in-Some c =
+    let t = c.args.self.now in
+    c.told_as.ensures
+    ∙ ap (λ node. signal_of (of_kind (get_or c.args.octets.now 0 0) c.in-Some.t.0 node))
+    c.entry.ensures.node
+    ∙ ap (λ o. signal_of (found_as t (get_or c.args.octets.now 0 0) o)) c.in-Some.ensures.is
+    ∙ ap signal_of (sym (identity_parts t c.args.octets.now c.in-len1-up.len_at_least))
+
+pub returns-in-None : goal.returns-in-None
+returns-in-None c =
+    let t = c.args.self.now in
+    ap (λ o. signal_of (found_as t (get_or c.args.octets.now 0 0) o)) c.in-None.ensures.is
+    ∙ ap signal_of (sym (identity_parts t c.args.octets.now c.in-len1-up.len_at_least))

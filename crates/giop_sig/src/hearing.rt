@@ -1,0 +1,209 @@
+//! What the TypeCode of an any tells of its value.
+
+ghost use Rattle.std.specs.Prelude.{◌≡◌, ℕ, suc, ◌<◌, ◌≤◌, ◌++◌, length, position};
+ghost use Rattle.std.specs.Str.{bytes_eq};
+ghost use Rattle.giop_sig.specs.Heard.{bound_told, count_told, counted, front_at, hears, id_told, identity_told, next_sequence, sequence_told, spelt, unless_awaited};
+ghost use Rattle.giop_sig.specs.Hearings.{HasPart, hearing_in, sequel_of, sign_is, signal_after, signal_of, told_of};
+ghost use Rattle.giop_sig.specs.Trees.{any_hearing, follows, tree_at};
+ghost use Rattle.giop_sig.specs.Types.{sequel};
+
+use crate::catalogue::Catalogue;
+use crate::fronts::{Front, longer_front};
+use crate::numbers::{HEARD_BOUND_MARK, HEARD_KIND_MARK};
+use crate::told_kinds::{built_in_sequence, told_by};
+use crate::types::{Following, Shape, Sign, Signal, TypeId};
+
+impl Catalogue {
+    /// What a value of a type, which begins with a part that tells what follows, has told after a sign in that part.
+    pub fn hear(&self, t: TypeId, told: Signal, sign: Sign<'_>) -> Signal
+        requires { t.0 < length self.now.types }
+        ensures is { result ≡ signal_after self.now t.0 told sign.entry }
+        ensures heard { (n : ℕ) → told_of result
+            ≡ (hearing_in (tree_at self.now n t.0)).hears (told_of told)
+            (sign_is sign.entry) }
+    {
+        self.laws();
+        match self.shape(t) {
+            Shape::Led => self.hear_any(told, sign),
+            _ => told,
+        }
+    }
+
+    /// What an any has told after a sign in its TypeCode.
+    fn hear_any(&self, told: Signal, sign: Sign<'_>) -> Signal
+        ensures { result
+            ≡ signal_of (hears self.now (told_of told) (sign_is sign.entry)) }
+    {
+        match sign {
+            Sign::Marked(HEARD_KIND_MARK, kind) => told_by(kind),
+            Sign::Marked(HEARD_BOUND_MARK, _) => self.bounded(told),
+            Sign::Marked(_, _) => unless_awaited(told),
+            Sign::Counted(count) => self.counted(told, count),
+            Sign::Spelt(held, rest, more) => self.spelt(told, held, rest, more),
+        }
+    }
+
+    /// After the bound of a sequence: its type, if that of its elements is known.
+    fn bounded(&self, told: Signal) -> Signal
+        ensures { result ≡ signal_of (bound_told self.now (told_of told)) }
+    {
+        match told {
+            Signal::Is(element) => self.sequence_of(TypeId(element)),
+            _ => Signal::Unknown,
+        }
+    }
+
+    /// The sequence of a type.
+    fn sequence_of(&self, t: TypeId) -> Signal
+        ensures { result ≡ signal_of (sequence_told self.now t.0) }
+    {
+        match built_in_sequence(t) {
+            Some(sequence) => Signal::Is(sequence.0),
+            None => self.next_sequence(t),
+        }
+    }
+
+    /// The type after a type, if it is the sequence of it.
+    fn next_sequence(&self, t: TypeId) -> Signal
+        ensures { result ≡ signal_of (next_sequence self.now t.0) }
+    {
+        self.laws();
+        if t.0 == u32::MAX || !self.has(TypeId(t.0 + 1)) {
+            return Signal::Unknown;
+        }
+        if self.entry(TypeId(t.0 + 1)).is_sequence_of(t) {
+            Signal::Is(t.0 + 1)
+        } else {
+            Signal::Unknown
+        }
+    }
+
+    /// After a count: the type that was offered, if it has so many members.
+    fn counted(&self, told: Signal, count: u32) -> Signal
+        ensures { result ≡ signal_of (counted self.now (told_of told) count) }
+    {
+        match told {
+            Signal::Offers(t) => self.offered(TypeId(t), count),
+            _ => unless_awaited(told),
+        }
+    }
+
+    /// A type, if it has so many members.
+    fn offered(&self, t: TypeId, count: u32) -> Signal
+        ensures { result ≡ signal_of (count_told self.now t.0 count) }
+    {
+        if self.has(t) && self.entry(t).has_count(count) {
+            Signal::Is(t.0)
+        } else {
+            Signal::Unknown
+        }
+    }
+
+    /// After a piece of a string in two parts.
+    fn spelt(&self, told: Signal, held: &[u8], rest: &[u8], more: bool) -> Signal
+        ensures { result ≡ signal_of
+            (spelt self.now (told_of told) (held.now ++ rest.now) more) }
+    {
+        match told {
+            Signal::Awaits(front) => self.id_told(front, held, rest, more),
+            _ => told,
+        }
+    }
+
+    /// After a piece of a repository id, in two parts, that stands after the front with a number.
+    fn id_told(&self, front: u32, held: &[u8], rest: &[u8], more: bool) -> Signal
+        ensures { result ≡ signal_of (id_told self.now
+            (front_at self.now front ++ (held.now ++ rest.now)) more) }
+    {
+        self.laws();
+        let Some(octets) = longer_front(self.front(front), held, rest) else {
+            return Signal::Unknown;
+        };
+        if !more {
+            return self.identity_told(&octets);
+        }
+        match self.front_number(&octets) {
+            Some(longer) => Signal::Awaits(longer),
+            None => Signal::Unknown,
+        }
+    }
+
+    /// The front with a number, or no octets.
+    fn front(&self, number: u32) -> &[u8]
+        ensures { result.now ≡ front_at self.now number }
+    {
+        match self.fronts.get_index(number as usize) {
+            Some(front) => front.as_slice(),
+            None => b"",
+        }
+    }
+
+    /// The number of a front.
+    fn front_number(&self, front: &Front) -> Option<u32>
+        ensures { result ≡ position (bytes_eq front.now.items) self.now.fronts }
+    {
+        let number = self.fronts.get_index_of(front)?;
+        Some(number as u32)
+    }
+
+    /// After a whole repository id, which stands after the octet of its kind.
+    fn identity_told(&self, octets: &[u8]) -> Signal
+        ensures { result ≡ signal_of (identity_told self.now octets.now) }
+    {
+        match octets {
+            [] => Signal::Unknown,
+            [kind, id @ ..] => match self.identified(id) {
+                Some(t) => self.entry(t).told_as(*kind, t),
+                None => Signal::Unknown,
+            },
+        }
+    }
+
+    /// What follows in a value of a type, which begins with a part that tells it, in this room for what follows.
+    pub fn following(&self, t: TypeId, told: Signal, room: u8) -> Following
+        requires { t.0 < length self.now.types }
+        ensures is { sequel (hearing_in (tree_at self.now (suc room) t.0)) (told_of told)
+            ≡ sequel_of result }
+        ensures place { HasPart result }
+        ensures known { (place : ℕ) → result ≡ Following.Then place →
+            place ≤ length self.now.types }
+    {
+        match self.shape(t) {
+            Shape::Led => self.following_any(told, room),
+            _ => Following::Ends,
+        }
+    }
+
+    /// What follows the TypeCode of an any, in this room.
+    fn following_any(&self, told: Signal, room: u8) -> Following
+        ensures is { sequel (any_hearing self.now room) (told_of told) ≡ sequel_of result }
+        ensures place { HasPart result }
+        ensures known { (place : ℕ) → result ≡ Following.Then place →
+            place ≤ length self.now.types }
+    {
+        self.laws();
+        match told {
+            Signal::Untold => Following::Ends,
+            Signal::Empty => Following::Ends,
+            Signal::Is(i) if self.follows(TypeId(i), room) => Following::Then(i + 1),
+            _ => Following::Stops,
+        }
+    }
+
+    /// Whether a type can follow in an any, in this room.
+    pub fn follows(&self, t: TypeId, room: u8) -> bool
+        ensures { result ≡ follows self.now room t.0 }
+    {
+        self.has(t) && self.entry(t).takes_octet() && self.depth_at(t) <= u32::from(room)
+    }
+}
+
+/// After what tells nothing.
+fn unless_awaited(told: Signal) -> Signal
+    ensures { result ≡ signal_of (unless_awaited (told_of told)) }
+{
+    match told {
+        Signal::Awaits(_) => Signal::Unknown,
+        _ => told,
+    }
+}

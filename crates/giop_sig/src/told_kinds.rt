@@ -1,0 +1,72 @@
+//! What the kind of a TypeCode, and what it holds, tell of the value after it.
+
+ghost use Rattle.std.specs.Prelude.{◌≡◌, IfSome, IfNone};
+ghost use Rattle.giop_sig.specs.Types.{Told};
+ghost use Rattle.giop_sig.specs.Table.{Table};
+ghost use Rattle.giop_sig.specs.Heard.{next_sequence, sequence_told, told_by};
+ghost use Rattle.giop_sig.specs.Hearings.{signal_of};
+
+use crate::numbers::{
+    ANY, BOOLEAN, CHAR, DOUBLE, FLOAT, IOR, LONG, LONGLONG, OCTET, OCTETS, REFERENCES, SEQUENCES,
+    SHORT, STRING, TYPE_CODE, ULONG, ULONGLONG, USHORT,
+};
+use crate::types::{Signal, TypeId};
+
+/// How many kinds, from 0 on, tell something.
+const KINDS: u32 = 25;
+
+/// What each kind tells, from 0 on: 15, 16 and 17 that an id comes, whose front is the first, second or third of all.
+static TOLD: [Signal; KINDS as usize] = [
+    Signal::Empty,
+    Signal::Empty,
+    Signal::Is(SHORT),
+    Signal::Is(LONG),
+    Signal::Is(USHORT),
+    Signal::Is(ULONG),
+    Signal::Is(FLOAT),
+    Signal::Is(DOUBLE),
+    Signal::Is(BOOLEAN),
+    Signal::Is(CHAR),
+    Signal::Is(OCTET),
+    Signal::Is(ANY),
+    Signal::Is(TYPE_CODE),
+    Signal::Is(OCTETS),
+    Signal::Is(IOR),
+    Signal::Awaits(0),
+    Signal::Awaits(1),
+    Signal::Awaits(2),
+    Signal::Is(STRING),
+    Signal::Unknown,
+    Signal::Unknown,
+    Signal::Unknown,
+    Signal::Unknown,
+    Signal::Is(LONGLONG),
+    Signal::Is(ULONGLONG),
+];
+
+/// What a kind tells of the value after it.
+pub(crate) fn told_by(kind: u32) -> Signal
+    ensures { result ≡ signal_of (told_by kind) }
+{
+    if kind < KINDS {
+        TOLD[kind as usize]
+    } else {
+        Signal::Unknown
+    }
+}
+
+/// The sequence of a type that has no repository id; None for any other type.
+pub(crate) fn built_in_sequence(t: TypeId) -> Option<TypeId>
+    ensures some { IfSome result (λ s. (C : Table) → sequence_told C t.0 ≡ Told.Is s.0) }
+    ensures none { IfNone result ((C : Table) → sequence_told C t.0 ≡ next_sequence C t.0) }
+{
+    if t.0 == OCTET {
+        Some(TypeId(OCTETS))
+    } else if t.0 <= STRING {
+        Some(TypeId(SEQUENCES + t.0))
+    } else if t.0 == IOR {
+        Some(TypeId(REFERENCES))
+    } else {
+        None
+    }
+}
