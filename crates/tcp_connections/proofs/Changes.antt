@@ -143,9 +143,9 @@ pub made : (O O' : List Event → Type 0) (live live' : List ℕ) (c c' : Connec
           insert c.table.rooms.items (place_among p c.table.keys.items) room;
       free = rest;
       lasts =
-          set c.stamps.last.items room c.segments;
+          set c.flows.stamps.last.items room c.segments;
       syns = set c.syns.kept.items room None;
-      came = came_none c.came.ids.items room;
+      came = came_none c.flows.came.ids.items room;
     })
     → c'.free.most ≡ c.free.most → c'.table.most ≡ c.table.most
     → IsState O' live' c' (made_known w p)
@@ -192,7 +192,7 @@ pub entered : (c c' : Connections) (es : List Event) →
     (known : List EndpointPair) (rooms free lasts : List ℕ) (syns : List (Option KeptSyn))
     (came : List Bool) → c'.table.keys.items ≡ known → c'.table.rooms.items ≡ rooms
     → c'.free.free.items ≡ free →
-    c'.stamps.last.items ≡ lasts → c'.syns.kept.items ≡ syns → c'.came.ids.items ≡ came
+    c'.flows.stamps.last.items ≡ lasts → c'.syns.kept.items ≡ syns → c'.flows.came.ids.items ≡ came
     → state_of c' es ≡ record (state_of c es) {
       known = known;
       rooms = rooms;
@@ -208,36 +208,36 @@ entered c c' es others known rooms free lasts syns came k r f l y o =
       rooms = c'.table.rooms.items;
       free =
           c'.free.free.items;
-      lasts = c'.stamps.last.items;
+      lasts = c'.flows.stamps.last.items;
       syns = c'.syns.kept.items;
-      came = c'.came.ids.items;
+      came = c'.flows.came.ids.items;
     }) (others es)
     ∙ ap (λ (ps : List EndpointPair). record (state_of c es) {
       known = ps;
       rooms =
           c'.table.rooms.items;
       free = c'.free.free.items;
-      lasts = c'.stamps.last.items;
+      lasts = c'.flows.stamps.last.items;
       syns = c'.syns.kept.items;
-      came = c'.came.ids.items;
+      came = c'.flows.came.ids.items;
     }) k
     ∙ ap (λ (rs : List ℕ). record (state_of c es) {
       known = known;
       rooms = rs;
       free =
           c'.free.free.items;
-      lasts = c'.stamps.last.items;
+      lasts = c'.flows.stamps.last.items;
       syns = c'.syns.kept.items;
-      came = c'.came.ids.items;
+      came = c'.flows.came.ids.items;
     }) r
     ∙ ap (λ (rs : List ℕ). record (state_of c es) {
       known = known;
       rooms = rooms;
       free = rs;
       lasts =
-          c'.stamps.last.items;
+          c'.flows.stamps.last.items;
       syns = c'.syns.kept.items;
-      came = c'.came.ids.items;
+      came = c'.flows.came.ids.items;
     }) f
     ∙ ap (λ (ns : List ℕ). record (state_of c es) {
       known = known;
@@ -245,7 +245,7 @@ entered c c' es others known rooms free lasts syns came k r f l y o =
       free = free;
       lasts = ns;
       syns = c'.syns.kept.items;
-      came = c'.came.ids.items;
+      came = c'.flows.came.ids.items;
     }) l
     ∙ ap (λ (ss : List (Option KeptSyn)). record (state_of c es) {
       known = known;
@@ -253,7 +253,7 @@ entered c c' es others known rooms free lasts syns came k r f l y o =
       free = free;
       lasts = lasts;
       syns = ss;
-      came = c'.came.ids.items;
+      came = c'.flows.came.ids.items;
     }) y
     ∙ ap (λ (bs : List Bool). record (state_of c es) {
       known = known;

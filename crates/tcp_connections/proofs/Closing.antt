@@ -123,7 +123,7 @@ pub none_at_end : {X : Type 0} (r : Result X ListenerFault) (O : List Event → 
     (live : List ℕ) (c : Connections) (w : State)
     → ((id : ℕ) → is_some (live_at w id) ≡ true → 0 < times id (lives w.events))
     → OnOk r (IsAt O live c (all_closed (lives w.events) w))
-    → OnOk r ((id : ℕ) → live_of (get_or c.flows.items id None) ≡ None)
+    → OnOk r ((id : ℕ) → live_of (get_or c.flows.states.items id None) ≡ None)
 unfolding live_of
 none_at_end (Ok x) O live c w told h = λ id.
     ap (λ (v : State). live_at v id) h.same

@@ -1,10 +1,14 @@
 -- The connection that makes room is the eldest.
 use Rattle.std.proofs.Common.{◌≡◌, ◌⊎◌, ℕ, zero, suc, ◌<◌, ◌≤◌, Bool, true, false, cond, nat_eq, nat_lt, ◌&&◌, ◌||◌, length, refl, sym, ◌∙◌, subst, arith, inl, inr, true≢false}
-use Rattle.std.proofs.lemmas.Bool.{cases_Bool, cases_lt, cond-true, cond-false, lt-ltb, ltb-true, eqb-true, eq-eqb, or_cases, or_left, or_right, and_from, and_parts}
+use Rattle.std.proofs.lemmas.Bool.{cases_Bool, cases_eq, cases_lt, cond-true, cond-false, lt-ltb, ltb-true, eqb-true, eq-eqb, or_cases, or_left, or_right, and_from, and_parts}
 use Rattle.tcp_flow.specs.Flow.{Reader}
 use Rattle.tcp_connections.specs.Connections.{State, room_at, is_live, is_both, class_of, goes_before, eldest}
 use Rattle.tcp_connections.specs.Forgetting.{last_at, IsEldest, MakesRoom}
+use Rattle.tcp_connections.specs.Ranks.{IsBeforeAll}
+use Rattle.tcp_connections.specs.State.{IsSound}
 use Rattle.tcp_connections.proofs.Cases.{room_made}
+use Rattle.tcp_connections.proofs.Sound.{room_below}
+use Rattle.tcp_connections.proofs.Times.{times_both}
 use Rattle.tcp_connections.proofs.Unknown.{eldest_within}
 
 -- whether one goes before another, by their classes and when they were seen
@@ -74,6 +78,23 @@ none_before w (suc n) k l =
             | inl less ↦ none_before w n k less
             | inr more ↦ subst (λ (i : ℕ). goes_before w i best ≡ false) (omega (arith, l, more)) e
           ])
+    ]
+
+-- the one that goes before each other is the eldest
+pub only_eldest : (w : State) (place : ℕ) → IsSound w → place < length w.known →
+    IsBeforeAll w.flows w.came w.lasts (room_at w place) → place ≡ eldest w (length w.known)
+only_eldest w place h l first =
+    let best : ℕ = eldest w (length w.known) in
+    let within : best < length w.known =
+    eldest_within w (length w.known) (omega (arith, l)) in
+    elim (cases_eq place best) [
+      | inl e ↦ e
+      | inr ne ↦ absurd (true≢false
+          (sym (first.before (room_at w best) (room_below w best h within) (λ e.
+          (let twice = times_both w.rooms best place (omega (arith, within, h.pairs))
+          (omega (arith, l, h.pairs)) (λ o. ne (sym o)) e in
+          omega (arith, twice, h.once (room_at w place)))))
+          ∙ none_before w (length w.known) place l))
     ]
 
 -- a class by whether a stream is live, and whether segments of both flows came

@@ -16,6 +16,7 @@ pub mod OwnersEnd
 pub mod OwnersGrown
 pub mod OwnersKnown
 pub mod OwnFlows
+pub mod Ranked
 pub mod Repeated
 pub mod Roomy
 pub mod SamePairs

@@ -11,7 +11,11 @@ use Rattle.tcp_flow.specs.declared.flow.ListenerFault.{ListenerFault}
 use Rattle.tcp_flow.specs.Flow.{Flow, Event, CaptureEvent, OfCapture, held_by_others}
 use Rattle.tcp_flow.specs.Laws.{IsSettled}
 use Rattle.tcp_flow.specs.State.{state, IsState as IsFlow}
+use Rattle.tcp_connections.specs.declared.came.Came.{Came}
 use Rattle.tcp_connections.specs.declared.connections.Connections.{Connections}
+use Rattle.tcp_connections.specs.declared.flows.Flows.{Flows}
+use Rattle.tcp_rooms.specs.declared.stamps.Stamps.{Stamps}
+use Rattle.tcp_waiting.specs.declared.pool.Pool.{Pool}
 use Rattle.tcp_streams.specs.declared.pair.Side.{Side}
 use Rattle.tcp_streams.specs.Lives.{lives, behind, most_ids}
 use Rattle.tcp_streams.proofs.Order.{lives_more}
@@ -49,15 +53,37 @@ sound_any c es fs h = search (arith, sound_seen)
 abbrev pub rest_of : Connections → List Event → State
 rest_of c es = record (state_of c es) { flows = []; blocks = 0; held = [] }
 
+-- a flow is set, and what waits has changed
+pub set_rest : (c : Connections) (f : Flows) (p : Pool) → f.came ≡ c.flows.came →
+    f.stamps ≡ c.flows.stamps → (e : List Event) →
+    rest_of (record c { flows = f; pool = p }) e ≡ rest_of c e
+set_rest c f p came stamps e =
+    ap (λ (k : Came). record (rest_of c e) { came = k.ids.items; lasts = f.stamps.last.items }) came
+    ∙ ap (λ (s : Stamps). record (rest_of c e) { lasts = s.last.items }) stamps
+
+-- a state is kept where it is the same whatever has happened
+pub kept : (O : List Event → Type 0) (live : List ℕ) (c c' : Connections) (w : State)
+    → ((es : List Event) → state_of c' es ≡ state_of c es) → c'.free.most ≡ c.free.most →
+    c'.table.most ≡ c.table.most → IsState O live c w → IsState O live c' w
+kept O live c c' w same free room h = record {
+  observed = h.observed;
+  live = h.live;
+  same = same w.events ∙ h.same;
+  told = h.told;
+  sound = h.sound;
+  free = free ∙ h.free;
+  room = room ∙ h.room;
+}
+
 -- only flows, and what they hold, have changed
 pub changed : (c c' : Connections) (es : List Event) →
     ((e : List Event) → rest_of c' e ≡ rest_of c e) →
     (flows : List (Option FlowState)) (held : List Payload)
-    → c'.flows.items ≡ flows → c'.pool.blocks ≡ c.pool.blocks → c'.pool.held ≡ held →
+    → c'.flows.states.items ≡ flows → c'.pool.blocks ≡ c.pool.blocks → c'.pool.held ≡ held →
     state_of c' es ≡ record (state_of c es) { flows = flows; held = held }
 changed c c' es rest flows held f b h =
     ap (λ (u : State). record u {
-      flows = c'.flows.items;
+      flows = c'.flows.states.items;
       blocks = c'.pool.blocks;
       held =
           c'.pool.held;
@@ -115,13 +141,13 @@ small_id w id h l = search (arith)
 -- a flow's step, beside all others
 pub flow_done : (O O' : List Event → Type 0) (live live' : List ℕ) (c c' : Connections)
     (es : List Event) (id : ℕ) (s' : FlowState) (f : Flow)
-    → IsState O live c (state_of c es) → id < length c.flows.items
+    → IsState O live c (state_of c es) → id < length c.flows.states.items
     → IsFlow (λ e. O' e × (live' ≡ lives e)) s' c'.pool.held f
     → s'.id ≡ id → held_by_others id c'.pool.held ≡ held_by_others id c.pool.held →
     blocks_of c'.pool.held ≤ c.pool.blocks → IsSettled (state s' c'.pool.held []) →
     IsApart (state_of c es) id → IsTurn id es f
     → ((e : List Event) → rest_of c' e ≡ rest_of c e) →
-    c'.flows.items ≡ set c.flows.items id (Some s') → c'.pool.blocks ≡ c.pool.blocks
+    c'.flows.states.items ≡ set c.flows.states.items id (Some s') → c'.pool.blocks ≡ c.pool.blocks
     → c'.free.most ≡ c.free.most → c'.table.most ≡ c.table.most
     → IsState O' live' c' (with_flow (state_of c es) id f)
 unfolding with_flow live_of
@@ -131,8 +157,8 @@ flow_done O O' live live' c c' es id s' f h l n own beside blocks settled apart 
     (record {
       observed = n.observed.0;
       live = n.observed.1;
-      same = changed c c' f.events rest (set c.flows.items id (Some s')) c'.pool.held flows pool
-          refl;
+      same = changed c c' f.events rest (set c.flows.states.items id (Some s')) c'.pool.held flows
+          pool refl;
       told = told_flow (state_of c es) id (Some s') f.events h.told l
           (λ e. turn.own (sym (ap (λ (g : Flow). is_some g.live) n.same) ∙ e)) turn.beside;
       sound = with_flow_sound (state_of c es) id (state s' c'.pool.held f.events) h.sound l own
@@ -155,12 +181,12 @@ pub flow_turned : (O O' : List Event → Type 0) (live live' : List ℕ) (c c' :
     blocks_of c'.pool.held ≤ c.pool.blocks → IsSettled (state s' c'.pool.held [])
     → (id < most_ids → IsTurn id es (state s c.pool.held es) → IsTurn id es f)
     → ((e : List Event) → rest_of c' e ≡ rest_of c e) →
-    c'.flows.items ≡ set c.flows.items id (Some s') → c'.pool.blocks ≡ c.pool.blocks
+    c'.flows.states.items ≡ set c.flows.states.items id (Some s') → c'.pool.blocks ≡ c.pool.blocks
     → c'.free.most ≡ c.free.most → c'.table.most ≡ c.table.most
     → IsState O' live' c' (with_flow (state_of c es) id f)
 flow_turned O O' live live' c c' es id s s' f h e n own beside blocks settled turn =
     let same : s.id ≡ id = h.sound.ids id s e in
-    let within : id < length c.flows.items = some_within c.flows.items id s e in
+    let within : id < length c.flows.states.items = some_within c.flows.states.items id s e in
     flow_done O O' live live' c c' es id s' f h within n (own ∙ same)
     (beside_own id s.id c.pool.held c'.pool.held same beside) blocks settled
     (apart_some (state_of c es) id s h.sound e)
@@ -169,14 +195,15 @@ flow_turned O O' live live' c c' es id s s' f h e n own beside blocks settled tu
 -- a flow that is forgotten, beside all others
 pub forgot_done : (O O' : List Event → Type 0) (live live' : List ℕ) (c c' : Connections)
     (es : List Event) (id : ℕ) (s' : FlowState) (f : Flow)
-    → IsState O live c (state_of c es) → id < length c.flows.items
+    → IsState O live c (state_of c es) → id < length c.flows.states.items
     → IsFlow (λ e. O' e × (live' ≡ lives e)) s' c.pool.held f
     → IsTurn id es f
-    → ((e : List Event) → rest_of c' e ≡ rest_of c e) → c'.flows.items ≡ set c.flows.items id None →
+    → ((e : List Event) → rest_of c' e ≡ rest_of c e) →
+    c'.flows.states.items ≡ set c.flows.states.items id None →
     c'.pool.blocks ≡ c.pool.blocks → c'.pool.held ≡ held_by_others id c.pool.held
     → c'.free.most ≡ c.free.most → c'.table.most ≡ c.table.most
     → IsState O' live' c' (record (state_of c es) {
-      flows = set c.flows.items id None;
+      flows = set c.flows.states.items id None;
       held =
           held_by_others id c.pool.held;
       events = f.events;
@@ -186,8 +213,8 @@ forgot_done O O' live live' c c' es id s' f h l n turn rest flows pool held free
     record {
       observed = n.observed.0;
       live = n.observed.1;
-      same = changed c c' f.events rest (set c.flows.items id None) (held_by_others id c.pool.held)
-          flows pool held;
+      same = changed c c' f.events rest (set c.flows.states.items id None)
+          (held_by_others id c.pool.held) flows pool held;
       told = told_flow (state_of c es) id None f.events h.told l (λ e. absurd (true≢false
           (sym e)))
           turn.beside;
@@ -282,7 +309,7 @@ pub close_done : (O' : List Event → Type 0) (live' : List ℕ) (c c' : Connect
     (id : ℕ) (s' : FlowState) (f : Flow)
     → IsFlow (λ e. O' e × (live' ≡ lives e)) s' c.pool.held f
     → ((e : List Event) → rest_of c' e ≡ rest_of c e) →
-    c'.flows.items ≡ set c.flows.items id (Some s') → c'.pool.blocks ≡ c.pool.blocks →
+    c'.flows.states.items ≡ set c.flows.states.items id (Some s') → c'.pool.blocks ≡ c.pool.blocks →
     c'.pool.held ≡ c.pool.held
     → IsAt O' live' c' (with_flow (state_of c es) id f)
 unfolding with_flow
@@ -291,8 +318,8 @@ close_done O' live' c c' es id s' f n rest flows pool held =
     (record {
       observed = n.observed.0;
       live = n.observed.1;
-      same = changed c c' f.events rest (set c.flows.items id (Some s')) c.pool.held flows pool
-          held;
+      same = changed c c' f.events rest (set c.flows.states.items id (Some s'))
+          c.pool.held flows pool held;
     })
 
 -- ---- No connection is known so far.

@@ -1,5 +1,5 @@
 -- How often a room stands in a list, after each change of the list.
-use Rattle.std.proofs.Common.{◌≡◌, ℕ, zero, suc, ◌+◌, ◌-◌, ◌<◌, ◌≤◌, cond, nat_eq, List, [], ◌∷◌, ◌++◌, length, take, get_or, replicate, Option, None, refl, ap, arith, inl, inr, length-append}
+use Rattle.std.proofs.Common.{◌≡◌, ℕ, zero, suc, ◌+◌, ◌-◌, ◌<◌, ◌≤◌, cond, nat_eq, List, [], ◌∷◌, ◌++◌, length, take, get_or, replicate, Option, None, true, refl, ap, subst, arith, inl, inr, length-append}
 use Rattle.std.specs.List.{insert, remove}
 use Rattle.std.proofs.lemmas.Bool.{cases_Bool, cases_lt, eqb-true, eq-eqb}
 use Rattle.tcp_flow.specs.declared.flow.FlowState.{FlowState}
@@ -36,6 +36,24 @@ unfolding times
 times_at [] i l = absurd (omega (arith, l))
 times_at (x ∷ xs) zero l = omega (arith, times_own x)
 times_at (x ∷ xs) (suc i) l = omega (arith, times_at xs i (omega (arith, l)))
+
+-- what stands at two places stands there twice
+pub times_both : (xs : List ℕ) (i j : ℕ) → i < length xs → j < length xs → (i ≡ j → ⊥) →
+    get_or xs i 0 ≡ get_or xs j 0 → 2 ≤ times (get_or xs j 0) xs
+unfolding times
+times_both [] i j k l ne e = absurd (omega (arith, k))
+times_both (x ∷ xs) zero zero k l ne e = absurd (ne refl)
+times_both (x ∷ xs) zero (suc j) k l ne e =
+    let own : nat_eq x (get_or xs j 0) ≡ true = eq-eqb x (get_or xs j 0) e in
+    let one : ◌≡◌ {A = ℕ} (cond (nat_eq x (get_or xs j 0)) 1 0) 1 = rw own refl in
+    omega (arith, one, times_at xs j (omega (arith, l)))
+times_both (x ∷ xs) (suc i) zero k l ne e =
+    let rest : 0 < times x xs =
+    subst (λ (n : ℕ). 0 < times n xs) e (times_at xs i (omega (arith, k))) in
+    omega (arith, times_own x, rest)
+times_both (x ∷ xs) (suc i) (suc j) k l ne e =
+    let rest = times_both xs i j (omega (arith, k)) (omega (arith, l)) (λ o. ne (ap suc o)) e in
+    omega (arith, rest)
 
 -- the room that is taken next, and the others
 

@@ -2,4 +2,5 @@ pub mod Connections
 pub mod Forgetting
 pub mod Gapless
 pub mod Owned
+pub mod Ranks
 pub mod State

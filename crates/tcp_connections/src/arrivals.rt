@@ -66,7 +66,7 @@ impl Connections {
             arrival: self.arrival,
         };
         flow.hear(packet, &mut self.pool, to)?;
-        self.flows[id as usize] = Some(flow);
+        self.flows.set(id, Some(flow));
         Ok(())
     }
 
@@ -78,7 +78,7 @@ impl Connections {
         to: &mut Streams<L>,
     ) -> Result<(), ListenerFault>
         requires state { HasState (L.observed to.old.listener) to.old.live.items self.old }
-        requires within { id < vec_len self.old.flows }
+        requires within { id < vec_len self.old.flows.states }
         requires whole { length segment.payload.now ≤ 262_144 }
         requires taken { 0 < times (id / 2) self.old.table.rooms.items }
         ensures does { Makes result (λ w. payload_taken L.reader w id (segment_view segment.entry))
@@ -99,7 +99,7 @@ impl Connections {
             &mut self.pool,
             to,
         )?;
-        self.flows[id as usize] = Some(flow);
+        self.flows.set(id, Some(flow));
         Ok(())
     }
 
@@ -111,10 +111,10 @@ impl Connections {
         to: &mut Streams<L>,
     ) -> Result<(), ListenerFault>
         requires state { HasState (L.observed to.old.listener) to.old.live.items self.old }
-        requires within { id < vec_len self.old.flows }
+        requires within { id < vec_len self.old.flows.states }
         requires whole { length segment.payload.now ≤ 262_144 }
         requires taken { 0 < times (id / 2) self.old.table.rooms.items }
-        requires vacant { get_or self.old.flows.items id None ≡ None }
+        requires vacant { get_or self.old.flows.states.items id None ≡ None }
         ensures does { Makes result (λ w. payload_taken L.reader w id (segment_view segment.entry))
             (L.observed to.old.listener) to.old.live.items self.old
             (L.observed to.new.listener) to.new.live.items self.new }
@@ -154,10 +154,10 @@ impl Connections {
         to: &mut Streams<L>,
     ) -> Result<(), ListenerFault>
         requires state { HasState (L.observed to.old.listener) to.old.live.items self.old }
-        requires within { id < vec_len self.old.flows }
+        requires within { id < vec_len self.old.flows.states }
         requires whole { length segment.payload.now ≤ 262_144 }
         requires taken { 0 < times (id / 2) self.old.table.rooms.items }
-        requires vacant { get_or self.old.flows.items id None ≡ None }
+        requires vacant { get_or self.old.flows.states.items id None ≡ None }
         ensures does { Makes result (λ w. began L.reader w id
             (spec_first_number (segment_view segment.entry)) (segment_view segment.entry).payload)
             (L.observed to.old.listener) to.old.live.items self.old
@@ -173,7 +173,7 @@ impl Connections {
             &mut self.pool,
             to,
         )?;
-        self.flows[id as usize] = Some(flow);
+        self.flows.set(id, Some(flow));
         Ok(())
     }
 
@@ -235,7 +235,7 @@ impl Connections {
             return Ok(());
         };
         flow.fin(number, &mut self.pool, to)?;
-        self.flows[id as usize] = Some(flow);
+        self.flows.set(id, Some(flow));
         Ok(())
     }
 }

@@ -23,9 +23,10 @@ impl Connections {
             (ended L.reader w)) }
         ensures held { OnOk result (self.new.pool.held ≡ []) }
         ensures none { OnOk result ((id : ℕ) →
-            live_of (get_or self.new.flows.items id None) ≡ None) }
+            live_of (get_or self.new.flows.states.items id None) ≡ None) }
         ensures cause { OnErr result (L.failed to.new.listener) }
     {
+        to.pack();
         self.end_gaps(to)?;
         self.close_all(to)
     }
@@ -58,7 +59,8 @@ impl Connections {
 
     /// Whether a flow holds a payload.
     pub(crate) fn is_holding(&self, id: u32) -> bool
-        ensures { result ≡ is_holding self.now.pool.held (get_or self.now.flows.items id None) }
+        ensures { result
+            ≡ is_holding self.now.pool.held (get_or self.now.flows.states.items id None) }
     {
         match self.flow(id) {
             Some(flow) => flow.holds(&self.pool),
@@ -82,7 +84,7 @@ impl Connections {
             return Ok(());
         };
         flow.gap(&mut self.pool, to)?;
-        self.flows[id as usize] = Some(flow);
+        self.flows.set(id, Some(flow));
         Ok(())
     }
 
@@ -123,14 +125,14 @@ impl Connections {
             return Ok(());
         };
         flow.close(cause, to)?;
-        self.flows[id as usize] = Some(flow);
+        self.flows.set(id, Some(flow));
         Ok(())
     }
 
     /// How a flow's live stream closes at the end: where a FIN is kept, what is before it was never
     /// captured.
     fn end_cause(&self, id: u32) -> CloseCause
-        ensures { result ≡ end_cause (get_or self.now.flows.items id None) }
+        ensures { result ≡ end_cause (get_or self.now.flows.states.items id None) }
     {
         match self.flow(id) {
             Some(flow) if flow.has_fin() => CloseCause::Gap,

@@ -1,7 +1,7 @@
 //! The connections that are known, in memory that is allocated once, and what a segment does to
 //! them.
 
-ghost use Rattle.std.specs.Prelude.{◌≡◌, ◌≤◌, ◌<◌, ◌+◌, ◌^◌, [], List, length, get_or, IfOk};
+ghost use Rattle.std.specs.Prelude.{◌≡◌, ◌≤◌, ◌<◌, ◌+◌, ◌/◌, ◌^◌, [], List, length, get_or, IfOk};
 ghost use Rattle.std.specs.Prelude.{IfSome, OnOk, OnErr, None};
 ghost use Rattle.std.specs.Vec.{vec_len};
 ghost use Rattle.tcp_segment.specs.Segments.{segment_view};
@@ -12,12 +12,12 @@ ghost use Rattle.tcp_connections.specs.Connections.{is_anew as spec_is_anew};
 ghost use Rattle.tcp_connections.specs.Connections.{is_answer as spec_is_answer};
 ghost use Rattle.tcp_connections.specs.Connections.{is_following as spec_is_following};
 
-use crate::came::Came;
+use crate::flows::Flows;
 use crate::syns::{KeptSyn, KeptSyns};
 use arrayvec::ArrayVec;
 use std::alloc::{AllocError, Global};
 use tcp_flow::{CloseCause, FlowState, Listener, ListenerFault};
-use tcp_rooms::{FreeRooms, RoomTable, Stamps};
+use tcp_rooms::{FreeRooms, RoomTable};
 use tcp_segment::Segment;
 use tcp_streams::{EndpointPair, Side, Streams, flow_from, flow_id, other, pair_of};
 use tcp_waiting::{Arrival, Pool, onward};
@@ -28,10 +28,8 @@ pub struct Connections {
     pub(crate) ports: ArrayVec<u16, 64>,
     pub(crate) table: RoomTable<EndpointPair>,
     pub(crate) free: FreeRooms,
-    pub(crate) stamps: Stamps,
     pub(crate) syns: KeptSyns,
-    pub(crate) came: Came,
-    pub(crate) flows: Vec<Option<FlowState>>,
+    pub(crate) flows: Flows,
     pub(crate) pool: Pool,
     segments: u64,
     /// The packet that is read.
@@ -42,7 +40,7 @@ pub struct Connections {
 
 impl Connections {
     ghost use Rattle.tcp_flow.specs.Flow.{Event};
-    ghost use Rattle.tcp_connections.specs.Connections.{none_known, has_live, live_of, made_known, place_of};
+    ghost use Rattle.tcp_connections.specs.Connections.{none_known, live_of, made_known, place_of};
     ghost use Rattle.tcp_connections.specs.Connections.{place_among, next_room, unknown_taken};
     ghost use Rattle.tcp_connections.specs.Connections.{known_taken, step, syn_kept, with_packet, with_segment};
     ghost use Rattle.tcp_connections.specs.State.{IsSound, HasState, Makes, state_of};
@@ -66,18 +64,14 @@ impl Connections {
     {
         let table = RoomTable::new(alloc, most as usize)?;
         let free = FreeRooms::new(alloc, most)?;
-        let stamps = Stamps::new(alloc, most as usize)?;
         let syns = KeptSyns::new(alloc, most as usize)?;
-        let came = Came::new(alloc, 2 * most as usize)?;
-        let flows = vec![in alloc; None; 2 * most as usize]?;
+        let flows = Flows::new(alloc, most)?;
         let pool = Pool::new(alloc, blocks, 2 * most as usize)?;
         Ok(Connections {
             ports,
             table,
             free,
-            stamps,
             syns,
-            came,
             flows,
             pool,
             segments: 0,
@@ -214,12 +208,10 @@ impl Connections {
             return Err(ListenerFault);
         };
         self.table.add(place, pair, room);
-        self.stamps.note(room, self.segments);
+        self.flows.open(room, self.segments);
         self.syns.set(room, None);
         let lesser = flow_id(room, Side::FromLesser);
         let greater = flow_id(room, Side::FromGreater);
-        self.came.set(lesser, false);
-        self.came.set(greater, false);
         to.opens(lesser, flow_from(pair, Side::FromLesser))?;
         to.opens(greater, flow_from(pair, Side::FromGreater))?;
         Ok(room)
@@ -256,29 +248,27 @@ impl Connections {
 
     /// A flow from its first stream on, by its id.
     pub(crate) fn flow(&self, id: u32) -> Option<FlowState>
-        ensures { result ≡ get_or self.now.flows.items id None }
+        ensures { result ≡ get_or self.now.flows.states.items id None }
     {
-        if (id as usize) < self.flows.len() {
-            return self.flows[id as usize];
-        }
-        None
+        self.flows.at(id)
     }
 
     /// A segment of a flow came, of the connection of a room.
     fn note(&mut self, room: u32, id: u32)
-        requires { room < vec_len self.old.stamps.last }
+        requires room { room < vec_len self.old.flows.stamps.last }
+        requires own { id / 2 ≡ room }
         ensures noted { (events : List Event) → state_of self.new events
             ≡ with_segment (state_of self.old events) room id }
         ensures free { self.new.free.most ≡ self.old.free.most }
         ensures room { self.new.table.most ≡ self.old.table.most }
     {
-        self.stamps.note(room, self.segments);
-        self.came.set(id, true);
+        self.flows.note(id, self.segments);
     }
 
     /// A SYN of the connection of a room is kept, in place of an older one.
     fn keep_syn(&mut self, room: u32, flow: u32, segment: Segment<'_>)
-        requires { room < vec_len self.old.stamps.last }
+        requires room { room < vec_len self.old.flows.stamps.last }
+        requires own { flow / 2 ≡ room }
         ensures kept { (events : List Event) → state_of self.new events
             ≡ syn_kept (state_of self.old events) room flow (segment_view segment.entry) }
         ensures free { self.new.free.most ≡ self.old.free.most }
@@ -289,19 +279,9 @@ impl Connections {
         self.syns.set(room, Some(KeptSyn { flow, number }));
     }
 
-    /// Whether a stream of a flow is live.
-    pub(crate) fn has_live(&self, id: u32) -> bool
-        ensures { result ≡ has_live (get_or self.now.flows.items id None) }
-    {
-        match self.flow(id) {
-            Some(flow) => flow.is_live(),
-            None => false,
-        }
-    }
-
     /// The number that the stream of a flow in step begins with, one that is live or waited for.
     pub(crate) fn live_at(&self, id: u32) -> Option<u32>
-        ensures { result ≡ live_of (get_or self.now.flows.items id None) }
+        ensures { result ≡ live_of (get_or self.now.flows.states.items id None) }
     {
         match self.flow(id) {
             Some(flow) => flow.live(),
@@ -312,7 +292,7 @@ impl Connections {
     /// Whether a segment is a SYN that is kept: it has no ACK, and its number isn't the flow's own.
     #[inline]
     fn is_kept(&self, id: u32, segment: Segment<'_>) -> bool
-        ensures { result ≡ spec_is_kept (get_or self.now.flows.items id None)
+        ensures { result ≡ spec_is_kept (get_or self.now.flows.states.items id None)
             (segment_view segment.entry) }
     {
         segment.syn
@@ -322,7 +302,7 @@ impl Connections {
 
     /// Whether a number is a flow's own: near the one that is due, or its live stream's first.
     fn is_own(&self, id: u32, number: u32) -> bool
-        ensures { result ≡ spec_is_own (get_or self.now.flows.items id None) number }
+        ensures { result ≡ spec_is_own (get_or self.now.flows.states.items id None) number }
     {
         self.is_near_due(id, number) || self.live_at(id) == Some(number)
     }
@@ -330,7 +310,7 @@ impl Connections {
     /// Whether a number is at most 1,048,576 from the one that is due in a flow, of which something
     /// began.
     pub(crate) fn is_near_due(&self, id: u32, number: u32) -> bool
-        ensures { result ≡ spec_is_near_due (get_or self.now.flows.items id None) number }
+        ensures { result ≡ spec_is_near_due (get_or self.now.flows.states.items id None) number }
     {
         match self.flow(id) {
             Some(flow) => flow.is_near(number),

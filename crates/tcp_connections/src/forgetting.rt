@@ -1,7 +1,7 @@
 //! Connections are forgotten: by a RST or a SYN, or to make room for another, first those without a
 //! live stream, then those of which segments of one flow alone came. What they hold is shown before.
 
-ghost use Rattle.std.specs.Prelude.{◌≡◌, ◌<◌, ◌^◌, [], cond, OnOk, OnErr};
+ghost use Rattle.std.specs.Prelude.{◌≡◌, ◌<◌, ◌^◌, [], List, cond, OnOk, OnErr};
 ghost use Rattle.std.specs.Vec.{vec_len};
 ghost use Rattle.tcp_segment.specs.Segments.{segment_view};
 ghost use Rattle.tcp_waiting.specs.Payload.{count_of};
@@ -12,7 +12,7 @@ use tcp_segment::Segment;
 use tcp_streams::{Side, Streams, flow_id, other};
 
 impl Connections {
-    ghost use Rattle.tcp_connections.specs.Connections.{is_live, is_both, has_come, class_of};
+    ghost use Rattle.tcp_flow.specs.Flow.{Event};
     ghost use Rattle.tcp_connections.specs.Connections.{goes_before, eldest, reset_taken};
     ghost use Rattle.tcp_connections.specs.Connections.{flow_forgotten, forgotten, with_room};
     ghost use Rattle.tcp_connections.specs.Connections.{cleared, emptied, ended_by, shown};
@@ -148,7 +148,7 @@ impl Connections {
         };
         flow.close(cause, to)?;
         flow.forget(&mut self.pool);
-        self.flows[id as usize] = None;
+        self.flows.set(id, None);
         Ok(())
     }
 
@@ -166,7 +166,8 @@ impl Connections {
         if !self.table.is_full() {
             return Ok(());
         }
-        self.clear(self.eldest(), to)
+        let place = self.eldest();
+        self.clear(place, to)
     }
 
     /// The connection at a place makes room: it shows what it holds, and the stream that began first
@@ -188,8 +189,27 @@ impl Connections {
         self.forget(place, to.elder_side(room), CloseCause::Room, to)
     }
 
-    /// The place of the connection that makes room.
-    fn eldest(&self) -> usize
+    /// The place of the connection that makes room: by the ranks, or by a walk if two rooms have the least.
+    fn eldest(&mut self) -> usize
+        requires sound { IsSound (state_of self.old []) }
+        requires some { 0 < vec_len self.old.table.keys }
+        ensures place { result ≡ eldest (state_of self.old []) (vec_len self.old.table.keys) }
+        ensures within { result < vec_len self.new.table.keys }
+        ensures same { (events : List Event) → state_of self.new events
+            ≡ state_of self.old events }
+        ensures free { self.new.free.most ≡ self.old.free.most }
+        ensures room { self.new.table.most ≡ self.old.table.most }
+    {
+        if let Some(room) = self.flows.first_room()
+            && let Some(place) = self.table.place_of_room(room)
+        {
+            return place;
+        }
+        self.walk()
+    }
+
+    /// The place of the connection that makes room, by a walk over all.
+    fn walk(&self) -> usize
         requires sound { IsSound (state_of self.now []) }
         requires some { 0 < vec_len self.now.table.keys }
         ensures place { result ≡ eldest (state_of self.now []) (vec_len self.now.table.keys) }
@@ -219,55 +239,14 @@ impl Connections {
         }
     }
 
-    /// Whether the connection at one place makes room rather than that at another: by their classes,
-    /// then by their last segments.
+    /// Whether the connection at one place makes room rather than that at another.
     fn goes_before(&self, place: usize, other: usize) -> bool
         requires sound { IsSound (state_of self.now []) }
         requires place { place < vec_len self.now.table.keys }
         requires other { other < vec_len self.now.table.keys }
         ensures { result ≡ goes_before (state_of self.now []) place other }
     {
-        let room = self.table.room(place);
-        let other = self.table.room(other);
-        let (class, other_class) = (self.class_of(room), self.class_of(other));
-        class < other_class
-            || class == other_class && self.stamps.last(room) < self.stamps.last(other)
-    }
-
-    /// How late the connection of a room makes room: first one without a live stream, then one of
-    /// which segments of one flow alone came, then any other.
-    fn class_of(&self, room: u32) -> u32
-        requires { room < 2 ^ 31 }
-        ensures { result ≡ class_of (state_of self.now []) room }
-    {
-        if !self.is_live(room) {
-            return 0;
-        }
-        if self.is_both(room) { 2 } else { 1 }
-    }
-
-    /// Whether segments of both flows of a room's connection came since it is known.
-    fn is_both(&self, room: u32) -> bool
-        requires { room < 2 ^ 31 }
-        ensures { result ≡ is_both (state_of self.now []) room }
-    {
-        self.has_come(flow_id(room, Side::FromLesser))
-            && self.has_come(flow_id(room, Side::FromGreater))
-    }
-
-    /// Whether segments of a flow came since its connection is known.
-    fn has_come(&self, id: u32) -> bool
-        ensures { result ≡ has_come (state_of self.now []) id }
-    {
-        self.flow(id).is_some() || self.came.at(id)
-    }
-
-    /// Whether the connection of a room has a live stream.
-    fn is_live(&self, room: u32) -> bool
-        requires { room < 2 ^ 31 }
-        ensures { result ≡ is_live (state_of self.now []) room }
-    {
-        self.has_live(flow_id(room, Side::FromLesser))
-            || self.has_live(flow_id(room, Side::FromGreater))
+        self.flows
+            .goes_before(self.table.room(place), self.table.room(other))
     }
 }

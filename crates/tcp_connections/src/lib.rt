@@ -6,6 +6,7 @@ mod arrivals;
 mod came;
 mod capture_end;
 mod connections;
+mod flows;
 mod forgetting;
 mod laws;
 mod syns;

@@ -1,6 +1,6 @@
 //! Which room a key has: a sorted list, searched by halves, in memory that is allocated once.
 
-ghost use Rattle.std.specs.Prelude.{◌≡◌, ◌≤◌, ◌<◌, [], IfOk, get_or, nat_le};
+ghost use Rattle.std.specs.Prelude.{◌≡◌, ◌≤◌, ◌<◌, [], ℕ, IfOk, IfSome, None, get_or, nat_le};
 ghost use Rattle.std.specs.List.{insert, remove};
 ghost use Rattle.std.specs.List.Sorted.{IsBinarySearchResult, IsSearchInRange};
 ghost use Rattle.std.specs.Vec.{vec_len, vec_capacity};
@@ -14,12 +14,14 @@ pub struct RoomTable<K: Ord> {
     keys: Vec<K>,
     rooms: Vec<u32>,
     most: usize,
+    /// The key that each room had last: where to look for a room.
+    last: Vec<Option<K>>,
     ghost keys_fit: { most ≤ vec_capacity keys },
     ghost rooms_fit: { most ≤ vec_capacity rooms },
     ghost as_many: { vec_len keys ≡ vec_len rooms },
 }
 
-impl<K: Ord + Drop> RoomTable<K> {
+impl<K: Ord + Copy> RoomTable<K> {
     /// A table of no key, with memory for at most so many. No other call allocates.
     pub fn new(alloc: Global, most: usize) -> Result<RoomTable<K>, AllocError>
         ensures keys { IfOk result (λ t. t.keys.items ≡ []) }
@@ -28,7 +30,13 @@ impl<K: Ord + Drop> RoomTable<K> {
     {
         let keys = Vec::with_capacity(alloc, most)?;
         let rooms = Vec::with_capacity(alloc, most)?;
-        Ok(RoomTable { keys, rooms, most })
+        let last = vec![in alloc; None; most]?;
+        Ok(RoomTable {
+            keys,
+            rooms,
+            most,
+            last,
+        })
     }
 
     /// How many keys are known.
@@ -69,6 +77,36 @@ impl<K: Ord + Drop> RoomTable<K> {
         self.rooms[place]
     }
 
+    /// The place of the key that has a room: that of the one that it had last, or else by a walk.
+    pub fn place_of_room(&self, room: u32) -> Option<usize>
+        ensures none { (result ≡ None) → (place : ℕ) → place < vec_len self.now.rooms
+            → get_or self.now.rooms.items place 0 ≡ room → ⊥ }
+        ensures some { IfSome result (λ place. (place < vec_len self.now.rooms)
+            × (get_or self.now.rooms.items place 0 ≡ room)) }
+    {
+        match self.place_of_last(room) {
+            Some(place) => Some(place),
+            None => self.rooms.iter().position(|other| *other == room),
+        }
+    }
+
+    /// The place of the key that a room had last, if it has it still.
+    fn place_of_last(&self, room: u32) -> Option<usize>
+        ensures { IfSome result (λ place. (place < vec_len self.now.rooms)
+            × (get_or self.now.rooms.items place 0 ≡ room)) }
+    {
+        let Some(Some(key)) = self.last.get(room as usize) else {
+            return None;
+        };
+        let Ok(place) = self.place(key) else {
+            return None;
+        };
+        if self.rooms[place] == room {
+            return Some(place);
+        }
+        None
+    }
+
     /// A key has a room from now on.
     pub fn add(&mut self, place: usize, key: K, room: u32)
         requires place { place ≤ vec_len self.old.keys }
@@ -82,6 +120,9 @@ impl<K: Ord + Drop> RoomTable<K> {
         // Neither fails: there has been room for the most keys since the table was made.
         let _key = self.keys.insert(place, key);
         let _room = self.rooms.insert(place, room);
+        if let Some(last) = self.last.get_mut(room as usize) {
+            *last = Some(key);
+        }
     }
 
     /// The key at a place is forgotten, and its memory kept. Answers the room that it had.

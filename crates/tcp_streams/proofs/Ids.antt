@@ -62,7 +62,7 @@ none_left n (x ∷ xs) h =
           (eqb_comm_false x n e, none_left n xs h.1)
     ]
 
-distinct_push : (xs : List ℕ) (x : ℕ) → IsDistinct eqb xs →
+pub distinct_push : (xs : List ℕ) (x : ℕ) → IsDistinct eqb xs →
     AllByRecursion (λ y. eqb x y ≡ false) xs → IsDistinct eqb (xs ++ x ∷ [])
 unfolding IsDistinct
 distinct_push [] x h a = (tt, tt)

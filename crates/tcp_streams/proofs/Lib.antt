@@ -1,4 +1,5 @@
 pub mod Ids
 pub mod Order
+pub mod Placed
 pub mod Stamped
 pub mod Told

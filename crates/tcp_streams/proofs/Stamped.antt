@@ -1,54 +1,26 @@
 -- The flows whose streams live have stamps, so one without a stamp isn't among them; and where one
 -- stands.
-use Rattle.std.proofs.Common.{◌≡◌, ℕ, zero, suc, ◌+◌, ◌<◌, Bool, true, false, cond, eqb, nat_eq, nat_lt, List, [], ◌∷◌, ◌++◌, length, get_or, set, Option, Some, None, refl, sym, ◌∙◌, ap, subst, arith, inl, inr}
+use Rattle.std.proofs.Common.{◌≡◌, ℕ, suc, ◌<◌, Bool, true, false, cond, eqb, nat_eq, nat_lt, List, [], ◌∷◌, ◌++◌, length, get_or, set, Option, Some, None, refl, sym, ◌∙◌, ap, subst, arith, inl, inr}
 use Rattle.std.specs.Option.{option_map}
 use Rattle.std.specs.List.{AllByRecursion, IsDistinct}
-use Rattle.std.proofs.lemmas.Bool.{eqb-true, eq-eqb, ne_eqb, eqb-false, cases_lt, lt-ltb, le-ltb, true≢false}
+use Rattle.std.proofs.lemmas.Bool.{ne_eqb, eqb-false, cases_lt, lt-ltb, le-ltb, true≢false}
 use Rattle.std.proofs.lemmas.List.{get_or-set_same, get_or-set_other, get_or_past, length-set}
-use Rattle.tcp_streams.specs.declared.pair.Side.{Side}
 use Rattle.tcp_streams.specs.declared.pair.Side.TheVariants.{FromLesser, FromGreater}
-use Rattle.tcp_streams.specs.Pairs.{flow_id}
-use Rattle.tcp_streams.specs.Lives.{index_of, without, elder_side}
+use Rattle.tcp_streams.specs.Lives.{without}
 use Rattle.tcp_streams.specs.Stamped.{AreStamped, first_side}
 use Rattle.tcp_streams.proofs.Ids.{all_without, none_left, push_all}
 
 -- ---- Where one stands.
 
-not_own : (stamps : List ℕ) (n x : ℕ) → get_or stamps n 1 ≡ 0 → 0 < get_or stamps x 1 →
+pub not_own : (stamps : List ℕ) (n x : ℕ) → get_or stamps n 1 ≡ 0 → 0 < get_or stamps x 1 →
     nat_eq x n ≡ false
 not_own stamps n x z l =
     ne_eqb x n (λ e. absurd (let same = ap (λ (k : ℕ). get_or stamps k 1) e in
     omega (arith, z, l, same)))
 
--- a flow without a stamp stands nowhere
-pub index_unstamped : (stamps : List ℕ) (n : ℕ) (xs : List ℕ) → get_or stamps n 1 ≡ 0 →
-    AreStamped stamps xs → index_of n xs ≡ None
-unfolding index_of
-index_unstamped stamps n [] z h = refl
-index_unstamped stamps n (x ∷ xs) z h =
-    rw (not_own stamps n x z h.0, index_unstamped stamps n xs z h.1) refl
-
-at_all : (P : ℕ → Type 0) (xs : List ℕ) (i : ℕ) → i < length xs → AllByRecursion P xs →
-    P (get_or xs i 0)
-at_all P [] i l h = absurd (omega (arith, l))
-at_all P (x ∷ xs) zero l h = h.0
-at_all P (x ∷ xs) (suc i) l h = at_all P xs i (omega (arith, l)) h.1
-
--- of numbers that differ, one stands first where it stands
-pub index_at : (n : ℕ) (xs : List ℕ) (i : ℕ) → i < length xs → IsDistinct eqb xs →
-    get_or xs i 0 ≡ n → index_of n xs ≡ Some i
-unfolding index_of IsDistinct
-index_at n [] i l d e = absurd (omega (arith, l))
-index_at n (x ∷ xs) zero l d e = rw (eq-eqb x n e) refl
-index_at n (x ∷ xs) (suc i) l d e =
-    let other : nat_eq x (get_or xs i 0) ≡ false =
-    at_all (λ y. eqb x y ≡ false) xs i (omega (arith, l)) d.0 in
-    let differs : nat_eq x n ≡ false = subst (λ (k : ℕ). nat_eq x k ≡ false) e other in
-    rw (differs, index_at n xs i (omega (arith, l)) d.1 e) refl
-
 -- ---- Who has a stamp.
 
-set_elsewhere : (stamps : List ℕ) (n s x : ℕ) → nat_eq n x ≡ false → 0 < get_or stamps x 1 →
+pub set_elsewhere : (stamps : List ℕ) (n s x : ℕ) → nat_eq n x ≡ false → 0 < get_or stamps x 1 →
     0 < get_or (set stamps n s) x 1
 set_elsewhere stamps n s x e l =
     subst (λ (k : ℕ). 0 < k) (sym (get_or-set_other stamps n x s 1
@@ -68,7 +40,7 @@ stamped_without stamps n s xs d h = stamped_others stamps n s (without n xs) (no
     (all_without (λ x. 0 < get_or stamps x 1) n xs h)
 
 -- a stamp that is noted, or no memory for it
-own_stamp : (stamps : List ℕ) (n s : ℕ) → 0 < s → 0 < get_or (set stamps n s) n 1
+pub own_stamp : (stamps : List ℕ) (n s : ℕ) → 0 < s → 0 < get_or (set stamps n s) n 1
 own_stamp stamps n s l =
     elim (cases_lt n (length stamps)) [
       | inl e ↦ subst (λ (k : ℕ). 0 < k) (sym (get_or-set_same stamps n s 1 e)) l
@@ -110,28 +82,10 @@ both_later None (Some g) = refl
 both_later (Some l) None = refl
 both_later (Some l) (Some g) = ap (λ (b : Bool). cond b FromGreater FromLesser) (less_suc g l)
 
-elder_case : (l g : Option ℕ) (a b : Bool) → (a ≡ true → b ≡ false) →
+pub elder_case : (l g : Option ℕ) (a b : Bool) → (a ≡ true → b ≡ false) →
     first_side (cond a (Some 0) (option_map suc l)) (cond b (Some 0) (option_map suc g))
     ≡ cond a FromLesser (cond b FromGreater (first_side l g))
 elder_case l g true true h = absurd (true≢false (h refl))
 elder_case l g true false h = lesser_first g
 elder_case l g false true h = greater_first l
 elder_case l g false false h = both_later l g
-
-pub elder_by_index : (room : ℕ) (xs : List ℕ) → elder_side room xs
-    ≡ first_side (index_of (flow_id room FromLesser) xs) (index_of (flow_id room FromGreater) xs)
-unfolding elder_side index_of first_side
-elder_by_index room [] = refl
-elder_by_index room (x ∷ xs) =
-    ap (λ (s : Side). cond (nat_eq x (flow_id room FromLesser)) FromLesser
-    (cond (nat_eq x (flow_id room FromGreater)) FromGreater s)) (elder_by_index room xs)
-    ∙ sym (elder_case (index_of (flow_id room FromLesser) xs)
-    (index_of (flow_id room FromGreater) xs) (nat_eq x (flow_id room FromLesser))
-    (nat_eq x (flow_id room FromGreater))
-    (λ e. ne_eqb x (flow_id room FromGreater) (λ o. absurd (
-    let own = eqb-true x (flow_id room FromLesser) e in omega (arith, own, o)
-    ))))
-
-pub elder_is : (room : ℕ) (xs : List ℕ) (l g : Option ℕ) → index_of (flow_id room FromLesser) xs ≡ l
-    → index_of (flow_id room FromGreater) xs ≡ g → elder_side room xs ≡ first_side l g
-elder_is room xs l g d e = elder_by_index room xs ∙ rw (d, e) refl

@@ -1,3 +1,5 @@
 pub mod Lives
 pub mod Pairs
+pub mod Places
+pub mod Queue
 pub mod Stamped

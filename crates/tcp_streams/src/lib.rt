@@ -2,6 +2,8 @@
 #![tactic(auto)]
 
 mod pair;
+mod places;
+mod queue;
 mod sides;
 mod stamps;
 mod streams;

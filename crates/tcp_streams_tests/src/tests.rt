@@ -73,11 +73,35 @@ fn streams_stand_in_the_order_of_their_beginnings(rt: HostRuntime) {
         assert!(rt; streams.closes(5, CloseCause::Gap).is_ok());
         assert_eq!(rt; streams.lacks(5), Ok(None));
         streams.passes(b"MUCH");
-        assert_eq!(rt; streams.len(), 3);
-        for (rank, flow) in [(0, Some(5)), (1, Some(2)), (2, Some(0)), (3, None)] {
-            assert_eq!(rt; streams.live(rank), flow, "rank {rank}");
+        for packed in [false, true] {
+            if packed {
+                streams.pack();
+            }
+            assert_eq!(rt; streams.len(), 3);
+            for (rank, flow) in [(0, Some(5)), (1, Some(2)), (2, Some(0)), (3, None)] {
+                assert_eq!(rt; streams.live(rank), flow, "rank {rank}");
+            }
         }
         assert_eq!(rt; streams.elder_side(2), Side::FromGreater);
         assert_eq!(rt; streams.elder_side(1), Side::FromLesser);
+    }
+}
+
+#[test]
+fn streams_begin_as_often_as_they_may(rt: HostRuntime) {
+    let Ok(mut streams) = Streams::new(rt.alloc(), 2, Silent) else {
+        return;
+    };
+    let start = Start {
+        number: 1,
+        passed: 0,
+        is_found: false,
+    };
+    for turn in 0..300_000u32 {
+        assert!(rt; streams.begins(turn % 3, start).is_ok(), "turn {turn}");
+    }
+    assert_eq!(rt; streams.len(), 3);
+    for (rank, flow) in [(0, Some(0)), (1, Some(1)), (2, Some(2)), (3, None)] {
+        assert_eq!(rt; streams.live(rank), flow, "rank {rank}");
     }
 }

@@ -6,7 +6,7 @@ use Rattle.tcp_connections.specs.Connections.{State, began, first_number}
 use Rattle.tcp_connections.specs.State.{state_of}
 use Rattle.tcp_connections.proofs.Sound.{apart_taken}
 use Rattle.tcp_connections.proofs.Living.{first_turn}
-use Rattle.tcp_connections.proofs.States.{makes_by, moved, flow_done, sound_of, small_id}
+use Rattle.tcp_connections.proofs.States.{makes_by, moved, flow_done, sound_of, small_id, set_rest}
 use Rattle.tcp_connections.proofs.connections.Connections.begin.Goals as goal
 
 pub begin-requires-clause-none : goal.begin-requires-clause-none
@@ -24,7 +24,7 @@ returns-clause-does g c w h =
     (segment_view c.args.segment).payload) (λ es h0.
     let S : State = state_of c.args.self.now es in
     let within : c.args.id < length S.flows =
-    omega (arith, c.requires.within, c.args.self.now.flows.ok.0) in
+    omega (arith, c.requires.within, c.args.self.now.flows.states.ok.0) in
     let fewer : blocks_of c.begin.new.pool.held ≤ c.args.self.now.pool.blocks =
     omega (arith, c.begin.ensures.blocks, c.in_ok-flow.ensures.room es (h0.observed, h0.live))
     in
@@ -38,5 +38,7 @@ returns-clause-does g c w h =
     (c.in_ok-flow.ensures.beside es (h0.observed, h0.live))
     fewer (c.in_ok-flow.ensures.settled es (h0.observed, h0.live))
     (apart_taken S c.args.id h0.sound c.requires.taken)
-    (first_turn _ c.args.id _ _ _ _ es (small_id S c.args.id h0.sound within)) (λ es. refl) refl
-    c.begin.ensures.blocks refl refl)) w h
+    (first_turn _ c.args.id _ _ _ _ es (small_id S c.args.id h0.sound within))
+    (set_rest c.args.self.now c.set.new.self c.begin.new.pool
+    c.set.ensures.came c.set.ensures.stamps)
+    c.set.ensures.states c.begin.ensures.blocks refl refl)) w h

@@ -13,7 +13,7 @@ returns-in_default-clause-does g c w h =
       arith,
       c.live.ensures.none c.in_default.is,
       c.loop-rank-test.true,
-      c.len-count.ensures,
+      c.len-count.ensures.live,
       ap length h.live,
       ap length i.1.0.live,
       ap length i.1.1.0,
@@ -27,7 +27,7 @@ loop-rank-preserved g c = (
       let rank : ℕ = c.loop-rank.rank in
       let all : List ℕ = lives w.events in
       let less : rank < length all =
-      omega (arith, c.loop-rank-test.true, c.len-count.ensures, ap length h.live) in
+      omega (arith, c.loop-rank-test.true, c.len-count.ensures.live, ap length h.live) in
       let n : ℕ = get_or all rank 0 in
       let id : c.in-Some.id ≡ n = c.in-Some.ensures.some.1
       ∙ ap (λ xs. get_or xs rank 0) (i.1.0.live ∙ i.1.1.0) in
@@ -54,6 +54,6 @@ unfolding all_closed
 returns-clause-does g c w h =
     let i = c.loop-rank.invariant.0 w h in
     let over : length (lives w.events) ≤ c.loop-rank.rank =
-    omega (arith, c.loop-rank-test.false, c.len-count.ensures, ap length h.live) in
+    omega (arith, c.loop-rank-test.false, c.len-count.ensures.live, ap length h.live) in
     moved_end _ _ _ _ _ (sym i.1.1.1
     ∙ ap (λ xs. all_closed xs i.0) (drop_of_length-le (lives w.events) over)) i.1.0

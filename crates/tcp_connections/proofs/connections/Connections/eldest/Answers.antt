@@ -1,23 +1,24 @@
-use Rattle.std.proofs.Common.{ℕ, [], cond, refl, sym, ap, ◌∙◌, arith}
-use Rattle.tcp_connections.specs.Connections.{goes_before, eldest}
+use Rattle.std.proofs.Common.{◌≡◌, ◌<◌, ℕ, [], length, sym, ap, subst, ◌∙◌, arith}
+use Rattle.std.specs.Vec.{vec_len}
+use Rattle.tcp_connections.specs.Connections.{State, eldest}
+use Rattle.tcp_connections.specs.Ranks.{IsBeforeAll}
 use Rattle.tcp_connections.specs.State.{state_of}
-use Rattle.tcp_connections.proofs.Cases.{eldest_more}
+use Rattle.tcp_connections.proofs.Eldest.{only_eldest}
 use Rattle.tcp_connections.proofs.connections.Connections.eldest.Goals as goal
 
-pub loop-place-init : goal.loop-place-init
-unfolding eldest
-loop-place-init c = (
-  omega arith,
-  omega (arith, c.requires.some, c.args.self.now.table.keys.ok.0),
-  refl,
-)
-
-pub loop-place-preserved : goal.loop-place-preserved
-loop-place-preserved c =
-    let w = state_of c.args.self.now [] in
-    let n = c.loop-place.place in (
-      omega (arith, c.loop-place-test.true, c.len.ensures, c.args.self.now.table.keys.ok.0),
-      omega (arith, c.elder-best.ensures.within, c.args.self.now.table.keys.ok.0),
-      c.elder-best.ensures.place ∙ ap (λ (b : ℕ). cond (goes_before w n b) n b)
-          c.loop-place.invariant.2 ∙ sym (eldest_more w n),
-    )
+pub returns-clause-place : goal.returns-clause-place
+returns-clause-place c =
+    let w : State = state_of c.args.self.now [] in
+    let place : ℕ = c.in-Some-place_of_room.place in
+    let within : place < length w.known = omega (
+      arith,
+      c.in-Some-place_of_room.ensures.some.0,
+      c.requires.sound.pairs,
+      c.args.self.now.table.rooms.ok.0,
+    ) in
+    let many : length w.known ≡ vec_len c.args.self.now.table.keys =
+    omega (arith, c.args.self.now.table.keys.ok.0) in
+    only_eldest w place c.requires.sound within
+    (subst (λ (r : ℕ). IsBeforeAll w.flows w.came w.lasts r)
+    (sym c.in-Some-place_of_room.ensures.some.1) c.in-Some.ensures.some)
+    ∙ ap (eldest w) many

@@ -89,7 +89,7 @@ loop-left-init g c w h =
     omega (
       arith,
       c.len.ensures.held,
-      c.len-2.ensures,
+      c.len-2.ensures.live,
       ap (λ (u : State). length u.held) h.same,
       ap length h.live,
     ) in (

@@ -6,7 +6,7 @@ use Rattle.tcp_connections.specs.State.{state_of}
 use Rattle.tcp_connections.proofs.Cases.{forgot_none, forgot_some}
 use Rattle.tcp_connections.proofs.Sound.{some_within}
 use Rattle.tcp_connections.proofs.Living.{closed_turn}
-use Rattle.tcp_connections.proofs.States.{makes_by, moved, forgot_done, turn_start}
+use Rattle.tcp_connections.proofs.States.{makes_by, moved, forgot_done, turn_start, set_rest}
 use Rattle.tcp_connections.proofs.connections.Connections.forget_flow.Goals as goal
 
 pub returns-in_default-clause-does : goal.returns-in_default-clause-does
@@ -28,6 +28,7 @@ returns-clause-does g c w h =
     (record { observed = (h0.observed, h0.live); same = refl }))
     (closed_turn c.args.id es (state c.in-Some.flow S.held es) c.args.cause
     (turn_start _ _ _ es c.args.id c.in-Some.flow h0 e))
-    (λ es. refl) refl
-    c.forget.ensures.blocks
+    (set_rest c.args.self.now c.set.new.self c.forget.new.pool
+    c.set.ensures.came c.set.ensures.stamps)
+    c.set.ensures.states c.forget.ensures.blocks
     (c.forget.ensures.held ∙ ap (λ n. held_by_others n S.held) own) refl refl)) w h

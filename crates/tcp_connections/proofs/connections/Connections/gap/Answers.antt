@@ -6,7 +6,7 @@ use Rattle.tcp_connections.specs.Connections.{State, flow_at, gapped}
 use Rattle.tcp_connections.specs.State.{state_of}
 use Rattle.tcp_connections.proofs.Cases.{gapped_none, gapped_some}
 use Rattle.tcp_connections.proofs.Living.{gap_turn}
-use Rattle.tcp_connections.proofs.States.{makes_by, moved, flow_start, flow_turned}
+use Rattle.tcp_connections.proofs.States.{makes_by, moved, flow_start, flow_turned, set_rest}
 use Rattle.tcp_connections.proofs.connections.Connections.gap.Goals as goal
 
 pub returns-in_default-clause-does : goal.returns-in_default-clause-does
@@ -29,4 +29,7 @@ returns-clause-does g c w h =
     (c.in_ok-gap.ensures.does f start) c.gap.ensures.id
     (c.in_ok-gap.ensures.beside f start) fewer
     (c.in_ok-gap.ensures.settled f start)
-    (λ l t. gap_turn _ c.args.id es f l t) (λ es. refl) refl c.gap.ensures.blocks refl refl)) w h
+    (λ l t. gap_turn _ c.args.id es f l t)
+    (set_rest c.args.self.now c.set.new.self c.gap.new.pool
+    c.set.ensures.came c.set.ensures.stamps)
+    c.set.ensures.states c.gap.ensures.blocks refl refl)) w h

@@ -6,7 +6,7 @@ use Rattle.tcp_connections.specs.Connections.{State, flow_at, heard}
 use Rattle.tcp_connections.specs.State.{state_of}
 use Rattle.tcp_connections.proofs.Cases.{none_waits, arrived_none, arrived_some}
 use Rattle.tcp_connections.proofs.Living.{step_turn}
-use Rattle.tcp_connections.proofs.States.{makes_by, moved, flow_start, flow_turned}
+use Rattle.tcp_connections.proofs.States.{makes_by, moved, flow_start, flow_turned, set_rest}
 use Rattle.tcp_connections.proofs.connections.Connections.hear.Goals as goal
 
 pub returns-then-len-eq0-clause-does : goal.returns-then-len-eq0-clause-does
@@ -44,5 +44,7 @@ returns-clause-does g c w h =
     (c.in_ok-hear.ensures.beside f start) fewer
     (c.in_ok-hear.ensures.settled f start
     (h0.sound.settled c.args.id c.in-Some.flow e))
-    (λ l t. step_turn _ c.args.id es f _ l t) (λ es. refl) refl
-    c.hear.ensures.blocks refl refl)) w h
+    (λ l t. step_turn _ c.args.id es f _ l t)
+    (set_rest c.args.self.now c.set.new.self c.hear.new.pool
+    c.set.ensures.came c.set.ensures.stamps)
+    c.set.ensures.states c.hear.ensures.blocks refl refl)) w h

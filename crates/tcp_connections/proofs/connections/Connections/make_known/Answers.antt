@@ -1,11 +1,12 @@
-use Rattle.std.proofs.Common.{◌≡◌, [], refl, sym, ap, ◌∙◌, arith}
+use Rattle.std.proofs.Common.{◌≡◌, [], List, Option, refl, sym, ap, ◌∙◌, arith}
 use Rattle.std.specs.List.{insert}
+use Rattle.tcp_flow.specs.declared.flow.FlowState.{FlowState}
 use Rattle.tcp_streams.specs.declared.pair.Side.TheVariants.{FromLesser, FromGreater}
 use Rattle.tcp_streams.specs.Lives.{lives}
 use Rattle.tcp_streams.specs.Pairs.{flow_id, flow_from}
 use Rattle.tcp_connections.specs.Connections.{next_room}
 use Rattle.tcp_connections.specs.State.{state_of}
-use Rattle.tcp_connections.proofs.Changes.{made, entered, told_as, taken_below}
+use Rattle.tcp_connections.proofs.Changes.{made, entered, others_of, told_as, taken_below}
 use Rattle.tcp_connections.proofs.States.{sound_of}
 use Rattle.tcp_connections.proofs.Times.{next_is}
 use Rattle.tcp_connections.proofs.connections.Connections.make_known.Goals as goal
@@ -13,12 +14,12 @@ use Rattle.tcp_connections.proofs.connections.Connections.make_known.Goals as go
 pub place_for-place-requires-clause-sound : goal.place_for-place-requires-clause-sound
 place_for-place-requires-clause-sound g c = sound_of _ _ _ _ c.requires.state.1
 
-pub note-requires : goal.note-requires
-note-requires g c =
+pub open-requires : goal.open-requires
+open-requires g c =
     let sound = sound_of _ _ _ _ c.requires.state.1 in
     let b = taken_below (state_of c.args.self.now []) c.take.new.self.free.items c.in-Some.room
     sound (c.take.ensures.some c.in-Some.room c.in-Some.is) in
-    omega (arith, b, c.args.self.now.stamps.last.ok.0)
+    omega (arith, b, c.args.self.now.flows.stamps.last.ok.0)
 
 pub flow_id-lesser-requires : goal.flow_id-lesser-requires
 flow_id-lesser-requires g c =
@@ -45,30 +46,22 @@ returns-clause-does g c w h =
     (record c.args.self.now {
       table = c.add.new.self;
       free = c.take.new.self;
-      stamps =
-          c.note.new.self;
+      flows = c.open.new.self;
       syns = c.set.new.self;
-      came = c.set-3.new.self;
     }) w pair c.take.new.self.free.items room h told.0 told.1
     (c.take.ensures.some room c.in-Some.is) c.requires.new
     (λ es. entered c.args.self.now (record c.args.self.now {
       table = c.add.new.self;
-      free =
-          c.take.new.self;
-      stamps = c.note.new.self;
+      free = c.take.new.self;
+      flows = c.open.new.self;
       syns = c.set.new.self;
-      came = c.set-3.new.self;
-    }) es (λ es. refl) _ _ _ _ _ _
+    }) es (λ es. ap (λ (fs : List (Option FlowState)).
+    record (others_of c.args.self.now es) { flows = fs }) c.open.ensures.states) _ _ _ _ _ _
     (c.add.ensures.keys ∙ ap (λ n. insert c.args.self.now.table.keys.items n pair)
     c.place_for-place.ensures.place)
     (c.add.ensures.rooms ∙ ap (λ n. insert c.args.self.now.table.rooms.items n room)
     c.place_for-place.ensures.place)
-    refl c.note.ensures.last c.set.ensures
-    (c.set-3.ensures ∙ rw (
-      c.set-2.ensures,
-      c.flow_id-lesser.ensures.id,
-      c.flow_id-greater.ensures.id,
-    ) refl))
+    refl c.open.ensures.lasts c.set.ensures c.open.ensures.came)
     c.take.ensures.most c.add.ensures.most
 
 pub returns-clause-room : goal.returns-clause-room

@@ -3,7 +3,7 @@ use Rattle.std.proofs.lemmas.Bool.{leb-true, leb-false}
 use Rattle.tcp_connections.specs.Connections.{State, cleared, eldest}
 use Rattle.tcp_connections.specs.State.{state_of}
 use Rattle.tcp_connections.proofs.Cases.{room_there, room_made}
-use Rattle.tcp_connections.proofs.States.{known_of, moved, moved_ok, eldest_any}
+use Rattle.tcp_connections.proofs.States.{kept, known_of, moved, moved_ok, eldest_any}
 use Rattle.tcp_connections.proofs.connections.Connections.make_room.Goals as goal
 
 pub returns-then-not-is_full-clause-does : goal.returns-then-not-is_full-clause-does
@@ -17,17 +17,26 @@ returns-then-not-is_full-clause-does g c w h =
       ap length (known_of _ _ _ _ h),
     ))) h
 
+pub clear-requires-clause-state : goal.clear-requires-clause-state
+clear-requires-clause-state g c =
+    let h = c.requires.state in (
+      h.0,
+      kept _ _ c.args.self.now c.eldest-place.new.self h.0 c.eldest-place.ensures.same
+          c.eldest-place.ensures.free c.eldest-place.ensures.room h.1,
+    )
+
 pub returns-clause-does : goal.returns-clause-does
 returns-clause-does g c w h =
     let F = g.L.Listener.reader in
     let known = known_of _ _ _ _ h in
     let full = leb-true _ _ (sym c.is_full.ensures ∙ c.if-not-is_full.false) in
-    let n : c.eldest.result ≡ eldest w (length w.known) =
-    c.eldest.ensures.place ∙ ap (eldest (state_of c.args.self.now []))
+    let n : c.eldest-place.result ≡ eldest w (length w.known) =
+    c.eldest-place.ensures.place ∙ ap (eldest (state_of c.args.self.now []))
     (c.args.self.now.table.keys.ok.0 ∙ ap length known)
     ∙ eldest_any c.args.self.now [] w.events (length w.known)
     ∙ ap (λ (u : State). eldest u (length w.known)) h.same in
     moved_ok c.clear.result _ _ _ _ _
     (room_made F w (omega (arith, full, h.room, c.args.self.now.table.keys.ok.0, ap length known))
     ∙ ap (cleared F w) (sym n))
-    (c.clear.ensures.does w h)
+    (c.clear.ensures.does w (kept _ _ c.args.self.now c.eldest-place.new.self w
+    c.eldest-place.ensures.same c.eldest-place.ensures.free c.eldest-place.ensures.room h))

@@ -7,7 +7,7 @@ use Rattle.tcp_connections.specs.Connections.{State, flow_at, payload_taken, fir
 use Rattle.tcp_connections.specs.State.{state_of}
 use Rattle.tcp_connections.proofs.Cases.{payload_reset, payload_later, arrived_some}
 use Rattle.tcp_connections.proofs.Living.{step_turn}
-use Rattle.tcp_connections.proofs.States.{makes_by, moved, flow_start, flow_turned, sound_of}
+use Rattle.tcp_connections.proofs.States.{makes_by, moved, flow_start, flow_turned, sound_of, set_rest}
 use Rattle.tcp_connections.proofs.connections.Connections.payload.Goals as goal
 
 pub payload-requires-clause-room : goal.payload-requires-clause-room
@@ -50,5 +50,7 @@ returns-clause-does g c w h =
     (c.in_ok-payload.ensures.does f start) c.payload.ensures.id
     (c.in_ok-payload.ensures.beside f start) fewer
     (c.in_ok-payload.ensures.settled f start)
-    (λ l t. step_turn _ c.args.id es f _ l t) (λ es. refl) refl
-    c.payload.ensures.blocks refl refl)) w h
+    (λ l t. step_turn _ c.args.id es f _ l t)
+    (set_rest c.args.self.now c.set.new.self c.payload.new.pool
+    c.set.ensures.came c.set.ensures.stamps)
+    c.set.ensures.states c.payload.ensures.blocks refl refl)) w h

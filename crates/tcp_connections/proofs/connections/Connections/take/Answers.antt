@@ -1,4 +1,4 @@
-use Rattle.std.proofs.Common.{◌≡◌, ◌+◌, ℕ, [], true, false, Some, None, get_or, refl, sym, ap, ◌∙◌, arith}
+use Rattle.std.proofs.Common.{◌≡◌, ◌+◌, ◌/◌, ℕ, [], true, false, Some, None, get_or, refl, sym, ap, ◌∙◌, arith}
 use Rattle.tcp_segment.specs.Segments.{segment_view}
 use Rattle.tcp_flow.specs.declared.flow.CloseCause.TheVariants.{Syn}
 use Rattle.tcp_streams.specs.Pairs.{pair_of, flow_id}
@@ -10,6 +10,7 @@ use Rattle.tcp_connections.proofs.Counted.{step_segments}
 use Rattle.tcp_connections.proofs.Search.{forgotten_unknown}
 use Rattle.tcp_connections.proofs.Shown.{shown_known}
 use Rattle.tcp_connections.proofs.Sound.{room_below}
+use Rattle.tcp_connections.proofs.Kept.{half}
 use Rattle.tcp_connections.proofs.States.{small_room, sound_of, known_of, moved, moved_ok, segments_of}
 use Rattle.tcp_connections.proofs.connections.Connections.take.Goals as goal
 
@@ -54,7 +55,11 @@ keep_syn-requires g c =
     let sound = sound_of _ _ _ _ c.requires.state.1 in
     let b = room_below (state_of c.args.self.now []) c.in-Some.place sound
     (omega (arith, c.in-Some.ensures.within, c.args.self.now.table.keys.ok.0)) in
-    omega (arith, b, c.room-room.ensures, c.args.self.now.stamps.last.ok.0)
+    record {
+      room = omega (arith, b, c.room-room.ensures, c.args.self.now.flows.stamps.last.ok.0);
+      own = ap (λ (n : ℕ). n / 2) c.flow_id-id.ensures.id
+          ∙ half c.room-room.result c.pair_of-side.result.1;
+    }
 
 pub returns-then-is_kept-clause-does : goal.returns-then-is_kept-clause-does
 returns-then-is_kept-clause-does g c w h =

@@ -22,7 +22,10 @@ note-requires g c =
     let sound = sound_of _ _ _ _ c.requires.state.1 in
     let b = room_below (state_of c.args.self.now []) c.args.place sound
     (omega (arith, c.requires.place, c.args.self.now.table.keys.ok.0)) in
-    omega (arith, b, c.room-room.ensures, c.args.self.now.stamps.last.ok.0)
+    record {
+      room = omega (arith, b, c.room-room.ensures, c.args.self.now.flows.stamps.last.ok.0);
+      own = ap (λ (n : ℕ). n / 2) c.flow_id-id.ensures.id ∙ half c.room-room.result c.args.side;
+    }
 
 pub acknowledgement-requires : goal.acknowledgement-requires
 acknowledgement-requires g c =
@@ -65,7 +68,7 @@ payload-requires-clause-within g c =
       k.flows,
       ap (λ (u : State). length u.flows) h.same,
       sound.flows,
-      c.acknowledgement.new.self.flows.ok.0,
+      c.acknowledgement.new.self.flows.states.ok.0,
     )
 
 pub payload-requires-clause-taken : goal.payload-requires-clause-taken

@@ -79,7 +79,7 @@ begin-requires-clause-within g c =
       c.flow_id-id.ensures.bound,
       ap (λ (u : State). length u.flows) m.same,
       made_flows (with_room g.L.Listener.reader w) c.args.pair,
-      c.make_known.new.self.flows.ok.0,
+      c.make_known.new.self.flows.states.ok.0,
     )
 
 pub begin-requires-clause-taken : goal.begin-requires-clause-taken

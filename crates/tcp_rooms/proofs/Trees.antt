@@ -1,0 +1,13 @@
+-- A tree of ranks, while a leaf and the nodes above it are written.
+use Rattle.std.proofs.Common.{◌≡◌, ℕ, ◌+◌, ◌*◌, ◌/◌, ◌<◌, ◌≤◌, List, length, get_or}
+use Rattle.std.specs.Prelude.{min}
+
+-- a node has the lesser rank of its two children
+abbrev pub IsLesser : List ℕ → ℕ → Type 0
+IsLesser nodes i =
+    get_or nodes i 0 ≡ min (get_or nodes (2 * i) 0) (get_or nodes (2 * i + 1) 0)
+
+-- each node but the one above a place
+pub record IsTreeBut (rooms place : ℕ) (nodes : List ℕ) : Type 0 where
+  pub size : length nodes ≡ 2 * rooms
+  pub least : (i : ℕ) → 1 ≤ i → i < rooms → (i ≡ place / 2 → ⊥) → IsLesser nodes i

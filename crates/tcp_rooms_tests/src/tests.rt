@@ -1,0 +1,56 @@
+//! The room of the least rank, and the place of a room's key.
+
+use std::test::Fail;
+use tcp_rooms::{Ranks, RoomTable};
+
+/// Ranks that five rooms get one after another, and the room that has a lesser rank then than each other, if there is one.
+const RANKS: [(u32, u128, Option<u32>); 9] = [
+    (0, 7, None),
+    (1, 3, None),
+    (2, 1 << 65, None),
+    (3, 2, Some(4)),
+    (4, 5, Some(3)),
+    (3, 8, Some(1)),
+    (1, 5, None),
+    (4, 6, Some(1)),
+    (1, 1 << 66, Some(4)),
+];
+
+#[test]
+fn the_room_of_the_least_rank_is_first(rt: HostRuntime) -> Result<(), Fail> {
+    let mut ranks = Ranks::new(rt.alloc(), 5)?;
+    for (room, rank, first) in RANKS {
+        ranks.set(room, rank);
+        assert_eq!(rt; ranks.first(), first, "rank {rank} of room {room}");
+    }
+    Ok(())
+}
+
+/// Keys and their rooms.
+const KEYS: [(u32, u32); 3] = [(20, 1), (10, 3), (30, 0)];
+
+/// Rooms, and the places of their keys.
+const PLACES: [(u32, Option<usize>); 5] = [
+    (0, Some(2)),
+    (1, Some(1)),
+    (2, None),
+    (3, Some(0)),
+    (9, None),
+];
+
+#[test]
+fn the_key_of_a_room_stands_at_its_place(rt: HostRuntime) -> Result<(), Fail> {
+    let mut table = RoomTable::new(rt.alloc(), 4)?;
+    for (key, room) in KEYS {
+        assert!(rt; !table.is_full());
+        let place = match table.place(&key) {
+            Ok(place) => place,
+            Err(place) => place,
+        };
+        table.add(place, key, room);
+    }
+    for (room, place) in PLACES {
+        assert_eq!(rt; table.place_of_room(room), place, "room {room}");
+    }
+    Ok(())
+}

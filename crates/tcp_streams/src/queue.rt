@@ -1,0 +1,112 @@
+//! The flows of streams in an order: an id goes where it stands, and what stands behind it isn't moved.
+
+ghost use Rattle.std.specs.Prelude.{◌≡◌, ◌≤◌, ◌<◌, ◌^◌, [], length, get_or, IfOk, IfSome, None};
+ghost use Rattle.tcp_streams.specs.Lives.{without, begun, elder_side};
+
+use crate::pair::Side;
+use crate::places::{
+    Front, MOST_IDS, PLACES, first_side, make_place, pack, place_of, push, take_away, walk_to,
+};
+use crate::sides::flow_id;
+use crate::stamps::Stamps;
+use std::alloc::{AllocError, Global};
+use std::marker::Model;
+
+/// The ids of flows, each once, in an order. All of its memory is allocated when it is made.
+#[derive(Drop)]
+pub(crate) struct Queue {
+    ids: Vec<u32>,
+    stamps: Stamps,
+    front: Front,
+}
+
+impl Model for Queue {
+    ghost use Rattle.tcp_streams.specs.Queue.{QueueView, queue_of, IsKept};
+
+    ghost Value = { QueueView };
+
+    ghost view = { queue_of };
+
+    ghost invariant = { IsKept };
+}
+
+impl Queue {
+    /// No id stands there. There is room for each id; those below `flows` are found at once, and any other by a walk.
+    pub(crate) fn new(alloc: Global, flows: usize) -> Result<Queue, AllocError>
+        ensures { IfOk result (λ q. q.items ≡ []) }
+    {
+        let ids = Vec::with_capacity(alloc, PLACES)?;
+        let stamps = Stamps::new(alloc, flows)?;
+        Ok(Queue {
+            ids,
+            stamps,
+            front: Front {
+                places: 0,
+                count: 0,
+            },
+        })
+    }
+
+    /// How many ids stand there.
+    pub(crate) fn len(&self) -> usize
+        ensures live { result ≡ length self.now.items }
+        ensures few { result ≤ 262144 }
+    {
+        self.front.count + (self.ids.len() - self.front.places)
+    }
+
+    /// The id of a rank.
+    pub(crate) fn at(&self, rank: usize) -> Option<u32>
+        ensures none { (result ≡ None) → length self.now.items ≤ rank }
+        ensures some { IfSome result (λ id. (rank < length self.now.items)
+            × (id ≡ get_or self.now.items rank 0)) }
+        ensures few { IfSome result (λ id. rank < 262144) }
+    {
+        if rank < self.front.count {
+            return walk_to(&self.ids, rank);
+        }
+        let after = rank - self.front.count;
+        if after >= self.ids.len() - self.front.places {
+            return None;
+        }
+        Some(self.ids[self.front.places + after])
+    }
+
+    /// Of the flows of a room, the side of the one that stands first.
+    pub(crate) fn elder_side(&self, room: u32) -> Side
+        requires { room < 2 ^ 31 }
+        ensures { result ≡ elder_side room self.now.items }
+    {
+        let lesser = flow_id(room, Side::FromLesser);
+        let greater = flow_id(room, Side::FromGreater);
+        first_side(
+            place_of(&self.ids, &self.stamps, &self.front, lesser),
+            place_of(&self.ids, &self.stamps, &self.front, greater),
+        )
+    }
+
+    /// An id goes, if it stands there.
+    pub(crate) fn take_away(&mut self, flow: u32)
+        ensures { self.new.items ≡ without flow self.old.items }
+    {
+        take_away(&mut self.ids, &mut self.stamps, &mut self.front, flow);
+    }
+
+    /// An id stands last from now on.
+    pub(crate) fn begin(&mut self, flow: u32)
+        ensures { self.new.items ≡ begun flow self.old.items }
+    {
+        if flow < MOST_IDS {
+            take_away(&mut self.ids, &mut self.stamps, &mut self.front, flow);
+            make_place(&mut self.ids, &mut self.stamps, &mut self.front);
+            push(&mut self.ids, &mut self.stamps, &self.front, flow);
+        }
+    }
+
+    /// The places where an id was are given up, so that each rank is found at once.
+    pub(crate) fn pack(&mut self)
+        ensures { self.new.items ≡ self.old.items }
+    {
+        pack(&mut self.ids, &mut self.stamps, &mut self.front);
+    }
+}
