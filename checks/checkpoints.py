@@ -7,26 +7,33 @@ import subprocess
 import sys
 import tempfile
 from concurrent.futures import ThreadPoolExecutor
+from pathlib import Path
 from typing import Iterator, List, Tuple
 
 import encapsulated
 from failing import EXAMPLES, PROGRAM, SECONDS
-from rows import TOUR, TOUR_WORDS
+from keyed import keyed
+from rows import FOLDER, TOUR, TOUR_WORDS
 
 WORDS = ("magic", "version", "catalogue", "length", "state")
 NAMING = ("--signatures", str(EXAMPLES / "naming.sig"))
 LISTED = (*NAMING, "--requests", str(EXAMPLES / "naming.req"))
 FEATURES = ("--signatures", str(EXAMPLES / "features.sig"))
 Stream = Tuple[Tuple[str, ...], bytes]
+SEED = 1  # of a signature file with interfaces
 
 
 def streams() -> List[Stream]:
-    """Requests, replies with their list, the front of a long stream with every sort of value, and encapsulations."""
+    """Requests, replies with their list, the front of a long stream with every sort of value, encapsulations, and calls with
+    interfaces."""
+    made, types = keyed(SEED, 20), Path(FOLDER.name, "keyed.sig")
+    types.write_text(made.signatures)
     return [
         (NAMING, (EXAMPLES / "naming.giop").read_bytes()),
         (LISTED, (EXAMPLES / "naming-replies.giop").read_bytes()),
         (TOUR_WORDS, TOUR[:3000]),
         (FEATURES, b"".join(encapsulated.messages())[:1000]),
+        (("--types", str(types)), b"".join(made.calls)[:1500]),
     ]
 
 
@@ -77,7 +84,9 @@ def damaged(checkpoint: bytes) -> Iterator[Tuple[str, bytes, Tuple[str, ...]]]:
         words = next((words for end, words in FIRST_REFUSALS if at < end), ("state", "length", ""))
         yield f"octet {at}", wrong, words
         yield f"the first {at} octets", checkpoint[:at], ("length",) if at < 96 else ("length", "state")
-    for layout, word in ((1, "version"), (2, "state"), (4, "version"), (5, "version")):
+    third = 6  # the layout with a signature file of version 3; of the others 2 may be gone on from
+    for layout in sorted({1, 2, 3, 4, 5, third, 7} - {checkpoint[11]}):
+        word = "state" if layout == 2 and checkpoint[11] != third else "version"
         yield f"layout {layout}", checkpoint[:11] + bytes([layout]) + checkpoint[12:], (word,)
     for most in (0, 4097):
         yield f"room for {most}", checkpoint[:80] + most.to_bytes(4, "big") + checkpoint[84:], ("state",)

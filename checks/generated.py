@@ -1,5 +1,5 @@
-"""Streams made by seeds from the examples and from messages with encapsulations and anys: these are taken in any order, and octets
-of them changed, left out, put in and repeated. Of each the program writes the text that the reference reads in the whole
+"""Streams made by seeds from the examples, from messages with encapsulations and anys, and from requests to objects whose keys have
+interfaces, by signature files that are made by seeds too: messages are taken in any order, and octets of them changed, left out, put in and repeated. Of each the program writes the text that the reference reads in the whole
 stream, and the same text however its reads are cut, and in parts, each gone on from where the one before it was saved; and a
 front of it when the stream ends early. It ends with status 0 or 1, its total line is right, and it makes as many requests for
 memory as ever. From a checkpoint that is changed so it goes on, or refuses it."""
@@ -14,12 +14,15 @@ import sys
 import tempfile
 import time
 from concurrent.futures import ThreadPoolExecutor
+from dataclasses import dataclass
+from functools import lru_cache
 from pathlib import Path
 from typing import Dict, List, Sequence, Tuple
 
 import described
 import encapsulated
 from failing import CHECKPOINT, EXAMPLES, PROGRAM, SECONDS, Case, Differences, Ended, checkpoint_of, run
+from keyed import keyed
 from rows import FOLDER, TOUR, TOUR_TYPES, TOUR_WORDS
 
 from reference.encoding import ORDERS  # on the path by encapsulated
@@ -27,6 +30,7 @@ from reference.signatures import Table, requests_of, table_of
 from reference.stream import MOST_OPEN, Known, dump
 
 MOST = 20_000
+KEYED = 24  # signature files with interfaces
 
 # The features in a file of version 3, whose enums, structs and unions have repository ids.
 THIRD = Path(FOLDER.name, "third.sig")
@@ -58,8 +62,29 @@ REFUSALS = {
 }
 
 
+@dataclass(frozen=True)
+class Sort:
+    """The words of runs, and the messages of their streams."""
+
+    words: Tuple[str, ...]
+    messages: List[bytes]
+
+
+def sorts(first: int) -> List[Sort]:
+    """The sorts of streams: those with all messages, and from this seed on those with interfaces."""
+    known, found = messages(), []
+    for seed in range(first, first + KEYED):
+        made = keyed(seed, 20)
+        types, requests = (Path(FOLDER.name, f"keyed{seed}.{end}") for end in ("sig", "req"))
+        types.write_text(made.signatures)
+        requests.write_text(made.requests)
+        words = ("--types", str(types), "--requests", str(requests))
+        found.append(Sort(words, [*made.calls, *made.replies]))
+    return [Sort(words, known) for words in TYPES] + found
+
+
 def messages() -> List[bytes]:
-    """The messages, each with its header."""
+    """The messages of any file, each with its header."""
     streams = [(EXAMPLES / name).read_bytes() for name in ("naming.giop", "naming-replies.giop")]
     streams.append(TOUR)
     found = encapsulated.messages() + described.messages(60)
@@ -89,13 +114,14 @@ def changed(draw: random.Random, octets: bytes, sorts: Sequence[int] = range(6))
     return octets[:at]
 
 
-def stream_of(seed: int, known: List[bytes]) -> Case:
+def stream_of(seed: int, known: List[Sort]) -> Case:
     draw = random.Random(seed)
-    made = [draw.choice(known) for _ in range(draw.choice((1, 2, 5, 20)))]
+    sort = draw.choice(known[: len(TYPES)] if draw.random() < 0.6 else known)
+    made = [draw.choice(sort.messages) for _ in range(draw.choice((1, 2, 5, 20)))]
     for _ in range(draw.choice((0, 1, 1, 2, 5))):
         place = draw.randrange(len(made))
         made[place] = changed(draw, made[place])
-    return Case(f"seed {seed}", draw.choice(TYPES), b"".join(made)[:MOST])
+    return Case(f"seed {seed}", sort.words, b"".join(made)[:MOST])
 
 
 def counts(text: bytes) -> Tuple[int, int]:
@@ -118,6 +144,7 @@ def is_right(ended: Ended, octets: int) -> bool:
     return read <= octets if stopped else read == octets
 
 
+@lru_cache(maxsize=None)
 def known_of(words: Tuple[str, ...]) -> Known:
     """What the reference is told by these words."""
     told = dict(zip(words[::2], words[1::2]))
@@ -125,9 +152,6 @@ def known_of(words: Tuple[str, ...]) -> Known:
     table = table_of(Path(types).read_bytes()) if types else Table()
     requests = requests_of(Path(told["--requests"]).read_bytes()) if "--requests" in told else {}
     return Known(table, requests, int(told.get("--open", MOST_OPEN)))
-
-
-KNOWN = {words: known_of(words) for words in TYPES}
 
 
 def before_the_closing(text: bytes) -> bytes:
@@ -171,13 +195,13 @@ def is_safe(ended: Ended) -> bool:
     return ended.status in (0, 1) and ended.said == b"" and total != [] and total[0].startswith(b"total messages ")
 
 
-def try_seed(library: str, seed: int, known: List[bytes], requests: Requests) -> List[Tuple[bool, str, Ended]]:
+def try_seed(library: str, seed: int, known: List[Sort], requests: Requests) -> List[Tuple[bool, str, Ended]]:
     """What came of the runs of a seed."""
     case = stream_of(seed, known)
     draw = random.Random(f"cuts of {seed}")
     usual = run(library, case)
     tried = [(is_right(usual, len(case.stream)), "whole", usual)]
-    lines = "".join(f"{line}\n" for line in dump(case.stream, KNOWN[case.words]))
+    lines = "".join(f"{line}\n" for line in dump(case.stream, known_of(case.words)))
     tried.append((usual.lines == lines.encode(), "the lines of the reference", usual))
     cut = draw.choice((1, 3, 16, 64, 1000))
     ended = run(library, case, "read", cut=cut, seed=seed)
@@ -203,21 +227,21 @@ def usual_requests(library: str, words: Tuple[str, ...]) -> int:
 
 
 def main(library: str, seconds: float, first: int) -> int:
-    made, seen = messages(), Differences()
-    requests = {words: usual_requests(library, words) for words in TYPES}
+    known, seen = sorts(first), Differences()
+    requests = {sort.words: usual_requests(library, sort.words) for sort in known}
     end, seed, faulted, refused = time.monotonic() + seconds, first, 0, 0
     with ThreadPoolExecutor(os.cpu_count() or 1) as pool:
         while time.monotonic() < end:
-            for tried in pool.map(lambda at: try_seed(library, at, made, requests), range(seed, seed + 200)):
+            for tried in pool.map(lambda at: try_seed(library, at, known, requests), range(seed, seed + 200)):
                 faulted += tried[0][2].status == 1
                 refused += tried[-1][2].status == 3
                 for as_wanted, what, ended in tried:
                     seen.note(as_wanted, what, ended)
             seed += 200
-    for words in TYPES:
-        long = Case("long", words, b"".join(made) * 200)
+    for sort in known:
+        long = Case("long", sort.words, b"".join(sort.messages) * 200)
         ended = run(library, long)
-        seen.note(ended.calls.get("memory") == requests[words], "the examples 200 times over", ended)
+        seen.note(ended.calls.get("memory") == requests[sort.words], "the messages 200 times over", ended)
     print(f"seeds {first} to {seed - 1}, {faulted} of them with a fault: {seen.runs} runs, {seen.differ} differ")
     print(f"of their changed checkpoints {refused} are refused, {seed - first - refused} gone on from")
     print(f"requests for memory in each, by its files: {', '.join(map(str, requests.values()))}")

@@ -58,10 +58,11 @@ check_page giop-json 0 1 2 3 4 5
 check_page giop-stat 0 2 3 4 5
 check_page giop-chart 0 2 3 4
 check_page giop-report 0 2 3 4
+check_page giop-keys 0 2 3 4
 ls "$folder"/naming.svg "$folder"/orders.png > /dev/null
 
 version=$(sed -nE '/^## /{s/^## ([^ ]+).*/\1/p; q}' CHANGES.md)
-for program in giopdump giopcap giop-stat giop-chart giop-report; do
+for program in giopdump giopcap giop-stat giop-chart giop-report giop-keys; do
     [ "$("$program" --version)" = "$program $version" ] || { echo "$program --version isn't $version" >&2; exit 1; }
 done
 omniidl -p idl -bgiopdump_signatures -u | grep -cx "giopdump_signatures $version" > /dev/null

@@ -1,6 +1,6 @@
 #!/usr/bin/env bash
 # The Debian package: lintian finds no error, and dpkg installs it into an empty folder, where the programs dump an example
-# and a capture, the four that read dumps read these, and omniidl finds the converter among Python's packages.
+# and a capture, the five that read dumps read these, and omniidl finds the converter among Python's packages.
 # Completion in bash offers the words of the programs. And what is released of a tag: its checksums hold, and the package is the
 # one of the tag's sources, which are in the archive.
 # Installs lintian, omniidl, binutils, bash-completion, libjs-chart.js and python3-jinja2 where they are missing.
@@ -25,7 +25,7 @@ mkdir "$work/again"
 package=$(scripts/package "$work")
 cmp "$package" "$(scripts/package "$work/again")"
 lintian --allow-root --fail-on error --tag-display-limit 0 "$package"
-for page in giopdump giopcap giop-json giop-stat giop-chart giop-report; do
+for page in giopdump giopcap giop-json giop-stat giop-chart giop-report giop-keys; do
     dpkg-deb --fsys-tarfile "$package" | tar -t | grep -c "^./usr/share/man/man1/$page.1.gz$" > /dev/null
 done
 
@@ -55,6 +55,7 @@ grep -q '=> "server" \[label="resolve"\]' <(giop-chart "$folder/lines")
 grep -q '<canvas id="latency">' <(giop-report "$folder/lines")
 giopcap --signatures examples/naming.sig examples/session.pcap > "$folder/lines"
 grep -qE '^s6 m2 answers s5 m2 resolve after 0\.[0-9]{9}$' "$folder/lines"
+grep -q '^key "4e616d6553657276696365" of "IDL:' <(giop-keys "$folder/lines")
 grep -q '"operation":"resolve"' <(giop-json "$folder/lines")
 gzip -cd "$root/usr/share/man/man1/giopdump.1.gz" | grep -q '^.Dt GIOPDUMP'
 echo 'interface Clock { long now(in string zone); };' > "$folder/clock.idl"

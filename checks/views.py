@@ -1,6 +1,6 @@
 """The rows of giop-json and giop-stat; and dumps of streams that are made by seeds, as the program writes them and with what a capture
-adds to them: the JSON has every value of their lines and no other, in parts too, the counts of the table are those of `grep -c`, and the chart has an arrow
-for each message. Cut after any line, a dump gives what is there. A line that was changed is refused or read, and
+adds to them: the JSON has every value of their lines and no other, in parts too, the counts of the table are those of `grep -c`,
+the chart has an arrow for each message, and the keys of giop-keys are those of the references in the JSON. Cut after any line, a dump gives what is there. A line that was changed is refused or read, and
 nothing else happens. The picture of docs/USE.md is that of its command."""
 
 from __future__ import annotations
@@ -30,10 +30,11 @@ WOVEN = 3  # streams of one capture
 CHANGED = 300
 IDS = ("IDL:omg.org/CORBA/INTERNAL:1.0", "IDL:a/Late:1.0", '"</text><script>\\n&lt;')
 ENDS = ("10.0.0.1:7", "[2001:db8::1]:2809")
+EVERY_OBJECT = "IDL:omg.org/CORBA/Object:1.0"  # of which giop-keys tells nothing
 MESSAGE = re.compile(r"(?:s(\d+) )?m(\d+) (.*)")
 
 
-def dump_of(seed: int, known: List[bytes]) -> List[str]:
+def dump_of(seed: int, known: List[generated.Sort]) -> List[str]:
     """The lines of a stream."""
     case = generated.stream_of(seed, known)
     done = subprocess.run([PROGRAM, *case.words], input=case.stream, stdout=subprocess.PIPE, timeout=60)
@@ -52,7 +53,7 @@ def added_to(draw: random.Random, line: str, after: str, kinds: Dict[str, str], 
         packet = draw.choice(("", f" packet {draw.randrange(1, 2**40)}"))
         added.append(f"{number} time 2026-11-23T08:13:25.{draw.randrange(10**9):09}Z{packet}")
     if word == "call":
-        calls.append(line.split(" ", 3)[3])
+        calls.append(line.split(" ")[3])
     if kinds.get(number) == "Reply" and "header.reply_status" in line and draw.randrange(3):
         seconds = draw.choice(("-", "0.000000250", "-0.100000000", "1.500000000"))
         added.append(f"{number} answers s9 m9 {draw.choice(calls or ['ask'])} after {seconds}")
@@ -174,7 +175,7 @@ EVENTS: Dict[str, Callable[[List[str]], Dict[str, Any]]] = {
     "start": lambda words: dict(
         zip(("version", "order", "type", "size", "more"), (*words[:3], int(words[4]), *([True] if words[5:] else [])))
     ),
-    "call": lambda words: {"call": int(words[0]), "operation": words[1]},
+    "call": lambda words: {"call": int(words[0]), **dict(zip(("operation", "interface"), words[1:]))},
     "time": lambda words: {
         **({} if words[0] == "-" else {"time": words[0]}),
         **({"packet": int(words[2])} if len(words) > 1 else {}),
@@ -323,6 +324,28 @@ def check_chart(lines: Sequence[str], picture: bool) -> int:
     return arrows
 
 
+def references_in(value: Any) -> Iterator[Tuple[str, str]]:
+    """The keys of the references in a value, each with the interface that it has, as giop-keys shows that."""
+    if isinstance(value, dict):
+        name = re.sub(r"\\x([0-9a-f]{2})", lambda found: chr(int(found[1], 16)), str(value.get("type_id", "")))
+        shown = "".join(each if "!" <= each <= "~" and each != '"' else f"\\x{ord(each):02x}" for each in name)
+        for profile in value.get("profiles", []) if shown not in ("", EVERY_OBJECT) else []:
+            data = profile.get("profile_data")
+            if isinstance(data, dict) and "object_key" in data:
+                yield data["object_key"], shown
+    for each in value.values() if isinstance(value, dict) else value if isinstance(value, list) else []:
+        yield from references_in(each)
+
+
+def check_keys(lines: Sequence[str]) -> int:
+    """The keys that giop-keys finds are those of the references in the objects of giop-json; gives how many there are."""
+    told = set(re.findall(r'(?m)key "(.*)" of "(.*)";$', printed("giop-keys", text_of(lines))))
+    found = [(set(references_in(made)), bool({"fault", "unfinished", "cut"} & set(made))) for made in objects(lines)]
+    assert told <= set().union(*(each for each, _ in found)), told
+    assert told >= set().union(*(each for each, is_broken in found if not is_broken)), told
+    return len(told)
+
+
 def check_cuts(lines: Sequence[str]) -> int:
     """A dump that is cut after a line gives what is there; gives how many cuts there are."""
     whole = written(text_of(lines)).stdout.splitlines()
@@ -373,10 +396,10 @@ def check_picture() -> None:
 def main() -> int:
     """Prints figures."""
     check_picture()
-    known = generated.messages()
+    known = generated.sorts(0)
     rows = check_rows() + check_program()
     stat_rows = check_stat_rows() + check_stat_program()
-    values = parts = messages = arrows = lines = 0
+    values = parts = messages = arrows = keys = lines = 0
     for seed in range(SEEDS):
         draw = random.Random(seed)
         dumps = [dump_of(seed * WOVEN + number, known) for number in range(WOVEN)]
@@ -386,13 +409,14 @@ def main() -> int:
             parts += check_parts(dump)
             messages += check_counts(dump)
             arrows += check_chart(dump, picture=seed < 10) if seed < 40 else 0
+            keys += check_keys(dump)
     session = SESSION.read_text().splitlines()
     values += check_json(session)
     cuts = check_cuts(session)
     read = sum(check_changed(random.Random(seed), session) for seed in range(CHANGED))
     print(
         f"views: {rows} rows and runs of giop-json, {stat_rows} of giop-stat; {lines} lines of {2 * SEEDS} dumps: {values} values in JSON, {parts} parts, {messages} counted, "
-        f"{arrows} arrows; {cuts} cuts; {CHANGED} changed dumps, {CHANGED - read} refused"
+        f"{arrows} arrows, {keys} keys; {cuts} cuts; {CHANGED} changed dumps, {CHANGED - read} refused"
     )
     return 0
 

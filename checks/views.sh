@@ -1,7 +1,7 @@
 #!/usr/bin/env bash
-# giop-json, giop-stat and giop-chart: what they print of rows and lines that were written by hand, of the dumps of generated
-# streams, and of these when they are cut or changed; the picture of docs/USE.md; and the pages of giop-report in a browser
-# without network. Installs mscgen, chromium, libjs-chart.js and python3-jinja2 where they are missing.
+# giop-json, giop-stat, giop-chart and giop-keys: what they print of rows and lines that were written by hand, of the dumps of
+# generated streams, and of these when they are cut or changed; the picture of docs/USE.md; and the pages of giop-report in a
+# browser without network. Installs mscgen, chromium, libjs-chart.js and python3-jinja2 where they are missing.
 set -euo pipefail
 cd "$(dirname "$0")/.."
 . checks/packages.sh
@@ -16,5 +16,6 @@ need_giop_json
 need_giop_stat
 export PYTHONDONTWRITEBYTECODE=1
 python3 scripts/tests/test_views.py
+python3 scripts/tests/test_keys.py
 python3 checks/views.py
 python3 checks/report.py

@@ -15,16 +15,19 @@ import sys
 import time
 from concurrent.futures import ThreadPoolExecutor
 from dataclasses import dataclass, field
-from typing import List, Tuple
+from pathlib import Path
+from typing import List, Optional, Tuple
 
 from failing import EXAMPLES, SECONDS
 from generated import changed, messages
+from keyed import Keyed, keyed
+from rows import FOLDER
 
 from reference.captures import dump_capture, hint_of, words_of  # on the path by failing
 
 FIN, SYN, RESET, ACK = 1, 2, 4, 16
 SERVER_PORT = 2809
-WORDS: List[Tuple[str, ...]] = [
+WORDS: List[Words] = [
     (),
     ("--signatures", str(EXAMPLES / "naming.sig")),
     ("--signatures", str(EXAMPLES / "features.sig"), "--port", str(SERVER_PORT)),
@@ -32,6 +35,8 @@ WORDS: List[Tuple[str, ...]] = [
     ("--signatures", str(EXAMPLES / "naming.sig"), "--pool", "1024", "--calls", "2"),
     ("--open", "1", "--connections", "1"),
 ]
+KEYED = 16  # signature files with interfaces
+Words = Tuple[str, ...]
 Messages = List[bytes]
 
 
@@ -110,9 +115,12 @@ class Wire:
         return head + b"".join(self.packets)
 
 
-def streams_of(draw: random.Random, known: Messages) -> List[bytes]:
+def streams_of(draw: random.Random, known: Messages, made: Optional[Keyed]) -> List[bytes]:
     """What both ends of a connection send."""
-    if draw.random() < 0.7:
+    if made and draw.random() < 0.9:
+        count = draw.randrange(1, 8)
+        told = [b"".join(draw.choices(each, k=count)) for each in (made.calls, made.replies)]
+    elif draw.random() < 0.7:
         told = [(EXAMPLES / name).read_bytes() for name in ("naming.giop", "naming-replies.giop")]
     else:
         told = [b"".join(draw.choice(known) for _ in range(draw.randrange(1, 8))) for _ in range(2)]
@@ -120,9 +128,9 @@ def streams_of(draw: random.Random, known: Messages) -> List[bytes]:
     return [front + (changed(draw, stream) if stream and draw.random() < 0.3 else stream)[:4000] for stream in told]
 
 
-def converse(draw: random.Random, wire: Wire, ends: List[End], known: Messages) -> None:
+def converse(draw: random.Random, wire: Wire, ends: List[End], streams: List[bytes]) -> None:
     """A connection from its SYN up to its FINs, by turns of both ends."""
-    for end, stream in zip(ends, streams_of(draw, known)):
+    for end, stream in zip(ends, streams):
         end.number, end.left, end.sent = (
             draw.choice((draw.randrange(2**32), 2**32 - draw.randrange(1, 500))),
             stream,
@@ -169,7 +177,7 @@ def disturb(draw: random.Random, wire: Wire, source: End, target: End) -> None:
         wire.send(source, target, FIN | ACK, draw.choice((source.number, source.number + 20, number)))
 
 
-def capture_of(seed: int, known: Messages) -> bytes:
+def capture_of(seed: int, known: Messages, made: Optional[Keyed]) -> bytes:
     """A capture of some connections, whose packets are mixed and out of order."""
     draw = random.Random(seed)
     wire = Wire(draw)
@@ -179,7 +187,7 @@ def capture_of(seed: int, known: Messages) -> bytes:
         ends = [End(bytes((10, 0, 0, draw.randrange(1, 4))), draw.choice((33_000, 33_001)), 0)]
         ends.append(End(bytes((10, 0, 1, 1)), draw.choice((SERVER_PORT, SERVER_PORT, 80)), 0))
         for _ in range(draw.choice((1, 1, 2))):
-            converse(draw, wire, ends, known)
+            converse(draw, wire, ends, streams_of(draw, known, made))
         wires.append(wire.packets)
     mixed: List[bytes] = []
     while any(wires):
@@ -192,10 +200,21 @@ def capture_of(seed: int, known: Messages) -> bytes:
     return changed(draw, capture) if draw.random() < 0.1 else capture
 
 
-def differs(program: str, seed: int, known: Messages) -> List[str]:
+def keyed_sorts(first: int) -> List[Tuple[Words, Keyed]]:
+    """Words with signature files that have interfaces, from this seed on, and what is said by these."""
+    found: List[Tuple[Words, Keyed]] = []
+    for seed in range(first, first + KEYED):
+        file, made = Path(FOLDER.name, f"wires{seed}.sig"), keyed(seed, 20)
+        file.write_text(made.signatures)
+        found.append((("--signatures", str(file)), made))
+    return found
+
+
+def differs(program: str, seed: int, known: Messages, sorts: List[Tuple[Words, Keyed]]) -> List[str]:
     """Where the program and the reference differ, and what is said of both."""
-    words = random.Random(f"words of {seed}").choice(WORDS)
-    octets = capture_of(seed, known)
+    draw = random.Random(f"words of {seed}")
+    words, made = draw.choice(sorts) if draw.random() < 0.4 else (draw.choice(WORDS), None)
+    octets = capture_of(seed, known, made)
     dumped = dump_capture(octets, words_of([*words, "capture"])[0])
     ran = subprocess.run([program, *words], input=octets, capture_output=True, timeout=SECONDS)
     said = "".join(f"giopcap: {notice}\n" for notice in dumped.notices)
@@ -213,11 +232,11 @@ def differs(program: str, seed: int, known: Messages) -> List[str]:
 
 
 def main(program: str, seconds: float, first: int) -> int:
-    known = messages()
+    known, sorts = messages(), keyed_sorts(first)
     end, seed, faults = time.monotonic() + seconds, first, 0
     with ThreadPoolExecutor(os.cpu_count() or 1) as pool:
         while time.monotonic() < end:
-            for found in pool.map(lambda at: differs(program, at, known), range(seed, seed + 100)):
+            for found in pool.map(lambda at: differs(program, at, known, sorts), range(seed, seed + 100)):
                 faults += bool(found)
                 print("\n".join(found), end="\n" if found else "")
             seed += 100

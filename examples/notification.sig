@@ -1,7 +1,7 @@
 signatures 3;
 
 // Written by giopdump_signatures from CosNotifyChannelAdmin.idl.
-// whole: 138 operations, 21 exceptions, 18 types; by half: 6 operations; left out: 0 operations, 0 exceptions.
+// whole: 144 operations, 21 exceptions, 18 types; by half: 0 operations; left out: 0 operations, 0 exceptions.
 
 // Every object
 operation boolean _is_a(in string logical_type_id);
@@ -134,10 +134,15 @@ operation void remove_all_constraints();
 operation void destroy();
 // what follows in the reply: rest (unequal parameters: CosNotifyFilter::MappingFilter::match (CosNotifyFilter.idl:133))
 operation boolean match(in any filterable_data);
+operation boolean match(in any filterable_data) of "IDL:omg.org/CosNotifyFilter/Filter:1.0";
 // what follows in the reply: rest (unequal parameters: CosNotifyFilter::MappingFilter::match_structured (CosNotifyFilter.idl:137))
 operation boolean match_structured(in StructuredEvent filterable_data);
+operation boolean match_structured(in StructuredEvent filterable_data)
+  of "IDL:omg.org/CosNotifyFilter/Filter:1.0";
 // what follows in the reply: rest (unequal parameters: CosNotifyFilter::MappingFilter::match_typed (CosNotifyFilter.idl:142))
 operation boolean match_typed(in sequence<Property> filterable_data);
+operation boolean match_typed(in sequence<Property> filterable_data)
+  of "IDL:omg.org/CosNotifyFilter/Filter:1.0";
 operation long attach_callback(in Object callback);
 operation void detach_callback(in long callback);
 operation sequence<long> get_callbacks();
@@ -167,9 +172,12 @@ operation sequence<MappingConstraintInfo> get_mapping_constraints(in sequence<lo
 operation sequence<MappingConstraintInfo> get_all_mapping_constraints();
 operation void remove_all_mapping_constraints();
 // destroy (CosNotifyFilter.idl:131) travels like CosNotifyFilter::Filter::destroy (CosNotifyFilter.idl:82)
-// match (CosNotifyFilter.idl:133) travels like CosNotifyFilter::Filter::match (CosNotifyFilter.idl:84) as far as that has types
-// match_structured (CosNotifyFilter.idl:137) travels like CosNotifyFilter::Filter::match_structured (CosNotifyFilter.idl:87) as far as that has types
-// match_typed (CosNotifyFilter.idl:142) travels like CosNotifyFilter::Filter::match_typed (CosNotifyFilter.idl:91) as far as that has types
+operation boolean match(in any filterable_data, out any result_to_set)
+  of "IDL:omg.org/CosNotifyFilter/MappingFilter:1.0";
+operation boolean match_structured(in StructuredEvent filterable_data, out any result_to_set)
+  of "IDL:omg.org/CosNotifyFilter/MappingFilter:1.0";
+operation boolean match_typed(in sequence<Property> filterable_data, out any result_to_set)
+  of "IDL:omg.org/CosNotifyFilter/MappingFilter:1.0";
 
 // CosNotifyFilter::FilterFactory (CosNotifyFilter.idl:149)
 exception InvalidGrammar "IDL:omg.org/CosNotifyFilter/InvalidGrammar:1.0" { };
@@ -362,3 +370,7 @@ operation Object get_event_channel(in long id);
 
 // Exceptions that no interface above declares or raises
 exception DuplicateConstraintID "IDL:omg.org/CosNotifyFilter/DuplicateConstraintID:1.0" { long id; };
+
+// Keys of objects, as giop-keys finds them in a dump
+// key "" of "IDL:omg.org/CosNotifyFilter/Filter:1.0";
+// key "" of "IDL:omg.org/CosNotifyFilter/MappingFilter:1.0";

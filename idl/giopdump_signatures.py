@@ -2,7 +2,8 @@
 
     omniidl -bgiopdump_signatures orders.idl > orders.sig
 
-The file has the operations and exceptions of orders.idl and of what it includes, and the types that they need.
+The file has the operations and exceptions of orders.idl and of what it includes, and the types that they need. Of several
+IDL files it writes one signature file, as if the first included the others.
 A request or a reply has types up to its first value that the signature language has no form for: the others are
 shown as rest, never as wrong values. What has no type at all is left out. Comments say why, and the end of standard
 error what is whole, what is by half and what is left out.
@@ -17,10 +18,12 @@ types and prints. docs/SIGNATURES.md has a table from each form of IDL to what i
 
 from __future__ import annotations
 
+import getopt
+import shlex
 import sys
 from collections import Counter
 from dataclasses import dataclass
-from typing import List, Sequence
+from typing import List, Sequence, Tuple
 
 from giopdump_idl import VERSION
 from giopdump_idl.model import MOST_OCTETS
@@ -59,6 +62,9 @@ def summary(selection: Selection) -> str:
     for text, causes in zip(counts(selection), (none, selection.why_half, selection.why_left_out)):
         told = ", ".join(f"{number} for {cause}" for cause, number in sorted(causes.items()))
         lines.append(f"{PROGRAM}: {text}" + (f" ({told})\n" if told else "\n"))
+    if selection.interfaces:
+        number = counted(selection.by_interface, ["operation"])
+        lines.append(f"{PROGRAM}: by interface: {number}, if the file has keys of objects (giop-keys)\n")
     return "".join(lines)
 
 
@@ -84,20 +90,33 @@ def wanted(arguments: Sequence[str]) -> Wanted:
     return asked
 
 
-_runs: List[str] = []
+def command_of(words: Sequence[str]) -> Tuple[List[str], bool]:
+    """The IDL files that omniidl's command names, and whether it runs the preprocessor."""
+    try:
+        options, files = getopt.getopt(list(words), "D:I:U:EY:NW:b:n:kKC:dVuhvqp:iTP")
+    except getopt.GetoptError:
+        return [], True  # omniidl says so itself
+    return files, ("-N", "") not in options
+
+
+FILES, _HAS_PREPROCESSOR = command_of(sys.argv[1:])
+
+# omniidl hands these to its preprocessor: the other files are included before the first, whose tree then has all.
+cpp_args = [f"-include {shlex.quote(file)}" for file in FILES[1:]]
 
 
 def run(tree: idlast.AST, arguments: Sequence[str]) -> None:
-    """omniidl's entry: prints the signature file of one IDL file."""
-    _runs.append(tree.file())
-    if len(_runs) > 1:
-        sys.exit(f"{PROGRAM}: give one IDL file; one that includes others has their operations too")
+    """omniidl's entry for an IDL file: prints the signature file. If there are several it ends omniidl after the first."""
+    if len(FILES) > 1 and not _HAS_PREPROCESSOR:
+        sys.exit(f"{PROGRAM}: several IDL files need the preprocessor: leave out -N")
     sys.setrecursionlimit(max(sys.getrecursionlimit(), 100000))
     asked = wanted(arguments)
     selection = Selection(tree, asked.interfaces, asked.version)
     sheet = Sheet(selection.sections, asked.version)
-    text = sheet.text(tree.file(), asked.interfaces, "; ".join(counts(selection)))
+    text = sheet.text(FILES or [tree.file()], asked.interfaces, "; ".join(counts(selection)))
     if len(text) > MOST_OCTETS:
         sys.exit(f"{PROGRAM}: {len(text)} octets, {MOST_OCTETS} at most: choose interfaces with -Wbonly")
     sys.stdout.write(text)
     sys.stderr.write(summary(selection))
+    if len(FILES) > 1:
+        sys.exit(0)

@@ -14,7 +14,7 @@ from typing import Dict, List, NamedTuple, Optional, Tuple
 from .encoding import REPLY
 from .flows import Capture, Delivery, Limits, Stream
 from .packets import Endpoint, Flow, Packet, is_read, packets_of, segment_of
-from .signatures import Table, table_of
+from .signatures import Asked, Table, table_of
 from .stream import MOST_OPEN, STREAM, Dump, HeaderEnd, Known
 
 MOST_CALLS = 128
@@ -44,9 +44,9 @@ class Words:
 
 
 class Call(NamedTuple):
-    """A call that has no reply yet: its operation, stream, message and time."""
+    """A call that has no reply yet: what it asks for, its stream, message and time."""
 
-    operation: bytes
+    asked: Asked
     stream: int
     message: int
     time: Optional[int]
@@ -167,7 +167,7 @@ class Reading:
     def _time(self, packet: int) -> Optional[int]:
         return self._packets[packet].time
 
-    def _known(self, answers: Dict[int, bytes]) -> Known:
+    def _known(self, answers: Dict[int, Asked]) -> Known:
         return Known(self._words.table, {}, self._words.most_open, answers)
 
     def _match_calls(self) -> None:
@@ -187,24 +187,22 @@ class Reading:
                 continue
             own = calls.setdefault((stream.connection, stream.flow), {})
             own.pop(header.request_id, None)
-            if header.operation and header.is_expecting:
-                own[header.request_id] = Call(header.operation, stream.number, header.number, self._time(packet))
+            if header.asked.name and header.is_expecting:
+                own[header.request_id] = Call(header.asked, stream.number, header.number, self._time(packet))
                 if len(own) > self._words.most_calls:
                     del own[next(iter(own))]
 
     def _dump(self, stream: Stream) -> Dump:
         """Adds the lines of a stream."""
         answers = {number: call for (its, number), call in self._answers.items() if its == stream.number}
-        dump = Dump(
-            bytes(stream.octets), self._known({number: call.operation for number, (_, call, _) in answers.items()})
-        )
+        dump = Dump(bytes(stream.octets), self._known({number: call.asked for number, (_, call, _) in answers.items()}))
         lines = list(dump.lines)
         for number, place in enumerate(dump.begun, 1):
             packet = when(stream, place).packet
             lines.append((place, TIME, f"m{number} time {time_text(self._time(packet))} packet {packet + 1}"))
         for number, (header, call, packet) in answers.items():
             seconds = span_text(call.time, self._time(packet))
-            text = f"s{call.stream} m{call.message} {call.operation.decode()} after {seconds}"
+            text = f"s{call.stream} m{call.message} {call.asked.name.decode()} after {seconds}"
             lines.append((header.place, ANSWERS, f"m{number} answers {text}"))
         for raised in dump.raised:
             lines.append((raised.place, RAISES, f"m{raised.number} raises {raised.name.decode()}"))

@@ -81,9 +81,11 @@ def message(order: Order, kind: int, payload: bytes, minor: int = 2, more: bool 
     return b"GIOP" + bytes([1, minor, flags, kind]) + len(payload).to_bytes(4, order) + payload
 
 
-def request(request_id: int, operation: str, *values: Tuple[str, Value], order: Order = "big") -> bytes:
-    """A Request of 1.2 to the object whose key is `key`."""
-    return with_body(REQUEST, Values(order).request(request_id, operation, b"key"), *values)
+def request(
+    request_id: int, operation: str, *values: Tuple[str, Value], order: Order = "big", key: bytes = b"key"
+) -> bytes:
+    """A Request of 1.2 to the object of a key."""
+    return with_body(REQUEST, Values(order).request(request_id, operation, key), *values)
 
 
 def reply(request_id: int, *values: Tuple[str, Value], status: int = 0, order: Order = "big") -> bytes:

@@ -5,7 +5,7 @@ from __future__ import annotations
 
 import re
 from dataclasses import dataclass, field
-from typing import Callable, Dict, List, Optional, Set, Tuple, TypeVar
+from typing import Callable, Dict, List, NamedTuple, Optional, Set, Tuple, TypeVar
 
 from .types import (
     BASE,
@@ -25,19 +25,50 @@ from .types import (
 )
 
 TOKENS = re.compile(r'//[^\n]*|[ \t\r\n]+|(-?\w+|"[^"]*"|[{}()<>\[\],;:])')
+MOST_KEY = 128  # octets of an object key that may have an interface
 Made = TypeVar("Made")
+
+
+class Asked(NamedTuple):
+    """What a Request asks for: the name of an operation, and the interface of its object key, if one is known."""
+
+    name: bytes
+    interface: Optional[bytes] = None
+
+
+@dataclass(frozen=True)
+class Operation:
+    """An operation: the interfaces that it is said to be of, its request and its reply."""
+
+    interfaces: Tuple[bytes, ...]
+    request: Struct
+    reply: Struct
 
 
 @dataclass
 class Table:
-    """What is known of bodies: each operation's request and reply, and each exception's members by its repository id. In
-    version 3 an enum, struct or union may have a repository id too."""
+    """What is known of bodies: the operations of each name, and each exception's members by its repository id. In version 3
+    an enum, struct or union may have a repository id too, and object keys, or the fronts of some, have interfaces."""
 
     version: int = 1
-    requests: Dict[bytes, Struct] = field(default_factory=dict)
-    replies: Dict[bytes, Struct] = field(default_factory=dict)
+    operations: Dict[bytes, List[Operation]] = field(default_factory=dict)
     exceptions: Dict[bytes, Struct] = field(default_factory=dict)
     identified: Dict[bytes, Type] = field(default_factory=dict)
+    keys: Dict[bytes, bytes] = field(default_factory=dict)
+    fronts: Dict[bytes, bytes] = field(default_factory=dict)
+
+    def interface(self, key: bytes) -> Optional[bytes]:
+        """The interface of an object key, if one is known."""
+        if len(key) > MOST_KEY:
+            return None
+        known = [front for front in self.fronts if key.startswith(front)]
+        return self.keys.get(key, self.fronts[max(known, key=len)] if known else None)
+
+    def operation(self, asked: Asked) -> Optional[Operation]:
+        """The operation of a name and an interface: the interface's own, else the one that is of no interface."""
+        named = self.operations.get(asked.name, [])
+        own = [each for each in named if asked.interface in each.interfaces]
+        return next(iter(own + [each for each in named if not each.interfaces]), None)
 
 
 class Parser:
@@ -89,9 +120,11 @@ class Parser:
 
     def declaration(self) -> None:
         """One declaration."""
-        kind = self.wanted("enum", "struct", "union", "exception", "operation")
+        kind = self.wanted("enum", "struct", "union", "exception", "operation", *["key"] * (self.table.version == 3))
         if kind == "operation":
             self.operation()
+        elif kind == "key":
+            self.key()
         elif kind == "exception":
             self.taken()
             repository_id = self.repository_id()
@@ -164,8 +197,24 @@ class Parser:
         name = self.taken().encode()
         self.wanted("(")
         parameters = self.up_to(")", self.parameter, ",")
-        self.table.requests[name] = Struct([item for direction, item in parameters if direction != "out"])
-        self.table.replies[name] = Struct(returned + [item for direction, item in parameters if direction != "in"])
+        request = Struct([item for direction, item in parameters if direction != "out"])
+        reply = Struct(returned + [item for direction, item in parameters if direction != "in"])
+        interfaces = self.interfaces() if self.table.version == 3 else ()
+        self.table.operations.setdefault(name, []).append(Operation(interfaces, request, reply))
+
+    def interfaces(self) -> Tuple[bytes, ...]:
+        """The interfaces that an operation is said to be of."""
+        found: List[bytes] = []
+        while self.found("," if found else "of"):
+            found.append(self.repository_id())
+        return tuple(found)
+
+    def key(self) -> None:
+        """An object key, or the front of some, and its interface."""
+        digits = self.repository_id().decode()
+        self.wanted("of")
+        known = self.table.fronts if digits.endswith("*") else self.table.keys
+        known[bytes.fromhex(digits.rstrip("*"))] = self.repository_id()
 
     def parameter(self) -> Tuple[str, Tuple[str, Type]]:
         return self.wanted("in", "out", "inout"), self.item()
@@ -207,10 +256,10 @@ def table_of(text: bytes) -> Table:
     return Parser(text).table
 
 
-def requests_of(text: bytes) -> Dict[int, bytes]:
-    """The operation of each request id of a request list; none of an id that two names have."""
-    names: Dict[int, Set[bytes]] = {}
+def requests_of(text: bytes) -> Dict[int, Asked]:
+    """What is asked for by each request id of a request list; nothing of an id whose lines differ."""
+    asked: Dict[int, Set[Asked]] = {}
     for line in text.splitlines():
-        request_id, name = line.split(b" ", 1)
-        names.setdefault(int(request_id), set()).add(name)
-    return {request_id: name for request_id, (name, *others) in names.items() if not others}
+        request_id, *words = line.split(b" ")
+        asked.setdefault(int(request_id), set()).add(Asked(*words))
+    return {request_id: one for request_id, (one, *others) in asked.items() if not others}

@@ -6,7 +6,7 @@ from dataclasses import dataclass, field
 from typing import Dict, List, NamedTuple, Optional, Tuple
 
 from .encoding import CANCEL_REQUEST, FRAGMENT, HEADER, LOCATE_REPLY, LOCATE_REQUEST, ORDERS, REPLY, REQUEST, Order
-from .signatures import Table
+from .signatures import Asked, Operation, Table
 from .types import (
     BODY_OF_LOCATE_STATUS,
     BODY_OF_STATUS,
@@ -22,6 +22,7 @@ from .types import (
     Struct,
     Type,
     Untyped,
+    behind,
 )
 
 KINDS = "Request Reply CancelRequest LocateRequest LocateReply CloseConnection MessageError Fragment".split()
@@ -39,15 +40,14 @@ class Known:
     the numbers of their messages, and how many messages may be open."""
 
     table: Table = field(default_factory=Table)
-    requests: Dict[int, bytes] = field(default_factory=dict)
+    requests: Dict[int, Asked] = field(default_factory=dict)
     most: int = MOST_OPEN
-    answers: Optional[Dict[int, bytes]] = None
+    answers: Optional[Dict[int, Asked]] = None
 
-    def answered(self, number: int, request_id: int) -> bytes:
-        """The operation that a message answers, an empty name for none."""
-        if self.answers is not None:
-            return self.answers.get(number, b"")
-        return self.requests.get(request_id, b"")
+    def answered(self, number: int, request_id: int) -> Optional[Operation]:
+        """The operation that a message answers, if one is known."""
+        asked = self.requests.get(request_id) if self.answers is None else self.answers.get(number)
+        return self.table.operation(asked) if asked else None
 
 
 @dataclass(frozen=True)
@@ -64,13 +64,13 @@ class Header:
 
 class HeaderEnd(NamedTuple):
     """A Request's or Reply's header that is complete: with which octet of the stream, the message's number and type, its
-    request id, and of a Request the operation of its call line, empty for none, and whether it expects a reply."""
+    request id, and of a Request what its call line has, an empty name without one, and whether it expects a reply."""
 
     place: int
     number: int
     kind: int
     request_id: int
-    operation: bytes
+    asked: Asked
     is_expecting: bool
 
 
@@ -322,11 +322,17 @@ class Reading:
 
     def _header_end(self, heard: Dict[str, Read]) -> HeaderEnd:
         """The header that has just ended."""
-        header, request_id, name = self._message.header, heard["request_id"], heard.get("operation", b"")
+        header, request_id, asked = self._message.header, heard["request_id"], self._asked(heard)
         expected = heard.get("response_expected", heard.get("response_flags", 0))
-        assert isinstance(request_id, int) and isinstance(name, bytes) and isinstance(expected, int)
-        operation = name if is_shown(name) else b""
-        return HeaderEnd(self._place(), header.number, header.kind, request_id, operation, bool(expected & 1))
+        assert isinstance(request_id, int) and isinstance(expected, int)
+        shown = asked if is_shown(asked.name) else Asked(b"")
+        return HeaderEnd(self._place(), header.number, header.kind, request_id, shown, bool(expected & 1))
+
+    def _asked(self, heard: Dict[str, Read]) -> Asked:
+        """What a Request asks for, an empty name if it is none."""
+        name, key = heard.get("operation", b""), heard.get("object_key", heard.get("target"))
+        assert isinstance(name, bytes)
+        return Asked(name, self._known.table.interface(key) if isinstance(key, bytes) else None)
 
     def _raise(self, name: Read) -> None:
         """An exception of this id is raised."""
@@ -334,23 +340,22 @@ class Reading:
             self.raised.append(Raised(self._place(), self._message.header.number, name))
 
     def _call(self, heard: Dict[str, Read]) -> None:
-        request_id, name = heard["request_id"], heard["operation"]
-        assert isinstance(request_id, int) and isinstance(name, bytes)
-        if is_shown(name):
-            call = f"m{self._message.header.number} call {request_id} {name.decode()}"
-            self.lines.append((self._place(), CALL, call))
+        request_id, asked = heard["request_id"], self._asked(heard)
+        assert isinstance(request_id, int)
+        if is_shown(asked.name):
+            call = f"m{self._message.header.number} call {request_id} {asked.name.decode()}"
+            self.lines.append((self._place(), CALL, call + behind((asked.interface or b"").decode())))
 
     def _body_of(self, heard: Dict[str, Read]) -> Tuple[str, Optional[Type]]:
         """The path and the type of a body, where one is known; of a user exception those of its repository id."""
-        table = self._known.table
         if self._message.header.kind == REQUEST:
-            operation = heard["operation"]
-            return "body", table.requests.get(operation) if isinstance(operation, bytes) else None
+            operation = self._known.table.operation(self._asked(heard))
+            return "body", operation.request if operation else None
         status, request_id = heard["reply_status"], heard["request_id"]
         assert isinstance(status, int) and isinstance(request_id, int)
         if status == NO_EXCEPTION:
             answered = self._known.answered(self._message.header.number, request_id)
-            return "body", table.replies.get(answered)
+            return "body", answered.reply if answered else None
         return ("exception", String()) if status == USER_EXCEPTION else ("body", BODY_OF_STATUS[status])
 
     def _body(self, path: str, body: Optional[Type]) -> None:

@@ -10,7 +10,7 @@ from .encoding import HEADER, ORDERS, Order
 
 PIECE = 32
 ROOM = 24  # how many parts of a value may be in each other
-# what a reading gives: a number, the octets of a string, the type that a TypeCode names, or nothing
+# what a reading gives: a number, the octets of a string or of a sequence, the type that a TypeCode names, or nothing
 Read = Either[int, bytes, "Type", None]
 
 
@@ -218,8 +218,8 @@ class Octets(Type):
 
     bound: Optional[int] = None
 
-    def read(self, reader: Reader, path: str) -> None:
-        reader.pieces(f"{path} octets", counted(reader, self.bound), lambda octets: behind(octets.hex()))
+    def read(self, reader: Reader, path: str) -> bytes:
+        return reader.pieces(f"{path} octets", counted(reader, self.bound), lambda octets: behind(octets.hex()))
 
 
 @dataclass(frozen=True)
@@ -299,18 +299,18 @@ class Disposition(Type):
 
 @dataclass(frozen=True)
 class Union(Type):
-    """A union: the case of a discriminator's value, or else the default, where there is one."""
+    """A union: the case of a discriminator's value, or else the default, where there is one. Reading it gives what the case
+    does."""
 
     switch: Type
     cases: Dict[int, Tuple[str, Type]]
     default: Optional[Tuple[str, Type]] = None
 
-    def read(self, reader: Reader, path: str) -> None:
+    def read(self, reader: Reader, path: str) -> Read:
         value = self.switch.read(reader, f"{path}.switch")
         assert isinstance(value, int)
         case = self.cases.get(value, self.default)
-        if case is not None:
-            reader.value(case[1], f"{path}.{case[0]}")
+        return None if case is None else reader.value(case[1], f"{path}.{case[0]}")
 
     @cached_property
     def depth(self) -> int:

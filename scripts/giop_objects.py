@@ -1,4 +1,5 @@
-"""What giop-chart and giop-report share: their words, and the objects that giop-json writes of the lines that they are given.
+"""What giop-chart and giop-report share: their words, which giop-keys has too, and the objects that giop-json writes of the lines
+that they are given.
 
 A file that begins with `{` has such objects itself. Other programs of the package stand beside the one that runs.
 """

@@ -15,4 +15,4 @@ _giopdump() {
         _filedir
     fi
 }
-complete -F _giopdump giopdump giopcap giop-json giop-stat giop-chart giop-report
+complete -F _giopdump giopdump giopcap giop-json giop-stat giop-chart giop-report giop-keys

@@ -18,6 +18,7 @@ MOST_PARAMETERS = 255
 MOST_ENUMERATORS = 1024
 MOST_LABELS = 1024
 MOST_DECLARATIONS = 4096
+MOST_INTERFACES = 1024
 MOST_OCTETS = 1048576
 
 RETURNED = "return value"
@@ -274,11 +275,13 @@ class Half:
 
 @dataclass(frozen=True)
 class Operation:
-    """An operation as it travels; an attribute is one or two of them."""
+    """An operation as it travels; an attribute is one or two of them. Its interfaces, by their repository ids, are those that
+    it is said to be of; if there are none it is of all others."""
 
     name: str
     request: Half
     reply: Half
+    interfaces: Tuple[str, ...] = ()
 
     @staticmethod
     def of(name: str, slots: Sequence[Slot]) -> Operation:

@@ -10,11 +10,11 @@ from typing import Dict, Iterable, Iterator, List, Optional, Sequence, Set, Tupl
 from omniidl import idlast
 
 from .model import (
-    MOST_DECLARATIONS, RETURNED, Array, Cut, Declared, Half, Item, Operation, Place, Raised, Scalar, Series, Slot, Text,
-    Type, Unsayable, at_most, place_in, spelled,
+    MOST_DECLARATIONS, MOST_INTERFACES, RETURNED, Array, Cut, Declared, Half, Item, Operation, Place, Raised, Scalar, Series,
+    Slot, Text, Type, Unsayable, at_most, place_in, spelled,
 )  # fmt: skip
 from .shown import shown
-from .translator import Translator
+from .translator import Translator, written_id
 
 UNEQUAL = "equal names, unequal parameters"
 UNEQUAL_IDS = "equal repository ids, unequal members"
@@ -25,14 +25,17 @@ MOST_REFUSED = 64  # types that have a comment of their own
 @dataclass
 class Call:
     """An operation that an interface declares, with what becomes of it: a refusal where it can't be written, and the
-    call that is written for it where another of its name is."""
+    call that is written for it where another of its name is. `interfaces` are the repository ids of those that have it;
+    `shared` is what is written above it for all others: what all operations of its name have in common."""
 
     owner: str
     name: str
     place: Optional[Place]
     operation: Operation
+    interfaces: Sequence[str] = ()
     outcome: Either[Operation, Unsayable] = field(init=False)
     written_by: Optional[Call] = field(default=None, init=False)
+    shared: Optional[Call] = field(default=None, init=False)
 
     @property
     def title(self) -> str:
@@ -96,40 +99,91 @@ def with_bases(interface: idlast.Interface, seen: List[idlast.Interface]) -> Lis
     return seen
 
 
-def calls_of(interface: idlast.Interface, translator: Translator) -> Iterator[Call]:
+def heirs_of(interfaces: Sequence[idlast.Interface]) -> Dict[str, List[str]]:
+    """The repository ids of those that have what an interface declares, by its name: its own, and those of its heirs."""
+    heirs: Dict[str, List[str]] = {}
+    for interface in interfaces:
+        for base in with_bases(interface, []) if written_id(interface) and not interface.local() else []:
+            heirs.setdefault(spelled(base.scopedName()), []).append(written_id(interface))
+    return heirs
+
+
+def calls_of(interface: idlast.Interface, heirs: Dict[str, List[str]], translator: Translator) -> Iterator[Call]:
     """The operations and attributes that an interface declares itself, as they travel."""
     owner = spelled(interface.scopedName())
+    having = heirs.get(owner, [])
     for decl in interface.callables():
         place = Place.of(decl)
         if isinstance(decl, idlast.Operation):
-            yield Call(owner, decl.identifier(), place, translator.operation(decl))
+            yield Call(owner, decl.identifier(), place, translator.operation(decl), having)
             continue
         for name in decl.identifiers():
-            yield Call(owner, f"_get_{name}", place, translator.getter(name, decl.attrType()))
+            yield Call(owner, f"_get_{name}", place, translator.getter(name, decl.attrType()), having)
             if not decl.readonly():
-                yield Call(owner, f"_set_{name}", place, translator.setter(name, decl.attrType()))
+                yield Call(owner, f"_set_{name}", place, translator.setter(name, decl.attrType()), having)
 
 
-def settle(calls: Sequence[Call]) -> None:
-    """Of calls of one name, which a message can't tell apart: lets the first be written as far as all travel alike."""
-    first = calls[0]
+def settle(calls: Sequence[Call], has_interfaces: bool) -> None:
+    """Of calls of one name, which a message without an interface can't tell apart: lets the first be written as far as all
+    travel alike. Where they don't, and operations may have interfaces, each form is written too."""
+    first, forms = calls[0], forms_of(calls)
+    is_split = has_interfaces and len(forms) > 1
     others = unequal_to([call for call in calls if not same(call.operation, first.operation)])
-    common_of_all = Operation(
+    shared = Operation(
         first.name,
         common("request", [call.operation.request for call in calls], others),
         common("reply", [call.operation.reply for call in calls], others),
     )
-    if not common_of_all.says_nothing:
-        first.outcome = common_of_all
-        for call in calls[1:]:
-            call.written_by = first
-        return
+    teller = Call(first.owner, first.name, first.place, shared) if is_split else first
     for call in calls:
-        if call.operation.says_nothing:
-            cut = call.operation.cuts[0]
-            call.outcome = Unsayable(cut.cause, cut.told)
+        if shared.says_nothing:
+            call.outcome = refusal_of(call, others if call is first else unequal_to([first]))
+        elif call is not teller:
+            call.written_by = teller
+    if is_split:
+        teller.outcome = Unsayable(UNEQUAL, others) if shared.says_nothing else shared
+        first.shared = teller
+        for form, interfaces in zip(forms, interfaces_of(forms)):
+            settle_form(form, interfaces)
+    elif not shared.says_nothing:
+        first.outcome = shared
+
+
+def refusal_of(call: Call, others: str) -> Unsayable:
+    """Why a call of a name isn't written if the calls have no type in common."""
+    if call.operation.says_nothing:
+        cut = call.operation.cuts[0]
+        return Unsayable(cut.cause, cut.told)
+    return Unsayable(UNEQUAL, others)
+
+
+def forms_of(calls: Sequence[Call]) -> List[List[Call]]:
+    """Calls of one name, those together that travel alike."""
+    forms: List[List[Call]] = []
+    for call in calls:
+        alike = [form for form in forms if same(form[0].operation, call.operation)]
+        if alike:
+            alike[0].append(call)
         else:
-            call.outcome = Unsayable(UNEQUAL, others if call is first else unequal_to([first]))
+            forms.append([call])
+    return forms
+
+
+def interfaces_of(forms: Sequence[Sequence[Call]]) -> List[List[str]]:
+    """The interfaces of each form, but for a repository id that stands for two of different forms."""
+    ids = [list(dict.fromkeys(each for call in form for each in call.interfaces)) for form in forms]
+    count = Counter(each for its in ids for each in its)
+    return [[each for each in its if count[each] == 1] for its in ids]
+
+
+def settle_form(form: Sequence[Call], interfaces: Sequence[str]) -> None:
+    """Lets the first of the calls that travel alike be written as one of these interfaces, as far as it has types."""
+    first = form[0]
+    if not interfaces or first.operation.says_nothing:
+        return
+    first.outcome, first.written_by = replace(first.operation, interfaces=tuple(interfaces)), None
+    for call in form[1:]:
+        call.written_by = first
 
 
 def common(kind: str, halves: Sequence[Half], others: str) -> Half:
@@ -169,6 +223,9 @@ class Selection:
         self.left_out: Counter[str] = Counter()
         self.why_half: Counter[str] = Counter()
         self.why_left_out: Counter[str] = Counter()
+        self.by_interface: Counter[str] = Counter()
+        self.interfaces: Dict[str, None] = {}  # of which operations are said to be, in the order of the file
+        self._version = version
         self._lines: Counter[str] = Counter()
         self._placed: Set[Declared] = set()
         self._exceptions: Dict[str, Either[Raised, Unsayable]] = {}
@@ -182,14 +239,18 @@ class Selection:
         refused = self._refusals()
         if refused:
             self.sections.append(("Types that can't be said, or that need one", refused))
+        if self.interfaces:
+            keys: List[Entry] = [f'key "" of "{interface}";' for interface in self.interfaces]
+            self.sections.append(("Keys of objects, as giop-keys finds them in a dump", keys))
 
     def _parts(self, tree: idlast.AST, only: Sequence[str]) -> List[Section]:
         """The sections as the IDL has them: every object's, the interfaces', and other exceptions'."""
         every = list(walk(tree.declarations()))
-        interfaces = chosen([each for each in every if isinstance(each, idlast.Interface)], only)
+        interfaces = [each for each in every if isinstance(each, idlast.Interface)]
+        heirs = heirs_of(interfaces)
         parts = [Section(EVERY_OBJECT.title, [replace(call) for call in EVERY_OBJECT.calls], [])]
-        for interface in interfaces:
-            calls = list(calls_of(interface, self.translator))
+        for interface in chosen(interfaces, only):
+            calls = list(calls_of(interface, heirs, self.translator))
             title = f"{spelled(interface.scopedName())} ({Place.of(interface)})"
             parts.append(Section(title, calls, exceptions_of(interface)))
         if not only:
@@ -204,7 +265,7 @@ class Selection:
             for call in part.calls:
                 by_name.setdefault(call.name, []).append(call)
         for calls in by_name.values():
-            settle(calls)
+            settle(calls, self._version == 3)
         by_id: Dict[str, List[idlast.Exception]] = {}
         for part in parts:
             for decl in part.exceptions:
@@ -242,6 +303,8 @@ class Selection:
 
     def _call(self, entries: List[Entry], call: Call) -> None:
         """Adds an operation, or a comment where the line of another call is its line too."""
+        if call.shared:
+            self._share(entries, call.shared)
         by = call.written_by
         if not by:
             call.outcome = self._add(entries, "operation", call.title, call.outcome)
@@ -251,27 +314,45 @@ class Selection:
             how_far = " as far as that has types" if by.outcome.cuts else ""
             entries.append(f"{call.name} ({call.place}) travels like {by.title}{how_far}")
             self._count("operation", by.outcome.cuts)
+        told = (by or call).outcome
+        self.by_interface["operation"] += isinstance(told, Operation) and bool(told.interfaces)
+
+    def _share(self, entries: List[Entry], shared: Call) -> None:
+        """Adds what the operations of a name have in common, for objects of no known interface; it isn't counted."""
+        shared.outcome = self._written(entries, "operation", shared.outcome)
+        if isinstance(shared.outcome, Unsayable):
+            entries.append(f"{shared.name} without an interface: rest ({shared.outcome.text})")
 
     def _add(
         self, entries: List[Entry], kind: str, title: str, outcome: Either[Written, Unsayable]
     ) -> Either[Written, Unsayable]:
         """Adds an operation or an exception, or a comment on why it is left out; gives which."""
-        if not isinstance(outcome, Unsayable):
-            outcome = self._within_limits(kind, outcome)
+        outcome = self._written(entries, kind, outcome)
         if isinstance(outcome, Unsayable):
             entries.append(f"left out: {title}: {outcome.text}")
             self.left_out[kind] += 1
             self.why_left_out[outcome.cause] += 1
+        else:
+            self._count(kind, outcome.cuts if isinstance(outcome, Operation) else [])
+        return outcome
+
+    def _written(
+        self, entries: List[Entry], kind: str, outcome: Either[Written, Unsayable]
+    ) -> Either[Written, Unsayable]:
+        """Adds an operation or an exception after the types that it needs, if there is room; gives what becomes of it."""
+        if not isinstance(outcome, Unsayable):
+            outcome = self._within_limits(kind, outcome)
+        if isinstance(outcome, Unsayable):
             return outcome
         for declared in self._new_types(outcome):
             self._placed.add(declared)
             entries.append(declared)
             self.whole["type"] += 1
-        cuts = outcome.cuts if isinstance(outcome, Operation) else []
-        entries.extend(f"{cut.where}: rest ({cut.why})" for cut in cuts)
+        if isinstance(outcome, Operation):
+            entries.extend(f"{cut.where}: rest ({cut.why})" for cut in outcome.cuts)
+            self.interfaces.update(dict.fromkeys(outcome.interfaces))
         entries.append(outcome)
         self._lines[kind] += 1
-        self._count(kind, cuts)
         return outcome
 
     def _count(self, kind: str, cuts: Sequence[Cut]) -> None:
@@ -287,6 +368,8 @@ class Selection:
         try:
             at_most(self._lines[kind] + 1, MOST_DECLARATIONS, f"{kind}s")
             at_most(self.whole["type"] + len(self._new_types(made)), MOST_DECLARATIONS, "types")
+            if isinstance(made, Operation):
+                at_most(len({*self.interfaces, *made.interfaces}), MOST_INTERFACES, "interfaces")
         except Unsayable as refusal:
             return refusal
         return made

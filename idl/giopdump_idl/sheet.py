@@ -4,6 +4,7 @@ from __future__ import annotations
 
 import os
 from collections import Counter
+from textwrap import wrap
 from typing import Sequence, Tuple
 
 from .model import (
@@ -39,10 +40,11 @@ class Sheet:
         self._names = names_for(declared)
         self._ids = Counter(each.repository_id for each in declared if not isinstance(each, Raised))
 
-    def text(self, source: str, only: Sequence[str], counts: str) -> str:
-        """The whole signature file; its head says how much of the source is in it."""
+    def text(self, sources: Sequence[str], only: Sequence[str], counts: str) -> str:
+        """The whole signature file; its head says how much of the sources is in it."""
+        names = ", ".join(map(os.path.basename, sources))
         wanted = f", of it {' and '.join(only)}" if only else ""
-        origin = f"Written by giopdump_signatures from {os.path.basename(source)}{wanted}."
+        origin = f"Written by giopdump_signatures from {names}{wanted}."
         lines = [f"signatures {self._version};", "", comment(origin), comment(f"{counts}.")]
         for title, entries in self._sections:
             lines += ["", comment(title)] + [self._entry(entry) for entry in entries]
@@ -55,7 +57,9 @@ class Sheet:
         if isinstance(entry, Operation):
             result = "void" if entry.result is None else self._type(entry.result)
             parameters = [f"{each.direction} {self._item(each.item)}" for each in entry.parameters]
-            return self._laid_out(f"operation {result} {entry.name}(", parameters, ", ", ");", "")
+            end = ")" if entry.interfaces else ");"
+            line = self._laid_out(f"operation {result} {entry.name}(", parameters, ", ", end, "")
+            return line + self._of(entry, len(line.splitlines()[-1]))
         name = self._names[entry] + self._identity(entry)
         if isinstance(entry, Enum):
             return self._laid_out(f"enum {name} {{", entry.names, ", ", "};", " ")
@@ -66,6 +70,16 @@ class Sheet:
         members = [f"{self._item(member)};" for member in entry.members]
         kind = "exception" if isinstance(entry, Raised) else "struct"
         return self._laid_out(f"{kind} {name} {{", members, " ", "};", " ")
+
+    def _of(self, entry: Operation, width: int) -> str:
+        """The interfaces of an operation, if it has any, after a line so wide, or on lines of their own."""
+        if not entry.interfaces:
+            return ""
+        ids = ", ".join(f'"{each}"' for each in entry.interfaces)
+        if width + len(f" of {ids};") <= self.WIDTH:
+            return f" of {ids};"
+        lines = wrap(f"of {ids};", self.WIDTH - 2, break_long_words=False, break_on_hyphens=False)
+        return "".join(f"\n  {line}" for line in lines)
 
     def _identity(self, entry: Declared) -> str:
         """The repository id of an exception, and in version 3 of a type, unless another type has it too."""

@@ -1,4 +1,4 @@
-"""Conversations encoded by hand over five of the IDL texts, with the lines of their bodies."""
+"""Conversations encoded by hand over six of the IDL texts, with the lines of their bodies."""
 
 from __future__ import annotations
 
@@ -12,13 +12,14 @@ from reference.encoding import reply, request
 
 
 class Conversation(NamedTuple):
-    """Messages of both directions over the operations of one IDL text; the request list of the replies; and the lines
-    after the headers."""
+    """Messages of both directions over the operations of one IDL text; the request list of the replies; the lines after the
+    headers; and what is added to the signature file."""
 
     idl: str
     messages: List[bytes]
     requests: str
     lines: str
+    keys: str = ""
 
 
 # fmt: off
@@ -334,4 +335,67 @@ m14 end
 """,
 )
 
-CONVERSATIONS = [UNIONS, ARRAYS, ATTRIBUTES, HALF, HALF_EQUAL]
+INTERFACES = Conversation(
+    "interfaces",
+    [
+        request(1, "get", ("ulonglong", 5), key=b"orders"),
+        request(2, "get", ("string", "a"), key=b"stock/1", order="little"),
+        request(3, "get", ("string", "a"), key=b"stock", order="little"),
+        request(4, "get", ("string", "a")),
+        request(5, "ping", key=b"archive"),
+        request(6, "ping", ("string", "x"), key=b"stock/"),
+        request(7, "_get_level", key=b"stock/1"),
+        reply(7, ("string", "high")),
+        request(8, "_get_level", key=b"archive"),
+        reply(8, ("long", -1)),
+        request(9, "_get_level"),
+        reply(9, ("long", -1)),
+        request(10, "cancel", ("string", "r"), ("boolean", True), key=b"stock/2"),
+        request(11, "ping_all", key=b"stock/2"),
+    ],
+    "7 _get_level IDL:warehouse.example/Stock:2.1\n8 _get_level IDL:Store/Archive:1.0\n9 _get_level\n",
+    """\
+m1 call 1 get IDL:Shop/Orders:1.0
+m1 body.id ulonglong 5
+m1 end
+m2 call 2 get IDL:warehouse.example/Stock:2.1
+m2 body.article string @0 "a"
+m2 end
+m3 call 3 get
+m3 rest @0 020000006100
+m3 end
+m4 call 4 get
+m4 rest @0 000000026100
+m4 end
+m5 call 5 ping IDL:Store/Archive:1.0
+m5 end
+m6 call 6 ping IDL:warehouse.example/Stock:2.1
+m6 body.text string @0 "x"
+m6 end
+m7 call 7 _get_level IDL:warehouse.example/Stock:2.1
+m7 end
+m8 body.return string @0 "high"
+m8 end
+m9 call 8 _get_level IDL:Store/Archive:1.0
+m9 end
+m10 body.return long -1
+m10 end
+m11 call 9 _get_level
+m11 end
+m12 rest @0 ffffffff
+m12 end
+m13 call 10 cancel IDL:warehouse.example/Stock:2.1
+m13 body.reservation string @0 "r"
+m13 body.all boolean true
+m13 end
+m14 call 11 ping_all IDL:warehouse.example/Stock:2.1
+m14 end
+""",
+    """\
+key "6f7264657273" of "IDL:Shop/Orders:1.0";
+key "61726368697665" of "IDL:Store/Archive:1.0";
+key "73746f636b2f*" of "IDL:warehouse.example/Stock:2.1";
+""",
+)
+
+CONVERSATIONS = [UNIONS, ARRAYS, ATTRIBUTES, HALF, HALF_EQUAL, INTERFACES]

@@ -20,6 +20,7 @@ sys.path.insert(0, str(HERE))
 from conversations import CONVERSATIONS  # noqa: E402
 
 ARGUMENTS: Dict[str, List[str]] = {"first": ["-Wbversion=1"], "only": ["-Wbonly=O::Wanted"]}
+OLDER = "half_equal"  # the text that is written in version 2 too, in which operations have no interfaces
 
 
 def omniidl(*words: str, cwd: Path = HERE) -> subprocess.CompletedProcess[str]:
@@ -64,7 +65,22 @@ class Texts(unittest.TestCase):
                 self.assertEqual(done.stdout, text.with_suffix(".sig").read_text())
                 self.assertEqual(refusal_of(done.stdout), "")
 
-    def test_the_name_of_a_file_is_shown(self) -> None:
+    def test_version_2(self) -> None:
+        done = omniidl("-Wbversion=2", f"{OLDER}.idl")
+        self.assertEqual(done.stdout, (HERE / f"{OLDER}_2.sig").read_text())
+        self.assertEqual(refusal_of(done.stdout), "")
+
+    def test_several_files(self) -> None:
+        files = {"one.idl": b"interface I { void o(in long n); };", "an other.idl": b"interface J { void p(); };"}
+        with tempfile.TemporaryDirectory() as folder:
+            paths = with_files(files, folder)
+            done = omniidl(*paths.values())
+            all_in_one = b"".join(f'#include "{path}"\n'.encode() for path in reversed(paths.values()))
+            included = omniidl(with_files({"all.idl": all_in_one}, folder)["all.idl"])
+        self.assertEqual((done.returncode, included.returncode), (0, 0), done.stderr)
+        self.assertEqual(done.stdout, included.stdout.replace("from all.idl", "from one.idl, an other.idl"))
+        self.assertEqual(done.stderr, included.stderr)
+
         with tempfile.TemporaryDirectory() as folder:
             path = with_files({"o\x1b\u00e9.idl": b"interface I { void o(); };"}, folder)["o\x1b\u00e9.idl"]
             done = omniidl(path)
@@ -96,12 +112,23 @@ class Errors(unittest.TestCase):
 
     def test_summary_by_half(self) -> None:
         self.assertEqual(
-            omniidl("half_equal.idl").stderr.splitlines()[-3:],
+            omniidl("-Wbversion=2", f"{OLDER}.idl").stderr.splitlines()[-3:],
             [
                 "giopdump_signatures: whole: 2 operations, 0 exceptions, 1 type",
                 "giopdump_signatures: by half: 16 operations (12 for equal names, unequal parameters, 4 for wstring)",
                 "giopdump_signatures: left out: 6 operations, 0 exceptions (4 for equal names, unequal "
                 "parameters, 2 for wstring)",
+            ],
+        )
+
+    def test_summary_by_interface(self) -> None:
+        self.assertEqual(
+            omniidl("interfaces.idl").stderr.splitlines()[-4:],
+            [
+                "giopdump_signatures: whole: 13 operations, 0 exceptions, 0 types",
+                "giopdump_signatures: by half: 0 operations",
+                "giopdump_signatures: left out: 3 operations, 0 exceptions (3 for equal names, unequal parameters)",
+                "giopdump_signatures: by interface: 8 operations, if the file has keys of objects (giop-keys)",
             ],
         )
 
@@ -121,10 +148,10 @@ class Errors(unittest.TestCase):
                 self.assertEqual((done.returncode, done.stdout), (1, ""))
                 self.assertIn(message, done.stderr)
 
-    def test_two_files(self) -> None:
-        done = omniidl("only.idl", "bounds.idl")
-        self.assertEqual(done.returncode, 1)
-        self.assertIn("give one IDL file", done.stderr)
+    def test_several_files_need_the_preprocessor(self) -> None:
+        done = omniidl("-N", "only.idl", "bounds.idl")
+        self.assertEqual((done.returncode, done.stdout), (1, ""))
+        self.assertIn("several IDL files need the preprocessor: leave out -N\n", done.stderr)
 
     def test_broken_idl(self) -> None:
         with tempfile.TemporaryDirectory() as folder:
@@ -144,10 +171,10 @@ TAKES_T = "interface I { void o(in T x); };"
 class Limits(unittest.TestCase):
     """What a signature file may have at most is written, and one more is left out."""
 
-    def converted(self, idl: str) -> str:
+    def converted(self, idl: str, *words: str) -> str:
         with tempfile.TemporaryDirectory() as folder:
             path = with_files({"limits.idl": idl.encode()}, folder)["limits.idl"]
-            done = omniidl(path)
+            done = omniidl(*words, path)
         self.assertEqual(done.returncode, 0, done.stderr)
         self.assertEqual(refusal_of(done.stdout), "")
         return done.stdout
@@ -212,14 +239,21 @@ class Limits(unittest.TestCase):
         kinds = ("long", "string", "double", "wstring")
         rows = [(f"I{n}", kinds[n % 4]) for n in range(146)]
         idl = " ".join(f"interface {name} {{ void f(in {kind} x); long g(in {kind} x); }};" for name, kind in rows)
-        text = self.converted(idl)
         named = [f"I{n}::f (limits.idl:1)" for n in (1, 2, 3, 5, 6, 7, 9, 10)]
-        self.assertIn(f"// left out: I0::f (limits.idl:1): unequal parameters: {', '.join(named)} and 101 more\n", text)
+        others = f"unequal parameters: {', '.join(named)} and 101 more"
+        text = self.converted(idl, "-Wbversion=2")
+        self.assertIn(f"// left out: I0::f (limits.idl:1): {others}\n", text)
         self.assertIn("// left out: I2::f (limits.idl:1): unequal parameters: I0::f (limits.idl:1)\n", text)
         self.assertIn("// g (limits.idl:1) travels like I0::g (limits.idl:1) as far as that has types\n", text)
         self.assertEqual(re.findall(r"(?m)^operation .* [fg]\(.*$", text), ["operation long g();"])
         self.assertLess(max(map(len, text.splitlines())), 300)
         self.assertLess(len(text), 146 * 300)
+        text = self.converted(idl)
+        self.assertIn(f"// f without an interface: rest ({others})\noperation void f(in long x)\n  of ", text)
+        self.assertIn("// g (limits.idl:1) travels like I2::g (limits.idl:1)\n", text)
+        self.assertEqual(text.count('\n// key "" of "IDL:I'), 146)
+        self.assertLess(max(map(len, text.splitlines())), 300)
+        self.assertLess(len(text), 146 * 400)
 
     def test_an_operations_name(self) -> None:
         for length, there in ((128, True), (129, False)):
@@ -230,6 +264,15 @@ class Limits(unittest.TestCase):
         text = self.converted("interface I { " + numbered("void o{}();", 4095) + " };")
         self.assertEqual(len(re.findall(r"(?m)^operation ", text)), 4096)
         self.assertEqual(len(re.findall(r"(?m)^// left out: I::o409[45] .*4096 at most$", text)), 1)
+
+    def test_interfaces(self) -> None:
+        def made(count: int) -> str:
+            return numbered("interface I{0} {{ void f(in long x); }};", count - 1) + " interface J { void f(); };"
+
+        for count, there in ((1024, True), (1025, False)):
+            text = self.converted(made(count))
+            self.assertEqual('\noperation void f() of "IDL:J:1.0";\n' in text, there)
+            self.assertEqual("// left out: J::f (limits.idl:1): 1025 interfaces, 1024 at most\n" in text, not there)
 
     def test_a_file_that_is_too_long(self) -> None:
         parameters = numbered("in unsigned long " + "p" * 58 + "{:06}", 250, ", ")
@@ -249,7 +292,7 @@ class Conversations(unittest.TestCase):
                 done = omniidl(f"{conversation.idl}.idl")
                 paths = with_files(
                     {
-                        "sig": done.stdout.encode(),
+                        "sig": (done.stdout + conversation.keys).encode(),
                         "req": conversation.requests.encode(),
                         "giop": b"".join(conversation.messages),
                     },

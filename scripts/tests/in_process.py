@@ -1,4 +1,4 @@
-"""Runs giop-stat and giop-chart within the tests."""
+"""Runs giop-stat, giop-chart and giop-keys within the tests."""
 
 from __future__ import annotations
 

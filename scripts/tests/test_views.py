@@ -471,9 +471,10 @@ msc {{
             m5 end
             m15 start 1.2 big Request size 9
             m15 call 15 put
-            m15 body.a count 2
+            m15 body.a count 3
             m15 body.a[0] long -1
-            m15 body.a[1] long 2
+            m15 body.a[1] long 0
+            m15 body.a[2] long 1
             m15 body.b string @0 "x\\x22y"
             m15 body.c boolean true
             m15 end
@@ -521,7 +522,7 @@ msc {{
                 'client => server [label="Request: cancelled"];',
                 'client -> server [label="CancelRequest"];',
                 f'client -x server [label="Request: unfinished"{red}];',
-                "client => server [label=\"put(-1, 2, 'x\\x22y', true)\"];",
+                "client => server [label=\"put(-1, 0, 1, 'x\\x22y', true)\"];",
                 'server >> client [label="Reply raises IDL:a.org/Some/:1.0"];',
                 f'client box server [label="stream fault truncated"{red}];',
             ],

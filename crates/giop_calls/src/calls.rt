@@ -18,6 +18,8 @@ pub const NAME_ROOM: usize = 128;
 pub struct Call {
     /// The octets of the operation's name.
     pub name: ArrayVec<u8, 128>,
+    /// The number of the operation, if the signature file has it: two of one name may be of different interfaces.
+    pub operation: Option<u32>,
     /// The number of the stream that the Request came in, from 1.
     pub stream: u64,
     /// The number of the Request in its stream, from 1.

@@ -41,6 +41,7 @@ fn perform(calls: &mut Calls, step: Step) {
         Step::Add(id, message) => calls.add(
             id,
             Call {
+                operation: None,
                 name: ArrayVec::new(),
                 stream: 1,
                 message,

@@ -11,7 +11,7 @@ use crate::state::same;
 use arrayvec::ArrayVec;
 use giop_octets::{put_four, put_zeros};
 
-/// How the octets of a checkpoint are arranged. All are read; the third and the fifth are written.
+/// How the octets of a checkpoint are arranged. All are read; the third and the sixth are written.
 #[derive(Clone, Copy, Debug, PartialEq, Eq)]
 pub enum Layout {
     /// It doesn't store how many messages may be open at once: they are 16.
@@ -19,7 +19,7 @@ pub enum Layout {
     /// It stores how many messages may be open at once.
     Third = 3,
     /// As the third, of a stream that is read with a signature file of version 3.
-    Fifth = 5,
+    Sixth = 6,
 }
 
 impl Layout {
@@ -31,7 +31,7 @@ impl Layout {
         match self {
             Layout::Second => [0, 0, 0, 2],
             Layout::Third => [0, 0, 0, 3],
-            Layout::Fifth => [0, 0, 0, 5],
+            Layout::Sixth => [0, 0, 0, 6],
         }
     }
 
@@ -46,8 +46,8 @@ impl Layout {
         if same(octets, &Layout::Third.version()) {
             return Some(Layout::Third);
         }
-        if same(octets, &Layout::Fifth.version()) {
-            return Some(Layout::Fifth);
+        if same(octets, &Layout::Sixth.version()) {
+            return Some(Layout::Sixth);
         }
         None
     }
@@ -71,7 +71,7 @@ impl Layout {
     {
         match self {
             Layout::Second | Layout::Third => version < 3,
-            Layout::Fifth => version >= 3,
+            Layout::Sixth => version >= 3,
         }
     }
 
@@ -81,7 +81,7 @@ impl Layout {
         ensures fits { (owner : Option ℕ) → OwnerFits result owner }
     {
         if version >= 3 {
-            Layout::Fifth
+            Layout::Sixth
         } else {
             Layout::Third
         }
@@ -93,7 +93,7 @@ impl Layout {
     {
         match self {
             Layout::Second => most_open == LAYOUT_2_MOST_OPEN,
-            Layout::Third | Layout::Fifth => 1 <= most_open && most_open <= MOST_OPEN,
+            Layout::Third | Layout::Sixth => 1 <= most_open && most_open <= MOST_OPEN,
         }
     }
 
@@ -107,7 +107,7 @@ impl Layout {
                 Some(record) => record as u8,
                 None => 255,
             },
-            Layout::Third | Layout::Fifth => 0,
+            Layout::Third | Layout::Sixth => 0,
         }
     }
 
@@ -124,7 +124,7 @@ impl Layout {
     {
         match self {
             Layout::Second => put_zeros(out, 16),
-            Layout::Third | Layout::Fifth => {
+            Layout::Third | Layout::Sixth => {
                 put_four(out, most_open);
                 put_four(out, owner.unwrap_or(4_294_967_295));
                 put_zeros(out, 8);

@@ -1,16 +1,15 @@
 -- What an exchange answers are operations of its table, and fewer after each header (laws).
-use Rattle.std.proofs.Common.{◌≡◌, ℕ, ◌<◌, ◌==◌, Bool, true, false, List, [], ◌∷◌, length, Option, Some, None, IfSome, option_and_then, refl, sym, ◌∙◌}
+use Rattle.std.proofs.Common.{◌≡◌, ℕ, cond, ltb, ◌<◌, ◌==◌, Bool, true, false, List, [], ◌∷◌, length, Option, Some, None, IfSome, option_and_then, refl, sym, ◌∙◌}
 use Rattle.std.specs.List.{find}
 use Rattle.std.specs.Option.{option_map}
-use Rattle.std.proofs.lemmas.Bool.{eqb-true, eqb-false}
+use Rattle.std.proofs.lemmas.Bool.{eqb-true, eqb-false, ltb-true}
 use Rattle.giop_entry_table.specs.declared.entry_table.Entry.{Entry}
 use Rattle.giop_calls.specs.declared.calls.Call.{Call}
 use Rattle.giop_calls.specs.Outstanding.{without}
-use Rattle.giop_sig.specs.Table.{Table, operation_in, operation_number, op_id, no_operation}
-use Rattle.std.proofs.lemmas.List.Quantifiers.{position-Some}
+use Rattle.giop_sig.specs.Table.{Table, op_id}
 use Rattle.giop_message.specs.MessageState.{AreKnown}
 use Rattle.giop_message.specs.HeaderEnds.{CallEvent, Requested, Replied, Raised, HasKnownOperation}
-use Rattle.giop_conversation.specs.Exchanges.{Exchanged, answer_of, call_of, notified}
+use Rattle.giop_conversation.specs.Exchanges.{Exchanged, answer_of, call_of, notified, operation_numbered}
 
 -- after a Reply none of its id is found,
 none_found : (id : ℕ) (es : List (Entry Call)) → find (λ e. e.key == id) (without id es) ≡ None
@@ -40,16 +39,16 @@ others_found id other (e ∷ es) apart =
 
 -- a call with another in its place
 fits_still : (C table : Table) (id other : ℕ) (es : List (Entry Call)) →
-    IfSome (option_and_then (λ call. operation_in table call.name.items)
+    IfSome (option_and_then (λ call. option_and_then (operation_numbered table) call.operation)
     (option_map (λ e. e.value) (find (λ e. e.key == other) es)))
     (λ o. o.0 < length C.operations) →
-    IfSome (option_and_then (λ call. operation_in table call.name.items)
+    IfSome (option_and_then (λ call. option_and_then (operation_numbered table) call.operation)
     (option_map (λ e. e.value) (find (λ e. e.key == other) (without id es))))
     (λ o. o.0 < length C.operations)
 fits_still C table id other es fits = by (other == id) refl
   where
     by : (b : Bool) → (other == id) ≡ b →
-        IfSome (option_and_then (λ call. operation_in table call.name.items)
+        IfSome (option_and_then (λ call. option_and_then (operation_numbered table) call.operation)
         (option_map (λ e. e.value) (find (λ e. e.key == other) (without id es))))
         (λ o. o.0 < length C.operations)
     by true is =
@@ -64,21 +63,26 @@ known_still C s (Replied number id) known fits =
     λ other. fits_still C s.table id other s.opposite.entries (known other)
 known_still C s (Raised number name) known fits = known
 
--- an operation of a name is one of the table
-in_table : (C : Table) (name : List ℕ) →
-    IfSome (operation_in C name) (λ o. o.0 < length C.operations)
-in_table C name = by (operation_number C name) refl
+-- an operation of a number is one of the table
+numbered_known : (C : Table) (n : ℕ) →
+    IfSome (operation_numbered C n) (λ o. o.0 < length C.operations)
+numbered_known C n = by (ltb n (length C.operations)) refl
   where
-    by : (o : Option ℕ) → operation_number C name ≡ o →
-        IfSome (option_map op_id o) (λ o. o.0 < length C.operations)
-    by None is = tt
-    by (Some i) is = (position-Some _ _ i no_operation is).0
+    by : (b : Bool) → ltb n (length C.operations) ≡ b →
+        IfSome (cond b (Some (op_id n)) None) (λ o. o.0 < length C.operations)
+    by true is = ltb-true n (length C.operations) is
+    by false is = tt
+
+known_by : (C : Table) (n : Option ℕ) →
+    IfSome (option_and_then (operation_numbered C) n) (λ o. o.0 < length C.operations)
+known_by C None = tt
+known_by C (Some n) = numbered_known C n
 
 by_call : (C : Table) (o : Option Call) →
-    IfSome (option_and_then (λ call. operation_in C call.name.items) o)
+    IfSome (option_and_then (λ call. option_and_then (operation_numbered C) call.operation) o)
     (λ o. o.0 < length C.operations)
 by_call C None = tt
-by_call C (Some call) = in_table C call.name.items
+by_call C (Some call) = known_by C call.operation
 
 pub all_known : (s : Exchanged) → AreKnown s.table (answer_of s)
 all_known s id = by_call s.table (call_of s.opposite id)

@@ -1,14 +1,15 @@
 -- The calls of a connection, as the correspondent of a stream of it knows them (meaning). Of both
 -- directions the calls are kept that have no reply yet: those of the stream that is read, and those
 -- of the opposite one, which its Replies answer.
-use Rattle.std.specs.Prelude.{ℕ, ◌&&◌, ◌||◌, ◌==◌, Bool, is_some, List, [], ◌∷◌, ◌++◌, length, Option, Some, None, nat_le, option_and_then, if◌then◌else◌}
+use Rattle.std.specs.Prelude.{ℕ, ◌&&◌, ◌||◌, ◌==◌, Bool, is_some, List, [], ◌∷◌, ◌++◌, length, Option, Some, None, nat_le, nat_lt, option_and_then, if◌then◌else◌}
 use Rattle.std.specs.List.{find}
 use Rattle.std.specs.Option.{option_map}
 use Rattle.giop_entry_table.specs.declared.entry_table.Entry.{Entry}
 use Rattle.giop_entry_table.specs.EntryTable.{Entries}
 use Rattle.giop_calls.specs.declared.calls.Call.{Call}
 use Rattle.giop_calls.specs.Outstanding.{without, newest}
-use Rattle.giop_sig.specs.Table.{Table, operation_in}
+use Rattle.giop_sig.specs.declared.types.OpId.{OpId}
+use Rattle.giop_sig.specs.Table.{Table, op_id}
 use Rattle.giop_message.specs.Signatures.{Answer}
 use Rattle.giop_message.specs.HeaderEnds.{CallEvent, Requested, Replied, Raised}
 use Rattle.tcp_waiting.specs.declared.arrival.Arrival.{Arrival}
@@ -24,7 +25,7 @@ pub record Raising : Type 0 where
   pub name : List ℕ
 
 pub record Exchanged : Type 0 where
-  pub table : Table  -- the operations by their names
+  pub table : Table  -- the operations by their numbers
   pub own : Entries Call  -- the calls of the stream that is read
   pub opposite : Entries Call  -- those that its Replies answer
   pub stream : ℕ  -- the number of the stream that is read
@@ -40,9 +41,14 @@ with_entries calls es = record calls { entries = es }
 abbrev pub call_of : Entries Call → ℕ → Option Call
 call_of calls id = option_map (λ e. e.value) (find (λ e. e.key == id) calls.entries)
 
+-- the operation of a number, if the table has it
+abbrev pub operation_numbered : Table → ℕ → Option OpId
+operation_numbered C n = if nat_lt n (length C.operations) then Some (op_id n) else None
+
 -- a Reply of an id has results of the operation of the call that it answers
 abbrev pub answer_of : Exchanged → Answer
-answer_of s id = option_and_then (λ call. operation_in s.table call.name.items)
+answer_of s id =
+    option_and_then (λ call. option_and_then (operation_numbered s.table) call.operation)
     (call_of s.opposite id)
 
 -- the name by which a call is kept: one that a call line shows, where a reply is expected
@@ -50,21 +56,21 @@ abbrev pub kept_name : Option (List ℕ) → Bool → Option (List ℕ)
 kept_name None expects = None
 kept_name (Some name) expects = if expects && nat_le (length name) 128 then Some name else None
 
-abbrev pub call_named : Exchanged → ℕ → List ℕ → Call
-call_named s number name = record {
+abbrev pub call_named : Exchanged → ℕ → List ℕ → Option OpId → Call
+call_named s number name operation = record {
   name = record { items = name };
+  operation = option_map (λ o. o.0) operation;
   stream = s.stream;
-  message =
-      number;
+  message = number;
   time = s.arrival.time;
 }
 
 -- the calls of the stream after a Request of this number and id: an older one of its id goes
-abbrev pub requested : Exchanged → ℕ → ℕ → Option (List ℕ) → Entries Call
-requested s number id None = with_entries s.own (without id s.own.entries)
-requested s number id (Some name) =
-    with_entries s.own (newest s.own.most
-    (without id s.own.entries ++ record { key = id; value = call_named s number name } ∷ []))
+abbrev pub requested : Exchanged → ℕ → ℕ → Option (List ℕ) → Option OpId → Entries Call
+requested s number id None operation = with_entries s.own (without id s.own.entries)
+requested s number id (Some name) operation =
+    with_entries s.own (newest s.own.most (without id s.own.entries
+    ++ record { key = id; value = call_named s number name operation } ∷ []))
 
 -- an exception is kept by a name of at most 128 octets, as one is whose name is shown
 abbrev pub kept_exception : ℕ → List ℕ → Option Raising
@@ -78,7 +84,7 @@ is_waiting s = is_some s.answered || is_some s.raised
 -- after the header of a Request, and after that of a Reply, which takes the call that it answers
 abbrev pub notified : Exchanged → CallEvent → Exchanged
 notified s (Requested number id name operation expects) =
-    record s { own = requested s number id (kept_name name expects) }
+    record s { own = requested s number id (kept_name name expects) operation }
 notified s (Replied number id) = record s {
   opposite = with_entries s.opposite (without id s.opposite.entries);
   replied = number;

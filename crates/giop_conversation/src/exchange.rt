@@ -228,6 +228,13 @@ fn kept_exception(number: u64, name: &[u8]) -> Option<Raising>
     })
 }
 
+/// The number of an operation.
+fn number_of(operation: Option<OpId>) -> Option<u32>
+    ensures { result ≡ option_map (λ o. o.0) operation }
+{
+    Some(operation?.0)
+}
+
 impl<'a> Correspondent for Exchange<'a> {
     ghost use Rattle.std.specs.Prelude.{true};
     ghost use Rattle.giop_conversation.specs.Exchanges.{Exchanged, answer_of, notified, is_waiting};
@@ -247,7 +254,12 @@ impl<'a> Correspondent for Exchange<'a> {
 
     fn operation(&self, id: u32) -> Option<OpId> {
         let call = self.opposite.find(id)?;
-        self.catalogue.operation(call.name.as_slice())
+        let operation = OpId(call.operation?);
+        if self.catalogue.has_operation(operation) {
+            Some(operation)
+        } else {
+            None
+        }
     }
 
     fn called(
@@ -255,7 +267,7 @@ impl<'a> Correspondent for Exchange<'a> {
         number: u64,
         id: u32,
         name: Option<&[u8]>,
-        _operation: Option<OpId>,
+        operation: Option<OpId>,
         expects_reply: bool,
     ) {
         match kept_name(name, expects_reply) {
@@ -264,6 +276,7 @@ impl<'a> Correspondent for Exchange<'a> {
                 kept.try_extend_from_slice(name).unwrap();
                 let call = Call {
                     name: kept,
+                    operation: number_of(operation),
                     stream: self.stream,
                     message: number,
                     time: self.arrival.time,

@@ -32,6 +32,7 @@ fn call() -> Call {
     let mut name = ArrayVec::new();
     let _ = name.try_extend_from_slice(b"resolve");
     Call {
+        operation: None,
         name,
         stream: 3,
         message: 12,

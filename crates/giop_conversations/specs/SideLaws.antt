@@ -1,16 +1,14 @@
 -- That a direction answers operations of a table alone, and goes on to (laws).
-use Rattle.std.proofs.Common.{◌≡◌, ◌<◌, ℕ, ◌==◌, Bool, true, false, List, [], ◌∷◌, length, Option, Some, None, IfSome, option_and_then, refl, sym, ◌∙◌}
+use Rattle.std.proofs.Common.{◌≡◌, ◌<◌, ℕ, cond, ltb, ◌==◌, Bool, true, false, List, [], ◌∷◌, length, Option, Some, None, IfSome, option_and_then, refl, sym, ◌∙◌}
 use Rattle.std.specs.List.{find}
-use Rattle.std.specs.Option.{option_map}
-use Rattle.std.proofs.lemmas.Bool.{eqb-true, eqb-false}
-use Rattle.std.proofs.lemmas.List.Quantifiers.{position-Some}
-use Rattle.giop_sig.specs.Table.{Table, operation_in, operation_number, op_id, no_operation}
+use Rattle.std.proofs.lemmas.Bool.{eqb-true, eqb-false, ltb-true}
+use Rattle.giop_sig.specs.Table.{Table, op_id}
 use Rattle.giop_entry_table.specs.declared.entry_table.Entry.{Entry}
 use Rattle.giop_calls.specs.declared.calls.Call.{Call}
 use Rattle.giop_calls.specs.Outstanding.{without}
 use Rattle.giop_message.specs.MessageState.{AreKnown}
 use Rattle.giop_message.specs.HeaderEnds.{CallEvent, Requested, Replied, Raised}
-use Rattle.giop_conversations.specs.Sides.{SideState, answered_operation, after_event}
+use Rattle.giop_conversations.specs.Sides.{SideState, answered_operation, after_event, operation_numbered}
 
 module _ {V : Type 0} where
   -- no call of the id that was taken away is found
@@ -52,22 +50,28 @@ stays_known C s (Replied number gone) known id = by (id == gone) refl
     by true is = rw (eqb-true _ _ is, none_found gone s.theirs.entries) tt
     by false is = rw (other_found id gone s.theirs.entries is) (known id)
 
--- an operation of a name is one of the table
-in_table : (C : Table) (name : List ℕ) →
-    IfSome (operation_in C name) (λ o. o.0 < length C.operations)
-in_table C name = by (operation_number C name) refl
+-- an operation of a number is one of the table
+numbered_known : (C : Table) (n : ℕ) →
+    IfSome (operation_numbered C n) (λ o. o.0 < length C.operations)
+numbered_known C n = by (ltb n (length C.operations)) refl
   where
-    by : (o : Option ℕ) → operation_number C name ≡ o →
-        IfSome (option_map op_id o) (λ o. o.0 < length C.operations)
-    by None is = tt
-    by (Some i) is = (position-Some _ _ i no_operation is).0
+    by : (b : Bool) → ltb n (length C.operations) ≡ b →
+        IfSome (cond b (Some (op_id n)) None) (λ o. o.0 < length C.operations)
+    by true is = ltb-true n (length C.operations) is
+    by false is = tt
+
+known_by : (C : Table) (n : Option ℕ) →
+    IfSome (option_and_then (operation_numbered C) n) (λ o. o.0 < length C.operations)
+known_by C None = tt
+known_by C (Some n) = numbered_known C n
 
 -- It answers operations of its table alone.
 pub answers_known : (C : Table) (s : SideState) → C ≡ s.table → AreKnown C (answered_operation s)
 answers_known C s same id = rw same (found (find (λ e. e.key == id) s.theirs.entries))
   where
     found : (e : Option (Entry Call)) →
-        IfSome (option_and_then (λ e. operation_in s.table e.value.name.items) e)
+        IfSome (option_and_then
+        (λ e. option_and_then (operation_numbered s.table) e.value.operation) e)
         (λ p. p.0 < length s.table.operations)
     found None = tt
-    found (Some e) = in_table s.table e.value.name.items
+    found (Some e) = known_by s.table e.value.operation

@@ -45,7 +45,12 @@ impl Correspondent for Side<'_> {
 
     fn operation(&self, id: u32) -> Option<OpId> {
         let call = self.theirs.find(id)?;
-        self.catalogue.operation(call.name.as_slice())
+        let operation = OpId(call.operation?);
+        if self.catalogue.has_operation(operation) {
+            Some(operation)
+        } else {
+            None
+        }
     }
 
     fn called(
@@ -53,10 +58,10 @@ impl Correspondent for Side<'_> {
         number: u64,
         id: u32,
         name: Option<&[u8]>,
-        _operation: Option<OpId>,
+        operation: Option<OpId>,
         expects_reply: bool,
     ) {
-        request(&mut self.own, number, id, name, expects_reply);
+        request(&mut self.own, number, id, name, operation, expects_reply);
     }
 
     fn answered(&mut self, _number: u64, id: u32) {
@@ -77,9 +82,16 @@ impl Correspondent for Side<'_> {
 }
 
 /// A Request takes an older call of its id away, and makes one, if its call line can be shown and it expects a reply.
-fn request(calls: &mut Calls, number: u64, id: u32, name: Option<&[u8]>, expects_reply: bool)
-    ensures { calls.new ≡ requested number id (option_map (λ x. x.now) name.entry) expects_reply
-        calls.old }
+fn request(
+    calls: &mut Calls,
+    number: u64,
+    id: u32,
+    name: Option<&[u8]>,
+    operation: Option<OpId>,
+    expects_reply: bool,
+)
+    ensures { calls.new ≡ requested number id (option_map (λ x. x.now) name.entry) operation
+        expects_reply calls.old }
 {
     let Some(name) = name else {
         calls.take(id);
@@ -91,11 +103,19 @@ fn request(calls: &mut Calls, number: u64, id: u32, name: Option<&[u8]>, expects
     }
     let call = Call {
         name: kept(name),
+        operation: number_of(operation),
         stream: 1,
         message: number,
         time: None,
     };
     calls.add(id, call);
+}
+
+/// The number of an operation.
+fn number_of(operation: Option<OpId>) -> Option<u32>
+    ensures { result ≡ option_map (λ o. o.0) operation }
+{
+    Some(operation?.0)
 }
 
 /// The octets of a name. A longer one than a call has room for can't be shown, and isn't kept.

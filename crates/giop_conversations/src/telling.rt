@@ -20,7 +20,7 @@ fn tell_set(rt: &HostRuntime, set: &str, tally: &mut Tally) -> io::Result<()> {
     let Some((signatures, conversations)) = set.split_once("\n\n") else {
         return unread(rt, "MALFORMED set", set, tally);
     };
-    let Ok(catalogue) = Catalogue::parse(rt.alloc(), signatures.as_bytes()) else {
+    let Ok(catalogue) = Catalogue::parse_types(rt.alloc(), signatures.as_bytes()) else {
         return unread(rt, "REFUSED signature file", signatures, tally);
     };
     match Requests::parse(rt.alloc(), &[], &catalogue) {

@@ -24,7 +24,7 @@ use Rattle.giop_decode.specs.Fits.{FitsIn, OpenFrom, Sound, leaf_ty}
 use Rattle.giop_decode.specs.Transitions.{open_parts, has_ended, is_inside, leaf_of, leaf_type, after_transition, tree_in, AreKnown, HaveOctetsLeft, Link, IsClean, TransitionFits}
 use Rattle.giop_decode.specs.NameBuffer.{FitsName, string_offset}
 use Rattle.giop_decode.specs.Noted.{is_header_root, names_operation}
-use Rattle.giop_decode.specs.DecoderState.{Fits, GoesOn, CanStandAt, read_by_fields}
+use Rattle.giop_decode.specs.DecoderState.{AreOfRoot, Fits, GoesOn, CanStandAt, read_by_fields}
 use Rattle.giop_decode.specs.DecoderSteps.{transition_result, decoder_step, stopped, Comes, IsGoing, IsProgress, IsNotRefused}
 use Rattle.giop_decode.proofs.Around.{fit_room, around-fault, around-front}
 use Rattle.giop_decode.proofs.Going.{length_places}
@@ -123,10 +123,10 @@ pub step_fits : (C : Table) (d new : Decoder) (f : Fits C d) (octet : ℕ)
     new.inside ≡ is_inside new.outer.items → Link C f.root new.outer.items (leaf_type g.leaf) →
     AreKnown C new.outer.items → leaf_type g.leaf < length C.types →
     IsClean g.leaf new.carry new.piece.items →
-    (is_header_root new.head.root ≡ false → new.notes.request_id ≡ None) →
+    AreOfRoot C new.head.root new.notes →
     FitsName new.head.root (string_offset (tree_in C new.outer.items (leaf_type g.leaf)) g.leaf)
     new.notes.buffer new.notes.name.items → Fits C new
-step_fits C d new f octet g here ahead inside link known_outer known clean id_in_header_only name =
+step_fits C d new f octet g here ahead inside link known_outer known clean of_root name =
     search (arith, whole_step_keeps, surrounds, stands, fits_in)
 
 -- where a rule is broken, it is one

@@ -5,12 +5,23 @@ use Rattle.std.specs.Prelude.{cond, flat_map, codes}
 use Rattle.std.specs.List.{cons_option, last_or}
 use Rattle.std.proofs.lemmas.List.{take-append-drop}
 use Rattle.giop_cdr.specs.declared.prim.Primitive.TheVariants as prims
-use Rattle.giop_decode.specs.Noted.{Noted, expects_after, first_of, note, note_value, noted, noted_of, without_name_if, ends_in_string, is_member, name_if, nothing_noted}
-use Rattle.giop_decode.specs.NotedFromLines.{TextPiece, first_in, enum_of, enums, ulong_of, id_of, request_ids, expected_by, expectations, text_of, text_pieces, cut_from, pieces_of, Strings, name_of, IsLeft}
+use Rattle.giop_decode.specs.Noted.{Noted, expects_after, first_of, is_key_path, with_expects, note, note_value, noted, noted_of, without_name_if, ends_in_string, is_member, name_if, nothing_noted}
+use Rattle.giop_decode.specs.NotedFromLines.{TextPiece, last_content, first_in, enum_of, enums, ulong_of, id_of, request_ids, expected_by, expectations, text_of, text_pieces, cut_from, pieces_of, Strings, name_of, IsLeft}
 use Rattle.giop_decode.specs.Reading.{read}
 use Rattle.giop_decode.specs.ReadResult.{Coding, PathSegment, Value, Number, Piece, Line, Read, lines_of}
 use Rattle.giop_sig.specs.Types.{Plain, Enum, Ty, Text}
+use Rattle.giop_decode.proofs.LastKeys.{left_key}
+use Rattle.giop_decode.proofs.NotedKeys.{SameButKey, same_but_key}
 use Rattle.giop_decode.proofs.WholeStrings.{read_strings}
+
+-- a line, but for an object key
+same_note : (is_header : Bool) (h : Noted) (l : Line) → SameButKey (note is_header h l)
+    (with_expects (note_value (is_header && is_member (codes "request_id") l.path) h l.value)
+    (expects_after is_header l.path l.value h.expects_reply))
+same_note is_header h l =
+    same_but_key (is_header && is_key_path l.path)
+    (with_expects (note_value (is_header && is_member (codes "request_id") l.path) h l.value)
+    (expects_after is_header l.path l.value h.expects_reply)) l.value
 
 -- one line more at the front
 last_cons : (o x : Option ℕ) (xs : List ℕ) →
@@ -33,7 +44,7 @@ left_status : (is_header : Bool) (h : Noted) (lines : List Line) →
 left_status is_header h [] = refl
 left_status is_header h (l ∷ ls) =
     left_status is_header (note is_header h l) ls
-    ∙ (ap (λ o. last_or o (enums ls)) (value_status
+    ∙ (ap (λ o. last_or o (enums ls)) ((same_note is_header h l).status ∙ value_status
     (is_header && is_member (codes "request_id") l.path) h l.value)
     ∙ sym (last_cons h.status (enum_of l.value) (enums ls)))
 
@@ -58,7 +69,8 @@ left_expects is_header h [] = refl
 left_expects is_header h (l ∷ ls) =
     left_expects is_header (note is_header h l) ls
     ∙ (ap (λ o. last_or o (expectations is_header ls))
-    (expects_one is_header l.path l.value h.expects_reply)
+    ((same_note is_header h l).expects_reply
+    ∙ expects_one is_header l.path l.value h.expects_reply)
     ∙ sym (last_expected h.expects_reply (expected_by is_header l) (expectations is_header ls)))
 
 -- ---- the request id
@@ -90,35 +102,32 @@ left_id is_header h [] = kept true h.request_id
 left_id is_header h (l ∷ ls) =
     let is_id = is_header && is_member (codes "request_id") l.path in
     left_id is_header (note is_header h l) ls
-    ∙ (ap (λ o. first_of o (first_in (request_ids is_header ls))) (value_id is_id h l.value)
+    ∙ (ap (λ o. first_of o (first_in (request_ids is_header ls)))
+    ((same_note is_header h l).request_id ∙ value_id is_id h l.value)
     ∙ first_cons h.request_id (id_of is_header l) (request_ids is_header ls))
 
 -- ---- the last whole string
 
--- the name after pieces of strings, where so much is noted of one that hasn't ended
-abbrev said : Option (List ℕ) → List ℕ → List TextPiece → Option (List ℕ)
-said name so_far [] = name
-said name so_far (p ∷ ps) = cond p.more (said None (so_far ++ p.octets) ps)
-    (said (name_if (so_far ++ p.octets)) [] ps)
-
 value_name : (is_id : Bool) (h : Noted) (value : Value) (ps : List TextPiece) →
-    said (note_value is_id h value).name (note_value is_id h value).so_far ps
-    ≡ said h.name h.so_far (cons_option (text_of value) ps)
+    last_content (note_value is_id h value).name (note_value is_id h value).so_far ps
+    ≡ last_content h.name h.so_far (cons_option (text_of value) ps)
 value_name is_id h (Piece (Text bound) offset octets true) ps = refl
 value_name is_id h (Piece (Text bound) offset octets false) ps = refl
 value_name is_id h (Number (Plain prims.ULong) n) ps = refl
 value_name is_id h value ps = refl
 
 left_name : (is_header : Bool) (h : Noted) (lines : List Line) →
-    (noted is_header h lines).name ≡ said h.name h.so_far (text_pieces lines)
+    (noted is_header h lines).name ≡ last_content h.name h.so_far (text_pieces lines)
 left_name is_header h [] = refl
 left_name is_header h (l ∷ ls) =
+    let same = same_note is_header h l in
     left_name is_header (note is_header h l) ls
-    ∙ value_name (is_header && is_member (codes "request_id") l.path) h l.value (text_pieces ls)
+    ∙ rw (same.name, same.so_far) (value_name
+    (is_header && is_member (codes "request_id") l.path) h l.value (text_pieces ls))
 
 said_cut : (full offset : ℕ) (content : List ℕ) (name : Option (List ℕ)) (so_far : List ℕ)
-    (ps : List TextPiece) → said name so_far (cut_from full offset content ++ ps)
-    ≡ said (name_if (so_far ++ content)) [] ps
+    (ps : List TextPiece) → last_content name so_far (cut_from full offset content ++ ps)
+    ≡ last_content (name_if (so_far ++ content)) [] ps
 said_cut zero offset content name so_far ps = refl
 said_cut (suc full) offset content name so_far ps = search (
   arith,
@@ -131,7 +140,8 @@ said_cut (suc full) offset content name so_far ps = search (
 )
 
 said_all : (before : Option (List ℕ)) (contents : List (List ℕ)) →
-    said (name_of before) [] (flat_map pieces_of contents) ≡ name_of (last_or before contents)
+    last_content (name_of before) [] (flat_map pieces_of contents)
+    ≡ name_of (last_or before contents)
 said_all before [] = refl
 said_all before (c ∷ contents) = search (arith, said_cut, said_all (Some c) contents)
 
@@ -142,7 +152,7 @@ outside_name is_header r strings outside =
     rw (strings.lines, strings.none outside)
     (append-nil (flat_map pieces_of strings.contents)) in
     left_name is_header nothing_noted (lines_of r)
-    ∙ (ap (said None []) whole ∙ said_all None strings.contents)
+    ∙ (ap (last_content None []) whole ∙ said_all None strings.contents)
 
 -- ---- all of it
 
@@ -159,6 +169,10 @@ without_name_expects : (inside : Bool) (h : Noted) →
 without_name_expects true h = refl
 without_name_expects false h = refl
 
+without_name_key : (inside : Bool) (h : Noted) → (without_name_if inside h).key ≡ h.key
+without_name_key true h = refl
+without_name_key false h = refl
+
 is_left : (is_header : Bool) (r : Read) → Strings r → IsLeft is_header r (noted_of is_header r)
 is_left is_header r strings = search (
   arith,
@@ -169,6 +183,8 @@ is_left is_header r strings = search (
   without_name_expects,
   left_expects,
   outside_name,
+  without_name_key,
+  left_key,
 )
 
 -- What is noted of any reading.

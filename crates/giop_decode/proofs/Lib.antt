@@ -32,10 +32,12 @@ mod Advancing
 mod Telling
 mod PartialBlocks
 mod Starting
+pub mod NotedKeys
 mod Noting
 mod NameBuffer
 mod WholeStrings
 mod OneCut
+mod LastKeys
 mod LastNoted
 mod Taking
 mod Runs

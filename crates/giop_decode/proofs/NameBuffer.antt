@@ -1,5 +1,5 @@
 -- What the name buffer can have is kept at each octet.
-use Rattle.std.proofs.Common.{◌≡◌, ℕ, ◌≤◌, ◌&&◌, Bool, true, false, List, [], length, Option, Some, None, refl, sym, ◌∙◌, arith, length-append}
+use Rattle.std.proofs.Common.{◌<◌, ◌∷◌, ◌≡◌, ℕ, ◌≤◌, ◌&&◌, Bool, true, false, List, [], length, Option, Some, None, lit<, refl, sym, ◌∙◌, arith, length-append}
 use Rattle.std.specs.Prelude.{cond, replicate, codes}
 use Rattle.std.proofs.lemmas.List.{length-replicate}
 use Rattle.giop_decode.specs.declared.leaf.Transition.{Transition}
@@ -9,15 +9,17 @@ use Rattle.giop_decode.specs.declared.leaf.Output.TheVariants as outputs
 use Rattle.giop_decode.specs.declared.notes.Buffer.{Buffer}
 use Rattle.giop_decode.specs.declared.notes.Buffer.TheVariants as buffers
 use Rattle.giop_decode.specs.declared.notes.Notes.{Notes}
-use Rattle.giop_decode.specs.DecoderState.{HoldsNoted, IsHeld}
+use Rattle.giop_decode.specs.DecoderState.{AreOfRoot, HoldsNoKey, HoldsNoted, IsHeld, held_key, status_of}
 use Rattle.giop_decode.specs.DecoderSteps.{IsNotRefused}
 use Rattle.giop_decode.specs.NameBuffer.{FitsName, IsNotedOf}
-use Rattle.giop_decode.specs.Noted.{Noted, note_value, noted, nothing_noted, without_name_if, is_member}
+use Rattle.giop_decode.specs.Noted.{Noted, expects_after, note_key, note_value, noted, nothing_noted, with_expects, without_name_if, is_key_path, is_member}
 use Rattle.giop_decode.specs.NotingSteps.{OffsetMoves, StringGoesOn, clears_name, transition_offset}
-use Rattle.giop_decode.specs.ReadResult.{PathSegment, Line, Number, Piece}
+use Rattle.giop_decode.specs.ReadResult.{PathSegment, Line, Value, Number, Piece}
 use Rattle.giop_decode.specs.Transitions.{IsOutput}
+use Rattle.giop_decode.proofs.NotedKeys.{same_but_key}
 use Rattle.giop_print.specs.declared.path.Root.{Root}
 use Rattle.giop_print.specs.declared.path.Root.TheVariants as roots
+use Rattle.giop_sig.specs.Table.{Table, has_keys}
 use Rattle.giop_sig.specs.Types.{Scalar, Plain, Enum, Ty, Text, Marked}
 
 -- ---- the buffer and what it stands for
@@ -27,46 +29,106 @@ abbrev AreNoted : Root → Option ℕ → Option (List ℕ) → List ℕ → Typ
 AreNoted root None name so_far = so_far ≡ []
 AreNoted root (Some offset) name so_far = (name ≡ None) × IsNotedOf root offset (length so_far)
 
-record Stands (root : Root) (at : Option ℕ) (buffer : Buffer) (octets : List ℕ) : Type 0 where
+record Stands (C : Table) (root : Root) (at : Option ℕ) (buffer : Buffer) (octets : List ℕ)
+    : Type 0 where
   name : Option (List ℕ)
   so_far : List ℕ
-  held : IsHeld buffer octets name so_far
+  key_so_far : List ℕ
+  held : IsHeld buffer octets name so_far (held_key C key_so_far)
   noted : AreNoted root at name so_far
 
 all_noted : (root : Root) (offset : ℕ) → IsNotedOf root offset offset
 all_noted roots.Body offset = omega arith
 all_noted root offset = refl
 
-stands : (root : Root) (at : Option ℕ) (buffer : Buffer) (octets : List ℕ) →
-    FitsName root at buffer octets → Stands root at buffer octets
-stands root None buffers.Begun octets fits = search (arith)
-stands root None buffers.Whole octets fits = search (arith)
-stands root None buffers.TooLong octets fits = absurd fits
-stands root (Some offset) buffers.Begun octets fits = search (arith)
-stands root (Some offset) buffers.Whole octets fits = absurd fits
-stands root (Some offset) buffers.TooLong octets fits =
+-- with KEYs all octets of a key are held
+all_held : (C : Table) (octets : List ℕ) → has_keys C ≡ true → held_key C octets ≡ octets
+all_held C [] has = refl
+all_held C (x ∷ octets) has = rw has refl
+
+-- no octets of a key are held, or there are KEYs
+abbrev MayHold : Table → Buffer → Type 0
+MayHold C buffer = has_keys C ≡ false → HoldsNoKey buffer
+
+keys_by : (C : Table) (b : Bool) → has_keys C ≡ b → (has_keys C ≡ false → ⊥) → has_keys C ≡ true
+keys_by C true is some = is
+keys_by C false is some = absurd (some is)
+
+long_held : (C : Table) → MayHold C buffers.LongKey → 128 < length (held_key C (replicate 129 0))
+long_held C may = rw (all_held C (replicate 129 0) (keys_by C (has_keys C) refl may)) (lit< tt)
+
+stands : (C : Table) (root : Root) (at : Option ℕ) (buffer : Buffer) (octets : List ℕ) →
+    MayHold C buffer → FitsName root at buffer octets → Stands C root at buffer octets
+stands C root None buffers.Begun octets may fits = search (arith)
+stands C root None buffers.Whole octets may fits = search (arith)
+stands C root None buffers.TooLong octets may fits = absurd fits
+stands C root (Some offset) buffers.Begun octets may fits = search (arith)
+stands C root (Some offset) buffers.Whole octets may fits = absurd fits
+stands C root (Some offset) buffers.TooLong octets may fits =
     let zero : ℕ = 0 in
     let size : length (replicate offset zero) ≡ offset = length-replicate offset zero in
     record {
       name = None;
       so_far = replicate offset zero;
-      held = (refl, fits.1, rw size fits.0);
+      key_so_far = [];
+      held = (refl, fits.1, rw size fits.0, refl);
       noted = (refl, rw size (all_noted root offset));
+    }
+stands C root None buffers.Key octets may fits =
+    record {
+      name = None;
+      so_far = [];
+      key_so_far = octets;
+      held = (refl, refl, fits, all_held C octets (keys_by C (has_keys C) refl may));
+      noted = refl;
+    }
+stands C root (Some offset) buffers.Key octets may fits =
+    record {
+      name = None;
+      so_far = [];
+      key_so_far = octets;
+      held = (refl, refl, fits.0, all_held C octets (keys_by C (has_keys C) refl may));
+      noted = (refl, fits.1);
+    }
+stands C root None buffers.LongKey octets may fits =
+    record {
+      name = None;
+      so_far = [];
+      key_so_far = replicate 129 0;
+      held = (refl, refl, fits, long_held C may);
+      noted = refl;
+    }
+stands C root (Some offset) buffers.LongKey octets may fits =
+    record {
+      name = None;
+      so_far = [];
+      key_so_far = replicate 129 0;
+      held = (refl, refl, fits.0, long_held C may);
+      noted = (refl, fits.1);
     }
 
 most_noted : (root : Root) (offset n : ℕ) → IsNotedOf root offset n → n ≤ offset
 most_noted roots.Body offset n h = h
 most_noted root offset n h = omega (arith, h)
 
-fits_name : (root : Root) (at : Option ℕ) (buffer : Buffer) (octets so_far : List ℕ)
-    (name : Option (List ℕ)) →
-    IsHeld buffer octets name so_far → AreNoted root at name so_far → FitsName root at buffer octets
-fits_name root None buffers.Begun octets so_far name held is = sym held.1 ∙ is
-fits_name root None buffers.Whole octets so_far name held is = tt
-fits_name root None buffers.TooLong octets so_far name held is = search (arith)
-fits_name root (Some offset) buffers.Begun octets so_far name held is = search (arith)
-fits_name root (Some offset) buffers.Whole octets so_far name held is = search (arith)
-fits_name root (Some offset) buffers.TooLong octets so_far name held is = search (arith, most_noted)
+fits_name : (root : Root) (at : Option ℕ) (buffer : Buffer) (octets so_far key : List ℕ)
+    (name : Option (List ℕ)) → IsHeld buffer octets name so_far key →
+    AreNoted root at name so_far → FitsName root at buffer octets
+fits_name root None buffers.Begun octets so_far key name held is = sym held.1 ∙ is
+fits_name root None buffers.Whole octets so_far key name held is = tt
+fits_name root None buffers.TooLong octets so_far key name held is = search (arith)
+fits_name root (Some offset) buffers.Begun octets so_far key name held is = search (arith)
+fits_name root (Some offset) buffers.Whole octets so_far key name held is = search (arith)
+fits_name root (Some offset) buffers.TooLong octets so_far key name held is = search (
+  arith,
+  most_noted,
+)
+fits_name root None buffers.Key octets so_far key name held is = held.2
+fits_name root (Some offset) buffers.Key octets so_far key name held is =
+    (held.2, rw held.1 at is.1)
+fits_name root None buffers.LongKey octets so_far key name held is = held.2
+fits_name root (Some offset) buffers.LongKey octets so_far key name held is =
+    (held.2, rw held.1 at is.1)
 
 -- ---- one octet
 
@@ -102,6 +164,14 @@ moves_on T was (transitions.Refused kind) output n going h = absurd going
 moves_on T was (transitions.More leaf) output n going h = h
 moves_on T was _ output n going h = h
 
+-- an object key doesn't change what is noted of strings
+key_quiet : (root : Root) (next : Option ℕ) (is_key : Bool) (k : Noted) (expects : Option Bool)
+    (value : Value) → AreNoted root next k.name k.so_far →
+    (let h = note_key is_key (with_expects k expects) value in AreNoted root next h.name h.so_far)
+key_quiet root next is_key k expects value is =
+    let same = same_but_key is_key (with_expects k expects) value in
+    rw (same.name, same.so_far) is
+
 -- what is noted, after the line of an octet
 output_noted : (header : Bool) (root : Root) (T : Ty) (was next : Option ℕ) (output : Output)
     (path : List PathSegment) (at : ℕ) (piece : List ℕ) (lines : List Line) (h : Noted) →
@@ -119,50 +189,73 @@ output_noted header root T was next (outputs.Switch number) path at piece lines 
     search (arith, number_noted)
 output_noted header root T was next (outputs.Piece offset true) path at piece lines h moves says
     is =
-    rw says (piece_more (header && is_member (codes "request_id") path) root T was next offset at
-    piece h moves is)
+    rw says (key_quiet root next (header && is_key_path path)
+    (note_value (header && is_member (codes "request_id") path) h (Piece T offset piece true))
+    (expects_after header path (Piece T offset piece true) h.expects_reply)
+    (Piece T offset piece true)
+    (piece_more (header && is_member (codes "request_id") path) root T was next offset at piece h
+    moves is))
 output_noted header root T was next (outputs.Piece offset false) path at piece lines h moves says
-    is = search (arith, piece_last)
+    is =
+    rw says (key_quiet root next (header && is_key_path path)
+    (note_value (header && is_member (codes "request_id") path) h (Piece T offset piece false))
+    (expects_after header path (Piece T offset piece false) h.expects_reply)
+    (Piece T offset piece false)
+    (piece_last (header && is_member (codes "request_id") path) root T was next offset piece h
+    moves is))
 output_noted header root T was next output path at piece lines h moves says is = search (arith)
 
 -- What the name buffer can have, it can have after an octet.
-pub name_kept : (header : Bool) (root : Root) (T : Ty) (was next : Option ℕ)
+pub name_kept : (C : Table) (header : Bool) (root : Root) (T : Ty) (was next : Option ℕ)
     (transition : Transition) (output : Output) (path : List PathSegment) (at : ℕ) (piece : List ℕ)
     (lines : List Line) (old new : Notes) →
     IsNotRefused transition → StringGoesOn T was transition output (length piece) →
     next ≡ transition_offset T transition →
-    IsOutput T path at output piece lines → FitsName root was old.buffer old.name.items →
-    ((h : Noted) → HoldsNoted old h → HoldsNoted new
+    IsOutput T path at output piece lines → MayHold C old.buffer →
+    FitsName root was old.buffer old.name.items →
+    ((h : Noted) → HoldsNoted C false old h → HoldsNoted C false new
     (without_name_if (clears_name output) (noted header h lines))) →
     FitsName root next new.buffer new.name.items
-name_kept header root T was next transition output path at piece lines old new going moves leads
-    says fits notes =
-    let s = stands root was old.buffer old.name.items fits in
+name_kept C header root T was next transition output path at piece lines old new going moves leads
+    says may fits notes =
+    let s = stands C root was old.buffer old.name.items may fits in
     let h : Noted = record {
       request_id = old.request_id;
-      status = old.status;
-      expects_reply =
-          old.expects_reply;
+      status = status_of old.last;
+      expects_reply = old.expects_reply;
       name = s.name;
       so_far = s.so_far;
+      key = None;
+      key_so_far = s.key_so_far;
     } in
     let k = without_name_if (clears_name output) (noted header h lines) in
     let held = notes h (record {
       request_id = refl;
       status = refl;
+      interface = tt;
       expects_reply = refl;
-      name =
-          s.held;
+      name = s.held;
     }) in
     rw leads (fits_name root (transition_offset T transition) new.buffer new.name.items k.so_far
-    k.name held.name
+    (held_key C k.key_so_far) k.name held.name
     (output_noted header root T was (transition_offset T transition) output path at piece lines h
     (moves_on T was transition output (length piece) going moves) says s.noted))
 
 -- before the first octet
-pub nothing_fits : (root : Root) (m : Notes) → HoldsNoted m nothing_noted →
+pub nothing_fits : (C : Table) (root : Root) (m : Notes) → HoldsNoted C true m nothing_noted →
     FitsName root None m.buffer m.name.items
-nothing_fits root m held = search (arith, fits_name)
+nothing_fits C root m held = search (arith, fits_name)
+
+pub nothing_of_root : (C : Table) (root : Root) (m : Notes) → HoldsNoted C true m nothing_noted →
+    HoldsNoKey m.buffer → AreOfRoot C root m
+nothing_of_root C root m held none =
+    record {
+      id = λ body. held.request_id;
+      no_interface = λ body. held.interface;
+      no_key = λ body. none;
+      keyless = λ keys. none;
+      interface = rw held.interface tt;
+    }
 
 pub none_either : (b : Bool) (o : Option ℕ) → cond b None (cond b o None) ≡ None
 none_either true o = refl

@@ -1,5 +1,5 @@
 -- Numbers that are parts of one part, each of which another follows: what one of them does.
-use Rattle.std.proofs.Common.{◌≡◌, Result, Ok, IsErr, ℕ, suc, ◌+◌, ◌-◌, ◌%◌, ◌<◌, false, List, [], ◌∷◌, ◌++◌, length, take, get_or, Option, Some, None, refl, sym, ◌∙◌, ap, subst, arith, add-one, append-nil, append_assoc, length-append, codes, decimal}
+use Rattle.std.proofs.Common.{Bool, ◌≡◌, Result, Ok, IsErr, ℕ, suc, ◌+◌, ◌-◌, ◌%◌, ◌<◌, false, List, [], ◌∷◌, ◌++◌, length, take, get_or, Option, Some, None, refl, sym, ◌∙◌, ap, subst, arith, add-one, append-nil, append_assoc, length-append, codes, decimal}
 use Rattle.std.proofs.Math.Seq.{take-append_seam}
 use Rattle.std.proofs.lemmas.List.{take_all, take_more}
 use Rattle.giop_cdr.specs.Numbers.{interpreted_as}
@@ -25,7 +25,7 @@ use Rattle.giop_decode.specs.declared.notes.Notes.{Notes}
 use Rattle.giop_decode.specs.declared.parts.PartAhead.{PartAhead}
 use Rattle.giop_decode.specs.declared.progress.Progress.{Progress}
 use Rattle.giop_decode.specs.declared.progress.Progress.TheVariants as progress
-use Rattle.giop_decode.specs.DecoderState.{Fits, HoldsNoted}
+use Rattle.giop_decode.specs.DecoderState.{AreOfRoot, Fits, HoldsNoted}
 use Rattle.giop_decode.specs.DecoderSteps.{emitted, transition_result}
 use Rattle.giop_decode.specs.Noted.{Noted, first_of, noted, is_header_root}
 use Rattle.giop_decode.specs.NextParts.{IsAtNext, IsNextNumber, IsPartAhead, frames_above, front_text, next_of}
@@ -64,10 +64,11 @@ first_none None = refl
 first_none (Some n) = refl
 
 -- nothing is noted of a primitive in no header
-plain_noted : (m : Notes) (h : Noted) (p : Primitive) (n at : ℕ) (path : List PathSegment) →
-    HoldsNoted m h → HoldsNoted m (noted false h (line at path (Number (Plain p) n) ∷ []))
-plain_noted m h prims.ULong n at path r = search (arith, first_none)
-plain_noted m h p n at path r = search (arith)
+plain_noted : (C : Table) (asked : Bool) (m : Notes) (h : Noted) (p : Primitive) (n at : ℕ)
+    (path : List PathSegment) → HoldsNoted C asked m h →
+    HoldsNoted C asked m (noted false h (line at path (Number (Plain p) n) ∷ []))
+plain_noted C asked m h prims.ULong n at path r = search (arith, first_none)
+plain_noted C asked m h p n at path r = search (arith)
 
 -- the frames around the innermost one, and that one
 above_push : (frames : List Frame) (f : Frame) → frames_above (frames ++ f ∷ []) ≡ frames
@@ -398,12 +399,13 @@ module _ (C : Table) (d : Decoder) (part : PartAhead) (f : Fits C d)
           inside = λ here lines says. ap ends_in_string (come here lines)
               ∙ stopped_silent C new.outer.items new.carry new.piece.items new.leaf lines (here + 1)
               (rw n.leaf refl);
-          id = λ no. ap (λ m. m.request_id) n.notes;
-          notes = λ o here at lines held says.
+          of_root = λ was. subst (AreOfRoot C d.head.root) (sym n.notes) was;
+          notes = λ asked o here at lines held says.
               let k = plain_says here at lines says in
-              let kept = plain_noted d.notes o part.prim k.1 at
+              let kept = plain_noted C asked d.notes o part.prim k.1 at
               (path_in [] (open_parts C here d.outer.items)) held in
-              subst (λ m. HoldsNoted m (noted (is_header_root d.head.root) o lines)) (sym n.notes)
+              subst (λ m. HoldsNoted C asked m (noted (is_header_root d.head.root) o lines))
+              (sym n.notes)
               (rw (body, k.4, k.2) kept);
         }
       where

@@ -1,5 +1,5 @@
 -- Full pieces of an octet sequence, after each of which more comes: what one of them does.
-use Rattle.std.proofs.Common.{◌≡◌, Result, Ok, IsErr, ℕ, ◌+◌, ◌-◌, ◌%◌, ◌<◌, true, false, List, [], ◌∷◌, ◌++◌, length, take, Some, refl, sym, ◌∙◌, ap, subst, arith, append-nil, codes, decimal}
+use Rattle.std.proofs.Common.{inr, inl, Bool, ◌≡◌, Result, Ok, IsErr, ℕ, ◌+◌, ◌-◌, ◌%◌, ◌<◌, true, false, List, [], ◌∷◌, ◌++◌, length, take, Some, refl, sym, ◌∙◌, ap, subst, arith, append-nil, codes, decimal}
 use Rattle.std.proofs.Math.Bool.{and-false}
 use Rattle.giop_decode.specs.declared.frame.Within.TheVariants as withins
 use Rattle.giop_decode.specs.declared.decoder.Decoder.{Decoder}
@@ -14,11 +14,11 @@ use Rattle.giop_decode.specs.declared.progress.Progress.TheVariants as progress
 use Rattle.giop_decode.specs.DecoderState.{Fits, HoldsNoted}
 use Rattle.giop_decode.specs.DecoderSteps.{emitted, transition_result}
 use Rattle.giop_decode.specs.NameBuffer.{string_offset}
-use Rattle.giop_decode.specs.NextPieces.{IsPieceAhead, behind_piece}
+use Rattle.giop_decode.specs.NextPieces.{IsPieceAhead, IsQuiet, behind_piece}
 use Rattle.giop_decode.specs.Noted.{Noted, ends_in_string, is_header_root, names_operation, noted}
 use Rattle.giop_decode.specs.NotingSteps.{transition_in_string, transition_offset}
 use Rattle.giop_decode.specs.Passes.{Gives, Passes}
-use Rattle.giop_decode.specs.ReadResult.{Line, Piece, line}
+use Rattle.giop_decode.specs.ReadResult.{Line, PathSegment, Piece, line}
 use Rattle.giop_decode.specs.ReadingSteps.{path_in}
 use Rattle.giop_decode.specs.Runs.{TakenTogether, TakesSome}
 use Rattle.giop_decode.specs.Segments.{frames_text}
@@ -29,7 +29,7 @@ use Rattle.giop_decode.proofs.Counting.{ahead_free, free_ticked_by}
 use Rattle.giop_decode.proofs.FieldsRead.{path_spelled}
 use Rattle.giop_decode.proofs.FieldsRead.{headed_is}
 use Rattle.giop_decode.proofs.NextParts.{places_free, stand_free}
-use Rattle.giop_decode.proofs.Noting.{stopped_silent}
+use Rattle.giop_decode.proofs.Noting.{keyless_piece, stopped_silent}
 use Rattle.giop_decode.proofs.Passing.{last_says, passed_broken, passed_some}
 use Rattle.giop_decode.proofs.Segments.{said_one}
 use Rattle.giop_decode.proofs.SoFar.{AllSay}
@@ -59,7 +59,8 @@ unfolding content_line
 piece_text_is message offset place octets bound = refl
 
 module _ (C : Table) (d : Decoder) (ahead : PieceAhead) (f : Fits C d)
-    (h : IsPieceAhead C d ahead) (outside : d.inside ≡ withins.Nothing) where
+    (h : IsPieceAhead C d ahead) (quiet : IsQuiet C d.head.root)
+    (outside : d.inside ≡ withins.Nothing) where
   abbrev octets : List ℕ
   octets = ahead.octets.now
 
@@ -130,11 +131,22 @@ module _ (C : Table) (d : Decoder) (ahead : PieceAhead) (f : Fits C d)
       false ≡ names_operation (is_header_root d.head.root) lines
   unnamed here at lines says = search (arith, given, and-false, codes)
 
-  -- nothing is noted of an octet sequence
-  kept : (o : Noted) (here at : ℕ) (lines : List Line) → HoldsNoted d.notes o →
-      Gives C there ahead.of.0 step rest here at lines →
-      HoldsNoted d.notes (noted (is_header_root d.head.root) o lines)
-  kept o here at lines held says = search (arith, given)
+  -- nothing is noted of it
+  kept_by : IsQuiet C d.head.root → (asked : Bool) (o : Noted) (at : ℕ) (path : List PathSegment) →
+      HoldsNoted C asked d.notes o → HoldsNoted C asked d.notes
+      (noted (is_header_root d.head.root) o
+      (line at path (Piece (Octets h.bound) ahead.offset rest true) ∷ []))
+  kept_by (inl body) asked o at path held = rw body held
+  kept_by (inr keys) asked o at path held =
+      keyless_piece C asked (is_header_root d.head.root) (Octets h.bound) path at ahead.offset rest
+      true o d.notes h.bound refl keys.0 keys.1 held
+
+  kept : (asked : Bool) (o : Noted) (here at : ℕ) (lines : List Line) →
+      HoldsNoted C asked d.notes o → Gives C there ahead.of.0 step rest here at lines →
+      HoldsNoted C asked d.notes (noted (is_header_root d.head.root) o lines)
+  kept asked o here at lines held says =
+      rw (given here at lines says) (kept_by quiet asked o at
+      (path_in [] (open_parts C here d.outer.items)) held)
 
   silent : (here : ℕ) (lines : List Line) →
       ends_in_string (emitted C there ahead.of.0 step.transition step.output lines here)
@@ -172,8 +184,8 @@ module _ (C : Table) (d : Decoder) (ahead : PieceAhead) (f : Fits C d)
             (unnamed here (here + 1) lines says) (sym (free_ended d.outer.items free))
             (come here lines) refl;
         inside = λ here lines says. silent here lines;
-        id = λ no. refl;
-        notes = λ o here at lines held says. kept o here at lines held says;
+        of_root = λ was. was;
+        notes = λ asked o here at lines held says. kept asked o here at lines held says;
       }
     where
       at_next : (leaf : Innermost) → Some next ≡ Some leaf → next ≡ leaf

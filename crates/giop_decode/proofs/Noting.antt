@@ -1,35 +1,32 @@
 -- What is noted of an octet's line, and which part is a member of the root.
 use Rattle.std.specs.Prelude.{slice_index_or, codes}
-use Rattle.std.specs.Str.{bytes_eq}
-use Rattle.std.proofs.Common.{◌≡◌, ◌≢◌, ℕ, ap, ◌&&◌, Bool, true, false, List, [], ◌∷◌, ◌++◌, length, append_assoc, refl, ◌∙◌, arith, Option, Some, None, sym}
-use Rattle.giop_cdr.specs.declared.order.Order.{Order}
+use Rattle.std.proofs.Common.{◌≡◌, ◌≢◌, ℕ, ap, ◌&&◌, Bool, true, false, List, [], ◌∷◌, ◌++◌, length, append_assoc, refl, ◌∙◌, arith, Option, Some, None, sym, subst, ◌≤◌}
 use Rattle.giop_cdr.specs.declared.prim.Primitive.TheVariants as prims
 use Rattle.giop_decode.specs.declared.leaf.Leaf.{Leaf as Innermost}
 use Rattle.giop_decode.specs.declared.leaf.Leaf.TheVariants as innermost
 use Rattle.giop_decode.specs.declared.leaf.Transition.{Transition}
 use Rattle.giop_decode.specs.declared.leaf.Output.{Output}
 use Rattle.giop_decode.specs.declared.leaf.Output.TheVariants as outputs
-use Rattle.giop_decode.specs.Noted.{Noted, note_value, expects_after, note, ended, with_piece, noted_piece, is_member, noted, noted_of, without_name_if, with_expects, in_content, names_operation, ends_in_string, is_text, nothing_noted}
+use Rattle.giop_decode.specs.Noted.{Noted, note_value, expects_after, note, ended, with_piece, noted_piece, with_key_piece, key_ended, may_have_key, noted_key, is_name, is_member, is_key_path, noted, noted_of, without_name_if, with_expects, in_content, names_operation, ends_in_string, is_text, nothing_noted}
 use Rattle.giop_decode.specs.NotingSteps.{OutputFitsString, clears_name, leaf_in_string, transition_in_string}
 use Rattle.giop_decode.specs.ReadResult.{Number, Leaf, Held, PathSegment, Name, Index, Switch, Line, line, Value, Piece, OpenPart, Content, Read, Done, lines_of, with_front}
 use Rattle.giop_decode.specs.declared.frame.Frame.{Frame}
 use Rattle.giop_decode.specs.ReadingSteps.{path_in, segment_in}
-use Rattle.giop_decode.specs.Transitions.{AreKnown, IsKnown, leaf_of, leaf_type, open_part, part_in, open_parts, tree_in, IsOutput}
+use Rattle.giop_decode.specs.Transitions.{leaf_of, leaf_type, open_part, open_parts, tree_in, IsOutput}
 use Rattle.giop_decode.proofs.Resuming.{noted-append, lines_front}
 use Rattle.std.specs.Prelude.{IfSome}
-use Rattle.giop_decode.specs.Fits.{IsEncapsulation, IsLed}
+use Rattle.giop_decode.specs.Fits.{IsEncapsulation}
 use Rattle.giop_decode.specs.DecoderSteps.{stopped_with}
-use Rattle.giop_decode.specs.Reading.{cut_off, led_name}
-use Rattle.giop_decode.specs.Segments.{led_place}
-use Rattle.giop_decode.proofs.Segments.{held_quiet, led_frame, quiet}
+use Rattle.giop_decode.specs.Reading.{cut_off}
 use Rattle.giop_decode.proofs.Surrounding.{unless_ended}
-use Rattle.giop_sig.specs.Table.{Table}
+use Rattle.giop_sig.specs.declared.types.InterfaceId.{InterfaceId}
+use Rattle.giop_sig.specs.Table.{Table, has_keys, interface_in}
+use Rattle.giop_decode.proofs.NotedKeys.{SameButKey, same_but_key}
 use Rattle.giop_sig.specs.declared.types.Shape.TheVariants as shapes
 use Rattle.giop_decode.specs.declared.notes.Notes.{Notes}
-use Rattle.giop_decode.specs.DecoderState.{HoldsNoted}
+use Rattle.giop_decode.specs.DecoderState.{HoldsNoted, IsWhose, held_key, interface_of, whose}
 use Rattle.std.proofs.Math.Bool.{and-false}
-use Rattle.giop_sig.specs.Trees.{tree}
-use Rattle.giop_sig.specs.Types.{Marked, Scalar, Cases, Ty, Single, Text, Octets, Struct, Union, Sequence, Array, Plain, Enum, HasMember, HasShape, name_in, shape_in, Encapsulation, Led, Tag}
+use Rattle.giop_sig.specs.Types.{Scalar, Ty, Single, Text, Octets, Struct, Union, Sequence, Array, Plain, HasShape, shape_in, Encapsulation, Led}
 
 content_in : (T : Ty) (total offset : ℕ) (piece : List ℕ) →
     in_content (Content T total offset piece) ≡ is_text T
@@ -144,15 +141,66 @@ noted_on header T leaf transition output path at piece front lines r v says insi
 
 -- ---- pieces and members
 
--- a piece of no string is not noted, and names nothing
+-- A piece of no string and no object key is not noted, and names nothing.
 
-pub silent_piece : (header : Bool) (T : Ty) (path : List PathSegment) (at offset : ℕ)
-    (octets : List ℕ) (more : Bool) (h : Noted) (m : Notes) →
-    ((bound : Option ℕ) → shape_in T ≡ shapes.Text bound → ⊥) → HoldsNoted m h →
-    HoldsNoted m (noted header h (line at path (Piece T offset octets more) ∷ []))
-silent_piece header (Text bound) path at offset octets more h m other held =
+pub silent_piece : (C : Table) (asked header : Bool) (T : Ty) (path : List PathSegment)
+    (at offset : ℕ) (octets : List ℕ) (more : Bool) (h : Noted) (m : Notes) →
+    ((bound : Option ℕ) → shape_in T ≡ shapes.Text bound → ⊥) →
+    ((bound : Option ℕ) → shape_in T ≡ shapes.Octets bound → header && is_key_path path ≡ false) →
+    HoldsNoted C asked m h →
+    HoldsNoted C asked m (noted header h (line at path (Piece T offset octets more) ∷ []))
+silent_piece C asked header (Text bound) path at offset octets more h m other key held =
     absurd (other bound refl)
-silent_piece header T path at offset octets more h m other held = held
+silent_piece C asked header (Octets bound) path at offset octets more h m other key held =
+    rw (key bound refl) held
+silent_piece C asked header T path at offset octets more h m other key held = held
+
+-- Where a table has no KEYs nothing is held of a key, and none has an interface.
+keyless : (C : Table) (so_far : List ℕ) → has_keys C ≡ false → held_key C so_far ≡ []
+keyless C [] none = refl
+keyless C (x ∷ so_far) none = rw none refl
+
+no_interface : (C : Table) (key : Option (List ℕ)) → ((k : List ℕ) → interface_in C k ≡ None) →
+    whose C key ≡ None
+no_interface C None none = refl
+no_interface C (Some key) none = none key
+
+still_whose : (C : Table) (asked : Bool) (i : Option InterfaceId) (before now : Option (List ℕ)) →
+    ((k : List ℕ) → interface_in C k ≡ None) → IsWhose C asked i before → IsWhose C asked i now
+still_whose C true i before now none is =
+    is ∙ (no_interface C before none ∙ sym (no_interface C now none))
+still_whose C false i before now none is = tt
+
+keyless_noted : (C : Table) (asked : Bool) (m : Notes) (h k : Noted) → SameButKey k h →
+    has_keys C ≡ false → ((key : List ℕ) → interface_in C key ≡ None) → HoldsNoted C asked m h →
+    HoldsNoted C asked m k
+keyless_noted C asked m h k same keys none held = record {
+  request_id = held.request_id ∙ sym same.request_id;
+  status = held.status ∙ sym same.status;
+  interface = still_whose C asked (interface_of m.last) h.key k.key none held.interface;
+  expects_reply = held.expects_reply ∙ sym same.expects_reply;
+  name = rw (same.name, same.so_far, keyless C k.key_so_far keys)
+      (rw (keyless C h.key_so_far keys) at held.name);
+}
+
+keyless_octets : (C : Table) (asked header : Bool) (path : List PathSegment) (at offset : ℕ)
+    (octets : List ℕ) (more : Bool) (h : Noted) (m : Notes) (bound : Option ℕ) →
+    has_keys C ≡ false → ((key : List ℕ) → interface_in C key ≡ None) → HoldsNoted C asked m h →
+    HoldsNoted C asked m (noted header h
+    (line at path (Piece (Octets bound) offset octets more) ∷ []))
+keyless_octets C asked header path at offset octets more h m bound =
+    keyless_noted C asked m h _ (same_but_key (header && is_key_path path) h
+    (Piece (Octets bound) offset octets more))
+
+pub keyless_piece : (C : Table) (asked header : Bool) (T : Ty) (path : List PathSegment)
+    (at offset : ℕ) (octets : List ℕ) (more : Bool) (h : Noted) (m : Notes) (bound : Option ℕ) →
+    HasShape T (shapes.Octets bound) → has_keys C ≡ false →
+    ((key : List ℕ) → interface_in C key ≡ None) → HoldsNoted C asked m h →
+    HoldsNoted C asked m (noted header h (line at path (Piece T offset octets more) ∷ []))
+keyless_piece C asked header T path at offset octets more h m bound is keys none held =
+    subst (λ U. HoldsNoted C asked m
+    (noted header h (line at path (Piece U offset octets more) ∷ []))) (sym is)
+    (keyless_octets C asked header path at offset octets more h m bound keys none held)
 
 pub unnamed_piece : (header : Bool) (T : Ty) (path : List PathSegment) (at offset : ℕ)
     (octets : List ℕ) (more : Bool) → ((bound : Option ℕ) → shape_in T ≡ shapes.Text bound → ⊥) →
@@ -164,6 +212,20 @@ unnamed_piece header T path at offset octets more other = search (arith, and-fal
 pub piece_last : (h : Noted) (octets : List ℕ) (more : Bool) → more ≡ false →
     ended (with_piece h octets) ≡ noted_piece h octets more
 piece_last h octets more last = rw last refl
+
+-- a piece of an object key in two parts is one piece
+pub key_both : (h : Noted) (held rest : List ℕ) →
+    with_key_piece (with_key_piece h held) rest ≡ with_key_piece h (held ++ rest)
+key_both h held rest = search (arith, append_assoc)
+
+-- a piece of an object key that isn't the last, and the last
+pub key_more : (h : Noted) (octets : List ℕ) (more : Bool) → may_have_key h ≡ true → more ≡ true →
+    with_key_piece h octets ≡ noted_key h octets more
+key_more h octets more may goes_on = rw (may, goes_on) refl
+
+pub key_last : (h : Noted) (octets : List ℕ) (more : Bool) → may_have_key h ≡ true →
+    more ≡ false → key_ended (with_key_piece h octets) ≡ noted_key h octets more
+key_last h octets more may last = rw (may, last) refl
 
 -- a piece in two parts is one piece
 pub piece_both : (h : Noted) (held rest : List ℕ) →
@@ -189,77 +251,25 @@ no_member name C here [] h = refl
 no_member name C here (f ∷ []) h = absurd (h refl)
 no_member name C here (f ∷ g ∷ outer) h = search (arith, deep)
 
--- the one part around it
-only : (C : Table) (here : ℕ) (outer : List Frame) (d : Frame) → length outer ≡ 1 →
-    path_in [] (open_parts C here outer)
-    ≡ segment_in (open_part C 24 here (slice_index_or outer 0 d)) ∷ []
-only C here (f ∷ []) d h = refl
-only C here _ d h = absurd (omega arith)
+-- a part with two around it is no object key where the outer one isn't the target
+pub no_target : (C : Table) (here : ℕ) (outer : List Frame) (d : Frame) → length outer ≡ 2 →
+    is_name (codes "target") (segment_in (open_part C 24 here (slice_index_or outer 0 d))) ≡ false →
+    is_key_path (path_in [] (open_parts C here outer)) ≡ false
+no_target C here (f ∷ g ∷ []) d h other = rw other refl
+no_target C here _ d h other = absurd (omega arith)
 
-only_known : (C : Table) (outer : List Frame) (d : Frame) → length outer ≡ 1 → AreKnown C outer →
-    IsKnown C (slice_index_or outer 0 d)
-only_known C (f ∷ []) d h k = k.0
-only_known C _ d h k = absurd (omega arith)
+-- a part with more of them around it is no object key
+deeper : (x y z : PathSegment) (zs : List PathSegment) (ps : List OpenPart) →
+    false ≡ is_key_path (path_in (x ∷ y ∷ z ∷ zs) ps)
+deeper x y z zs [] = refl
+deeper x y z zs (p ∷ ps) = deeper x y z (zs ++ segment_in p ∷ []) ps
 
-named_by : (name : List ℕ) (T : Ty) (i count : ℕ) → HasMember (shape_in T) i →
-    is_member name (segment_in (part_in T i count) ∷ []) ≡ bytes_eq name (name_in T i)
-named_by name (Struct n names parts) i count h = refl
-named_by name (Union (Cases n) scalar select names cases) i count h = refl
-named_by name (Union Tag scalar select names cases) i count h = refl
-named_by name (Single (Plain p)) i count h = absurd h
-named_by name (Single (Enum n names)) i count h = absurd h
-named_by name (Text bound) i count h = absurd h
-named_by name (Octets bound) i count h = absurd h
-named_by name (Single (Marked mark)) i count h = absurd h
-named_by name (Led g F parts) i count h = absurd h
-named_by name (Sequence bound T) i count h = absurd h
-named_by name (Array n T) i count h = absurd h
-named_by name (Encapsulation T) i count h = absurd h
-
-member_unled : (T : Ty) (i : ℕ) → HasMember (shape_in T) i → IsLed T → ⊥
-member_unled (Led g F parts) i has led = absurd has
-member_unled T i has led = absurd led
-
-pub member_by : (name text : List ℕ) (C : Table) (here : ℕ) (outer : List Frame) (d : Frame)
-    (b : Bool) → length outer ≡ 1 → AreKnown C outer → (slice_index_or outer 0 d).inside ≡ None →
-    HasMember (shape_in (tree C (slice_index_or outer 0 d).of.0)) (slice_index_or outer 0 d).index →
-    text ≡ name_in (tree C (slice_index_or outer 0 d).of.0) (slice_index_or outer 0 d).index →
-    b ≡ bytes_eq name text → b ≡ is_member name (path_in [] (open_parts C here outer))
-member_by name text C here outer d b one known part h is e =
-    let f = slice_index_or outer 0 d in
-    rw (
-      only C here outer d one,
-      quiet C 24 f (only_known C outer d one known) (member_unled (tree C f.of.0) f.index h),
-      part,
-      named_by name
-          (tree C f.of.0) f.index f.count h,
-      ← is,
-    ) e
-
--- what an encapsulation holds is no member
-pub held_member : (name : List ℕ) (C : Table) (here : ℕ) (outer : List Frame) (d : Frame)
-    (order : Order) → length outer ≡ 1 → AreKnown C outer →
-    (slice_index_or outer 0 d).inside ≡ Some order →
-    false ≡ is_member name (path_in [] (open_parts C here outer))
-held_member name C here outer d order one known inside =
-    rw (
-      only C here outer d one,
-      held_quiet C (slice_index_or outer 0 d) order (only_known C outer d one known) inside,
-      inside,
-    ) refl
-
--- and of an any it is its type or its value
-pub led_member : (name text : List ℕ) (C : Table) (here : ℕ) (outer : List Frame) (d : Frame)
-    (b : Bool) → length outer ≡ 1 → (slice_index_or outer 0 d).inside ≡ None →
-    HasShape (tree C (slice_index_or outer 0 d).of.0) shapes.Led →
-    text ≡ led_name (led_place (slice_index_or outer 0 d).told (slice_index_or outer 0 d).index) →
-    b ≡ bytes_eq name text → b ≡ is_member name (path_in [] (open_parts C here outer))
-led_member name text C here outer d b one none has is e =
-    rw (
-      only C here outer d one,
-      led_frame C 24 here (slice_index_or outer 0 d) none has,
-      ← is,
-    ) e
+pub no_key : (C : Table) (here : ℕ) (outer : List Frame) → 3 ≤ length outer →
+    false ≡ is_key_path (path_in [] (open_parts C here outer))
+no_key C here [] h = absurd (omega arith)
+no_key C here (f ∷ []) h = absurd (omega arith)
+no_key C here (f ∷ g ∷ []) h = absurd (omega arith)
+no_key C here (f ∷ g ∷ k ∷ outer) h = search (arith, deeper)
 
 -- a discriminator is no member
 pub switch_member : (name : List ℕ) (path : List PathSegment) (tag : Option (List ℕ)) →

@@ -89,10 +89,10 @@ module _ (C : Table) (d new : Decoder) (leaf : Innermost) (octet : ℕ)
       (held_here f.here at f.stands) (rw counts on)
       (rw (encloses, counts, inside_ticked d.outer.items) f.inside)
       (rw (counts, ← it) (link_ticked C f.root d.outer.items (leaf_type f.leaf) f.link))
-      (rw counts known_on) (rw (← it) f.known) clean (rw (root, notes) f.id_in_header_only)
+      (rw counts known_on) (rw (← it) f.known) clean (rw (root, notes) f.of_root)
       (rw (root, notes, counts, tree_ticked C d.outer.items (leaf_type leaf), ← it) f.name)
 
   pub held_keeps_noted : (here : ℕ) (front : List Line) → new.notes ≡ d.notes → CanStandAt d here →
-      Holds C d new leaf here octet → KeepsNoted d.head.root d (read_by_fields C d front here) →
-      KeepsNoted d.head.root new (with_front front (decoder_step C d here octet))
+      Holds C d new leaf here octet → KeepsNoted C d.head.root d (read_by_fields C d front here) →
+      KeepsNoted C d.head.root new (with_front front (decoder_step C d here octet))
   held_keeps_noted here front notes h holds old = search (arith, leaf_inside, step_held, append-nil)

@@ -1,11 +1,11 @@
 -- Octets that are taken together, the last of which is passed: they are taken as a run.
-use Rattle.std.proofs.Common.{◌≡◌, Result, Ok, IsErr, ℕ, ◌+◌, ◌-◌, ◌<◌, List, ◌++◌, length, take, get_or, sym, ◌∙◌, subst, arith, ap}
+use Rattle.std.proofs.Common.{true, false, ◌≡◌, Result, Ok, IsErr, ℕ, ◌+◌, ◌-◌, ◌<◌, List, ◌++◌, length, take, get_or, sym, subst, arith, ap}
 use Rattle.giop_cdr.specs.declared.order.Order.{Order}
 use Rattle.giop_decode.specs.declared.decoder.Decoder.{Decoder}
 use Rattle.giop_decode.specs.declared.leaf.Step.{Step}
 use Rattle.giop_decode.specs.declared.progress.Progress.{Progress}
 use Rattle.giop_decode.specs.declared.progress.Progress.TheVariants as progress
-use Rattle.giop_decode.specs.DecoderState.{Fits, GoesOn, IsDone, Reads}
+use Rattle.giop_decode.specs.DecoderState.{AreOfRoot, Fits, GoesOn, IsDone, Reads}
 use Rattle.giop_decode.specs.DecoderSteps.{decoder_step}
 use Rattle.giop_decode.specs.NameBuffer.{FitsName, string_offset}
 use Rattle.giop_decode.specs.Passes.{Gives, Passes}
@@ -80,7 +80,7 @@ module _ (C : Table) (d : Decoder) (octets : List ℕ) (of : TypeId) (count : �
         (λ here front stands old.
         keeps_noted_whole C d octets of count step rest f m h on new here front stands
         (e.inside here (lines here) (says here))
-        (λ o held. e.notes o here (here + 1) (lines here) held (says here)) old)
+        (λ o held. e.notes true o here (here + 1) (lines here) held (says here)) old)
         (reads_before T order at message root s r)
 
     pub last_done : p ≡ progress.Done → IsDone new
@@ -101,13 +101,13 @@ module _ (C : Table) (d : Decoder) (octets : List ℕ) (of : TypeId) (count : �
         step_fits C before new g octet k (e.here g.here g.stands) next.ahead next.inside
         (next.link g.root k.leaf link k.goes_on) next.known_outer (next.known k.leaf k.goes_on)
         (next.clean k.leaf k.goes_on)
-        (λ other. let was = rw e.head at other in e.id was ∙ g.id_in_header_only was)
+        (subst (λ h. AreOfRoot C h.root new.notes) (sym e.head) (e.of_root g.of_root))
         (subst (λ r. FitsName r (string_offset (tree_in C new.outer.items (leaf_type k.leaf))
         k.leaf)
         new.notes.buffer new.notes.name.items) (sym (ap (λ h. h.root) e.head))
         (name_whole C d octets of count step rest f m h on g.here _ new.notes next.going
         (next.offset k.leaf k.goes_on)
-        (λ o held. e.notes o g.here (g.here + 1) (lines g.here) held (says g.here))))
+        (λ o held. e.notes false o g.here (g.here + 1) (lines g.here) held (says g.here))))
 
     pub passed_some : {E : Type 0} (a c : OutLog) → AllSay C d octets (count - 1) (Wrote a c) →
         TakesSome {E = E} C d new octets a c (Ok (count, p))

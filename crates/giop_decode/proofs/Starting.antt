@@ -1,5 +1,5 @@
 -- A decoder before the first octet.
-use Rattle.std.proofs.Common.{◌≡◌, ℕ, ◌+◌, ◌%◌, ◌<◌, [], length, Some, subst, add-zero, inl, inr, arith}
+use Rattle.std.proofs.Common.{◌≡◌, ℕ, true, ◌+◌, ◌%◌, ◌<◌, [], length, Some, subst, add-zero, inl, inr, arith}
 use Rattle.giop_decode.proofs.Rooted.{whole_none}
 use Rattle.giop_cdr.specs.declared.order.Order.{Order}
 use Rattle.giop_decode.specs.declared.decoder.Decoder.{Decoder}
@@ -7,8 +7,8 @@ use Rattle.giop_decode.specs.declared.leaf.Leaf.TheVariants as innermost
 use Rattle.giop_decode.specs.Begins.{start_outer, start_leaf}
 use Rattle.giop_decode.specs.Fits.{Sound}
 use Rattle.giop_decode.specs.Noted.{nothing_noted}
-use Rattle.giop_decode.proofs.NameBuffer.{nothing_fits}
-use Rattle.giop_decode.specs.DecoderState.{Fits, Reads, HoldsNoted}
+use Rattle.giop_decode.proofs.NameBuffer.{nothing_fits, nothing_of_root}
+use Rattle.giop_decode.specs.DecoderState.{Fits, Reads, HoldsNoKey, HoldsNoted}
 use Rattle.giop_decode.specs.ReadResult.{plain, LeadingNumber, Short}
 use Rattle.giop_decode.specs.Transitions.{open_parts, is_inside, AreKnown, Link, HaveOctetsLeft, StandAt, tree_in}
 use Rattle.giop_decode.proofs.Around.{read_none}
@@ -25,7 +25,7 @@ module _ (C : Table) (T : Ty) (order : Order) (at message : ℕ) (root : Root) (
   pub first_reads : (first : TypeId) → IsFit 24 T → d.leaf ≡ Some (innermost.Number first) →
       d.carry ≡ [] → ((here : ℕ) → open_parts C here d.outer.items ≡ start_outer T) →
       StandAt at d.outer.items → start_leaf T ≡ LeadingNumber (tree_in C d.outer.items first.0) [] →
-      HoldsNoted d.notes nothing_noted → d.order ≡ order → d.head.message ≡ message →
+      HoldsNoted C true d.notes nothing_noted → d.order ≡ order → d.head.message ≡ message →
       d.head.root ≡ root →
       d.at ≡ at % 8 → Reads C T order at message root d []
   first_reads first fit goes_on empty are stand leaf recalls same_order same_message same_root
@@ -38,9 +38,9 @@ pub first_fits : (C : Table) (of : ℕ) (d : Decoder) (first : TypeId) → of < 
     start_leaf (tree C of) ≡ LeadingNumber (tree_in C d.outer.items first.0) [] → Link C of
     d.outer.items first.0 →
     AreKnown C d.outer.items → first.0 < length C.types → d.at < 8 →
-    HoldsNoted d.notes nothing_noted → Fits C d
+    HoldsNoted C true d.notes nothing_noted → HoldsNoKey d.notes.buffer → Fits C d
 first_fits C of d first known_root fit goes_on empty none are stand ahead inside leaf link
-    known_outer known at none_noted =
+    known_outer known at none_noted no_key =
     let T = tree C of in
     let sound : Sound T (0 + 0) (Short [] 0 (start_outer T) (start_leaf T)) =
     subst (Sound T (0 + 0)) (read_none (plain d.order) [] 24 T 0 fit)
@@ -61,8 +61,8 @@ first_fits C of d first known_root fit goes_on empty none are stand ahead inside
       known = known;
       clean = none;
       at = at;
-      id_in_header_only = λ other. none_noted.request_id;
-      name = nothing_fits d.head.root d.notes none_noted;
+      of_root = nothing_of_root C d.head.root d.notes none_noted no_key;
+      name = nothing_fits C d.head.root d.notes none_noted;
     }
 
 -- what can stand at the root, and isn't the empty struct, fits

@@ -1,5 +1,5 @@
 -- A restored decoder fits, reads what the stored one read, and is stored in the same octets.
-use Rattle.std.proofs.Common.{arith, ◌≡◌, ℕ, List, Option, Some, None, refl}
+use Rattle.std.proofs.Common.{true, arith, ◌≡◌, ℕ, List, Option, Some, None, refl}
 use Rattle.giop_cdr.specs.declared.order.Order.{Order}
 use Rattle.giop_decode.specs.declared.decoder.Decoder.{Decoder}
 use Rattle.giop_decode.specs.declared.leaf.Leaf.{Leaf as Innermost}
@@ -21,24 +21,28 @@ kept_fits root None buffers.TooLong octets fits = fits
 kept_fits root (Some offset) buffers.TooLong octets fits = (fits.0, refl)
 kept_fits root at buffers.Begun octets fits = fits
 kept_fits root at buffers.Whole octets fits = fits
+kept_fits root at buffers.Key octets fits = fits
+kept_fits root None buffers.LongKey octets fits = refl
+kept_fits root (Some offset) buffers.LongKey octets fits = (refl, fits.1)
 
 pub restored_fits : (C : Table) (d e : Decoder) → IsRestored d e → Fits C d → Fits C e
 restored_fits C d e r h = search (arith, kept_fits)
 
 -- ---- readings
 
-kept_held : (b : Buffer) (octets so_far : List ℕ) (name : Option (List ℕ)) →
-    IsHeld b octets name so_far → IsHeld b (kept_name b octets) name so_far
-kept_held buffers.TooLong octets so_far name held = (held.0, refl, held.2)
-kept_held buffer octets so_far name held = held
+kept_held : (b : Buffer) (octets so_far key : List ℕ) (name : Option (List ℕ)) →
+    IsHeld b octets name so_far key → IsHeld b (kept_name b octets) name so_far key
+kept_held buffers.TooLong octets so_far key name held = (held.0, refl, held.2, held.3)
+kept_held buffers.LongKey octets so_far key name held = (held.0, held.1, refl, held.3)
+kept_held buffer octets so_far key name held = held
 
-recalls_again : (m n : Notes) (h : Noted) → IsKept m n → HoldsNoted m h → HoldsNoted n h
-recalls_again m n h kept recalls = search (arith, kept_held)
+recalls_again : (C : Table) (m n : Notes) (h : Noted) → IsKept m n → HoldsNoted C true m h →
+    HoldsNoted C true n h
+recalls_again C m n h kept recalls = search (arith, kept_held)
 
-keeps_noted_again : (root : Root) (d e : Decoder) (r : Read) → IsRestored d e →
-    KeepsNoted root d r →
-    KeepsNoted root e r
-keeps_noted_again root d e r restored keeps_noted = search (arith, recalls_again)
+keeps_noted_again : (C : Table) (root : Root) (d e : Decoder) (r : Read) → IsRestored d e →
+    KeepsNoted C root d r → KeepsNoted C root e r
+keeps_noted_again C root d e r restored keeps_noted = search (arith, recalls_again)
 
 standing_again : (C : Table) (d e : Decoder) (lines : List Line) (at : ℕ) → IsRestored d e →
     read_by_fields C d lines at ≡ read_by_fields C e lines at
@@ -57,6 +61,7 @@ restored_reads C d e T order at message root s r reads = search (
 
 kept_again : (b : Buffer) (name : List ℕ) → kept_name b (kept_name b name) ≡ kept_name b name
 kept_again buffers.Begun name = refl
+kept_again buffers.Key name = refl
 kept_again buffer name = refl
 
 fixed_again : (d e : Decoder) (leaf : Innermost) → IsRestored d e →

@@ -417,7 +417,7 @@ chains_fits C d laws h =
       known = h.known_leaf;
       clean = h.fits.1;
       at = h.at;
-      id_in_header_only = h.id_in_header_only;
+      of_root = h.of_root;
       name = h.name;
     }
 
@@ -439,6 +439,6 @@ fits_chains C d laws h =
       inside = h.inside;
       fits = (c.inner, h.clean);
       at = h.at;
-      id_in_header_only = h.id_in_header_only;
+      of_root = h.of_root;
       name = h.name;
     }

@@ -4,10 +4,12 @@ use Rattle.giop_decode.specs.declared.decoder.Decoder.{Decoder}
 use Rattle.giop_decode.specs.declared.frame.Frame.{Frame}
 use Rattle.giop_decode.specs.declared.leaf.Leaf.{Leaf as Innermost}
 use Rattle.giop_decode.specs.declared.leaf.Leaf.TheVariants as innermost
+use Rattle.giop_decode.specs.declared.notes.Last.{Last}
+use Rattle.giop_decode.specs.declared.notes.Last.TheVariants as lasts
 use Rattle.giop_decode.specs.declared.notes.Notes.{Notes}
 use Rattle.giop_decode.specs.declared.notes.Buffer.{Buffer}
 use Rattle.giop_decode.specs.declared.notes.Buffer.TheVariants as buffers
-use Rattle.giop_decode.specs.Stored.{order_octet, root_octet, leaf_octets, buffer_octet, expects_octet, kept_name, name_octets, notes_octets, fixed_octets, frame_size, frame_octets, HasRange}
+use Rattle.giop_decode.specs.Stored.{order_octet, root_octet, leaf_octets, buffer_octet, last_octets, expects_octet, kept_name, name_octets, notes_octets, fixed_octets, frame_size, frame_octets, HasRange}
 use Rattle.giop_octets.specs.Fields.{four, eight, optional, held}
 use Rattle.giop_octets.proofs.FieldLaws.{eight_long, optional_long, held_long, behind}
 
@@ -20,17 +22,23 @@ unfolding four
 leaf_long (innermost.Number of) = refl
 leaf_long leaf = refl
 
+last_long : (last : Last) → length (last_octets last) ≡ 5
+unfolding four
+last_long lasts.Nothing = refl
+last_long last = refl
+
 pub frame_long : (f : Frame) → length (frame_octets f) ≡ frame_size
 unfolding four
 frame_long f = refl
 
 pub kept_short : (b : Buffer) (name : List ℕ) → length name ≤ 128 → length (kept_name b name) ≤ 128
 kept_short buffers.TooLong name few = omega arith
+kept_short buffers.LongKey name few = omega arith
 kept_short buffer name few = few
 
 pub record MemoryStands (m : Notes) (at : ℕ) (octets : List ℕ) : Type 0 where
   pub request_id : Stands at octets (optional m.request_id)
-  pub status : Stands (at + 5) octets (optional m.status)
+  pub last : Stands (at + 5) octets (last_octets m.last)
   pub buffer : Stands (at + 10) octets (buffer_octet m.buffer ∷ [])
   pub name : Stands (at + 11) octets (name_octets m)
   pub expects_reply : Stands (at + 140) octets (expects_octet m.expects_reply ∷ [])
@@ -51,15 +59,15 @@ pub memory_stands : (m : Notes) (at : ℕ) (octets rest : List ℕ) → length m
 memory_stands m at octets rest short is =
     let behind_name : List ℕ = expects_octet m.expects_reply ∷ rest in
     let id : drop at octets ≡ optional m.request_id
-    ++ (optional m.status ++ ((buffer_octet m.buffer ∷ name_octets m) ++ behind_name)) = is
-    ∙ four_behind (optional m.request_id) (optional m.status)
+    ++ (last_octets m.last ++ ((buffer_octet m.buffer ∷ name_octets m) ++ behind_name)) = is
+    ∙ four_behind (optional m.request_id) (last_octets m.last)
     (buffer_octet m.buffer ∷ name_octets m) (expects_octet m.expects_reply ∷ []) rest in
-    let status : drop (at + 5) octets ≡ optional m.status
+    let last : drop (at + 5) octets ≡ last_octets m.last
     ++ ((buffer_octet m.buffer ∷ name_octets m) ++ behind_name) =
     behind at 5 octets _ _ id (optional_long m.request_id) in
     let buffer : drop (at + 10) octets ≡ (buffer_octet m.buffer ∷ [])
     ++ (name_octets m ++ behind_name) =
-    further at 5 5 10 octets _ refl (behind (at + 5) 5 octets _ _ status (optional_long m.status))
+    further at 5 5 10 octets _ refl (behind (at + 5) 5 octets _ _ last (last_long m.last))
     in
     let name : drop (at + 11) octets ≡ name_octets m ++ behind_name =
     further at 10 1 11 octets _ refl
@@ -71,7 +79,7 @@ memory_stands m at octets rest short is =
     in
     record {
       request_id = (_, id);
-      status = (_, status);
+      last = (_, last);
       buffer = (_, buffer);
       name = (_, name);
       expects_reply = (_, expects);

@@ -7,11 +7,13 @@ use Rattle.giop_decode.specs.declared.frame.Frame.{Frame}
 use Rattle.giop_decode.specs.declared.frame.Stage.{Stage}
 use Rattle.giop_decode.specs.declared.leaf.Leaf.{Leaf as Innermost}
 use Rattle.giop_decode.specs.declared.leaf.Leaf.TheVariants as innermost
-use Rattle.giop_decode.specs.Stored.{leaf_octets, inside_octet, told_octet, frame_size, frame_octets, frames_octets, FrameHasRange, LeafHasRange}
+use Rattle.giop_decode.specs.declared.notes.Last.{Last}
+use Rattle.giop_decode.specs.declared.notes.Last.TheVariants as lasts
+use Rattle.giop_decode.specs.Stored.{leaf_octets, last_octets, inside_octet, told_octet, frame_size, frame_octets, frames_octets, FrameHasRange, LeafHasRange, LastHasRange}
 use Rattle.giop_decode.proofs.StoredFields.{frame_long, further, three}
 use Rattle.giop_octets.specs.Fields.{four}
 use Rattle.giop_octets.proofs.FieldLaws.{four_long, behind}
-use Rattle.giop_sig.specs.Table.{type_id}
+use Rattle.giop_sig.specs.Table.{interface_id, type_id}
 
 -- n is the number of four octets at this offset
 abbrev ReadsFour : ℕ → List ℕ → ℕ → Type 0
@@ -66,6 +68,36 @@ module _ (at of tag : ℕ) (octets rest : List ℕ)
       (arith)
   content_again (innermost.Content t k o) total offset range is other third total_is offset_is =
       search (arith, numbers_stand)
+
+-- ---- the number of an enum, or of an interface
+
+-- the number after its tag
+number_stands : (at tag n : ℕ) (octets rest : List ℕ) → drop at octets ≡ (tag ∷ four n) ++ rest →
+    drop (at + 1) octets ≡ four n ++ rest
+number_stands at tag n octets rest is = behind at 1 octets (tag ∷ []) _ is refl
+
+module _ (at tag : ℕ) (octets rest : List ℕ)
+    (tag_is : (n : ℕ) (rest : List ℕ) → drop at octets ≡ n ∷ rest → tag ≡ n) where
+  pub nothing_again : (last : Last) → drop at octets ≡ last_octets last ++ rest → tag ≡ 0 →
+      lasts.Nothing ≡ last
+  nothing_again lasts.Nothing is zero_tag = refl
+  nothing_again (lasts.Status n) is zero_tag = search (arith)
+  nothing_again (lasts.Interface i) is zero_tag = search (arith)
+
+  pub status_again : (last : Last) (number : ℕ) → ReadsFour (at + 1) octets number →
+      LastHasRange last → drop at octets ≡ last_octets last ++ rest → tag ≡ 1 →
+      lasts.Status number ≡ last
+  status_again lasts.Nothing number reads range is one_tag = search (arith)
+  status_again (lasts.Status n) number reads range is one_tag = search (arith, number_stands)
+  status_again (lasts.Interface i) number reads range is one_tag = search (arith)
+
+  pub interface_again : (last : Last) (number : ℕ) → ReadsFour (at + 1) octets number →
+      LastHasRange last → drop at octets ≡ last_octets last ++ rest → (tag ≡ 0 → ⊥) →
+      (tag ≡ 1 → ⊥) → lasts.Interface (interface_id number) ≡ last
+  interface_again lasts.Nothing number reads range is other third = search (arith)
+  interface_again (lasts.Status n) number reads range is other third = search (arith)
+  interface_again (lasts.Interface i) number reads range is other third =
+      search (arith, number_stands)
 
 -- ---- frames
 

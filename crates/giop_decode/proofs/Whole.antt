@@ -736,11 +736,11 @@ module _ (C : Table) (d : Decoder) (octets : List ℕ) (of : TypeId) (count : �
       CanStandAt before_last here →
       ends_in_string (emitted C m of.0 s.transition s.output (lines_at here) here)
       ≡ transition_in_string (tree_in C m.outer.items of.0) s.transition →
-      ((o : Noted) → HoldsNoted m.notes o →
-      HoldsNoted new.notes (without_name_if (clears_name s.output)
+      ((o : Noted) → HoldsNoted C true m.notes o →
+      HoldsNoted C true new.notes (without_name_if (clears_name s.output)
       (noted (is_header_root m.head.root) o (lines_at here)))) →
-      KeepsNoted m.head.root before_last (read_by_fields C before_last front here) →
-      KeepsNoted m.head.root new (with_front front
+      KeepsNoted C m.head.root before_last (read_by_fields C before_last front here) →
+      KeepsNoted C m.head.root new (with_front front
       (decoder_step C before_last here (get_or octets (count - 1) 0)))
   keeps_noted_whole new here front stands inside notes old =
       let T = tree_in C m.outer.items of.0 in
@@ -749,10 +749,10 @@ module _ (C : Table) (d : Decoder) (octets : List ℕ) (of : TypeId) (count : �
       ≡ leaf_in_string T h.leaf =
       leaf_inside C m.outer.items h.leaf h.carry h.piece
       ∙ ap (λ n. leaf_in_string (tree_in C m.outer.items n) h.leaf) h.same in
-      let held : HoldsNoted m.notes
+      let held : HoldsNoted C true m.notes
       (without_name_if (leaf_in_string T h.leaf) (noted header nothing_noted front)) =
       rw (leads, silent) at old in
-      subst (HoldsNoted new.notes) (noted_on header T h.leaf s.transition s.output
+      subst (HoldsNoted C true new.notes) (noted_on header T h.leaf s.transition s.output
       (path_in [] (open_parts C here m.outer.items)) (here + 1) (m.piece.items ++ rest) front
       (lines_at here) (decoder_step C before_last here (get_or octets (count - 1) 0)) fits_string
       (says_at here) (ap ends_in_string (told_whole here stands) ∙ inside)
@@ -760,20 +760,21 @@ module _ (C : Table) (d : Decoder) (octets : List ℕ) (of : TypeId) (count : �
 
   pub name_whole : (here : ℕ) (next : Option ℕ) (new : Notes) → IsNotRefused s.transition →
       next ≡ transition_offset (tree_in C m.outer.items of.0) s.transition →
-      ((o : Noted) → HoldsNoted m.notes o → HoldsNoted new (without_name_if (clears_name s.output)
+      ((o : Noted) → HoldsNoted C false m.notes o →
+      HoldsNoted C false new (without_name_if (clears_name s.output)
       (noted (is_header_root m.head.root) o (lines_at here)))) →
       FitsName m.head.root next new.buffer new.name.items
   name_whole here next new going to notes =
       let T = tree_in C m.outer.items of.0 in
       let same = same_some fits_then.leaf h.leaf (sym fits_then.goes_on ∙ leads) in
-      name_kept (is_header_root m.head.root) m.head.root T (string_offset T h.leaf) next
+      name_kept C (is_header_root m.head.root) m.head.root T (string_offset T h.leaf) next
       s.transition
       s.output
       (path_in [] (open_parts C here m.outer.items)) (here + 1) (m.piece.items ++ rest)
       (lines_at here) m.notes new going
       (subst (λ n. StringGoesOn (tree_at C n of.0) (string_offset (tree_at C n of.0) h.leaf)
       s.transition s.output (length (m.piece.items ++ rest))) same_room h.string_goes_on)
-      to (says_at here)
+      to (says_at here) (λ none. fits_then.of_root.keyless none)
       (subst (λ n. FitsName m.head.root (string_offset (tree_in C m.outer.items n) h.leaf)
       m.notes.buffer m.notes.name.items) h.same
       (subst (λ l. FitsName m.head.root (string_offset (tree_in C m.outer.items (leaf_type l)) l)

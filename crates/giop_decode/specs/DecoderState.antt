@@ -1,11 +1,13 @@
 -- What a decoder holds of the list of octets that it has taken, one field a clause (state).
-use Rattle.std.specs.Prelude.{◌≡◌, ℕ, ◌+◌, ◌%◌, ◌<◌, ◌≤◌, Bool, true, false, List, [], ◌∷◌, ◌++◌, length, drop, Option, Some, None}
+use Rattle.std.specs.Prelude.{◌≡◌, ℕ, ◌+◌, ◌%◌, ◌<◌, ◌≤◌, Bool, true, false, cond, List, [], ◌∷◌, ◌++◌, length, drop, Option, Some, None, IfSome}
 use Rattle.giop_cdr.specs.declared.order.Order.{Order}
 use Rattle.giop_decode.specs.declared.decoder.Decoder.{Decoder}
 use Rattle.giop_decode.specs.declared.leaf.Leaf.{Leaf as Innermost}
 use Rattle.giop_decode.specs.declared.notes.Notes.{Notes}
 use Rattle.giop_decode.specs.declared.notes.Buffer.{Buffer}
 use Rattle.giop_decode.specs.declared.notes.Buffer.TheVariants as buffers
+use Rattle.giop_decode.specs.declared.notes.Last.{Last}
+use Rattle.giop_decode.specs.declared.notes.Last.TheVariants as lasts
 use Rattle.giop_decode.specs.declared.progress.Progress.{Progress}
 use Rattle.giop_decode.specs.declared.progress.Progress.TheVariants as progress
 use Rattle.giop_decode.specs.ReadResult.{plain, Line, Read, Done, Short, Fault, lines_of}
@@ -17,8 +19,34 @@ use Rattle.giop_decode.specs.Transitions.{open_parts, AreKnown, HaveOctetsLeft, 
 use Rattle.giop_print.specs.declared.path.Root.{Root}
 use Rattle.giop_sig.specs.Types.{Ty}
 use Rattle.giop_sig.specs.Fits.{IsFit}
-use Rattle.giop_sig.specs.Table.{Table}
+use Rattle.giop_sig.specs.declared.types.InterfaceId.{InterfaceId}
+use Rattle.giop_sig.specs.Table.{Table, has_keys, interface_in}
 use Rattle.giop_sig.specs.Trees.{tree}
+
+-- ---- what its notes can have
+
+abbrev pub status_of : Last → Option ℕ
+status_of (lasts.Status n) = Some n
+status_of last = None
+
+abbrev pub interface_of : Last → Option InterfaceId
+interface_of (lasts.Interface interface) = Some interface
+interface_of last = None
+
+-- no octets of an object key
+abbrev pub HoldsNoKey : Buffer → Type 0
+HoldsNoKey buffers.Key = ⊥
+HoldsNoKey buffers.LongKey = ⊥
+HoldsNoKey buffer = Unit {0}
+
+-- None but a header has a request id and an object key, whose interface is one of the table, and
+-- which is held where that has KEYs.
+pub record AreOfRoot (C : Table) (root : Root) (m : Notes) : Type 0 where
+  pub id : is_header_root root ≡ false → m.request_id ≡ None
+  pub no_interface : is_header_root root ≡ false → interface_of m.last ≡ None
+  pub no_key : is_header_root root ≡ false → HoldsNoKey m.buffer
+  pub keyless : has_keys C ≡ false → HoldsNoKey m.buffer
+  pub interface : IfSome (interface_of m.last) (λ i. i.0 < length C.interfaces.names)
 
 -- ---- a decoder of a catalogue
 
@@ -46,8 +74,7 @@ pub record Fits (C : Table) (d : Decoder) : Type 0 where
   pub known : leaf_type leaf < length C.types
   pub clean : IsClean leaf d.carry d.piece.items
   pub at : d.at < 8
-  -- none but a header has a request id
-  pub id_in_header_only : is_header_root d.head.root ≡ false → d.notes.request_id ≡ None
+  pub of_root : AreOfRoot C d.head.root d.notes
   pub name : FitsName d.head.root (string_offset (tree_in C d.outer.items (leaf_type leaf)) leaf)
       d.notes.buffer d.notes.name.items
 
@@ -69,31 +96,55 @@ read_by_leaf C d (Some leaf) lines at =
 abbrev pub read_by_fields : Table → Decoder → List Line → ℕ → Read
 read_by_fields C d lines at = read_by_leaf C d d.leaf lines at
 
--- what the name buffer has: the last name, or the pieces of a string that hasn't ended, unless
--- these are too many octets
-abbrev pub IsHeld : Buffer → List ℕ → Option (List ℕ) → List ℕ → Type 0
-IsHeld buffers.Whole octets name so_far = (name ≡ Some octets) × (so_far ≡ [])
-IsHeld buffers.Begun octets name so_far = (name ≡ None) × (so_far ≡ octets) × (length octets ≤ 128)
-IsHeld buffers.TooLong octets name so_far = (name ≡ None) × (octets ≡ []) × (128 < length so_far)
+-- What the name buffer has: the last name, or the pieces of a string that hasn't ended, or those of
+-- an object key, unless these are too many octets.
+abbrev pub IsHeld : Buffer → List ℕ → Option (List ℕ) → List ℕ → List ℕ → Type 0
+IsHeld buffers.Whole octets name so_far key_so_far =
+    (name ≡ Some octets) × (so_far ≡ []) × (key_so_far ≡ [])
+IsHeld buffers.Begun octets name so_far key_so_far =
+    (name ≡ None) × (so_far ≡ octets) × (length octets ≤ 128) × (key_so_far ≡ [])
+IsHeld buffers.TooLong octets name so_far key_so_far =
+    (name ≡ None) × (octets ≡ []) × (128 < length so_far) × (key_so_far ≡ [])
+IsHeld buffers.Key octets name so_far key_so_far =
+    (name ≡ None) × (so_far ≡ []) × (length octets ≤ 128) × (key_so_far ≡ octets)
+IsHeld buffers.LongKey octets name so_far key_so_far =
+    (name ≡ None) × (so_far ≡ []) × (octets ≡ []) × (128 < length key_so_far)
 
--- the notes have what was noted: request id, status, whether a reply is expected, and name or the
--- pieces of one
-pub record HoldsNoted (m : Notes) (h : Noted) : Type 0 where
+-- The octets that are held of an object key: none by a table without KEYs, in which no key has an
+-- interface.
+abbrev pub held_key : Table → List ℕ → List ℕ
+held_key C [] = []
+held_key C (x ∷ so_far) = cond (has_keys C) (x ∷ so_far) []
+
+-- whose an object key is, by a table
+abbrev pub whose : Table → Option (List ℕ) → Option InterfaceId
+whose C None = None
+whose C (Some key) = interface_in C key
+
+-- the same, where that is asked
+abbrev pub IsWhose : Table → Bool → Option InterfaceId → Option (List ℕ) → Type 0
+IsWhose C true interface key = interface ≡ whose C key
+IsWhose C false interface key = Unit {0}
+
+-- The notes have what was noted: request id, status, whether a reply is expected, whose the object
+-- key is, where that is asked, and name or the pieces of one or of a key.
+pub record HoldsNoted (C : Table) (asked : Bool) (m : Notes) (h : Noted) : Type 0 where
   pub request_id : m.request_id ≡ h.request_id
-  pub status : m.status ≡ h.status
+  pub status : status_of m.last ≡ h.status
+  pub interface : IsWhose C asked (interface_of m.last) h.key
   pub expects_reply : m.expects_reply ≡ h.expects_reply
-  pub name : IsHeld m.buffer m.name.items h.name h.so_far
+  pub name : IsHeld m.buffer m.name.items h.name h.so_far (held_key C h.key_so_far)
 
 -- the decoder's notes are those of a reading, whether that goes on, has ended or is faulted
-abbrev pub KeepsNoted : Root → Decoder → Read → Type 0
-KeepsNoted root d r = HoldsNoted d.notes (noted_of (is_header_root root) r)
+abbrev pub KeepsNoted : Table → Root → Decoder → Read → Type 0
+KeepsNoted C root d r = HoldsNoted C true d.notes (noted_of (is_header_root root) r)
 
 -- The decoder's fields are what reading the list has begun and not ended, and what is noted of it.
 pub record Reads (C : Table) (T : Ty) (order : Order) (at message : ℕ) (root : Root) (d : Decoder)
     (s : List ℕ) : Type 0 where
   pub lines : List Line
   pub is : reading (plain order) [] T at s ≡ read_by_fields C d lines (at + length s)
-  pub keeps_noted : KeepsNoted root d (reading (plain order) [] T at s)
+  pub keeps_noted : KeepsNoted C root d (reading (plain order) [] T at s)
   pub same_order : d.order ≡ order
   pub same_message : d.head.message ≡ message
   pub same_root : d.head.root ≡ root
@@ -135,4 +186,4 @@ pub record Takes (C : Table) (T : Ty) (order : Order) (at message : ℕ) (root :
       (names_operation (is_header_root root) (added_lines order T at s octet)) p
       (reading (plain order) [] T at (s ++ octet ∷ []))
   pub reads : (IsFault p → ⊥) → Reads C T order at message root d (s ++ octet ∷ [])
-  pub keeps_noted : KeepsNoted root d (reading (plain order) [] T at (s ++ octet ∷ []))
+  pub keeps_noted : KeepsNoted C root d (reading (plain order) [] T at (s ++ octet ∷ []))

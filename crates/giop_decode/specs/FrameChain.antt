@@ -1,13 +1,13 @@
 -- Which frames and innermost part fit a table, by the numbers of the types: what is tested of a
 -- decoder that is restored from octets (state).
-use Rattle.std.specs.Prelude.{◌≡◌, ℕ, pred, ◌-◌, ◌<◌, false, List, [], ◌∷◌, length, Option, Some, None}
+use Rattle.std.specs.Prelude.{◌≡◌, ℕ, pred, ◌-◌, ◌<◌, List, [], ◌∷◌, length, Option, Some, None}
 use Rattle.giop_cdr.specs.declared.order.Order.{Order}
 use Rattle.giop_decode.specs.declared.decoder.Decoder.{Decoder}
 use Rattle.giop_decode.specs.declared.frame.Frame.{Frame}
 use Rattle.giop_decode.specs.declared.leaf.Leaf.{Leaf as Innermost}
+use Rattle.giop_decode.specs.DecoderState.{AreOfRoot}
 use Rattle.giop_decode.specs.Fits.{CanFollow, HasParts, FitsIn, IsEncapsulation}
 use Rattle.giop_decode.specs.NameBuffer.{FitsName, string_offset}
-use Rattle.giop_decode.specs.Noted.{is_header_root}
 use Rattle.giop_decode.specs.Transitions.{leaf_by, leaf_type, tree_in, is_inside, part_index, IsClean, IsWithinAs}
 use Rattle.giop_decode.specs.declared.frame.Stage.{Stage}
 use Rattle.giop_sig.specs.Fits.{IsEmptyStruct}
@@ -62,6 +62,6 @@ pub record Chains (C : Table) (d : Decoder) : Type 0 where
   pub inside : d.inside ≡ is_inside d.outer.items
   pub fits : LeafFits C (24 - length d.outer.items) leaf d.carry d.piece.items
   pub at : d.at < 8
-  pub id_in_header_only : is_header_root d.head.root ≡ false → d.notes.request_id ≡ None
+  pub of_root : AreOfRoot C d.head.root d.notes
   pub name : FitsName d.head.root (string_offset (tree_in C d.outer.items (leaf_type leaf)) leaf)
       d.notes.buffer d.notes.name.items

@@ -22,7 +22,8 @@ abbrev pub IsNotedOf : Root → ℕ → ℕ → Type 0
 IsNotedOf roots.Body offset n = n ≤ offset
 IsNotedOf root offset n = n ≡ offset
 
--- what the buffer can have in no string, or in one whose unfinished piece begins here
+-- What the buffer can have in no string, or in one whose unfinished piece begins here: of an object
+-- key also there, if nothing is noted of the string yet.
 abbrev pub FitsName : Root → Option ℕ → Buffer → List ℕ → Type 0
 FitsName root None buffers.Begun name = name ≡ []
 FitsName root None buffers.Whole name = Unit {0}
@@ -31,3 +32,7 @@ FitsName root (Some offset) buffers.Begun name =
     (length name ≤ 128) × IsNotedOf root offset (length name)
 FitsName root (Some offset) buffers.Whole name = ⊥
 FitsName root (Some offset) buffers.TooLong name = (128 < offset) × (name ≡ [])
+FitsName root None buffers.Key name = length name ≤ 128
+FitsName root (Some offset) buffers.Key name = (length name ≤ 128) × IsNotedOf root offset 0
+FitsName root None buffers.LongKey name = name ≡ []
+FitsName root (Some offset) buffers.LongKey name = (name ≡ []) × IsNotedOf root offset 0

@@ -1,14 +1,21 @@
 -- Full pieces of an octet sequence, after each of which more comes (steps).
-use Rattle.std.specs.Prelude.{◌≡◌, ℕ, ◌+◌, ◌-◌, ◌<◌, ◌≤◌, List, [], ◌++◌, length, Option, Some}
+use Rattle.std.specs.Prelude.{◌≡◌, ℕ, ◌+◌, ◌-◌, ◌<◌, ◌≤◌, ◌⊎◌, false, List, [], ◌++◌, length, Option, Some, None}
 use Rattle.giop_decode.specs.declared.decoder.Decoder.{Decoder}
 use Rattle.giop_decode.specs.declared.leaf.Leaf.TheVariants as innermost
 use Rattle.giop_decode.specs.declared.pieces.PieceAhead.{PieceAhead}
 use Rattle.giop_decode.specs.Segments.{frames_text}
 use Rattle.giop_print.specs.Line.{headed}
 use Rattle.giop_print.specs.Paths.{root_word}
-use Rattle.giop_sig.specs.Table.{Table}
+use Rattle.giop_decode.specs.Noted.{is_header_root}
+use Rattle.giop_print.specs.declared.path.Root.{Root}
+use Rattle.giop_sig.specs.Table.{Table, has_keys, interface_in}
 use Rattle.giop_sig.specs.Trees.{tree_at}
 use Rattle.giop_sig.specs.Types.{Octets}
+
+-- nothing is noted of octet sequences: in no header, or by a table without KEYs
+abbrev pub IsQuiet : Table → Root → Type 0
+IsQuiet C root = (is_header_root root ≡ false)
+    ⊎ ((has_keys C ≡ false) × ((key : List ℕ) → interface_in C key ≡ None))
 
 -- what a line begins with, up to the end of its path, where the frames are the parts around it
 abbrev pub path_front : Table → Decoder → List ℕ

@@ -1,13 +1,14 @@
--- What is noted of a reading, line by line: a header's request id, whether it expects a reply, the
--- number of the last enum, and the last string that is complete (meaning).
+-- What is noted of a reading, line by line: a header's request id, whether it expects a reply, its
+-- object key, the number of the last enum, and the last string that is complete (meaning).
 use Rattle.std.specs.Prelude.{ℕ, ◌%◌, ◌==◌, ◌&&◌, ◌||◌, Bool, true, false, cond, ltb, List, [], ◌∷◌, ◌++◌, length, Option, Some, None, codes}
+use Rattle.std.specs.Option.{is_none}
 use Rattle.std.specs.Str.{bytes_eq}
 use Rattle.giop_cdr.specs.declared.prim.Primitive.TheVariants as prims
 use Rattle.giop_decode.specs.ReadResult.{PathSegment, Name, Value, Number, Piece, Line, Leaf, Content, Read, Done, Short, Fault, lines_of}
 use Rattle.giop_print.specs.declared.path.Root.{Root}
 use Rattle.giop_print.specs.declared.path.Root.TheVariants as roots
 use Rattle.giop_decode.specs.declared.progress.Kind.TheVariants as kinds
-use Rattle.giop_sig.specs.Types.{Plain, Enum, Ty, Text}
+use Rattle.giop_sig.specs.Types.{Plain, Enum, Ty, Text, Octets}
 
 pub record Noted : Type 0 where
   -- a header's: the first that has a line
@@ -20,11 +21,28 @@ pub record Noted : Type 0 where
   pub name : Option (List ℕ)
   -- the octets so far of a string that has not ended
   pub so_far : List ℕ
+  -- a header's object key, where that has at most 128 octets
+  pub key : Option (List ℕ)
+  -- the octets so far of an object key that has not ended
+  pub key_so_far : List ℕ
+
+-- whether a segment is the name of a member
+abbrev pub is_name : List ℕ → PathSegment → Bool
+is_name name (Name octets) = bytes_eq name octets
+is_name name segment = false
 
 -- the path of the member of the root that has a name
 abbrev pub is_member : List ℕ → List PathSegment → Bool
-is_member name (Name octets ∷ []) = bytes_eq name octets
+is_member name (segment ∷ []) = is_name name segment
 is_member name path = false
+
+-- The path of a header's object key: a member of the header in GIOP 1.0 and 1.1, and in 1.2 of its
+-- target (GIOP Message Formats, Request Header).
+abbrev pub is_key_path : List PathSegment → Bool
+is_key_path (segment ∷ []) = is_name (codes "object_key") segment
+is_key_path (outer ∷ inner ∷ []) =
+    is_name (codes "target") outer && is_name (codes "object_key") inner
+is_key_path path = false
 
 -- a string of more than 128 octets is no name
 abbrev pub name_if : List ℕ → Option (List ℕ)
@@ -32,25 +50,11 @@ name_if octets = cond (ltb 128 (length octets)) None (Some octets)
 
 -- a piece of a string, whose end is still to come
 abbrev pub with_piece : Noted → List ℕ → Noted
-with_piece h octets = record {
-  request_id = h.request_id;
-  status = h.status;
-  expects_reply = h.expects_reply;
-  name = None;
-  so_far = h.so_far ++ octets;
-}
+with_piece h octets = record h { name = None; so_far = h.so_far ++ octets; key_so_far = [] }
 
 -- the end of a string: it is the last one, and no piece of another has come
 abbrev pub ended : Noted → Noted
-ended h =
-    record {
-      request_id = h.request_id;
-      status = h.status;
-      expects_reply = h.expects_reply;
-      name =
-          name_if h.so_far;
-      so_far = [];
-    }
+ended h = record h { name = name_if h.so_far; so_far = [] }
 
 -- a piece, with whether more of its string follow
 abbrev pub noted_piece : Noted → List ℕ → Bool → Noted
@@ -64,24 +68,36 @@ first_of None later = later
 
 -- one value more, which is that of a request id or isn't
 abbrev pub note_value : Bool → Noted → Value → Noted
-note_value is_id h (Number (Plain prims.ULong) n) = record {
-  request_id = first_of h.request_id (cond is_id (Some n) None);
-  status = h.status;
-  expects_reply = h.expects_reply;
-  name = h.name;
-  so_far = h.so_far;
-}
-note_value is_id h (Number (Enum count names) n) =
-    record {
-      request_id = h.request_id;
-      status = Some n;
-      expects_reply = h.expects_reply;
-      name =
-          h.name;
-      so_far = h.so_far;
-    }
+note_value is_id h (Number (Plain prims.ULong) n) =
+    record h { request_id = first_of h.request_id (cond is_id (Some n) None) }
+note_value is_id h (Number (Enum count names) n) = record h { status = Some n; key = None }
 note_value is_id h (Piece (Text bound) offset octets more) = noted_piece h octets more
 note_value is_id h value = h
+
+-- An object key is noted before any string and any enum: in a Request's header the operation
+-- follows it, and there is no enum.
+abbrev pub may_have_key : Noted → Bool
+may_have_key h = is_none h.name && ((length h.so_far == 0) && is_none h.status)
+
+-- a piece of an object key, whose end is still to come
+abbrev pub with_key_piece : Noted → List ℕ → Noted
+with_key_piece h octets = record h { key = None; key_so_far = h.key_so_far ++ octets }
+
+-- the end of an object key
+abbrev pub key_ended : Noted → Noted
+key_ended h = record h { key = name_if h.key_so_far; key_so_far = [] }
+
+-- a piece of an object key, with whether more of it follow
+abbrev pub noted_key : Noted → List ℕ → Bool → Noted
+noted_key h octets more =
+    cond (may_have_key h)
+    (cond more (with_key_piece h octets) (key_ended (with_key_piece h octets))) h
+
+-- one value more, which stands where an object key does or doesn't
+abbrev pub note_key : Bool → Noted → Value → Noted
+note_key is_key h (Piece (Octets bound) offset octets more) =
+    cond is_key (noted_key h octets more) h
+note_key is_key h value = h
 
 -- Whether a reply is expected, after one value more: GIOP 1.0 and 1.1 say it by a boolean, 1.2 by
 -- bit 0 of an octet (GIOP Message Formats, Request Header).
@@ -94,19 +110,14 @@ expects_after is_header path value before = before
 
 -- the same but for that
 abbrev pub with_expects : Noted → Option Bool → Noted
-with_expects h expects = record {
-  request_id = h.request_id;
-  status = h.status;
-  expects_reply = expects;
-  name = h.name;
-  so_far = h.so_far;
-}
+with_expects h expects = record h { expects_reply = expects }
 
 -- one line more, of a header or not
 abbrev pub note : Bool → Noted → Line → Noted
 note is_header h l =
-    with_expects (note_value (is_header && is_member (codes "request_id") l.path) h l.value)
-    (expects_after is_header l.path l.value h.expects_reply)
+    note_key (is_header && is_key_path l.path)
+    (with_expects (note_value (is_header && is_member (codes "request_id") l.path) h l.value)
+    (expects_after is_header l.path l.value h.expects_reply)) l.value
 
 -- these lines, one after the other
 abbrev pub noted : Bool → Noted → List Line → Noted
@@ -121,6 +132,8 @@ nothing_noted = record {
   expects_reply = None;
   name = None;
   so_far = [];
+  key = None;
+  key_so_far = [];
 }
 
 -- whether the innermost part is the content of a string: its length was read, and its end wasn't
@@ -143,15 +156,7 @@ ends_in_string (Fault lines at kind T) = is_text T
 -- inside a string there is no name
 abbrev pub without_name_if : Bool → Noted → Noted
 without_name_if false h = h
-without_name_if true h =
-    record {
-      request_id = h.request_id;
-      status = h.status;
-      expects_reply = h.expects_reply;
-      name =
-          None;
-      so_far = h.so_far;
-    }
+without_name_if true h = record h { name = None }
 
 -- what is noted of a reading
 abbrev pub noted_of : Bool → Read → Noted

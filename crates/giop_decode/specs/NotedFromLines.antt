@@ -1,12 +1,13 @@
 -- What is noted of a reading, from all of its lines at once: the request id of a header, whether it
--- expects a reply, the last of the enums, and the last of the strings that are whole (meaning).
+-- expects a reply, its object key, the last of the enums, and the last of the strings that are whole
+-- (meaning).
 use Rattle.std.specs.Prelude.{◌≡◌, ℕ, zero, suc, ◌+◌, ◌&&◌, Bool, true, false, cond, List, [], ◌∷◌, ◌++◌, length, take, drop, Option, Some, None, filter_map, flat_map, codes}
 use Rattle.std.specs.List.{AllByRecursion as Each, last_or}
 use Rattle.giop_cdr.specs.declared.prim.Primitive.TheVariants as prims
-use Rattle.giop_decode.specs.Noted.{Noted, expects_after, ends_in_string, is_member, name_if}
+use Rattle.giop_decode.specs.Noted.{Noted, expects_after, ends_in_string, is_key_path, is_member, name_if}
 use Rattle.giop_decode.specs.Pieces.{full_pieces}
 use Rattle.giop_decode.specs.ReadResult.{Value, Number, Piece, Line, Read, lines_of}
-use Rattle.giop_sig.specs.Types.{Plain, Enum, Text}
+use Rattle.giop_sig.specs.Types.{Plain, Enum, Octets, Text}
 
 -- ---- numbers
 
@@ -90,6 +91,29 @@ pub record Strings (r : Read) : Type 0 where
   pub unended : AreUnended begun
   pub none : ends_in_string r ≡ false → begun ≡ []
 
+-- ---- object keys
+
+-- the piece of an object key that a value is, if one stands there
+abbrev pub key_of : Bool → Value → Option TextPiece
+key_of is_key (Piece (Octets bound) offset octets more) =
+    cond is_key (Some (piece offset octets more)) None
+key_of is_key value = None
+
+-- the piece of an object key that a line is, below a header
+abbrev pub key_piece : Bool → Line → Option TextPiece
+key_piece is_header l = key_of (is_header && is_key_path l.path) l.value
+
+abbrev pub key_pieces : Bool → List Line → List TextPiece
+key_pieces is_header lines = filter_map (key_piece is_header) lines
+
+-- The last content that pieces give, of at most 128 octets, or none within one: after this one, and
+-- so much of the next.
+abbrev pub last_content : Option (List ℕ) → List ℕ → List TextPiece → Option (List ℕ)
+last_content last so_far [] = last
+last_content last so_far (p ∷ ps) =
+    cond p.more (last_content None (so_far ++ p.octets) ps)
+    (last_content (name_if (so_far ++ p.octets)) [] ps)
+
 -- ---- what is noted
 
 -- a string of more than 128 octets is no name
@@ -109,3 +133,7 @@ pub record IsLeft (is_header : Bool) (r : Read) (h : Noted) : Type 0 where
   -- the last whole string, of at most 128 octets; none between the last octet of a later one's
   -- length and its end
   pub name : h.name ≡ cond (ends_in_string r) None (name_of (last_or None strings.contents))
+  -- where no line is an enum, and no string stands before an object key's last piece
+  pub key : (front back : List Line) → lines_of r ≡ front ++ back → enums (lines_of r) ≡ [] →
+      text_pieces front ≡ [] → key_pieces is_header back ≡ [] →
+      h.key ≡ last_content None [] (key_pieces is_header front)

@@ -1,11 +1,15 @@
 -- What an octet that completes a line changes in the notes (steps).
-use Rattle.std.specs.Prelude.{◌≡◌, ℕ, ◌+◌, ◌%◌, ◌==◌, ◌&&◌, Bool, true, false, cond, Option, Some, None}
+use Rattle.std.specs.Prelude.{◌≡◌, ℕ, ◌+◌, ◌%◌, ◌==◌, ◌&&◌, Bool, true, false, cond, List, [], Option, Some, None}
 use Rattle.giop_decode.specs.declared.leaf.Leaf.{Leaf as Innermost}
 use Rattle.giop_decode.specs.declared.leaf.Leaf.TheVariants as innermost
 use Rattle.giop_decode.specs.declared.leaf.Transition.{Transition}
 use Rattle.giop_decode.specs.declared.leaf.Transition.TheVariants as transitions
 use Rattle.giop_decode.specs.declared.leaf.Output.{Output}
 use Rattle.giop_decode.specs.declared.leaf.Output.TheVariants as outputs
+use Rattle.giop_decode.specs.declared.notes.Buffer.{Buffer}
+use Rattle.giop_decode.specs.declared.notes.Buffer.TheVariants as buffers
+use Rattle.giop_decode.specs.declared.notes.Notes.{Notes}
+use Rattle.giop_decode.specs.DecoderState.{status_of}
 use Rattle.giop_decode.specs.Noted.{is_text}
 use Rattle.giop_decode.specs.NameBuffer.{string_offset}
 use Rattle.giop_cdr.specs.declared.number.Number.{Number as Taken}
@@ -17,6 +21,16 @@ abbrev pub is_set : Taken → Bool
 is_set (numbers.Truth truth) = truth
 is_set (numbers.Unsigned n) = n % 2 == 1
 is_set number = false
+
+-- the octets of an object key can be noted: no string, and no enum
+abbrev pub HasNoString : Buffer → List ℕ → Type 0
+HasNoString buffers.Begun octets = octets ≡ []
+HasNoString buffers.Whole octets = ⊥
+HasNoString buffers.TooLong octets = ⊥
+HasNoString buffer octets = Unit {0}
+
+abbrev pub IsForKey : Notes → Type 0
+IsForKey m = HasNoString m.buffer m.name.items × (status_of m.last ≡ None)
 
 -- a string's length clears the name
 abbrev pub clears_name : Output → Bool

@@ -1,5 +1,5 @@
 -- What an octet of the innermost part does, once its line is written (steps).
-use Rattle.std.specs.Prelude.{◌≡◌, ℕ, ◌+◌, ◌%◌, false, List, [], ◌++◌}
+use Rattle.std.specs.Prelude.{◌≡◌, ℕ, ◌+◌, ◌%◌, Bool, List, [], ◌++◌}
 use Rattle.giop_decode.specs.declared.decoder.Decoder.{Decoder}
 use Rattle.giop_decode.specs.declared.frame.Frame.{Frame}
 use Rattle.giop_decode.specs.declared.leaf.Finished.{Finished}
@@ -8,7 +8,7 @@ use Rattle.giop_decode.specs.declared.progress.Progress.{Progress}
 use Rattle.giop_decode.specs.Heard.{AreHeard}
 use Rattle.giop_decode.specs.ReadResult.{Line}
 use Rattle.giop_decode.specs.ReadingSteps.{path_in}
-use Rattle.giop_decode.specs.DecoderState.{CanStandAt, GoesOn, HoldsNoted}
+use Rattle.giop_decode.specs.DecoderState.{AreOfRoot, CanStandAt, GoesOn, HoldsNoted}
 use Rattle.giop_decode.specs.DecoderSteps.{Comes, IsAround, IsNext, emitted}
 use Rattle.giop_decode.specs.Noted.{Noted, ends_in_string, is_header_root, noted, without_name_if}
 use Rattle.giop_decode.specs.NotingSteps.{clears_name, transition_in_string}
@@ -58,8 +58,8 @@ pub record Passes (C : Table) (d new : Decoder) (of : ℕ) (step : Step) (rest :
   pub inside : (here : ℕ) (lines : List Line) → Gives C d of step rest here (here + 1) lines →
       ends_in_string (emitted C d of step.transition step.output lines here)
       ≡ transition_in_string (tree_in C d.outer.items of) step.transition
-  pub id : is_header_root d.head.root ≡ false → new.notes.request_id ≡ d.notes.request_id
-  pub notes : (h : Noted) (here at : ℕ) (lines : List Line) → HoldsNoted d.notes h →
-      Gives C d of step rest here at lines →
-      HoldsNoted new.notes (without_name_if (clears_name step.output)
+  pub of_root : AreOfRoot C d.head.root d.notes → AreOfRoot C d.head.root new.notes
+  pub notes : (asked : Bool) (h : Noted) (here at : ℕ) (lines : List Line) →
+      HoldsNoted C asked d.notes h → Gives C d of step rest here at lines →
+      HoldsNoted C asked new.notes (without_name_if (clears_name step.output)
       (noted (is_header_root d.head.root) h lines))

@@ -53,7 +53,7 @@ pub record TakesRun (C : Table) (T : Ty) (order : Order) (at message : ℕ) (roo
     (d : Decoder) (s octets : List ℕ) (p : Progress) : Type 0 where
   pub answers : AreAnswered order T at root s octets p
   pub reads : (IsFault p → ⊥) → Reads C T order at message root d (s ++ octets)
-  pub keeps_noted : KeepsNoted root d (reading (plain order) [] T at (s ++ octets))
+  pub keeps_noted : KeepsNoted C root d (reading (plain order) [] T at (s ++ octets))
 
 -- A put failed at one of these octets, before which the value went on: a front of the lines up to
 -- it was written.

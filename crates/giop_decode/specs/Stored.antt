@@ -14,8 +14,10 @@
 --     24       9  the octets held of a number: how many, and room for 8; none in a content
 --     33      33  the octets held of a piece: how many, and room for 32; none in a number
 --     66       5  whether a header's request id was read, 0 or 1, and the id
---     71       5  whether an enum was read, 0 or 1, and the number of the last
---     76       1  the name buffer: 0 has begun, 1 has a whole name, 2 is too short for its string
+--     71       5  1 and the number of the last enum, 2 and that of the interface of a header's object
+--                 key, or 0
+--     76       1  the name buffer: 0 has begun, 1 has a whole name, 2 is too short for its string,
+--                 3 has an object key that has begun, 4 is too short for that
 --     77     129  the octets in it: how many, and room for 128; none where it is too short
 --    206       1  whether a header expects a reply: 0 not read, 1 no, 2 yes
 --    207       1  zero
@@ -35,6 +37,8 @@ use Rattle.giop_decode.specs.declared.decoder.Decoder.{Decoder}
 use Rattle.giop_decode.specs.declared.frame.Frame.{Frame}
 use Rattle.giop_decode.specs.declared.leaf.Leaf.{Leaf as Innermost}
 use Rattle.giop_decode.specs.declared.leaf.Leaf.TheVariants as innermost
+use Rattle.giop_decode.specs.declared.notes.Last.{Last}
+use Rattle.giop_decode.specs.declared.notes.Last.TheVariants as lasts
 use Rattle.giop_decode.specs.declared.notes.Notes.{Notes}
 use Rattle.giop_decode.specs.declared.notes.Buffer.{Buffer}
 use Rattle.giop_decode.specs.declared.notes.Buffer.TheVariants as buffers
@@ -67,12 +71,22 @@ abbrev pub buffer_octet : Buffer → ℕ
 buffer_octet buffers.Begun = 0
 buffer_octet buffers.Whole = 1
 buffer_octet buffers.TooLong = 2
+buffer_octet buffers.Key = 3
+buffer_octet buffers.LongKey = 4
+
+-- none, the number of an enum, or that of an interface
+abbrev pub last_octets : Last → List ℕ
+last_octets lasts.Nothing = 0 ∷ four 0
+last_octets (lasts.Status n) = 1 ∷ four n
+last_octets (lasts.Interface i) = 2 ∷ four i.0
 
 -- what is kept of a name: nothing where the buffer is too short
 abbrev pub kept_name : Buffer → List ℕ → List ℕ
 kept_name buffers.TooLong name = []
 kept_name buffers.Begun name = name
 kept_name buffers.Whole name = name
+kept_name buffers.Key name = name
+kept_name buffers.LongKey name = []
 
 abbrev pub name_octets : Notes → List ℕ
 name_octets m = held 128 (kept_name m.buffer m.name.items)
@@ -84,7 +98,7 @@ expects_octet (Some true) = 2
 
 abbrev pub notes_octets : Notes → List ℕ
 notes_octets m =
-    optional m.request_id ++ optional m.status
+    optional m.request_id ++ last_octets m.last
     ++ buffer_octet m.buffer ∷ name_octets m ++ expects_octet m.expects_reply ∷ []
 
 -- of a decoder whose innermost part this is
@@ -144,9 +158,14 @@ LeafHasRange (innermost.Content of total offset) =
     (of.0 < 2 ^ 32) × (total < 2 ^ 32) × (offset < 2 ^ 32)
 LeafHasRange (innermost.Opening of count) = (of.0 < 2 ^ 32) × (count < 2 ^ 32)
 
+abbrev pub LastHasRange : Last → Type 0
+LastHasRange lasts.Nothing = Unit {0}
+LastHasRange (lasts.Status n) = n < 2 ^ 32
+LastHasRange (lasts.Interface i) = i.0 < 2 ^ 32
+
 pub record NotesHaveRange (m : Notes) : Type 0 where
   pub request_id : IfSome m.request_id (λ n. n < 2 ^ 32)
-  pub status : IfSome m.status (λ n. n < 2 ^ 32)
+  pub last : LastHasRange m.last
   pub name : length m.name.items ≤ 128
 
 -- each of the decoder's own fields has room
@@ -172,7 +191,7 @@ pub record Stored (d : Decoder) (fixed frames : List ℕ) : Type 0 where
 -- the notes n are what a checkpoint keeps of the notes m
 pub record IsKept (m n : Notes) : Type 0 where
   pub request_id : n.request_id ≡ m.request_id
-  pub status : n.status ≡ m.status
+  pub last : n.last ≡ m.last
   pub expects_reply : n.expects_reply ≡ m.expects_reply
   pub buffer : n.buffer ≡ m.buffer
   pub name : n.name.items ≡ kept_name m.buffer m.name.items

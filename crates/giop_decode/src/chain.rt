@@ -1,6 +1,7 @@
 //! Whether the parts of a decoder that is restored from octets fit a catalogue.
 
-ghost use Rattle.std.specs.Prelude.{◌≡◌, ◌↔◌, ℕ, suc, IsTrue, ◌+◌, ◌-◌, ◌<◌, ◌≤◌, [], length};
+ghost use Rattle.std.specs.Prelude.{◌≡◌, ◌↔◌, ℕ, suc, IsTrue, IfSome, None, ◌+◌, ◌-◌, ◌<◌, ◌≤◌, [], length};
+ghost use Rattle.giop_decode.specs.DecoderState.{AreOfRoot, HoldsNoKey, interface_of};
 ghost use Rattle.giop_decode.specs.FrameChain.{HasFrame, HasFrameAs, HasPart, LeafFits, Chained, Chains, root_of};
 ghost use Rattle.giop_decode.specs.Fits.{CanFollow, HasLeadingNumber, IsEncapsulation, IsLed};
 ghost use Rattle.giop_decode.specs.NameBuffer.{FitsName, IsNotedOf, string_offset};
@@ -13,7 +14,7 @@ use crate::decoder::Decoder;
 use crate::frame::{Frame, Within, is_empty, is_inside, whole};
 use crate::leading_numbers::width;
 use crate::leaf::Leaf;
-use crate::notes::{Buffer, Notes, is_header};
+use crate::notes::{Buffer, Last, Notes, is_header};
 use giop_cdr::Carry;
 use giop_print::Root;
 use giop_sig::{Catalogue, Shape, TypeId};
@@ -28,7 +29,7 @@ impl Decoder {
         };
         let root = root_of(self.outer.as_slice(), leaf);
         self.at < 8
-            && (is_header(self.head.root()) || self.notes.request_id.is_none())
+            && are_of_root(catalogue, self.head.root(), &self.notes)
             && catalogue.has(leaf.of())
             && catalogue.has(root)
             && !is_empty(catalogue, root)
@@ -273,6 +274,55 @@ fn content_fits(total: u32, offset: u32, held: usize, tail: usize) -> bool
     }
 }
 
+/// Whether notes can be those of a value of this root: none but a header has a request id and an object key, whose
+/// interface the catalogue has, and which is held where that has KEYs.
+fn are_of_root(catalogue: &Catalogue, root: Root, notes: &Notes) -> bool
+    ensures { IsTrue result ↔ AreOfRoot catalogue.now root notes.now }
+{
+    if !is_header(root) {
+        return notes.request_id.is_none()
+            && has_no_interface(notes.last)
+            && holds_no_key(notes.buffer);
+    }
+    knows_interface(catalogue, notes.last) && (catalogue.has_keys() || holds_no_key(notes.buffer))
+}
+
+/// Whether an interface that was noted is one of the catalogue.
+fn knows_interface(catalogue: &Catalogue, last: Last) -> bool
+    ensures { IsTrue result ↔ IfSome (interface_of last)
+        (λ i. i.0 < length catalogue.now.interfaces.names) }
+{
+    match last {
+        Last::Interface(interface) => catalogue.has_interface(interface),
+        Last::Nothing => true,
+        Last::Status(_) => true,
+    }
+}
+
+/// Whether no interface was noted.
+fn has_no_interface(last: Last) -> bool
+    ensures { IsTrue result ↔ interface_of last ≡ None }
+{
+    match last {
+        Last::Interface(_) => false,
+        Last::Nothing => true,
+        Last::Status(_) => true,
+    }
+}
+
+/// Whether the buffer has no octets of an object key.
+fn holds_no_key(buffer: Buffer) -> bool
+    ensures { IsTrue result ↔ HoldsNoKey buffer }
+{
+    match buffer {
+        Buffer::Key => false,
+        Buffer::LongKey => false,
+        Buffer::Begun => true,
+        Buffer::Whole => true,
+        Buffer::TooLong => true,
+    }
+}
+
 /// Where in its string the unfinished piece begins, if the innermost part is in a string.
 fn string_offset(catalogue: &Catalogue, leaf: Leaf) -> Option<u32>
     requires { leaf_type leaf < length catalogue.now.types }
@@ -300,6 +350,10 @@ fn name_fits(root: Root, offset: Option<u32>, notes: &Notes) -> bool
         (Some(offset), Buffer::Begun) => is_noted_of(root, offset, notes.name.len()),
         (Some(_), Buffer::Whole) => false,
         (Some(offset), Buffer::TooLong) => 128 < offset && notes.name.is_empty(),
+        (None, Buffer::Key) => notes.name.len() <= 128,
+        (None, Buffer::LongKey) => notes.name.is_empty(),
+        (Some(offset), Buffer::Key) => notes.name.len() <= 128 && is_noted_of(root, offset, 0),
+        (Some(offset), Buffer::LongKey) => { notes.name.is_empty() && is_noted_of(root, offset, 0) }
     }
 }
 

@@ -1,6 +1,6 @@
 //! A decoder of one value: the state that reading a list of octets leaves.
 
-ghost use Rattle.std.specs.Prelude.{◌≡◌, ℕ, ◌+◌, ◌-◌, ◌%◌, ◌<◌, ◌≤◌, List, [], length, ◌↔◌, IsTrue, IfOk, OnOk, None, Some};
+ghost use Rattle.std.specs.Prelude.{◌≡◌, ℕ, ◌+◌, ◌-◌, ◌%◌, ◌<◌, ◌≤◌, List, [], length, ◌↔◌, IsTrue, IfOk, IfSome, OnOk, None, Some};
 ghost use Rattle.std.specs.Option.{option_map};
 ghost use Rattle.giop_cdr.specs.declared.order.Order.{Order as ByteOrder};
 ghost use Rattle.giop_decode.specs.declared.decoder.Decoder.{Decoder as Before};
@@ -16,11 +16,12 @@ ghost use Rattle.giop_decode.specs.Transitions.{open_parts, AreKnown, Link, Tran
 ghost use Rattle.giop_decode.specs.Noted.{noted_of, ends_in_string, is_header_root};
 ghost use Rattle.giop_decode.specs.NameBuffer.{string_offset};
 ghost use Rattle.giop_decode.specs.NotingSteps.{transition_in_string, transition_offset};
-ghost use Rattle.giop_decode.specs.DecoderState.{Fits, IsDone, CanStandAt, Reads, Takes, KeepsNoted, GoesOn, read_by_fields, added_lines};
+ghost use Rattle.giop_decode.specs.DecoderState.{Fits, IsDone, CanStandAt, Reads, Takes, KeepsNoted, GoesOn, read_by_fields, added_lines, whose};
 ghost use Rattle.giop_decode.specs.DecoderSteps.{transition_result, decoder_step, Comes, IsNotRefused};
 ghost use Rattle.giop_decode.specs.Passes.{Gives, IsBehind, Passes};
 ghost use Rattle.giop_sig.specs.Types.{Ty};
 ghost use Rattle.giop_sig.specs.Fits.{IsFit, IsEmptyStruct};
+ghost use Rattle.giop_sig.specs.Table.{Table};
 ghost use Rattle.giop_sig.specs.Trees.{tree};
 
 use crate::contents::let_go;
@@ -30,12 +31,12 @@ use crate::frame::{
 use crate::leaf::{Finished, Leaf, Transition};
 use crate::line::write_line;
 use crate::lookahead::Lookahead;
-use crate::notes::{Buffer, Notes};
+use crate::notes::{Buffer, Last, Notes};
 use crate::progress::{Progress, progress_of};
 use arrayvec::ArrayVec;
 use giop_cdr::{Carry, Order};
 use giop_print::{Head, Out, OutFault, Root};
-use giop_sig::{Catalogue, TypeId};
+use giop_sig::{Catalogue, InterfaceId, TypeId};
 
 /// The parts of a value that are begun and not ended, and what was last noted of the value.
 #[derive(Debug, Drop)]
@@ -166,7 +167,7 @@ impl Decoder {
 
     /// The request id of a header, once that was read. No other value has one.
     pub fn request_id(&self) -> Option<u32>
-        ensures { (root : PathRoot) (r : Read) → KeepsNoted root self.now r →
+        ensures { (C : Table) (root : PathRoot) (r : Read) → KeepsNoted C root self.now r →
             result ≡ (noted_of (is_header_root root) r).request_id }
     {
         self.notes.request_id
@@ -174,15 +175,37 @@ impl Decoder {
 
     /// The number of the last enum: of a reply header the status.
     pub fn status(&self) -> Option<u32>
-        ensures { (root : PathRoot) (r : Read) → KeepsNoted root self.now r →
+        ensures { (C : Table) (root : PathRoot) (r : Read) → KeepsNoted C root self.now r →
             result ≡ (noted_of (is_header_root root) r).status }
     {
-        self.notes.status
+        match self.notes.last {
+            Last::Status(number) => Some(number),
+            Last::Nothing => None,
+            Last::Interface(_) => None,
+        }
+    }
+
+    /// The interface of a header's object key, once that was read: by the KEYs of a signature file, which the catalogue
+    /// has.
+    pub fn interface(&self, catalogue: &Catalogue) -> Option<InterfaceId>
+        ensures is { (root : PathRoot) (r : Read) → KeepsNoted catalogue.now root self.now r →
+            result ≡ whose catalogue.now (noted_of (is_header_root root) r).key }
+        ensures known { IfSome result (λ i. i.0 < length catalogue.now.interfaces.names) }
+    {
+        catalogue.interface_laws();
+        let Last::Interface(interface) = self.notes.last else {
+            return None;
+        };
+        if catalogue.has_interface(interface) {
+            Some(interface)
+        } else {
+            None
+        }
     }
 
     /// Whether a header expects a reply, once that was read: GIOP 1.0 and 1.1 say it by a boolean, 1.2 by bit 0 of an octet.
     pub fn expects_reply(&self) -> Option<bool>
-        ensures { (root : PathRoot) (r : Read) → KeepsNoted root self.now r →
+        ensures { (C : Table) (root : PathRoot) (r : Read) → KeepsNoted C root self.now r →
             result ≡ (noted_of (is_header_root root) r).expects_reply }
     {
         self.notes.expects_reply
@@ -190,13 +213,15 @@ impl Decoder {
 
     /// The last string, once that has ended and where it is a name: of at most 128 octets.
     pub fn name(&self) -> Option<&[u8]>
-        ensures { (root : PathRoot) (r : Read) → KeepsNoted root self.now r →
+        ensures { (C : Table) (root : PathRoot) (r : Read) → KeepsNoted C root self.now r →
             option_map (λ octets. octets.now) result ≡ (noted_of (is_header_root root) r).name }
     {
         match self.notes.buffer {
             Buffer::Whole => Some(&self.notes.name),
             Buffer::Begun => None,
             Buffer::TooLong => None,
+            Buffer::Key => None,
+            Buffer::LongKey => None,
         }
     }
 

@@ -1,15 +1,17 @@
-//! What was last noted of a value: a header's request id, whether it expects a reply, an enum's number, and the last
-//! string as a name.
+//! What was last noted of a value: a header's request id, whether it expects a reply, whose its object key is, an enum's
+//! number, and the last string as a name.
 
-ghost use Rattle.std.specs.Prelude.{◌≡◌, ℕ, ◌<◌, ◌&&◌, IsTrue, true, false, codes, List, [], ◌++◌, length};
-ghost use Rattle.giop_decode.specs.Noted.{Noted, nothing_noted, with_piece, ended, noted_piece, is_member, is_header_root, without_name_if, note_value, noted, names_operation, expects_after, with_expects};
-ghost use Rattle.giop_decode.specs.DecoderState.{HoldsNoted};
-ghost use Rattle.giop_decode.specs.NotingSteps.{clears_name, is_set};
+ghost use Rattle.std.specs.Prelude.{◌≡◌, ℕ, ◌<◌, ◌≤◌, ◌&&◌, Bool, IsTrue, IfSome, true, false, codes, List, [], ◌++◌, length};
+ghost use Rattle.giop_decode.specs.Noted.{Noted, nothing_noted, with_piece, ended, noted_piece, is_name, is_member, is_key_path, is_header_root, without_name_if, note_value, noted, names_operation, expects_after, with_expects, may_have_key, with_key_piece, key_ended, noted_key};
+ghost use Rattle.giop_decode.specs.DecoderState.{AreOfRoot, HoldsNoKey, HoldsNoted, interface_of};
+ghost use Rattle.giop_decode.specs.NotingSteps.{IsForKey, clears_name, is_set};
 ghost use Rattle.giop_decode.specs.ReadResult.{Line};
 ghost use Rattle.giop_decode.specs.ReadResult as results;
 ghost use Rattle.giop_decode.specs.Passes.{Finishes};
-ghost use Rattle.giop_decode.specs.ReadingSteps.{path_in};
-ghost use Rattle.giop_decode.specs.Transitions.{open_parts, tree_in, AreKnown, IsNumberOf, HasOutput};
+ghost use Rattle.giop_decode.specs.ReadingSteps.{path_in, segment_in};
+ghost use Rattle.giop_decode.specs.Transitions.{open_part, open_parts, tree_in, AreKnown, IsKnown, IsNumberOf, HasOutput};
+ghost use Rattle.giop_print.specs.declared.path.Root.{Root as PathRoot};
+ghost use Rattle.giop_sig.specs.Table.{Table, has_keys};
 ghost use Rattle.giop_sig.specs.Trees.{tree_at};
 
 use crate::current_path::led_name;
@@ -18,7 +20,7 @@ use crate::leaf::{Finished, Output};
 use arrayvec::ArrayVec;
 use giop_cdr::{Number, Prim};
 use giop_print::Root;
-use giop_sig::{Catalogue, Shape, TypeId};
+use giop_sig::{Catalogue, InterfaceId, Shape, TypeId};
 
 /// What the name buffer has.
 #[derive(Clone, Copy, Debug, PartialEq, Eq)]
@@ -29,6 +31,21 @@ pub(crate) enum Buffer {
     Whole,
     /// Nothing: the string's pieces are more than a name has room for.
     TooLong,
+    /// The pieces of an object key that hasn't ended.
+    Key,
+    /// Nothing: the object key's pieces are more than a name has room for.
+    LongKey,
+}
+
+/// The last that was noted but for strings: a header's object key is noted before any enum, and an enum takes its place.
+#[derive(Clone, Copy, Debug, PartialEq, Eq)]
+pub(crate) enum Last {
+    /// Neither an enum nor an object key that is an interface's.
+    Nothing,
+    /// The number of the last enum.
+    Status(u32),
+    /// The interface of the object key.
+    Interface(InterfaceId),
 }
 
 /// What was last noted.
@@ -36,7 +53,7 @@ pub(crate) enum Buffer {
 pub(crate) struct Notes {
     // The first that was read.
     pub(crate) request_id: Option<u32>,
-    pub(crate) status: Option<u32>,
+    pub(crate) last: Last,
     pub(crate) expects_reply: Option<bool>,
     pub(crate) name: ArrayVec<u8, 128>,
     pub(crate) buffer: Buffer,
@@ -45,11 +62,12 @@ pub(crate) struct Notes {
 impl Notes {
     /// Nothing noted.
     pub(crate) fn new() -> Notes
-        ensures { HoldsNoted result nothing_noted }
+        ensures nothing { (C : Table) (asked : Bool) → HoldsNoted C asked result nothing_noted }
+        ensures no_key { HoldsNoKey result.buffer }
     {
         Notes {
             request_id: None,
-            status: None,
+            last: Last::Nothing,
             expects_reply: None,
             name: ArrayVec::new(),
             buffer: Buffer::Begun,
@@ -58,10 +76,12 @@ impl Notes {
 
     /// Nothing is noted from now on.
     pub(crate) fn clear(&mut self)
-        ensures { HoldsNoted self.new nothing_noted }
+        ensures nothing { (C : Table) (asked : Bool) →
+            HoldsNoted C asked self.new nothing_noted }
+        ensures no_key { HoldsNoKey self.new.buffer }
     {
         self.request_id = None;
-        self.status = None;
+        self.last = Last::Nothing;
         self.expects_reply = None;
         self.name.clear();
         self.buffer = Buffer::Begun;
@@ -70,9 +90,11 @@ impl Notes {
     /// Clears the last name: the length of a string has come.
     #[inline(always)]
     fn forget(&mut self)
-        ensures notes { (h : Noted) → HoldsNoted self.old h →
-            HoldsNoted self.new (without_name_if true h) }
+        ensures notes { (C : Table) (asked : Bool) (h : Noted) → HoldsNoted C asked self.old h →
+            HoldsNoted C asked self.new (without_name_if true h) }
         ensures id { self.new.request_id ≡ self.old.request_id }
+        ensures last { self.new.last ≡ self.old.last }
+        ensures no_key { HoldsNoKey self.old.buffer → HoldsNoKey self.new.buffer }
         ensures begun { self.new.buffer ≡ Buffer.Whole → ⊥ }
     {
         match self.buffer {
@@ -82,6 +104,8 @@ impl Notes {
             }
             Buffer::Begun => {}
             Buffer::TooLong => {}
+            Buffer::Key => {}
+            Buffer::LongKey => {}
         }
     }
 
@@ -89,43 +113,101 @@ impl Notes {
     #[inline(always)]
     fn extend(&mut self, octets: &[u8])
         requires { self.old.buffer ≡ Buffer.Whole → ⊥ }
-        ensures notes { (h : Noted) → HoldsNoted self.old h →
-            HoldsNoted self.new (with_piece h octets.now) }
+        ensures notes { (C : Table) (asked : Bool) (h : Noted) → HoldsNoted C asked self.old h →
+            HoldsNoted C asked self.new (with_piece h octets.now) }
         ensures id { self.new.request_id ≡ self.old.request_id }
+        ensures last { self.new.last ≡ self.old.last }
         ensures begun { self.new.buffer ≡ Buffer.Whole → ⊥ }
+        ensures no_key { HoldsNoKey self.new.buffer }
     {
         match self.buffer {
-            Buffer::Begun => {
-                if self.name.try_extend_from_slice(octets).is_err() {
-                    self.name.clear();
-                    self.buffer = Buffer::TooLong;
-                }
-            }
+            Buffer::Begun => self.add(octets),
+            _ => self.extend_anew(octets),
+        }
+    }
+
+    /// The same where the buffer hasn't the octets of a string, but those of an object key, or of a string too long for it.
+    #[inline(never)]
+    fn extend_anew(&mut self, octets: &[u8])
+        requires whole { self.old.buffer ≡ Buffer.Whole → ⊥ }
+        requires begun { self.old.buffer ≡ Buffer.Begun → ⊥ }
+        ensures notes { (C : Table) (asked : Bool) (h : Noted) → HoldsNoted C asked self.old h →
+            HoldsNoted C asked self.new (with_piece h octets.now) }
+        ensures id { self.new.request_id ≡ self.old.request_id }
+        ensures last { self.new.last ≡ self.old.last }
+        ensures begun { self.new.buffer ≡ Buffer.Whole → ⊥ }
+        ensures no_key { HoldsNoKey self.new.buffer }
+    {
+        match self.buffer {
+            Buffer::Begun => {}
             Buffer::Whole => {}
             Buffer::TooLong => {}
+            Buffer::Key => {
+                self.begin();
+                self.add(octets);
+            }
+            Buffer::LongKey => {
+                self.begin();
+                self.add(octets);
+            }
+        }
+    }
+
+    /// Begins to note a string in the place of an object key.
+    fn begin(&mut self)
+        requires { HoldsNoKey self.old.buffer → ⊥ }
+        ensures notes { (C : Table) (asked : Bool) (h : Noted) → HoldsNoted C asked self.old h →
+            HoldsNoted C asked self.new (record h { key_so_far = [] }) }
+        ensures id { self.new.request_id ≡ self.old.request_id }
+        ensures last { self.new.last ≡ self.old.last }
+        ensures begun { self.new.buffer ≡ Buffer.Begun }
+    {
+        self.name.clear();
+        self.buffer = Buffer::Begun;
+    }
+
+    /// The same where the buffer has a string that has begun.
+    #[inline(always)]
+    fn add(&mut self, octets: &[u8])
+        requires { self.old.buffer ≡ Buffer.Begun }
+        ensures notes { (C : Table) (asked : Bool) (h : Noted) → HoldsNoted C asked self.old h →
+            HoldsNoted C asked self.new (with_piece h octets.now) }
+        ensures id { self.new.request_id ≡ self.old.request_id }
+        ensures last { self.new.last ≡ self.old.last }
+        ensures begun { self.new.buffer ≡ Buffer.Whole → ⊥ }
+        ensures no_key { HoldsNoKey self.new.buffer }
+    {
+        if self.name.try_extend_from_slice(octets).is_err() {
+            self.name.clear();
+            self.buffer = Buffer::TooLong;
         }
     }
 
     /// Notes that a string has ended.
     #[inline(always)]
     fn end(&mut self)
-        requires { self.old.buffer ≡ Buffer.Whole → ⊥ }
-        ensures notes { (h : Noted) → HoldsNoted self.old h → HoldsNoted self.new (ended h) }
+        requires whole { self.old.buffer ≡ Buffer.Whole → ⊥ }
+        requires no_key { HoldsNoKey self.old.buffer }
+        ensures notes { (C : Table) (asked : Bool) (h : Noted) → HoldsNoted C asked self.old h →
+            HoldsNoted C asked self.new (ended h) }
         ensures id { self.new.request_id ≡ self.old.request_id }
+        ensures last { self.new.last ≡ self.old.last }
+        ensures no_key { HoldsNoKey self.new.buffer }
     {
         match self.buffer {
             Buffer::Begun => self.buffer = Buffer::Whole,
-            Buffer::Whole => {}
-            Buffer::TooLong => self.buffer = Buffer::Begun,
+            _ => self.buffer = Buffer::Begun,
         }
     }
 
     /// Notes a piece of a string, which may be its last: the octets that were held, mostly none, and the rest.
     #[inline(always)]
     fn note_piece(&mut self, held: &[u8], rest: &[u8], more: bool)
-        ensures notes { (h : Noted) → HoldsNoted self.old h →
-            HoldsNoted self.new (noted_piece h (held.now ++ rest.now) more) }
+        ensures notes { (C : Table) (asked : Bool) (h : Noted) → HoldsNoted C asked self.old h →
+            HoldsNoted C asked self.new (noted_piece h (held.now ++ rest.now) more) }
         ensures id { self.new.request_id ≡ self.old.request_id }
+        ensures last { self.new.last ≡ self.old.last }
+        ensures no_key { HoldsNoKey self.new.buffer }
     {
         self.forget();
         if !held.is_empty() {
@@ -137,21 +219,111 @@ impl Notes {
         }
     }
 
+    /// Whether an object key may be noted: no string and no enum was noted before.
+    fn may_have_key(&self) -> bool
+        ensures is { (C : Table) (asked : Bool) (h : Noted) → HoldsNoted C asked self.now h →
+            result ≡ may_have_key h }
+        ensures key { IsTrue result → IsForKey self.now }
+    {
+        let no_string = match self.buffer {
+            Buffer::Begun => self.name.is_empty(),
+            Buffer::Key => true,
+            Buffer::LongKey => true,
+            Buffer::Whole => false,
+            Buffer::TooLong => false,
+        };
+        match self.last {
+            Last::Nothing => no_string,
+            Last::Interface(_) => no_string,
+            Last::Status(_) => false,
+        }
+    }
+
+    /// Notes a piece of an object key, which may be its last: the octets that were held, mostly none, and the rest.
+    #[inline(never)]
+    fn note_key(&mut self, catalogue: &Catalogue, held: &[u8], rest: &[u8], more: bool)
+        requires { has_keys catalogue.now ≡ true }
+        ensures notes { (asked : Bool) (h : Noted) → HoldsNoted catalogue.now asked self.old h →
+            HoldsNoted catalogue.now asked self.new (noted_key h (held.now ++ rest.now) more) }
+        ensures id { self.new.request_id ≡ self.old.request_id }
+        ensures interface { IfSome (interface_of self.old.last)
+            (λ i. i.0 < length catalogue.now.interfaces.names) →
+            IfSome (interface_of self.new.last)
+            (λ i. i.0 < length catalogue.now.interfaces.names) }
+    {
+        if !self.may_have_key() {
+            return;
+        }
+        self.extend_key(held);
+        self.extend_key(rest);
+        if !more {
+            self.end_key(catalogue);
+        }
+    }
+
+    /// Notes octets of an object key whose end is to come.
+    fn extend_key(&mut self, octets: &[u8])
+        requires { IsForKey self.old }
+        ensures notes { (C : Table) (asked : Bool) (h : Noted) → has_keys C ≡ true →
+            HoldsNoted C asked self.old h →
+            HoldsNoted C asked self.new (with_key_piece h octets.now) }
+        ensures id { self.new.request_id ≡ self.old.request_id }
+        ensures last { self.new.last ≡ Last.Nothing }
+        ensures key { IsForKey self.new }
+        ensures begun { self.new.buffer ≡ Buffer.Begun → ⊥ }
+    {
+        self.last = Last::Nothing;
+        match self.buffer {
+            Buffer::Begun => self.buffer = Buffer::Key,
+            Buffer::Key => {}
+            Buffer::LongKey => return,
+            Buffer::Whole => return,
+            Buffer::TooLong => return,
+        }
+        if self.name.try_extend_from_slice(octets).is_err() {
+            self.name.clear();
+            self.buffer = Buffer::LongKey;
+        }
+    }
+
+    /// Notes that an object key has ended: whose it is takes the place of its octets.
+    fn end_key(&mut self, catalogue: &Catalogue)
+        requires keys { has_keys catalogue.now ≡ true }
+        requires key { IsForKey self.old }
+        requires begun { self.old.buffer ≡ Buffer.Begun → ⊥ }
+        requires last { self.old.last ≡ Last.Nothing }
+        ensures notes { (asked : Bool) (h : Noted) → HoldsNoted catalogue.now asked self.old h →
+            HoldsNoted catalogue.now asked self.new (key_ended h) }
+        ensures id { self.new.request_id ≡ self.old.request_id }
+        ensures interface { IfSome (interface_of self.new.last)
+            (λ i. i.0 < length catalogue.now.interfaces.names) }
+    {
+        if self.buffer == Buffer::Key {
+            if let Some(interface) = catalogue.interface(&self.name) {
+                self.last = Last::Interface(interface);
+            }
+        }
+        self.name.clear();
+        self.buffer = Buffer::Begun;
+    }
+
     /// Notes the number of a discriminator of this type: an enum's.
     #[inline(always)]
     fn note_switch(&mut self, catalogue: &Catalogue, t: TypeId, number: Number)
         requires known { t.0 < length catalogue.now.types }
         requires number { (n : ℕ) × IsNumberOf (tree_at catalogue.now n t.0) number }
-        ensures notes { (h : Noted) (n : ℕ) (is : IsNumberOf (tree_at catalogue.now n t.0) number) →
-            HoldsNoted self.old h →
-            HoldsNoted self.new (note_value false h (results.Number is.scalar is.n)) }
-        ensures id { self.new.request_id ≡ self.old.request_id }
+        ensures notes { (asked : Bool) (h : Noted) (n : ℕ)
+            (is : IsNumberOf (tree_at catalogue.now n t.0) number) →
+            HoldsNoted catalogue.now asked self.old h → HoldsNoted catalogue.now asked self.new
+            (note_value false h (results.Number is.scalar is.n)) }
+        ensures of_root { (root : PathRoot) → AreOfRoot catalogue.now root self.old →
+            AreOfRoot catalogue.now root self.new }
     {
         let Number::Unsigned(n) = number else {
             return;
         };
         if let Shape::Enumeration(_) = catalogue.shape(t) {
-            self.status = Some(n as u32);
+            self.last = Last::Status(n as u32);
         }
     }
 
@@ -168,15 +340,16 @@ impl Notes {
         requires known { of.0 < length catalogue.now.types }
         requires known_outer { AreKnown catalogue.now outer.now }
         requires number { (n : ℕ) × IsNumberOf (tree_at catalogue.now n of.0) number }
-        ensures notes { (h : Noted) (here n : ℕ)
+        ensures notes { (asked : Bool) (h : Noted) (here n : ℕ)
             (is : IsNumberOf (tree_at catalogue.now n of.0) number) →
-            HoldsNoted self.old h →
+            HoldsNoted catalogue.now asked self.old h →
             (let path = path_in [] (open_parts catalogue.now here outer.now) in
-            HoldsNoted self.new (with_expects (note_value (is_header_root root
+            HoldsNoted catalogue.now asked self.new (with_expects (note_value (is_header_root root
             && is_member (codes "request_id") path) h (results.Number is.scalar is.n))
             (expects_after (is_header_root root) path (results.Number is.scalar is.n)
             h.expects_reply))) }
-        ensures id { is_header_root root ≡ false → self.new.request_id ≡ self.old.request_id }
+        ensures of_root { AreOfRoot catalogue.now root self.old →
+            AreOfRoot catalogue.now root self.new }
     {
         match catalogue.shape(of) {
             Shape::Prim(Prim::ULong) => {
@@ -200,7 +373,7 @@ impl Notes {
             }
             Shape::Enumeration(_) => {
                 if let Number::Unsigned(n) = number {
-                    self.status = Some(n as u32);
+                    self.last = Last::Status(n as u32);
                 }
             }
             _ => {}
@@ -222,10 +395,13 @@ impl Notes {
         requires room { length outer.now < 24 }
         requires has_output { HasOutput (tree_in catalogue.now outer.now finished.of.0)
             finished.output }
-        ensures id { is_header_root root ≡ false → self.new.request_id ≡ self.old.request_id }
-        ensures notes { (h : Noted) (here at : ℕ) (lines : List Line) → HoldsNoted self.old h →
+        ensures of_root { AreOfRoot catalogue.now root self.old →
+            AreOfRoot catalogue.now root self.new }
+        ensures notes { (asked : Bool) (h : Noted) (here at : ℕ) (lines : List Line) →
+            HoldsNoted catalogue.now asked self.old h →
             Finishes catalogue.now outer.now finished.entry here at lines →
-            HoldsNoted self.new (without_name_if (clears_name finished.entry.output)
+            HoldsNoted catalogue.now asked self.new
+            (without_name_if (clears_name finished.entry.output)
             (noted (is_header_root root) h lines)) }
         ensures named { (here at : ℕ) (lines : List Line) →
             Finishes catalogue.now outer.now finished.entry here at lines →
@@ -252,6 +428,12 @@ impl Notes {
                 Shape::Text(_) => {
                     self.note_piece(finished.held, finished.rest, more);
                     !more && is_header_member(catalogue, root, outer, b"operation")
+                }
+                Shape::Octets(_) => {
+                    if catalogue.has_keys() && is_key(catalogue, root, outer) {
+                        self.note_key(catalogue, finished.held, finished.rest, more);
+                    }
+                    false
                 }
                 _ => false,
             },
@@ -301,13 +483,37 @@ fn is_member(catalogue: &Catalogue, outer: &[Frame], name: &[u8]) -> bool
     ensures { (here : ℕ) →
         result ≡ is_member name.now (path_in [] (open_parts catalogue.now here outer.now)) }
 {
-    if outer.len() != 1 {
+    match outer {
+        [frame] => is_named(catalogue, *frame, name),
+        _ => false,
+    }
+}
+
+/// Whether the innermost part is a header's object key.
+fn is_key(catalogue: &Catalogue, root: Root, outer: &[Frame]) -> bool
+    requires { AreKnown catalogue.now outer.now }
+    ensures is { (here : ℕ) → result ≡ (is_header_root root
+        && is_key_path (path_in [] (open_parts catalogue.now here outer.now))) }
+    ensures header { IsTrue result → is_header_root root ≡ true }
+{
+    if !is_header(root) {
         return false;
     }
-    let frame = outer[0];
-    if frame.inside.is_some() {
-        return false;
+    match outer {
+        [frame] => is_named(catalogue, *frame, b"object_key"),
+        [whole, target] => {
+            is_named(catalogue, *whole, b"target") && is_named(catalogue, *target, b"object_key")
+        }
+        _ => false,
     }
+}
+
+/// Whether the part of this frame that is being read has this name.
+fn is_named(catalogue: &Catalogue, frame: Frame, name: &[u8]) -> bool
+    requires { IsKnown catalogue.now frame }
+    ensures { (room here : ℕ) →
+        result ≡ is_name name.now (segment_in (open_part catalogue.now room here frame)) }
+{
     match catalogue.shape(frame.of) {
         Shape::Members(_) => name == catalogue.part_name(frame.of, frame.index),
         Shape::Union(_) => name == catalogue.part_name(frame.of, frame.index),

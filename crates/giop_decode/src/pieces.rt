@@ -1,8 +1,8 @@
 //! Full pieces of an octet sequence, taken one after another: what their lines begin with is spelled once.
 
-ghost use Rattle.std.specs.Prelude.{◌≡◌, ℕ, ◌<◌, ◌≤◌, false, true, List, [], length, take, codes, IfOk, IfSome, OnOk};
+ghost use Rattle.std.specs.Prelude.{◌≡◌, ℕ, ◌<◌, ◌≤◌, false, true, List, [], length, take, codes, IfOk, IfSome, IsTrue, OnOk};
 ghost use Rattle.giop_decode.specs.DecoderState.{Fits};
-ghost use Rattle.giop_decode.specs.NextPieces.{IsPieceAhead, behind_piece, path_front};
+ghost use Rattle.giop_decode.specs.NextPieces.{IsQuiet, IsPieceAhead, behind_piece, path_front};
 ghost use Rattle.giop_decode.specs.Runs.{TakesSome};
 ghost use Rattle.giop_print.specs.Line.{headed, line_text};
 ghost use Rattle.giop_print.specs.Lines.{content_line, more_word, spaced_hex};
@@ -11,6 +11,7 @@ ghost use Rattle.giop_print.specs.Output.{Writes};
 use crate::decoder::Decoder;
 use crate::frame::Within;
 use crate::leaf::Leaf;
+use crate::notes::is_header;
 use crate::parts::put_front;
 use crate::progress::Progress;
 use giop_print::{Line, Out, OutFault, Piece, SplitPiece, line_behind, put_piece_end};
@@ -39,16 +40,27 @@ const RUN: usize = 2 * PIECE;
 const FRONT: usize = 90;
 
 impl Decoder {
-    /// Whether two full pieces of an octet sequence stand whole at the head of these octets, and more of it comes
-    /// after them.
+    /// Whether two full pieces of an octet sequence stand whole at the head of these octets, which are not noted, and more
+    /// of it comes after them.
     #[inline(always)]
     pub(crate) fn has_pieces(&self, catalogue: &Catalogue, octets: &[u8]) -> bool
         requires { Fits catalogue.now self.now }
+        ensures quiet { IsTrue result → IsQuiet catalogue.now self.now.head.root }
     {
-        match self.next_piece(catalogue, octets) {
-            Some(piece) => (piece.total - piece.offset) as usize > RUN && octets.len() >= RUN,
-            None => false,
+        let Some(piece) = self.next_piece(catalogue, octets) else {
+            return false;
+        };
+        if (piece.total - piece.offset) as usize <= RUN || octets.len() < RUN {
+            return false;
         }
+        self.is_quiet(catalogue)
+    }
+
+    /// Whether no octet sequence is noted: in no header, and where no object key has an interface.
+    fn is_quiet(&self, catalogue: &Catalogue) -> bool
+        ensures { IsTrue result → IsQuiet catalogue.now self.now.head.root }
+    {
+        !(is_header(self.head.root()) && catalogue.has_keys())
     }
 
     /// Takes some of the octets, of which there is at least one: full pieces of an octet sequence that stand whole at
@@ -62,6 +74,7 @@ impl Decoder {
     ) -> Result<(usize, Progress), OutFault>
         requires fits { Fits catalogue.now self.old }
         requires octets { 0 < length octets.now }
+        requires quiet { IsQuiet catalogue.now self.old.head.root }
         requires outside { self.old.inside ≡ Within.Nothing }
         ensures { TakesSome catalogue.now self.old self.new octets.now
             (O.log out.old) (O.log out.new) result }
@@ -85,6 +98,7 @@ impl Decoder {
     ) -> Result<(usize, Progress), OutFault>
         requires fits { Fits catalogue.now self.old }
         requires octets { 0 < length octets.now }
+        requires quiet { IsQuiet catalogue.now self.old.head.root }
         requires outside { self.old.inside ≡ Within.Nothing }
         requires front { line_text front.now ≡ path_front catalogue.now self.old }
         requires short { length (line_text front.now) ≤ 90 }
@@ -144,6 +158,7 @@ impl Decoder {
     ) -> Result<(usize, Progress), OutFault>
         requires fits { Fits catalogue.now self.old }
         requires ahead { IsPieceAhead catalogue.now self.old piece }
+        requires quiet { IsQuiet catalogue.now self.old.head.root }
         requires outside { self.old.inside ≡ Within.Nothing }
         requires front { line_text front.now ≡ path_front catalogue.now self.old }
         requires short { length (line_text front.now) ≤ 90 }

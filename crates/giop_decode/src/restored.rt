@@ -9,9 +9,10 @@ ghost use Rattle.giop_decode.specs.declared.frame.Frame.{Frame as FrameState};
 ghost use Rattle.giop_decode.specs.declared.frame.Stage.{Stage as StageState};
 ghost use Rattle.giop_decode.specs.declared.leaf.Leaf.{Leaf as Innermost};
 ghost use Rattle.giop_decode.specs.declared.notes.Buffer.{Buffer as BufferState};
+ghost use Rattle.giop_decode.specs.declared.notes.Last.{Last as LastState};
 ghost use Rattle.giop_decode.specs.declared.notes.Notes.{Notes as NotesState};
 ghost use Rattle.giop_decode.specs.DecoderState.{Fits, Reads};
-ghost use Rattle.giop_decode.specs.Stored.{order_octet, root_octet, leaf_octets, buffer_octet, expects_octet, notes_octets, inside_octet, told_octet, frame_octets, frames_octets, frame_size, FrameHasRange, LeafHasRange, NotesHaveRange, Stored, IsKept, IsRestored};
+ghost use Rattle.giop_decode.specs.Stored.{order_octet, root_octet, leaf_octets, buffer_octet, last_octets, expects_octet, notes_octets, inside_octet, told_octet, frame_octets, frames_octets, frame_size, FrameHasRange, LeafHasRange, LastHasRange, NotesHaveRange, Stored, IsKept, IsRestored};
 ghost use Rattle.giop_print.specs.declared.path.Root.{Root as PathRoot};
 ghost use Rattle.giop_sig.specs.Table.{Table};
 ghost use Rattle.giop_sig.specs.Types.{Ty};
@@ -19,13 +20,13 @@ ghost use Rattle.giop_sig.specs.Types.{Ty};
 use crate::decoder::Decoder;
 use crate::frame::{Frame, Stage, Within, is_inside};
 use crate::leaf::Leaf;
-use crate::notes::{Buffer, Notes};
+use crate::notes::{Buffer, Last, Notes};
 use crate::stored::FRAME_SIZE;
 use arrayvec::ArrayVec;
 use giop_cdr::{Carry, Order};
 use giop_octets::{eight_at, four_at, held_at, octet_at, optional_at};
 use giop_print::{Head, Root};
-use giop_sig::{Catalogue, TypeId};
+use giop_sig::{Catalogue, InterfaceId, TypeId};
 
 impl Decoder {
     /// The decoder that was stored in these octets: its own, and those of its frames. None where no decoder that fits
@@ -165,11 +166,28 @@ fn notes_at(octets: &[u8], at: usize) -> Notes
 {
     Notes {
         request_id: optional_at(octets, at),
-        status: optional_at(octets, at + 5),
+        last: last_at(octets, at + 5),
         expects_reply: expects_at(octets, at + 140),
         buffer: buffer_at(octets, at + 10),
         name: held_at(octets, at + 11),
     }
+}
+
+/// The number of the last enum, or of the interface of an object key, that is stored at this index.
+fn last_at(octets: &[u8], at: usize) -> Last
+    requires room { at + 5 ≤ length octets.now }
+    ensures { (last : LastState) (rest : List ℕ) → LastHasRange last →
+        drop at octets.now ≡ last_octets last ++ rest → result ≡ last }
+{
+    let tag = octet_at(octets, at);
+    if tag == 0 {
+        return Last::Nothing;
+    }
+    let number = four_at(octets, at + 1);
+    if tag == 1 {
+        return Last::Status(number);
+    }
+    Last::Interface(InterfaceId(number))
 }
 
 /// Whether a reply is expected, as it is stored at this index.
@@ -196,7 +214,9 @@ fn buffer_at(octets: &[u8], at: usize) -> Buffer
     match octet_at(octets, at) {
         0 => Buffer::Begun,
         1 => Buffer::Whole,
-        _ => Buffer::TooLong,
+        2 => Buffer::TooLong,
+        3 => Buffer::Key,
+        _ => Buffer::LongKey,
     }
 }
 

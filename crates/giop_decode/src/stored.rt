@@ -4,7 +4,7 @@ ghost use Rattle.std.specs.Prelude.{◌≡◌, ◌+◌, ◌*◌, ◌<◌, ◌≤
 ghost use Rattle.std.specs.List.{AllByRecursion};
 ghost use Rattle.arrayvec.specs.ArrayVec.{array_vec_len};
 ghost use Rattle.giop_decode.specs.DecoderState.{Fits};
-ghost use Rattle.giop_decode.specs.Stored.{order_octet, root_octet, leaf_octets, buffer_octet, expects_octet, kept_name, notes_octets, fixed_octets, frame_size, inside_octet, told_octet, frame_octets, frames_octets, own_frame, FrameHasRange, LeafHasRange, NotesHaveRange, HasRange, Stored};
+ghost use Rattle.giop_decode.specs.Stored.{order_octet, root_octet, leaf_octets, buffer_octet, last_octets, expects_octet, kept_name, notes_octets, fixed_octets, frame_size, inside_octet, told_octet, frame_octets, frames_octets, own_frame, FrameHasRange, LeafHasRange, LastHasRange, NotesHaveRange, HasRange, Stored};
 ghost use Rattle.giop_sig.specs.Table.{Table};
 ghost use Rattle.giop_sig.specs.Trees.{catalogue_depth};
 ghost use Rattle.giop_sig.specs.HeaderTypes.{IsTable};
@@ -12,7 +12,7 @@ ghost use Rattle.giop_sig.specs.HeaderTypes.{IsTable};
 use crate::decoder::Decoder;
 use crate::frame::{Frame, Stage};
 use crate::leaf::Leaf;
-use crate::notes::{Buffer, Notes};
+use crate::notes::{Buffer, Last, Notes};
 use arrayvec::ArrayVec;
 use giop_cdr::Order;
 use giop_octets::{put_eight, put_four, put_held, put_optional, put_zeros};
@@ -128,10 +128,33 @@ fn put_notes(out: &mut ArrayVec<u8, 208>, notes: &Notes)
     ensures range { NotesHaveRange notes.now }
 {
     put_optional(out, notes.request_id);
-    put_optional(out, notes.status);
+    put_last(out, notes.last);
     out.push(buffer_octet(notes.buffer));
     put_held(out, kept_name(notes), 128);
     out.push(expects_octet(notes.expects_reply));
+}
+
+/// Writes the number of the last enum, or of the interface of an object key, in 5 octets.
+fn put_last(out: &mut ArrayVec<u8, 208>, last: Last)
+    requires room { array_vec_len out.old + 5 ≤ 208 }
+    ensures put { out.new.items ≡ out.old.items ++ last_octets last }
+    ensures len { array_vec_len out.new ≡ array_vec_len out.old + 5 }
+    ensures range { LastHasRange last }
+{
+    match last {
+        Last::Nothing => {
+            out.push(0);
+            put_four(out, 0);
+        }
+        Last::Status(number) => {
+            out.push(1);
+            put_four(out, number);
+        }
+        Last::Interface(interface) => {
+            out.push(2);
+            put_four(out, interface.0);
+        }
+    }
 }
 
 /// The octet of whether a reply is expected.
@@ -153,6 +176,8 @@ fn buffer_octet(buffer: Buffer) -> u8
         Buffer::Begun => 0,
         Buffer::Whole => 1,
         Buffer::TooLong => 2,
+        Buffer::Key => 3,
+        Buffer::LongKey => 4,
     }
 }
 
@@ -167,6 +192,8 @@ fn kept_name(notes: &Notes) -> &[u8]
         Buffer::Begun => name,
         Buffer::Whole => name,
         Buffer::TooLong => &[],
+        Buffer::Key => name,
+        Buffer::LongKey => &[],
     }
 }
 

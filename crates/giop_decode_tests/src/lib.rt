@@ -2,6 +2,8 @@
 #![tactic(auto)]
 
 #[cfg(test)]
+mod key_tests;
+#[cfg(test)]
 mod rows;
 #[cfg(test)]
 mod stored_tests;

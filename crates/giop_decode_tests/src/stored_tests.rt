@@ -239,9 +239,12 @@ static REFUSED: &str = r#"0 2 a byte order
 66 1 a request id of a body
 66 2 whether there is an id
 70 1 an id that isn't there
-71 2 whether there is a status
+71 2 an interface, in a body
+71 3 whether there is a status
 76 2 a name that is too long, in no string
-76 3 a name buffer
+76 3 an object key, in a body
+76 4 an object key that is too long, in a body
+76 5 a name buffer
 77 1 a name that has begun, in no string
 77 129 more octets than a name has
 78 1 an octet behind a name

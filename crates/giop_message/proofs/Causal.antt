@@ -20,7 +20,7 @@ use Rattle.giop_message.specs.declared.part.Section.TheVariants as sections
 use Rattle.giop_message.specs.Headers.{order}
 use Rattle.giop_message.specs.MessageReader.{LineClass, TimedLine, AreInLineOrder, IsOrdered, IsCausal}
 use Rattle.giop_message.specs.Signatures.{Signatures}
-use Rattle.giop_message.specs.Messages.{Said, only_lines, nothing_said, ValueLine, CallLine, RestLine, FaultLine, LineAt, line_at, call_of, calls, section_lines, BodyType, Stage, In_typed, In_padding, In_rest, Over, Message, ReadTo, with_front, section_then, rest_in, rest, body, padded, message, message_lines, root_of, may_call, after, section_and_rest}
+use Rattle.giop_message.specs.Messages.{Calling, Said, only_lines, nothing_said, ValueLine, CallLine, RestLine, FaultLine, LineAt, line_at, call_of, calls, section_lines, BodyType, Stage, In_typed, In_padding, In_rest, Over, Message, ReadTo, with_front, section_then, rest_in, rest, body, padded, message, message_lines, root_of, calling, after, section_and_rest}
 use Rattle.giop_message.specs.StageSteps.{rest_step, message_step, advance}
 use Rattle.giop_message.specs.ReaderOfTable.{line_class_of, timed_line_of, remarks_by, reader_by}
 use Rattle.giop_message.proofs.LastParts.{CallsNone, root_none}
@@ -53,20 +53,22 @@ prompt_front n front (ReadTo said at stage) h k = search (arith, append-nil)
 -- one call line, or none
 abbrev pub MayCall : ℕ → List LineAt → Type 0
 MayCall n emitted = (emitted ≡ []) ⊎ ((id : ℕ) × (operation : List ℕ)
-    × (emitted ≡ line_at n (CallLine id operation) ∷ []))
+    × (interface : Option (List ℕ))
+    × (emitted ≡ line_at n (CallLine id operation interface) ∷ []))
 
-call_is : (n : ℕ) (id : Option ℕ) (name : Option (List ℕ)) → MayCall n (call_of n id name)
+call_is : (n : ℕ) (id : Option ℕ) (name interface : Option (List ℕ)) →
+    MayCall n (call_of n id name interface)
 unfolding call_of
-call_is n None name = inl refl
-call_is n (Some id) None = inl refl
-call_is n (Some id) (Some name) = search (arith)
+call_is n None name interface = inl refl
+call_is n (Some id) None interface = inl refl
+call_is n (Some id) (Some name) interface = search (arith)
 
 call_by : (n : ℕ) (test : Bool) (ts : List LineAt) → MayCall n ts →
     MayCall n (if test then ts else [])
 call_by n true ts h = h
 call_by n false ts h = inl refl
 
-pub calls_is : (is : Bool) (l : Line) (h : Noted) → MayCall l.at (calls is l h)
+pub calls_is : (is : Calling) (l : Line) (h : Noted) → MayCall l.at (calls is l h)
 unfolding calls
 calls_is is l h = search (arith, call_by, call_is)
 
@@ -76,7 +78,7 @@ unfolding line_at line_class_of
 value_turn n root path v more (inl e) = search (arith)
 value_turn n root path v more (inr f) = search (arith)
 
-section_lines_turn : (root : Root) (is : Bool) (n : ℕ) (h : Noted) (lines : List Line) →
+section_lines_turn : (root : Root) (is : Calling) (n : ℕ) (h : Noted) (lines : List Line) →
     OneAt n lines →
     Turn n (section_lines root is h lines)
 unfolding section_lines
@@ -87,7 +89,7 @@ section_lines_turn root is n h (l ∷ []) e =
     (value_turn l.at root l.path l.value (calls is l now) (calls_is is l now))
 section_lines_turn root is n h (l ∷ l' ∷ ls) e = absurd e
 
-module _ (section : Section) (is : Bool) (next : Noted → ℕ → List ℕ → Message) (n : ℕ)
+module _ (section : Section) (is : Calling) (next : Noted → ℕ → List ℕ → Message) (n : ℕ)
     (silent : (k : Noted) → Silent n (next k n [])) where
   abbrev R : Root
   R = root_of section
@@ -101,14 +103,14 @@ module _ (section : Section) (is : Bool) (next : Noted → ℕ → List ℕ → 
 
   -- a fault, and the value that its octet completes
   faulted_turn : (k : Noted) (lines : List Line) (at : ℕ) (why : Kind) → at ≡ n → OneAt n lines →
-      Each (λ l. ends_operation is l ≡ false) lines →
+      Each (λ l. ends_operation is.is_request l ≡ false) lines →
       Turn n (section_lines R is k lines ++ line_at at (FaultLine why) ∷ [])
   unfolding line_at section_lines calls line_class_of
   faulted_turn k [] at why e one none = search (arith)
   faulted_turn k (l ∷ []) at why e one none = search (arith)
   faulted_turn k (l ∷ l' ∷ ls) at why e one none = absurd one
 
-  passes_prompt : (k : Noted) (r : Read) → IsOctetResult n r → CallsNone is r →
+  passes_prompt : (k : Noted) (r : Read) → IsOctetResult n r → CallsNone is.is_request r →
       Prompt n (section_then section is next k r)
   unfolding section_then line_at section_lines line_class_of
   passes_prompt k (Done lines at s) h none = search (arith, prompt_front, section_lines_turn)
@@ -160,11 +162,11 @@ pub step_prompt : (S : Signatures) (header : List ℕ) (at : ℕ) (stage : Stage
     Prompt (at + 1) (message_step S header at stage b)
 unfolding message_step rest_step
 step_prompt S header at (In_typed section k outer leaf) b =
-    passes_prompt section (may_call header section) (after S header section) (at + 1)
+    passes_prompt section (calling S header section) (after S header section) (at + 1)
     (λ k. after_silent S header section k (at + 1)) k
     (decoder.root_step (plain (order header)) [] outer leaf at b)
     (root_now (plain (order header)) [] outer leaf at b)
-    (root_none (may_call header section) (plain (order header)) [] outer leaf at b)
+    (root_none (calling S header section).is_request (plain (order header)) [] outer leaf at b)
 step_prompt S header at (In_padding t) b = go (nat_lt 1 (padding at 8))
   where
     go : (test : Bool) → Prompt (at + 1)

@@ -11,7 +11,7 @@ use Rattle.giop_message.specs.declared.part.Section.{Section}
 use Rattle.giop_message.specs.declared.part.Section.TheVariants as sections
 use Rattle.giop_message.specs.Headers.{minor, kind, order}
 use Rattle.giop_message.specs.Signatures.{Signatures}
-use Rattle.giop_message.specs.Messages.{Said, LineAt, line_at, calls, section_lines, BodyType, Message, ReadTo, with_front, section_then, rest_in, rest, body, padded, of_header, message, message_lines, stage_of, root_of, after, section_and_rest}
+use Rattle.giop_message.specs.Messages.{Calling, Said, LineAt, line_at, calls, section_lines, BodyType, Message, ReadTo, with_front, section_then, rest_in, rest, body, padded, of_header, message, message_lines, stage_of, root_of, after, section_and_rest}
 use Rattle.giop_message.specs.ReaderOfTable.{line_class_of, is_over, is_wrong}
 use Rattle.giop_message.proofs.Going.{after_has, message_has}
 use Rattle.giop_message.proofs.Causal.{MayCall, calls_is}
@@ -32,9 +32,9 @@ any_append (x ∷ xs) ys h = step_by (is_wrong x) (list_any is_wrong xs)
 none_call : (n : ℕ) (emitted : List LineAt) → MayCall n emitted → list_any is_wrong emitted ≡ false
 unfolding is_wrong line_class_of line_at
 none_call n emitted (inl e) = rw e refl
-none_call n emitted (inr f) = rw f.2 refl
+none_call n emitted (inr f) = rw f.3 refl
 
-none_told : (root : Root) (is : Bool) (h : Noted) (lines : List Line) →
+none_told : (root : Root) (is : Calling) (h : Noted) (lines : List Line) →
     list_any is_wrong (section_lines root is h lines) ≡ false
 unfolding section_lines is_wrong line_class_of line_at
 none_told root is h [] = refl
@@ -48,7 +48,7 @@ front_tallies : (front : Said) (m : Message) → list_any is_wrong front.lines �
 unfolding with_front
 front_tallies front (ReadTo said at stage) h k = search (arith, any_append)
 
-module _ (section : Section) (is : Bool) (next : Noted → ℕ → List ℕ → Message)
+module _ (section : Section) (is : Calling) (next : Noted → ℕ → List ℕ → Message)
     (tallies : (k : Noted) (at : ℕ) (s : List ℕ) → Tallies (next k at s)) where
   abbrev R : Root
   R = root_of section

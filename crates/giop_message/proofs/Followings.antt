@@ -1,17 +1,17 @@
 -- A message that follows a list isn't over, and its request id is the first that its lines have.
-use Rattle.std.proofs.Common.{◌≡◌, ℕ, ◌+◌, Bool, true, false, List, [], ◌∷◌, ◌++◌, length, drop, Option, Some, None, refl, sym, ap, subst, ◌∙◌, append-nil, arith, inl, inr, length-append}
+use Rattle.std.proofs.Common.{◌&&◌, ◌≡◌, ℕ, ◌+◌, Bool, true, false, List, [], ◌∷◌, ◌++◌, length, drop, Option, Some, None, refl, sym, ap, subst, ◌∙◌, append-nil, arith, inl, inr, length-append}
 use Rattle.std.specs.Prelude.{cond}
 use Rattle.std.proofs.Math.Seq.{drop-append_seam}
 use Rattle.std.proofs.lemmas.Bool.{false≢true}
 use Rattle.giop_cdr.specs.declared.prim.Primitive.TheVariants as prims
 use Rattle.giop_print.specs.declared.path.Root.TheVariants as roots
-use Rattle.giop_sig.specs.Types.{Plain, Text}
+use Rattle.giop_sig.specs.Types.{Octets, Plain, Text}
 use Rattle.giop_sig.specs.Table.{Table}
 use Rattle.giop_decode.specs.declared.decoder.Decoder.{Decoder}
 use Rattle.giop_decode.specs.declared.leaf.Leaf.{Leaf as Innermost}
 use Rattle.giop_decode.specs.ReadResult.{plain, PathSegment, Value, Number, Piece, Line, Read, Done, lines_of}
 use Rattle.giop_decode.specs.Reading.{reading}
-use Rattle.giop_decode.specs.Noted.{Noted, nothing_noted, first_of, note, noted, noted_of, without_name_if, ends_in_string, is_header_root}
+use Rattle.giop_decode.specs.Noted.{is_key_path, Noted, nothing_noted, first_of, note, noted, noted_of, without_name_if, ends_in_string, is_header_root}
 use Rattle.giop_decode.specs.DecoderState as decoders
 use Rattle.giop_message.specs.declared.message.Message.{Message as Struct_of}
 use Rattle.giop_message.specs.declared.part.Section.{Section}
@@ -19,13 +19,14 @@ use Rattle.giop_message.specs.declared.part.Section.TheVariants as sections
 use Rattle.giop_message.specs.declared.part.Part.TheVariants as parts
 use Rattle.giop_message.specs.Headers.{order}
 use Rattle.giop_message.specs.Signatures.{Signatures, Answers, signatures_of}
-use Rattle.giop_message.specs.Messages.{ValueLine, LineAt, line_at, calls, section_lines, Message, ReadTo, section_then, message, message_lines, stage_of, root_of, may_call, section_and_rest}
+use Rattle.giop_message.specs.Messages.{Calling, ValueLine, LineAt, line_at, calls, section_lines, Message, ReadTo, section_then, message, message_lines, stage_of, root_of, calling, section_and_rest}
 use Rattle.giop_message.specs.ReaderOfTable.{id_in, first_id, first_request_id, is_over}
 use Rattle.giop_message.specs.MessageState.{due, Decodes, Stands, is_header, in_header, Follows}
 use Rattle.giop_message.specs.MessageSteps.{IsAt}
 use Rattle.giop_message.proofs.Causal.{MayCall, calls_is, Silent, after_silent, told_begins}
 use Rattle.giop_message.proofs.Faults.{Tallies, after_tallies}
 use Rattle.giop_message.proofs.Octets.{told_front, stage_front, told_silent, wrongs}
+use Rattle.giop_decode.proofs.NotedKeys.{same_but_key}
 
 -- ---- a message that follows isn't over
 
@@ -47,7 +48,7 @@ module _ (S : Signatures) (header : List ℕ) (section : Section) (C : Table) (d
   standing_told : (leaf : Option Innermost) →
       message_lines (section_and_rest S header section nothing_noted
       (decoders.read_by_leaf C d leaf lines at))
-      ≡ section_lines (root_of section) (may_call header section) nothing_noted lines
+      ≡ section_lines (root_of section) (calling S header section) nothing_noted lines
   unfolding section_then message_lines
   standing_told None = search (arith, told_front, told_silent, after_silent, append-nil)
   standing_told (Some leaf) = refl
@@ -111,7 +112,7 @@ id_stays S header s more e = search (arith, told_more, id_both, first_none)
 call_no_id : (n : ℕ) (emitted : List LineAt) → MayCall n emitted → first_request_id emitted ≡ None
 unfolding first_request_id id_in line_at first_id
 call_no_id n emitted (inl e) = rw e refl
-call_no_id n emitted (inr f) = rw f.2 refl
+call_no_id n emitted (inr f) = rw f.3 refl
 
 wrongs_no_id : (r : Read) → first_request_id (wrongs r) ≡ None
 unfolding first_request_id id_in line_at first_id
@@ -119,7 +120,7 @@ wrongs_no_id (Done lines at s) = refl
 wrongs_no_id r = refl
 
 -- one line more, with its call
-line_id : (section : Section) (is : Bool) (h : Noted) (l : Line) (ls : List Line) →
+line_id : (section : Section) (is : Calling) (h : Noted) (l : Line) (ls : List Line) →
     first_request_id (section_lines (root_of section) is h (l ∷ ls))
     ≡ first_id (id_in (ValueLine (root_of section) l.path l.value))
     (first_request_id (section_lines (root_of section) is
@@ -141,7 +142,7 @@ others_none sections.Header e path v = absurd (false≢true (sym e))
 others_none section e path v = refl
 
 no_id : (section : Section) → is_header section ≡ false →
-    (is : Bool) (h : Noted) (lines : List Line) →
+    (is : Calling) (h : Noted) (lines : List Line) →
     first_request_id (section_lines (root_of section) is h lines) ≡ None
 unfolding section_lines first_request_id first_id
 no_id section other is h [] = refl
@@ -150,7 +151,7 @@ no_id section other is h (l ∷ ls) =
     (no_id section other is (note (is_header_root (root_of section)) h l) ls)
 
 pub section_no_id : (section : Section) → is_header section ≡ false →
-    (is : Bool) (h : Noted) (r : Read) →
+    (is : Calling) (h : Noted) (r : Read) →
     first_request_id (section_lines (root_of section) is h (lines_of r) ++ wrongs r) ≡ None
 unfolding first_id
 section_no_id section other is h r = search (arith, id_both, wrongs, no_id, wrongs_no_id)
@@ -168,9 +169,12 @@ unfolding id_in
 note_id h at path (Number (Plain prims.ULong) n) = first_same h.request_id _
 note_id h at path (Piece (Text bound) offset octets true) = sym (first_none h.request_id)
 note_id h at path (Piece (Text bound) offset octets false) = sym (first_none h.request_id)
+note_id h at path (Piece (Octets bound) offset octets more) =
+    (same_but_key (true && is_key_path path) h (Piece (Octets bound) offset octets more)).request_id
+    ∙ sym (first_none h.request_id)
 note_id h at path v = sym (first_none h.request_id)
 
-lines_noted : (is : Bool) (h : Noted) (lines : List Line) → (noted true h lines).request_id
+lines_noted : (is : Calling) (h : Noted) (lines : List Line) → (noted true h lines).request_id
     ≡ first_id h.request_id (first_request_id (section_lines roots.Header is h lines))
 unfolding section_lines first_request_id
 lines_noted is h [] = sym (first_none h.request_id)
@@ -199,7 +203,7 @@ module _ {C : Table} {S : Signatures} {number : ℕ} {header s : List ℕ} {sect
   noted_reading = reading (plain (order header)) [] e.T (12 + length e.front) e.octets
 
   header_told : section ≡ sections.Header → message_lines (message S header s)
-      ≡ section_lines (root_of section) (may_call header section) nothing_noted e.reads.lines
+      ≡ section_lines (root_of section) (calling S header section) nothing_noted e.reads.lines
   header_told in_it = search (arith, told_front, standing_told)
 
   pub id_noted : section ≡ sections.Header →
@@ -210,19 +214,19 @@ module _ {C : Table} {S : Signatures} {number : ℕ} {header s : List ℕ} {sect
       let lines : lines_of noted_reading ≡ e.reads.lines =
       ap lines_of e.reads.is ∙ lines_standing S header section C d e.reads.lines _ d.leaf in
       let emitted = subst (λ x. message_lines (message S header s)
-      ≡ section_lines (root_of x) (may_call header x) nothing_noted e.reads.lines) in_it
+      ≡ section_lines (root_of x) (calling S header x) nothing_noted e.reads.lines) in_it
       (header_told in_it) in
       without_name_id (ends_in_string noted_reading)
       (noted true nothing_noted (lines_of noted_reading))
       ∙ (ap (λ ls. (noted true nothing_noted ls).request_id) lines
-      ∙ (lines_noted (may_call header sections.Header) nothing_noted e.reads.lines
+      ∙ (lines_noted (calling S header sections.Header) nothing_noted e.reads.lines
       ∙ ap first_request_id (sym emitted)))
 
 -- the request id that a message answers inside a section
 pub id_read : {C : Table} {answers : Answers} {number : ℕ} {header : List ℕ} {m : Struct_of}
     {s : List ℕ} {section : Section} → Follows C answers number header m s →
     m.part ≡ parts.Typed section →
-    (r : Read) × decoders.KeepsNoted (root_of section) m.decoder r
+    (r : Read) × decoders.KeepsNoted C (root_of section) m.decoder r
     × (cond (is_header section) (noted_of true r).request_id m.id
     ≡ first_request_id (message_lines (message (signatures_of C (answers number)) header s)))
 id_read {C} {answers} {number} {header} {m} {s} {section} f is =

@@ -17,7 +17,7 @@ use Rattle.giop_message.specs.declared.part.Section.{Section}
 use Rattle.giop_message.specs.declared.part.Section.TheVariants as sections
 use Rattle.giop_message.specs.Headers.{minor, kind, order}
 use Rattle.giop_message.specs.Signatures.{Signatures}
-use Rattle.giop_message.specs.Messages.{Said, only_lines, nothing_said, said_both, ValueLine, RestLine, line_at, calls, section_lines, BodyType, Untyped, Typed, UserException, SystemException, Stage, In_padding, In_rest, Over, Message, ReadTo, with_front, section_then, rest_in, rest, typed, option_typed, after_exception, body, body_of, is_aligned, padded, after_header, of_header, message, root_of, may_call, after, section_and_rest}
+use Rattle.giop_message.specs.Messages.{Calling, Said, only_lines, nothing_said, said_both, ValueLine, RestLine, line_at, calls, section_lines, BodyType, Untyped, Typed, UserException, SystemException, Stage, In_padding, In_rest, Over, Message, ReadTo, with_front, section_then, rest_in, rest, typed, option_typed, after_exception, body, body_of, is_aligned, padded, after_header, of_header, message, root_of, calling, after, section_and_rest}
 use Rattle.giop_message.specs.MessageState.{is_header}
 use Rattle.giop_message.specs.StageSteps.{rest_step, message_step, advance, goes_on}
 
@@ -55,7 +55,7 @@ stays S header said at b = search (arith, none_front)
 
 -- ---- lines in two parts
 
-pub section_lines_append : (root : Root) (is : Bool) (h : Noted) (xs ys : List Line) →
+pub section_lines_append : (root : Root) (is : Calling) (h : Noted) (xs ys : List Line) →
     section_lines root is h (xs ++ ys) ≡ section_lines root is h xs
     ++ section_lines root is (noted (is_header_root root) h xs) ys
 unfolding section_lines
@@ -67,7 +67,7 @@ section_lines_append root is h (x ∷ xs) ys =
     ∙ sym (append_assoc first (section_lines root is now xs)
     (section_lines root is (noted (is_header_root root) now xs) ys))
 
-module _ (section : Section) (is : Bool) (next : Noted → ℕ → List ℕ → Message) where
+module _ (section : Section) (is : Calling) (next : Noted → ℕ → List ℕ → Message) where
   abbrev R : Root
   R = root_of section
 
@@ -97,7 +97,7 @@ pub through_goes : (S : Signatures) (header : List ℕ) (section : Section) →
 unfolding section_then with_front advance message_step
 through_goes S header section goes h (Done lines at s) b = search (arith, front_advance)
 through_goes S header section goes h (Short lines at outer leaf) b =
-    passes_front section (may_call header section) (after S header section) h lines
+    passes_front section (calling S header section) (after S header section) h lines
     (decoder.root_step (plain (order header)) [] outer leaf at b)
 through_goes S header section goes h (Fault lines at why T) b = search (arith, stays)
 

@@ -266,7 +266,7 @@ pub through_header : (C : Table) (x y : Answer) (header : List ℕ) (r : Read) �
     nothing_noted r)) ≡ None →
     section_and_rest (signatures_of C x) header sections.Header nothing_noted r
     ≡ section_and_rest (signatures_of C y) header sections.Header nothing_noted r
-unfolding section_then
+unfolding section_then signatures_of
 through_header C x y header (Done lines at s) none =
     absurd (let no : Some _ ≡ None = sym (ap noted_in (marks_front _ _)) ∙ none in cc)
 through_header C x y header (Short lines at outer leaf) none = refl

@@ -14,7 +14,7 @@ use Rattle.giop_decode.proofs.ReadingLaws.{root_now}
 use Rattle.giop_message.specs.declared.part.Section.{Section}
 use Rattle.giop_message.specs.Headers.{order}
 use Rattle.giop_message.specs.MessageState.{due}
-use Rattle.giop_message.specs.Messages.{Said, only_lines, nothing_said, RestLine, LineAt, line_at, calls, section_lines, Stage, In_typed, In_padding, In_rest, Over, Message, ReadTo, with_front, section_then, message, message_lines, stage_of, root_of, may_call, after}
+use Rattle.giop_message.specs.Messages.{Calling, Said, only_lines, nothing_said, RestLine, LineAt, line_at, calls, section_lines, Stage, In_typed, In_padding, In_rest, Over, Message, ReadTo, with_front, section_then, message, message_lines, stage_of, root_of, calling, after}
 use Rattle.giop_message.specs.ReaderOfTable.{line_class_of, timed_line_of, due_by}
 use Rattle.giop_message.specs.MessageReader.{LineClass, Rest, is_fault}
 use Rattle.giop_message.specs.Signatures.{Signatures}
@@ -39,7 +39,7 @@ silent_settles : (n : ℕ) (m : Message) → Silent n m → Settles m
 silent_settles n (ReadTo said at stage) h = search (arith, false≢true)
 
 -- lines of a typed part are no faults
-section_lines_faultless : (root : Root) (is : Bool) (h : Noted) (lines : List Line) →
+section_lines_faultless : (root : Root) (is : Calling) (h : Noted) (lines : List Line) →
     list_any is_fault (LineClasses (section_lines root is h lines)) ≡ false
 unfolding section_lines line_at line_class_of
 section_lines_faultless root is h [] = refl
@@ -52,10 +52,10 @@ section_lines_faultless root is h (l ∷ ls) =
         list_any is_fault (LineClasses emitted) ≡ false →
         list_any is_fault (LineClasses (called ++ emitted)) ≡ false
     behind called emitted (inl e) h = rw e h
-    behind called emitted (inr f) h = rw f.2 h
+    behind called emitted (inr f) h = rw f.3 h
 
 -- lines of a typed part are of values first
-section_lines_leave : (root : Root) (is : Bool) (h : Noted) (lines : List Line) (stage : Stage) →
+section_lines_leave : (root : Root) (is : Calling) (h : Noted) (lines : List Line) (stage : Stage) →
     Leaves (LineClasses (section_lines root is h lines)) stage
 unfolding section_lines line_at line_class_of
 section_lines_leave root is h [] stage = search (arith, false≢true)
@@ -71,7 +71,7 @@ front_settles : (n : ℕ) (front : Said) (m : Message) →
 unfolding with_front
 front_settles n front (ReadTo said at stage) h k = rw (k.0, append-nil front.lines) (h stage)
 
-module _ (section : Section) (is : Bool) (next : Noted → ℕ → List ℕ → Message) (n : ℕ)
+module _ (section : Section) (is : Calling) (next : Noted → ℕ → List ℕ → Message) (n : ℕ)
     (silent : (k : Noted) → Silent n (next k n [])) where
   abbrev R : Root
   R = root_of section
@@ -99,7 +99,7 @@ step_settles : (S : Signatures) (header : List ℕ) (at : ℕ) (stage : Stage) (
     Settles (message_step S header at stage b)
 unfolding message_step rest_step
 step_settles S header at (In_typed section k outer leaf) b =
-    passes_settles section (may_call header section) (after S header section) (at + 1)
+    passes_settles section (calling S header section) (after S header section) (at + 1)
     (λ k. after_silent S header section k (at + 1)) k
     (decoder.root_step (plain (order header)) [] outer leaf at b)
     (root_now (plain (order header)) [] outer leaf at b)

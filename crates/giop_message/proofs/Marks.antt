@@ -17,7 +17,7 @@ use Rattle.giop_message.specs.declared.part.Section.{Section}
 use Rattle.giop_message.specs.declared.part.Section.TheVariants as sections
 use Rattle.giop_message.specs.Headers.{order}
 use Rattle.giop_message.specs.Signatures.{Signatures, Answer, signatures_of}
-use Rattle.giop_message.specs.Messages.{Mark, HeaderMark, NameMark, RestLine, line_at, Said, only_lines, nothing_said, BodyType, Untyped, Typed, UserException, SystemException, Stage, In_typed, In_padding, In_rest, Over, Message, ReadTo, with_front, name_mark, end_mark, section_then, rest_in, rest, typed, option_typed, after_exception, type_if, request_body, result_body, reply_body, locate_body, body, body_of, padded, after_header, of_header, message, message_marks, stage_of, root_of, after, section_and_rest}
+use Rattle.giop_message.specs.Messages.{no_calls, Mark, HeaderMark, NameMark, RestLine, line_at, Said, only_lines, nothing_said, BodyType, Untyped, Typed, UserException, SystemException, Stage, In_typed, In_padding, In_rest, Over, Message, ReadTo, with_front, name_mark, end_mark, section_then, rest_in, rest, typed, option_typed, after_exception, type_if, request_body, result_body, reply_body, locate_body, body, body_of, padded, after_header, of_header, message, message_marks, stage_of, root_of, after, section_and_rest}
 use Rattle.giop_message.specs.StageSteps.{rest_step, message_step, advance, goes_on}
 use Rattle.giop_message.specs.HeaderEnds.{marks, end_of, header_ends}
 use Rattle.giop_message.specs.MessageState.{is_header}
@@ -51,7 +51,8 @@ ended section h (Fault lines at why T) = []
 
 section_marks : (section : Section) (next : Noted → ℕ → List ℕ → Message) →
     ((h : Noted) (at : ℕ) (s : List ℕ) → message_marks (next h at s) ≡ []) → (r : Read) →
-    message_marks (section_then section false next nothing_noted r) ≡ ended section nothing_noted r
+    message_marks (section_then section no_calls next nothing_noted r)
+    ≡ ended section nothing_noted r
 unfolding section_then message_marks
 section_marks section next none (Done lines at s) = search (arith, marks_front, append-nil)
 section_marks section next none (Short lines at outer leaf) = refl
@@ -97,11 +98,11 @@ module _ (header : List ℕ) where
   type_raises S None at s = refl
   type_raises S (Some T) at s = refl
 
-  request_raises : (S : Signatures) (name : Option (List ℕ)) (at : ℕ) (s : List ℕ) →
-      Raising S (request_body S name) at s ≡ []
+  request_raises : (S : Signatures) (key name : Option (List ℕ)) (at : ℕ) (s : List ℕ) →
+      Raising S (request_body S key name) at s ≡ []
   unfolding request_body
-  request_raises S None at s = refl
-  request_raises S (Some name) at s = type_raises S (S.request name) at s
+  request_raises S key None at s = refl
+  request_raises S key (Some name) at s = type_raises S (S.request name key) at s
 
   result_raises : (S : Signatures) (id : Option ℕ) (at : ℕ) (s : List ℕ) →
       Raising S (result_body S id) at s ≡ []

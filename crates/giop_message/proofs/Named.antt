@@ -24,7 +24,7 @@ use Rattle.giop_message.specs.declared.part.Section.TheVariants as sections
 use Rattle.giop_message.specs.Headers.{minor, kind, order, is_opener, is_fragment, is_cancel, has_name}
 use Rattle.giop_message.specs.MessageReader.{Value, IsEnding, HasOnlyValuesInId}
 use Rattle.giop_message.specs.Signatures.{Signatures, Answer, signatures_of}
-use Rattle.giop_message.specs.Messages.{ValueLine, LineAt, line_at, calls, section_lines, Message, section_then, rest_in, rest, is_request, after_header, of_header, message, message_lines, close}
+use Rattle.giop_message.specs.Messages.{calling_of, Calling, ValueLine, LineAt, line_at, calls, section_lines, Message, section_then, rest_in, rest, after_header, of_header, message, message_lines, close}
 use Rattle.giop_message.specs.ReaderOfTable.{line_class_of, timed_line_of, remarks_by, closes_by, reader_by, HasIds, id_in, first_id, first_request_id}
 use Rattle.giop_message.proofs.Going.{passes_front}
 use Rattle.giop_message.proofs.Octets.{told_front, told_silent}
@@ -48,7 +48,7 @@ number_no_operation : (is : Bool) (path : List PathSegment) (n : ℕ) →
     ends_operation is (line 16 path (Number (Plain prims.ULong) n)) ≡ false
 number_no_operation is path n = search (arith, no_operation)
 
-section_lines_id : (is : Bool) (path : List PathSegment) (n : ℕ) →
+section_lines_id : (is : Calling) (path : List PathSegment) (n : ℕ) →
     section_lines roots.Header is nothing_noted (line 16 path (Number (Plain prims.ULong) n) ∷ [])
     ≡ line_at 16 (ValueLine roots.Header path (Number (Plain prims.ULong) n)) ∷ []
 unfolding section_lines calls
@@ -96,7 +96,7 @@ module _ (o : Order) (n : ℕ) (of : ℕ → List ℕ) (parts : ℕ → Ty)
   unfolding id_line in_first
   first_four a b c d = search (arith, first_part, in_first, read_four, rooted_quiet, next_quiet)
 
-  module _ (is_req : Bool) (onward : Noted → ℕ → List ℕ → Message)
+  module _ (is_req : Calling) (onward : Noted → ℕ → List ℕ → Message)
       (silent : (h : Noted) → Silent 16 (onward h 16 [])) where
     told_few : (xs : List ℕ) → length xs < 4 →
         message_lines (section_then sections.Header is_req onward nothing_noted
@@ -138,7 +138,7 @@ module _ (S : Signatures) (header : List ℕ) where
   unfolding of_header
   few_by T (n, of, parts, is, name_is, long) xs h =
       ap (λ U. message_lines (of_header S header (Some U) 12 xs)) is
-      ∙ told_few (order header) n of parts long (is_request header) (after_header S header)
+      ∙ told_few (order header) n of parts long (calling_of S header) (after_header S header)
       (λ h. after_silent S header sections.Header h 16) xs h
 
   pub four_by : (T : Ty) → BeginsWithId T → (a b c d : ℕ) →
@@ -147,7 +147,7 @@ module _ (S : Signatures) (header : List ℕ) where
   unfolding of_header id_told
   four_by T (n, of, parts, is, name_is, long) a b c d =
       ap (λ U. message_lines (of_header S header (Some U) 12 (a ∷ b ∷ c ∷ d ∷ []))) is
-      ∙ (told_four (order header) n of parts long (is_request header) (after_header S header)
+      ∙ (told_four (order header) n of parts long (calling_of S header) (after_header S header)
       (λ h. after_silent S header sections.Header h 16) a b c d
       ∙ ap (λ name. line_at 16 (ValueLine roots.Header (Name name ∷ [])
       (Number (Plain prims.ULong) (num (order header) (a ∷ b ∷ c ∷ d ∷ [])))) ∷ []) name_is)

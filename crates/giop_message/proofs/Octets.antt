@@ -1,5 +1,5 @@
 -- The lines of one octet of a section, and their text.
-use Rattle.std.proofs.Common.{◌≡◌, ℕ, ◌+◌, Bool, false, List, [], ◌∷◌, ◌++◌, refl, sym, ap, ◌∙◌, append_assoc, append-nil, arith}
+use Rattle.std.proofs.Common.{◌≡◌, ℕ, ◌+◌, false, List, [], ◌∷◌, ◌++◌, refl, sym, ap, ◌∙◌, append_assoc, append-nil, arith}
 use Rattle.std.specs.List.{AllByRecursion as Each}
 use Rattle.std.proofs.Math.Seq.{drop-append_seam}
 use Rattle.std.proofs.lemmas.List.Concat.{flat_map-append}
@@ -9,7 +9,7 @@ use Rattle.giop_decode.specs.ReadingSteps.{IsOctetResult, OneAt}
 use Rattle.giop_decode.specs.Noted.{Noted, note, ends_operation, is_header_root}
 use Rattle.giop_decode.specs.Spelling.{line_text, lines_text}
 use Rattle.giop_message.specs.Signatures.{Signatures}
-use Rattle.giop_message.specs.Messages.{Said, ValueLine, FaultLine, LineAt, line_at, calls, section_lines, Message, ReadTo, with_front, message, message_lines, stage_of}
+use Rattle.giop_message.specs.Messages.{Calling, Said, ValueLine, FaultLine, LineAt, line_at, calls, section_lines, Message, ReadTo, with_front, message, message_lines, stage_of}
 use Rattle.giop_message.specs.ReaderOfTable.{line_class_of, text_of}
 use Rattle.giop_message.specs.MessageState.{message_line_text, message_lines_text, due}
 use Rattle.giop_message.specs.MessageSteps.{fault_text}
@@ -53,7 +53,7 @@ unfolding message_lines_text
 text_both number place offset xs ys = search (arith, flat_map-append)
 
 -- the call of a first line
-abbrev pub first_call : Root → Bool → Noted → List Line → List LineAt
+abbrev pub first_call : Root → Calling → Noted → List Line → List LineAt
 first_call root is h [] = []
 first_call root is h (l ∷ ls) = calls is l (note (is_header_root root) h l)
 
@@ -63,7 +63,7 @@ numbered_lines : (number place offset at : ℕ) (root : Root) (l : Line) →
 unfolding message_lines_text message_line_text line_class_of line_at
 numbered_lines number place offset at root l = search (arith, append-nil, said_is_line)
 
-section_lines_text : (number place offset n : ℕ) (root : Root) (is : Bool) (h : Noted)
+section_lines_text : (number place offset n : ℕ) (root : Root) (is : Calling) (h : Noted)
     (lines : List Line) →
     OneAt n lines → message_lines_text number place offset (section_lines root is h lines)
     ≡ lines_text number root lines ++ message_lines_text number place offset
@@ -87,16 +87,16 @@ wrongs_text number place n (Fault lines at why T) now = search (arith, append-ni
 wrongs_text number place n _ now = refl
 
 -- where no line ends an operation there is no call
-pub no_first : (root : Root) (is : Bool) (h : Noted) (lines : List Line) →
-    Each (λ l. ends_operation is l ≡ false) lines → first_call root is h lines ≡ []
+pub no_first : (root : Root) (is : Calling) (h : Noted) (lines : List Line) →
+    Each (λ l. ends_operation is.is_request l ≡ false) lines → first_call root is h lines ≡ []
 unfolding calls
 no_first root is h [] each = refl
 no_first root is h (l ∷ ls) each = rw each.0 refl
 
 -- A fault has no call, so its text may come before that of a call.
-swapped : (number place n : ℕ) (root : Root) (is : Bool) (h : Noted) (st : Read) →
+swapped : (number place n : ℕ) (root : Root) (is : Calling) (h : Noted) (st : Read) →
     IsOctetResult (n + 1) st →
-    CallsNone is st → lines_text number root (lines_of st)
+    CallsNone is.is_request st → lines_text number root (lines_of st)
     ++ (message_lines_text number place n (first_call root is h (lines_of st))
     ++ fault_text number (place + 1) st)
     ≡ (lines_text number root (lines_of st) ++ fault_text number (place + 1) st)
@@ -110,8 +110,8 @@ swapped number place n root is h (Fault lines at why T) now none = search (
   append-nil,
 )
 
-pub step_text : (number place n : ℕ) (root : Root) (is : Bool) (h : Noted) (st : Read) →
-    IsOctetResult (n + 1) st → CallsNone is st →
+pub step_text : (number place n : ℕ) (root : Root) (is : Calling) (h : Noted) (st : Read) →
+    IsOctetResult (n + 1) st → CallsNone is.is_request st →
     message_lines_text number place n (section_lines root is h (lines_of st) ++ wrongs st)
     ≡ (lines_text number root (lines_of st) ++ fault_text number (place + 1) st)
     ++ message_lines_text number place n (first_call root is h (lines_of st))

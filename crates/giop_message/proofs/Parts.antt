@@ -17,7 +17,7 @@ use Rattle.giop_sig.specs.Types.{Ty}
 use Rattle.giop_message.specs.declared.part.Section.{Section}
 use Rattle.giop_message.specs.Headers.{order}
 use Rattle.giop_message.specs.Signatures.{Signatures}
-use Rattle.giop_message.specs.Messages.{Said, section_lines, Message, with_front, section_then, message, message_lines, root_of, may_call, section_and_rest}
+use Rattle.giop_message.specs.Messages.{Calling, Said, section_lines, Message, with_front, section_then, message, message_lines, root_of, calling, section_and_rest}
 use Rattle.giop_message.specs.MessageState.{message_lines_text, due, due_text, IsFirst}
 use Rattle.giop_message.specs.MessageSteps.{fault_text}
 use Rattle.giop_message.proofs.Going.{front_twice, front_advance, passes_front, through_goes, after_goes, message_goes}
@@ -82,7 +82,7 @@ now_all n r now = tt
 pub passed_section_lines : (S : Signatures) (header : List ℕ) (section : Section) (h : Noted)
     (r : Read) →
     ReadsAll r → message_lines (section_and_rest S header section h r)
-    ≡ section_lines (root_of section) (may_call header section) h (lines_of r) ++ wrongs r
+    ≡ section_lines (root_of section) (calling S header section) h (lines_of r) ++ wrongs r
 unfolding section_then message_lines
 passed_section_lines S header section h (Done lines at rest) all = search (
   arith,
@@ -97,7 +97,7 @@ short_told : (S : Signatures) (header : List ℕ) (section : Section) (before : 
     (lines : List Line) (at : ℕ) (outer : List OpenPart) (leaf : Leaf) →
     message_lines (with_front before (section_and_rest S header section nothing_noted
     (Short lines at outer leaf)))
-    ≡ before.lines ++ section_lines (root_of section) (may_call header section) nothing_noted lines
+    ≡ before.lines ++ section_lines (root_of section) (calling S header section) nothing_noted lines
 unfolding section_then with_front message_lines
 short_told S header section before lines at outer leaf = refl
 
@@ -145,8 +145,8 @@ module _ (w : Begun) (s octets : List ℕ) (i : Inside w s octets) (b : ℕ) whe
   abbrev R : Root
   R = root_of section
 
-  abbrev Is : Bool
-  Is = may_call header section
+  abbrev Is : Calling
+  Is = calling S header section
 
   abbrev coding : Coding
   coding = plain (order header)
@@ -170,7 +170,7 @@ module _ (w : Begun) (s octets : List ℕ) (i : Inside w s octets) (b : ℕ) whe
   pub added_now : IsOctetResult (Here + 1) Added
   added_now = search (arith, root_now)
 
-  pub added_none : CallsNone Is Added
+  pub added_none : CallsNone Is.is_request Added
   added_none = search (arith, root_none)
 
   pub lines_due : decoders.added_lines (order header) T (start w) octets b ≡ lines_of Added

@@ -9,7 +9,7 @@ use Rattle.giop_sig.specs.Types.{places_of, Enum, Ty, Single, Struct, Union, Seq
 use Rattle.giop_sig.specs.HeaderTypes.{header_type}
 use Rattle.giop_decode.specs.Noted.{is_text}
 use Rattle.giop_sig.specs.Heard.{first_fronts}
-use Rattle.giop_sig.specs.Interfaces.{no_interfaces}
+use Rattle.giop_sig.specs.Interfaces.{longest_front, no_interfaces}
 use Rattle.giop_sig.specs.Table.{Table, Operation, Exception, members, op_id, operation_key}
 use Rattle.giop_sig.specs.Trees.{tree_at}
 use Rattle.giop_sig.specs.Builtin.{builtin_types, member}
@@ -81,7 +81,7 @@ unfolding digits num twos_complement padding block number path_text hex hex_numb
     option_typed members_of after_exception body type_if request_body result_body reply_body
     locate_body is_request body_of is_aligned padded after_header of_header message
     body_may_be_missing close message_lines stage_of line_class_of text_of remarks_by closes_by
-    called late table request_table r says
+    called late table request_table r says longest_front
 rows = 0
 
 -- minor version and type

@@ -23,7 +23,7 @@ use Rattle.giop_message.specs.declared.part.Section.{Section}
 use Rattle.giop_message.specs.declared.part.Section.TheVariants as sections
 use Rattle.giop_message.specs.Headers.{order}
 use Rattle.giop_message.specs.Signatures.{Signatures}
-use Rattle.giop_message.specs.Messages.{Said, end_mark, section_lines, with_front, said_both, section_then, message, message_lines, stage_of, root_of, may_call, after, section_and_rest}
+use Rattle.giop_message.specs.Messages.{Said, end_mark, section_lines, with_front, said_both, section_then, message, message_lines, stage_of, root_of, calling, after, section_and_rest}
 use Rattle.giop_message.specs.ReaderOfTable.{first_request_id, is_over}
 use Rattle.giop_message.specs.Text.{fault_word}
 use Rattle.giop_message.specs.MessageState.{due_text, Decodes, is_header, FaultedAt}
@@ -166,7 +166,7 @@ done_by : (S : Signatures) (header : List ℕ) (section : Section) (end : ℕ) (
 unfolding section_then
 done_by S header section end named n (Done lines at rest) answer e = (
   record {
-    lines = section_lines (root_of section) (may_call header section) nothing_noted lines;
+    lines = section_lines (root_of section) (calling S header section) nothing_noted lines;
     marks = end_mark section (noted (is_header_root (root_of section)) nothing_noted lines);
   },
   rw (answer, e) refl,
@@ -261,12 +261,13 @@ module _ (w : Begun) (s octets : List ℕ) (i : Inside w s octets) where
 
   pub run_named : (xs : List ℕ) (place : ℕ) → Last w octets xs progress.Named →
       due_text S number place header s xs
-      ≡ Lines xs ++ request_call number header (noted_of true (With xs))
+      ≡ Lines xs ++ request_call S number header (noted_of true (With xs))
   run_named xs place l =
       ends_in xs l.front l.octet place _ l.all l.before
       (named_text w (s ++ l.front) (octets ++ l.front) (at_last l.front l.before) l.octet l.answer
       (place + length l.front)
-      ∙ ap (λ z. DueAt l.front l.octet ++ request_call number header (noted_of true (reading w z)))
+      ∙ ap (λ z. DueAt l.front l.octet
+      ++ request_call S number header (noted_of true (reading w z)))
       (last_octets xs l.front l.octet l.all))
 
   -- it breaks a rule

@@ -221,12 +221,14 @@ module _ {t : Standing} {octets : List ℕ} {n : ℕ} {d' : Decoder} where
 
   pub text_named : Took t octets n d' progress.Named → (place : ℕ) →
       Text t octets n place ≡ ValueLine t octets n
-      ++ request_call m.number m.header (noted_of true (ReadWith t (take n octets)))
+      ++ request_call (S t) m.number m.header (noted_of true (ReadWith t (take n octets)))
   text_named k place =
       let heard = noted_of true (ReadWith t (take n octets)) in
       run_named (begun t) s (octets_of t) (inside t) (take n octets) place (last progress.Named k)
-      ∙ (ap (λ x. ValueLine t octets n ++ request_call x header heard) (sym follows.same_number)
-      ∙ ap (λ x. ValueLine t octets n ++ request_call m.number x heard) (sym follows.same_header))
+      ∙ (ap (λ x. ValueLine t octets n ++ request_call (S t) x header heard)
+      (sym follows.same_number)
+      ∙ ap (λ x. ValueLine t octets n ++ request_call (S t) m.number x heard)
+      (sym follows.same_header))
 
   pub text_wrong : (why : Kind) → Took t octets n d' (progress.Fault why) → (place : ℕ) →
       Text t octets n place ≡ ValueLine t octets n
@@ -243,11 +245,11 @@ module _ {t : Standing} {octets : List ℕ} {n : ℕ} {d' : Decoder} where
 
   -- where it ends an operation it is a header's
   pub keeps_noted_header : Took t octets n d' progress.Named →
-      decoders.KeepsNoted roots.Header d' (ReadWith t (take n octets))
+      decoders.KeepsNoted C roots.Header d' (ReadWith t (take n octets))
   keeps_noted_header k =
       let in_it = run_named_in (begun t) s (octets_of t) (inside t) (take n octets)
       (last progress.Named k) in
-      subst (λ x. decoders.KeepsNoted (root_of x) d' (ReadWith t (take n octets))) in_it
+      subst (λ x. decoders.KeepsNoted C (root_of x) d' (ReadWith t (take n octets))) in_it
       k.takes.keeps_noted
 
   pub went_on : {p : Progress} → Took t octets n d' p → (decoders.IsFault p → ⊥) →

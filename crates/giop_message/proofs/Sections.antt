@@ -3,7 +3,7 @@ use Rattle.std.proofs.Common.{arith, ◌≡◌, ℕ, ◌+◌, ◌-◌, Bool, tru
 use Rattle.std.specs.Prelude.{◌&&◌, ◌||◌, codes, IfSome, if◌then◌else◌}
 use Rattle.std.specs.List.{AllByRecursion as Each}
 use Rattle.std.proofs.lemmas.Bool.{false≢true, eqb-true}
-use Rattle.giop_print.specs.Lines.{call_line, fault_line}
+use Rattle.giop_print.specs.Lines.{fault_line}
 use Rattle.giop_print.specs.declared.path.Root.{Root}
 use Rattle.giop_sig.specs.HeaderTypes.{header_type}
 use Rattle.giop_decode.specs.declared.progress.Kind.{Kind}
@@ -21,11 +21,11 @@ use Rattle.giop_decode.proofs.ReadingLaws.{front_inside, lines_front, noted-appe
 use Rattle.giop_message.specs.declared.part.Section.{Section}
 use Rattle.giop_message.specs.declared.part.Section.TheVariants as sections
 use Rattle.giop_message.specs.Headers.{minor, kind, order}
-use Rattle.giop_message.specs.Messages.{CallLine, line_at, call_of, calls, is_request, root_of, may_call}
+use Rattle.giop_message.specs.Messages.{Calling, CallLine, line_at, call_of, calls, is_request, root_of, calling}
 use Rattle.giop_message.specs.ReaderOfTable.{line_class_of, text_of}
 use Rattle.giop_message.specs.Text.{fault_word}
 use Rattle.giop_message.specs.MessageState.{message_line_text, message_lines_text, due_text, IsFirst}
-use Rattle.giop_message.specs.MessageSteps.{fault_text, called_text, request_call}
+use Rattle.giop_message.specs.MessageSteps.{shown_call, fault_text, called_text, request_call}
 use Rattle.giop_message.proofs.Spelling.{call_said}
 use Rattle.giop_message.proofs.LastParts.{CallsNone, request_ends, header_fit, EndsOtherwise, done_test, root_no_call}
 use Rattle.giop_message.proofs.Operations.{AllHold, closed_root, fits_hold, step_closed}
@@ -33,6 +33,7 @@ use Rattle.giop_message.proofs.Octets.{first_call, no_first}
 use Rattle.giop_message.proofs.StepLines.{NoEnds, one_of}
 use Rattle.giop_message.proofs.Parts.{Begun, start, is_named, Inside, Next, Added, noted_before, next_is, added_none, added_now, lines_due, text_here}
 use Rattle.giop_decode.specs.DecoderState.{IsAnswer, IsFault}
+use Rattle.giop_message.specs.Signatures.{Signatures}
 
 pub fault_is : (number place end : ℕ) (named : Bool) (kind : Kind) (r : Read) →
     IsAnswer end named (progress.Fault kind) r →
@@ -69,32 +70,41 @@ unnamed is (l ∷ ls) e =
       unnamed is ls b.1,
     )
 
-one_call : (number place offset at id : ℕ) (name : List ℕ) →
-    message_line_text number (place + (at - offset)) (CallLine id name) ≡ call_line number id name
+one_call : (number place offset at id : ℕ) (name : List ℕ) (interface : Option (List ℕ)) →
+    message_line_text number (place + (at - offset)) (CallLine id name interface)
+    ≡ shown_call number id name interface
 unfolding message_line_text line_class_of text_of
-one_call number place offset at id name = call_said number id name
+one_call number place offset at id name interface = call_said number id name interface
 
-call_shown : (number place offset at id : ℕ) (name : List ℕ) (test : Bool) →
-    message_lines_text number place offset (if test then line_at at (CallLine id name) ∷ [] else [])
-    ≡ (if test then call_line number id name else [])
+call_shown : (number place offset at id : ℕ) (name : List ℕ) (interface : Option (List ℕ))
+    (test : Bool) → message_lines_text number place offset
+    (if test then line_at at (CallLine id name interface) ∷ [] else [])
+    ≡ (if test then shown_call number id name interface else [])
 unfolding message_lines_text line_at
-call_shown number place offset at id name true = search (arith, append-nil, one_call)
-call_shown number place offset at id name false = refl
+call_shown number place offset at id name interface true = search (arith, append-nil, one_call)
+call_shown number place offset at id name interface false = refl
 
-called_is : (number place offset at : ℕ) (id : Option ℕ) (name : Option (List ℕ)) →
-    message_lines_text number place offset (call_of at id name) ≡ called_text number id name
+called_is : (number place offset at : ℕ) (id : Option ℕ) (name interface : Option (List ℕ)) →
+    message_lines_text number place offset (call_of at id name interface)
+    ≡ called_text number id name interface
 unfolding message_lines_text call_of called_text
-called_is number place offset at None name = refl
-called_is number place offset at (Some id) None = refl
-called_is number place offset at (Some id) (Some name) = search (arith, call_shown)
+called_is number place offset at None name interface = refl
+called_is number place offset at (Some id) None interface = refl
+called_is number place offset at (Some id) (Some name) interface = search (arith, call_shown)
 
 -- the call of the line that ends an operation
-call_by : (is : Bool) (number place offset : ℕ) (l : Line) (h : Noted) →
+call_by : (is : Calling) (number place offset : ℕ) (l : Line) (h : Noted) →
     ends_operation true l ≡ true → message_lines_text number place offset (calls is l h)
-    ≡ (if is then called_text number h.request_id h.name else [])
+    ≡ (if is.is_request then called_text number h.request_id h.name (is.interface h.key) else [])
 unfolding calls message_lines_text
-call_by true number place offset l h e = search (arith, called_is)
-call_by false number place offset l h e = refl
+call_by is number place offset l h e = by is.is_request
+  where
+    by : (request : Bool) → message_lines_text number place offset
+        (if ends_operation request l then call_of l.at h.request_id h.name (is.interface h.key)
+        else [])
+        ≡ (if request then called_text number h.request_id h.name (is.interface h.key) else [])
+    by true = search (arith, called_is)
+    by false = refl
 
 -- with one line that names it
 named_line : (n : ℕ) (lines : List Line) → OneAt n lines → names_operation true lines ≡ true →
@@ -133,11 +143,11 @@ unfolding is_request
 request_kind header e = eqb-true (kind header) 0 e
 
 -- A line that ends an operation is below a header's root; in other sections none does.
-unnamed_by : (header : List ℕ) (section : Section) (lines : List Line) →
+unnamed_by : (S : Signatures) (header : List ℕ) (section : Section) (lines : List Line) →
     names_operation (is_header_root (root_of section)) lines ≡ false →
-    Each (λ l. ends_operation (may_call header section) l ≡ false) lines
-unnamed_by header sections.Header lines e = search (arith, unnamed)
-unnamed_by header section lines e = never lines
+    Each (λ l. ends_operation (calling S header section).is_request l ≡ false) lines
+unnamed_by S header sections.Header lines e = search (arith, unnamed)
+unnamed_by S header section lines e = never lines
 
 named_header : (section : Section) (lines : List Line) →
     names_operation (is_header_root (root_of section)) lines ≡ true → section ≡ sections.Header
@@ -145,21 +155,22 @@ named_header sections.Header lines e = refl
 named_header section lines e = search (arith, false≢true, none_named)
 
 -- the call of a step's line
-call_here : (number place offset : ℕ) (header : List ℕ) (section : Section) (before : List Line)
-    (st : Read) (n : ℕ) → OneAt n (lines_of st) → NoEnds st ⊎ (ends_in_string st ≡ false) →
+call_here : (S : Signatures) (number place offset : ℕ) (header : List ℕ) (section : Section)
+    (before : List Line) (st : Read) (n : ℕ) → OneAt n (lines_of st) →
+    NoEnds st ⊎ (ends_in_string st ≡ false) →
     names_operation (is_header_root (root_of section)) (lines_of st) ≡ true →
-    message_lines_text number place offset (first_call (root_of section) (may_call header section)
+    message_lines_text number place offset (first_call (root_of section) (calling S header section)
     (noted (is_header_root (root_of section)) nothing_noted before) (lines_of st))
-    ≡ request_call number header (noted_of true (ReadResult.with_front before st))
+    ≡ request_call S number header (noted_of true (ReadResult.with_front before st))
 unfolding request_call
-call_here number place offset header sections.Header before st n one closed named = search (
+call_here S number place offset header sections.Header before st n one closed named = search (
   arith,
   named_line,
   first_call,
   call_by,
   muted,
 )
-call_here number place offset header section before st n one closed named = search (
+call_here S number place offset header section before st n one closed named = search (
   arith,
   false≢true,
   none_named,
@@ -224,7 +235,7 @@ module _ (w : Begun) (s octets : List ℕ) (i : Inside w s octets) (b : ℕ) whe
   abbrev Call : ℕ → List ℕ
   Call place =
       message_lines_text number place (12 + length s)
-      (first_call R (may_call header section) (noted_before w s octets i b) (lines_of St))
+      (first_call R (calling S header section) (noted_before w s octets i b) (lines_of St))
 
   abbrev Due : ℕ → List ℕ
   Due place = due_text S number place header s (b ∷ [])
@@ -240,14 +251,15 @@ module _ (w : Begun) (s octets : List ℕ) (i : Inside w s octets) (b : ℕ) whe
 
   -- no line of it ends an operation that may be called
   abbrev Silences : Type 0
-  Silences = Each (λ l. ends_operation (may_call header section) l ≡ false) (lines_of St)
+  Silences =
+      Each (λ l. ends_operation (calling S header section).is_request l ≡ false) (lines_of St)
 
   -- the last octet of a section ends no operation
   ends_by : done_test St ≡ true → Silences
   ends_by done = go section i.first
     where
       go : (x : Section) → IsFirst header x T w.before w.front →
-          Each (λ l. ends_operation (may_call header x) l ≡ false) (lines_of St)
+          Each (λ l. ends_operation (calling S header x).is_request l ≡ false) (lines_of St)
       go sections.Header first = of_header (is_request header) refl
         where
           of_header : (is : Bool) → is_request header ≡ is →
@@ -284,7 +296,7 @@ module _ (w : Begun) (s octets : List ℕ) (i : Inside w s octets) (b : ℕ) whe
       (lines_due w s octets i b) (more_unnamed End Names Behind answer) in
       joined_text place [] [] (no_fault number (place + 1) End Names progress.More Behind answer
       (λ fault. fault))
-      (uncalled place (unnamed_by header section (lines_of St) none))
+      (uncalled place (unnamed_by S header section (lines_of St) none))
       ∙ append-nil Lines
 
   -- the last of the section
@@ -301,7 +313,7 @@ module _ (w : Begun) (s octets : List ℕ) (i : Inside w s octets) (b : ℕ) whe
   wrong_text why answer place =
       let is = subst (decoders.IsAnswer End Names (progress.Fault why)) (next_is w s octets i b)
       answer in
-      let none = none_faulted (may_call header section) End Names why St i.lines is
+      let none = none_faulted (calling S header section).is_request End Names why St i.lines is
       (added_none w s octets i b) in
       joined_text place _ [] (fault_is number (place + 1) End Names why Behind answer)
       (uncalled place none)
@@ -312,7 +324,7 @@ module _ (w : Begun) (s octets : List ℕ) (i : Inside w s octets) (b : ℕ) whe
   named_in answer = search (arith, named_header, named_is)
 
   pub named_text : Is progress.Named → (place : ℕ) →
-      Due place ≡ Lines ++ request_call number header (noted_of true Behind)
+      Due place ≡ Lines ++ request_call S number header (noted_of true Behind)
   named_text answer place =
       let now = added_now w s octets i b in
       let named = subst (λ ls. names_operation (is_header_root R) ls ≡ true)
@@ -321,6 +333,6 @@ module _ (w : Begun) (s octets : List ℕ) (i : Inside w s octets) (b : ℕ) whe
       (holds_by w s octets i (named_in answer))) in
       joined_text place [] _ (no_fault number (place + 1) End Names progress.Named Behind answer
       (λ fault. fault))
-      (call_here number place (12 + length s) header section i.lines St _ (one_of _ St now) closed
+      (call_here S number place (12 + length s) header section i.lines St _ (one_of _ St now) closed
       named
-      ∙ ap (λ r. request_call number header (noted_of true r)) (sym (next_is w s octets i b)))
+      ∙ ap (λ r. request_call S number header (noted_of true r)) (sym (next_is w s octets i b)))

@@ -1,15 +1,16 @@
 -- The lines of a reading, with the message's number, are the lines that the printing functions
 -- write.
-use Rattle.std.proofs.Common.{arith, ◌≡◌, ℕ, List, [], ◌∷◌, ◌++◌, refl, append_assoc}
+use Rattle.std.proofs.Common.{None, Some, Option, arith, ◌≡◌, ℕ, List, [], ◌∷◌, ◌++◌, refl, append_assoc}
 use Rattle.std.specs.Prelude.{codes, decimal}
 use Rattle.giop_print.specs.Text.{joined}
-use Rattle.giop_print.specs.Lines.{call_line, rest_line, end_line}
+use Rattle.giop_print.specs.Lines.{call_line, interface_call_line, rest_line, end_line}
 use Rattle.giop_print.specs.declared.path.Root.{Root}
 use Rattle.giop_decode.specs.ReadResult.{PathSegment, Value, line}
 use Rattle.giop_decode.specs.Spelling.{line_text}
 use Rattle.giop_message.specs.Text.{value_line_text, call_text, rest_text, numbered_line}
 use Rattle.giop_message.specs.Messages.{ValueLine}
 use Rattle.giop_message.specs.ReaderOfTable.{text_of}
+use Rattle.giop_message.specs.MessageSteps.{shown_call}
 
 -- pieces inside pieces
 joined_both : (xs ys : List (List ℕ)) → joined (xs ++ ys) ≡ joined xs ++ joined ys
@@ -27,10 +28,12 @@ pub said_is_line : (number at : ℕ) (root : Root) (path : List PathSegment) (v 
 unfolding text_of value_line_text
 said_is_line number at root path v = search (arith, said_joined)
 
-pub call_said : (number id : ℕ) (operation : List ℕ) →
-    numbered_line number (call_text id operation) ≡ call_line number id operation
-unfolding call_text call_line
-call_said number id operation = search (arith, said_joined)
+pub call_said : (number id : ℕ) (operation : List ℕ) (interface : Option (List ℕ)) →
+    numbered_line number (call_text id operation interface)
+    ≡ shown_call number id operation interface
+unfolding call_text call_line interface_call_line
+call_said number id operation None = search (arith, said_joined)
+call_said number id operation (Some interface) = search (arith, said_joined)
 
 pub rest_said : (number offset : ℕ) (octets : List ℕ) →
     numbered_line number (rest_text offset octets) ≡ rest_line number offset octets

@@ -111,7 +111,7 @@ some_not_empty T e empty = empty
 -- ---- by the message type
 
 pub request_wants : (S : Signatures) (header : List ℕ) (h : Noted) → kind header ≡ 0 →
-    body_of S header h ≡ request_body S h.name
+    body_of S header h ≡ request_body S h.key h.name
 unfolding body_of is_request
 request_wants S header h e = rw e refl
 
@@ -133,7 +133,7 @@ others_want S header h f g k = search (arith, ne_eqb)
 -- the body of a Request, by the operation that it names
 pub named_body : (C : Table) (answer : Answer) (header : List ℕ) (n : Noted) → kind header ≡ 0 →
     type_if (option_map (request_type C) (operation_of C header n))
-    ≡ request_body (signatures_of C answer) n.name
+    ≡ request_body (signatures_of C answer) n.key n.name
 unfolding operation_of signatures_of request_body type_if
 named_body C answer header n request = search (arith, option_map, option_and_then)
 

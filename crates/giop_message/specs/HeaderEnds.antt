@@ -3,10 +3,10 @@
 use Rattle.std.specs.Prelude.{◌≡◌, ◌<◌, ℕ, Bool, true, List, [], ◌∷◌, ◌++◌, length, map, drop, Option, Some, None, IfSome, option_and_then, option_map, ◌==◌, if◌then◌else◌}
 use Rattle.giop_sig.specs.declared.types.OpId.{OpId}
 use Rattle.giop_sig.specs.Builtin.{builtin_table}
-use Rattle.giop_sig.specs.Table.{Table, operation_in}
+use Rattle.giop_sig.specs.Table.{Table}
 use Rattle.giop_decode.specs.Noted.{Noted}
 use Rattle.giop_message.specs.Headers.{kind}
-use Rattle.giop_message.specs.Signatures.{Answer, Answers, signatures_of}
+use Rattle.giop_message.specs.Signatures.{Answer, Answers, called_operation, signatures_of}
 use Rattle.giop_message.specs.Messages.{Mark, HeaderMark, NameMark, message, message_marks, is_shown}
 
 -- ---- what ends
@@ -77,7 +77,8 @@ reply_event number (Some id) = Some (Replied number id)
 
 -- the operation that a Request names, where the table has it; none of another message
 unfoldable pub operation_of : Table → List ℕ → Noted → Option OpId
-operation_of C header n = if kind header == 0 then option_and_then (operation_in C) n.name else None
+operation_of C header n =
+    if kind header == 0 then option_and_then (called_operation C n.key) n.name else None
 
 -- by the number of a message, what is noted of its header, and its operation
 unfoldable pub header_event : ℕ → List ℕ → Noted → Option OpId → Option CallEvent

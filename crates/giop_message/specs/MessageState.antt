@@ -2,7 +2,7 @@
 -- what its calls write (state).
 use Rattle.std.specs.Prelude.{◌≡◌, ℕ, ◌+◌, ◌-◌, ◌<◌, ◌≤◌, Bool, true, false, cond, List, [], ◌∷◌, ◌++◌, length, take, drop, flat_map, Some, None, IfSome}
 use Rattle.giop_sig.specs.Types.{Ty}
-use Rattle.giop_sig.specs.Table.{Table, operation_number}
+use Rattle.giop_sig.specs.Table.{Table, asked_number}
 use Rattle.giop_sig.specs.Trees.{tree}
 use Rattle.giop_sig.specs.HeaderTypes.{header_type}
 use Rattle.giop_sig.specs.RequestList.{Entry, IsOf}
@@ -68,7 +68,7 @@ is_short speeches = false
 
 -- this is the table of a list of requests, with the operations of this catalogue's table
 abbrev pub AreOf : Table → RequestTable → Type 0
-AreOf C request_table = (entries : List Entry) × IsOf (operation_number C) entries request_table
+AreOf C request_table = (entries : List Entry) × IsOf (asked_number C) entries request_table
 
 -- operations of this table
 abbrev pub AreKnown : Table → Answer → Type 0

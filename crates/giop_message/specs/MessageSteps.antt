@@ -2,7 +2,7 @@
 -- that has ended (steps). Only private contracts cite it.
 use Rattle.std.specs.Prelude.{◌≡◌, ℕ, ◌+◌, Bool, true, false, List, [], ◌∷◌, ◌++◌, length, take, Option, Some, None, ◌&&◌, nat_lt, if◌then◌else◌}
 use Rattle.giop_cdr.specs.Alignment.{padding}
-use Rattle.giop_print.specs.Lines.{call_line, fault_line, rest_line}
+use Rattle.giop_print.specs.Lines.{call_line, interface_call_line, fault_line, rest_line}
 use Rattle.giop_sig.specs.declared.types.OpId.{OpId}
 use Rattle.giop_sig.specs.Types.{Ty}
 use Rattle.giop_sig.specs.Table.{Table}
@@ -30,16 +30,21 @@ fault_text number place (Done lines at rest) = []
 fault_text number place (Short lines at outer leaf) = []
 fault_text number place (Fault lines at why T) = fault_line number (fault_word why) place
 
--- the line of a call, where it can be shown
-unfoldable pub called_text : ℕ → Option ℕ → Option (List ℕ) → List ℕ
-called_text number (Some id) (Some operation) =
-    if is_shown operation then call_line number id operation else []
-called_text number id operation = []
+-- the line of a call, with its interface or without one
+abbrev pub shown_call : ℕ → ℕ → List ℕ → Option (List ℕ) → List ℕ
+shown_call number id operation None = call_line number id operation
+shown_call number id operation (Some interface) = interface_call_line number id operation interface
+
+-- where it can be shown
+unfoldable pub called_text : ℕ → Option ℕ → Option (List ℕ) → Option (List ℕ) → List ℕ
+called_text number (Some id) (Some operation) interface =
+    if is_shown operation then shown_call number id operation interface else []
+called_text number id operation interface = []
 
 -- of a Request's header
-unfoldable pub request_call : ℕ → List ℕ → Noted → List ℕ
-request_call number header h = if is_request header then called_text number h.request_id h.name else
-    []
+unfoldable pub request_call : Signatures → ℕ → List ℕ → Noted → List ℕ
+request_call S number header h =
+    if is_request header then called_text number h.request_id h.name (S.interface h.key) else []
 
 -- the type of what follows a section, by what is noted of it
 abbrev pub body_type_after : Signatures → List ℕ → Section → Noted → BodyType
@@ -86,9 +91,9 @@ IsTyped (parts.Typed section) = Unit {0}
 IsTyped part = ⊥
 
 -- a part that is this section, whose decoder has the notes of this reading
-abbrev pub Ended : Decoder → Part → Section → Read → Type 0
-Ended d (parts.Typed held) section r = (held ≡ section) × KeepsNoted (root_of section) d r
-Ended d part section r = ⊥
+abbrev pub Ended : Table → Decoder → Part → Section → Read → Type 0
+Ended C d (parts.Typed held) section r = (held ≡ section) × KeepsNoted C (root_of section) d r
+Ended C d part section r = ⊥
 
 -- what is told where a section ends, by its reading, and the operation that it names if it is a
 -- header

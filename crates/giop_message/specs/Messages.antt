@@ -22,8 +22,8 @@ use Rattle.giop_message.specs.Signatures.{Signatures}
 pub data MessageLine : Type 0 where
   -- a value below a root
   ValueLine : Root → List PathSegment → Value → MessageLine
-  -- a Request's id and operation
-  CallLine : ℕ → List ℕ → MessageLine
+  -- a Request's id and operation, and the interface of its object key
+  CallLine : ℕ → List ℕ → Option (List ℕ) → MessageLine
   -- octets of the rest, and their offset in it
   RestLine : ℕ → List ℕ → MessageLine
   -- a value's fault
@@ -65,22 +65,34 @@ is_graphic octet = nat_le 33 octet && nat_le octet 126
 unfoldable pub is_shown : List ℕ → Bool
 is_shown name = nat_lt 0 (length name) && list_all is_graphic name
 
-unfoldable pub call_of : ℕ → Option ℕ → Option (List ℕ) → List LineAt
-call_of at (Some id) (Some name) = if is_shown name then line_at at (CallLine id name) ∷ [] else []
-call_of at id name = []
+unfoldable pub call_of : ℕ → Option ℕ → Option (List ℕ) → Option (List ℕ) → List LineAt
+call_of at (Some id) (Some name) interface =
+    if is_shown name then line_at at (CallLine id name interface) ∷ [] else []
+call_of at id name interface = []
+
+-- by what the call lines of a section are made: whether it is a Request's header, and which
+-- interface an object key has
+pub record Calling : Type 0 where
+  pub is_request : Bool
+  pub interface : Option (List ℕ) → Option (List ℕ)
+
+-- a section without a call
+abbrev pub no_calls : Calling
+no_calls = record { is_request = false; interface = λ key. None }
 
 -- The call line comes after the line that ends the operation of a Request.
-unfoldable pub calls : Bool → Line → Noted → List LineAt
-calls is_request l h = if ends_operation is_request l then call_of l.at h.request_id h.name else []
+unfoldable pub calls : Calling → Line → Noted → List LineAt
+calls calling l h =
+    if ends_operation calling.is_request l
+    then call_of l.at h.request_id h.name (calling.interface h.key) else []
 
--- The lines of a reading below a root, of a Request's header or not, with what was noted before
--- them.
-unfoldable pub section_lines : Root → Bool → Noted → List Line → List LineAt
-section_lines root is_request h [] = []
-section_lines root is_request h (l ∷ ls) =
+-- The lines of a reading below a root, with what was noted before them.
+unfoldable pub section_lines : Root → Calling → Noted → List Line → List LineAt
+section_lines root calling h [] = []
+section_lines root calling h (l ∷ ls) =
     let now = note (is_header_root root) h l in
-    (line_at l.at (ValueLine root l.path l.value) ∷ calls is_request l now)
-    ++ section_lines root is_request now ls
+    (line_at l.at (ValueLine root l.path l.value) ∷ calls calling l now)
+    ++ section_lines root calling now ls
 
 -- ---- where a message is
 
@@ -134,22 +146,22 @@ end_mark sections.Exception h = name_mark h.name
 end_mark sections.SystemException h = name_mark h.name
 end_mark sections.Body h = []
 
--- A section, of a Request's header or not, and what follows it by what is noted of it. A fault has
--- its line instead of the value's, and ends the message.
-unfoldable pub section_then : Section → Bool → (Noted → ℕ → List ℕ → Message) → Noted → Read →
+-- A section, and what follows it by what is noted of it. A fault has its line instead of the
+-- value's, and ends the message.
+unfoldable pub section_then : Section → Calling → (Noted → ℕ → List ℕ → Message) → Noted → Read →
     Message
-section_then section is_request next h (Done lines at s) =
+section_then section calling next h (Done lines at s) =
     let root = root_of section in
     let now = noted (is_header_root root) h lines in
     with_front
-    (record { lines = section_lines root is_request h lines; marks = end_mark section now })
+    (record { lines = section_lines root calling h lines; marks = end_mark section now })
     (next now at s)
-section_then section is_request next h (Short lines at outer leaf) =
+section_then section calling next h (Short lines at outer leaf) =
     let root = root_of section in
-    ReadTo (only_lines (section_lines root is_request h lines)) at
+    ReadTo (only_lines (section_lines root calling h lines)) at
     (In_typed section (noted (is_header_root root) h lines) outer leaf)
-section_then section is_request next h (Fault lines at why T) =
-    ReadTo (only_lines (section_lines (root_of section) is_request h lines
+section_then section calling next h (Fault lines at why T) =
+    ReadTo (only_lines (section_lines (root_of section) calling h lines
     ++ line_at at (FaultLine why) ∷ [])) at Over
 
 -- ---- the rest
@@ -167,7 +179,7 @@ rest at s = rest_in (length s / 32) 0 at s
 -- ---- bodies
 
 unfoldable pub typed : Order → Ty → ℕ → List ℕ → Message
-typed o T at s = section_then sections.Body false (λ h. rest) nothing_noted
+typed o T at s = section_then sections.Body no_calls (λ h. rest) nothing_noted
     (reading (plain o) [] T at s)
 
 unfoldable pub option_typed : Order → Option Ty → ℕ → List ℕ → Message
@@ -186,20 +198,20 @@ unfoldable pub body : Signatures → List ℕ → BodyType → ℕ → List ℕ 
 body S header Untyped at s = rest at s
 body S header (Typed T) at s = typed (order header) T at s
 body S header UserException at s =
-    section_then sections.Exception false (after_exception S header) nothing_noted
+    section_then sections.Exception no_calls (after_exception S header) nothing_noted
     (reading (plain (order header)) [] S.exception_id at s)
 body S header SystemException at s =
-    section_then sections.SystemException false (λ h. rest) nothing_noted
+    section_then sections.SystemException no_calls (λ h. rest) nothing_noted
     (reading (plain (order header)) [] S.system_exception at s)
 
 unfoldable pub type_if : Option Ty → BodyType
 type_if None = Untyped
 type_if (Some T) = Typed T
 
--- of a Request, by its operation, which is the last string of its header
-unfoldable pub request_body : Signatures → Option (List ℕ) → BodyType
-request_body S None = Untyped
-request_body S (Some name) = type_if (S.request name)
+-- of a Request, by its operation, which is the last string of its header, and by its object key
+unfoldable pub request_body : Signatures → Option (List ℕ) → Option (List ℕ) → BodyType
+request_body S key None = Untyped
+request_body S key (Some name) = type_if (S.request name key)
 
 unfoldable pub result_body : Signatures → Option ℕ → BodyType
 result_body S None = Untyped
@@ -236,7 +248,7 @@ locate_body S (Some status) =
 -- by what is noted of the header; a message of another type has no body
 unfoldable pub body_of : Signatures → List ℕ → Noted → BodyType
 body_of S header h =
-    if is_request header then request_body S h.name
+    if is_request header then request_body S h.key h.name
     else (if kind header == 1 then reply_body S h.request_id h.status
     else (if kind header == 4 then locate_body S h.status
     else Untyped))
@@ -258,22 +270,26 @@ after_header S header h at s =
     if is_aligned header then padded S header (body_of S header h) at s
     else body S header (body_of S header h) at s
 
+-- by what the call line of a message of this header is made
+abbrev pub calling_of : Signatures → List ℕ → Calling
+calling_of S header = record { is_request = is_request header; interface = S.interface }
+
 unfoldable pub of_header : Signatures → List ℕ → Option Ty → ℕ → List ℕ → Message
 of_header S header None at s = rest at s
 of_header S header (Some T) at s =
-    section_then sections.Header (is_request header) (after_header S header) nothing_noted
+    section_then sections.Header (calling_of S header) (after_header S header) nothing_noted
     (reading (plain (order header)) [] T at s)
 
 -- of this header of 12 octets and these octets after it
 unfoldable pub message : Signatures → List ℕ → List ℕ → Message
 message S header s = of_header S header (S.header (minor header) (kind header)) 12 s
 
--- whether a section's lines may be followed by a call
-abbrev pub may_call : List ℕ → Section → Bool
-may_call header sections.Header = is_request header
-may_call header sections.Exception = false
-may_call header sections.SystemException = false
-may_call header sections.Body = false
+-- by what the call lines of a section are made
+abbrev pub calling : Signatures → List ℕ → Section → Calling
+calling S header sections.Header = calling_of S header
+calling S header sections.Exception = no_calls
+calling S header sections.SystemException = no_calls
+calling S header sections.Body = no_calls
 
 -- what follows a section, by what is noted of it
 abbrev pub after : Signatures → List ℕ → Section → Noted → ℕ → List ℕ → Message
@@ -284,7 +300,7 @@ after S header sections.Body = λ h. rest
 
 -- a section that goes on from what was noted of it, and what follows it
 abbrev pub section_and_rest : Signatures → List ℕ → Section → Noted → Read → Message
-section_and_rest S header section = section_then section (may_call header section)
+section_and_rest S header section = section_then section (calling S header section)
     (after S header section)
 
 -- ---- its close

@@ -18,7 +18,7 @@ use Rattle.giop_message.specs.Messages.{MessageLine, ValueLine, CallLine, RestLi
 
 unfoldable pub line_class_of : MessageLine → LineClass
 line_class_of (ValueLine root path v) = Value
-line_class_of (CallLine id operation) = Call
+line_class_of (CallLine id operation interface) = Call
 line_class_of (RestLine offset octets) = Rest
 line_class_of (FaultLine why) = Fault
 line_class_of ShortLine = Fault
@@ -27,7 +27,7 @@ line_class_of EndLine = End
 -- the text, without the message's number; of a fault its word
 unfoldable pub text_of : MessageLine → List ℕ
 text_of (ValueLine root path v) = value_line_text (path_text root path) v
-text_of (CallLine id operation) = call_text id operation
+text_of (CallLine id operation interface) = call_text id operation interface
 text_of (RestLine offset octets) = rest_text offset octets
 text_of (FaultLine why) = fault_word why
 text_of ShortLine = codes "short"

@@ -5,7 +5,8 @@ use Rattle.std.specs.Option.{option_map}
 use Rattle.giop_sig.specs.declared.types.OpId.{OpId}
 use Rattle.giop_sig.specs.declared.types.Fixed.TheVariants.{ExceptionId, SystemException, Forward, Addressing}
 use Rattle.giop_sig.specs.Types.{Ty}
-use Rattle.giop_sig.specs.Table.{Table, operation_in, operation_at, exception_in}
+use Rattle.giop_decode.specs.DecoderState.{whose}
+use Rattle.giop_sig.specs.Table.{Table, operation_for, operation_at, exception_in, interface_name}
 use Rattle.giop_sig.specs.Trees.{tree}
 use Rattle.giop_sig.specs.HeaderTypes.{header_type, fixed_type}
 use Rattle.giop_sig.specs.RequestList.{kept_operation}
@@ -13,10 +14,12 @@ use Rattle.giop_sig.specs.RequestList.{kept_operation}
 pub record Signatures : Type 0 where
   -- the type of a header, by the minor version and the message type
   pub header : ℕ → ℕ → Option Ty
-  -- the struct of an operation's parameters, by its name, and that of its results, by the id of the
-  -- request
-  pub request : List ℕ → Option Ty
+  -- the struct of an operation's parameters, by its name and the object key, and that of its
+  -- results, by the id of the request
+  pub request : List ℕ → Option (List ℕ) → Option Ty
   pub reply : ℕ → Option Ty
+  -- the repository id of the interface of an object key
+  pub interface : Option (List ℕ) → Option (List ℕ)
   -- whether a LocateReply has a typed body
   pub has_locate_bodies : Bool
   -- the struct of an exception's members, by its repository id
@@ -49,11 +52,20 @@ request_type C o = tree C (operation_at C o.0).request
 abbrev pub reply_type : Table → OpId → Ty
 reply_type C o = tree C (operation_at C o.0).reply
 
+-- the operation of a Request, by its name and the object key
+abbrev pub called_operation : Table → Option (List ℕ) → List ℕ → Option OpId
+called_operation C key name = operation_for C name (whose C key)
+
+-- the repository id of the interface of an object key
+abbrev pub interface_of : Table → Option (List ℕ) → Option (List ℕ)
+interface_of C key = option_map (λ i. interface_name C i.0) (whose C key)
+
 unfoldable pub signatures_of : Table → Answer → Signatures
 signatures_of C answer = record {
   header = header_type;
-  request = λ name. option_map (request_type C) (operation_in C name);
+  request = λ name key. option_map (request_type C) (called_operation C key name);
   reply = λ id. option_map (reply_type C) (answer id);
+  interface = interface_of C;
   has_locate_bodies = nat_le 3 C.version;
   members = λ repository. option_map (λ t. tree C t.0) (exception_in C repository);
   exception_id = fixed_type ExceptionId;

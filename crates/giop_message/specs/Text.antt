@@ -1,6 +1,6 @@
 -- The text of a message's lines, without the message's number and with it (docs/FORMATS.md, Lines;
 -- meaning).
-use Rattle.std.specs.Prelude.{ℕ, List, [], ◌∷◌, codes, decimal, flat_map}
+use Rattle.std.specs.Prelude.{ℕ, Option, Some, None, List, [], ◌∷◌, codes, decimal, flat_map}
 use Rattle.giop_print.specs.Text.{joined, hex}
 use Rattle.giop_print.specs.Lines.{fault_line}
 use Rattle.giop_decode.specs.ReadResult as spine
@@ -15,8 +15,11 @@ use Rattle.giop_message.specs.MessageReader.{LineClass, Value, Call, Rest, Fault
 unfoldable pub value_line_text : List ℕ → spine.Value → List ℕ
 value_line_text path value = joined (path ∷ value_words value)
 
-unfoldable pub call_text : ℕ → List ℕ → List ℕ
-call_text id operation = joined (codes "call " ∷ decimal id ∷ codes " " ∷ operation ∷ [])
+-- with the interface of the object key, if it has one
+unfoldable pub call_text : ℕ → List ℕ → Option (List ℕ) → List ℕ
+call_text id operation None = joined (codes "call " ∷ decimal id ∷ codes " " ∷ operation ∷ [])
+call_text id operation (Some interface) =
+    joined (codes "call " ∷ decimal id ∷ codes " " ∷ operation ∷ codes " " ∷ interface ∷ [])
 
 unfoldable pub rest_text : ℕ → List ℕ → List ℕ
 rest_text offset octets = joined (codes "rest @" ∷ decimal offset ∷ codes " " ∷ hex octets ∷ [])

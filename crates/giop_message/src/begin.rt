@@ -10,6 +10,7 @@ ghost use Rattle.giop_message.specs.Headers.{kind};
 ghost use Rattle.giop_message.specs.Messages.{root_of, is_aligned};
 ghost use Rattle.giop_message.specs.MessageState.{is_header};
 ghost use Rattle.giop_message.specs.declared.part.Part.TheVariants as parts;
+ghost use Rattle.giop_sig.specs.Table.{Table};
 
 use crate::body_type::{BodyTypeId, body_type_after, is_empty};
 use crate::correspondent::Correspondent;
@@ -24,7 +25,7 @@ use giop_sig::{Catalogue, Fixed, TypeId};
 
 /// The request id after what has come of a section: a header's own, or the one from before.
 pub(crate) fn id_behind(section: Section, decoder: &Decoder, before: Option<u32>) -> Option<u32>
-    ensures { (r : MessageReader) → KeepsNoted (root_of section) decoder.now r →
+    ensures { (C : Table) (r : MessageReader) → KeepsNoted C (root_of section) decoder.now r →
         result ≡ cond (is_header section) (noted_of true r).request_id before }
 {
     match section {
@@ -59,7 +60,6 @@ pub(crate) fn idle(catalogue: &Catalogue) -> Decoder {
 }
 
 impl Message {
-    ghost use Rattle.giop_sig.specs.Table.{Table};
     ghost use Rattle.giop_message.specs.declared.part.Section.{Section as Within};
     ghost use Rattle.giop_message.specs.Signatures.{Answers, signatures_of};
     ghost use Rattle.giop_message.specs.Headers.{order};
@@ -181,16 +181,16 @@ impl Message {
         ensures past { in_header self.new.part ≡ false }
         ensures fits { Fits catalogue.now self.new }
         ensures id { (section : Within) (r : MessageReader) →
-            Ended self.old.decoder self.old.part section r →
+            Ended catalogue.now self.old.decoder self.old.part section r →
             self.new.id ≡ cond (is_header section) (noted_of true r).request_id self.old.id }
         ensures told { (section : Within) (r : MessageReader) →
-            Ended self.old.decoder self.old.part section r →
+            Ended catalogue.now self.old.decoder self.old.part section r →
             Q.state correspondent.new ≡ after_event Q.notified (Q.state correspondent.old)
             (section_event section self.old.number self.old.header r
             (operation_of catalogue.now self.old.header (noted_of true r))) }
         ensures arrives { (answers : Answers) (number : ℕ) (header s : List ℕ) (section : Within)
             (r : MessageReader) →
-            Ended self.old.decoder self.old.part section r →
+            Ended catalogue.now self.old.decoder self.old.part section r →
             (is_header section ≡ true → answers number ≡ Q.answer (Q.state correspondent.old)) →
             Arrives catalogue.now answers number header self.old self.new s (after
             (signatures_of catalogue.now (answers number)) header section

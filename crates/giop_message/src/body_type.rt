@@ -41,7 +41,7 @@ pub fn body_type_after<Q: Correspondent>(
     requires header { length header.now ≡ 12 }
     requires of { AreKnown catalogue.now (Q.answer (Q.state correspondent.now)) }
     requires operation { IsKnownOperation catalogue.now operation }
-    ensures is { (r : Read) → KeepsNoted (root_of section) decoder.now r →
+    ensures is { (r : Read) → KeepsNoted catalogue.now (root_of section) decoder.now r →
         (is_header section ≡ true → operation
         ≡ operation_of catalogue.now header.now (noted_of true r)) →
         body_type catalogue.now result ≡ body_type_after
@@ -68,7 +68,7 @@ fn header_body<Q: Correspondent>(
     requires header { length header.now ≡ 12 }
     requires of { AreKnown catalogue.now (Q.answer (Q.state correspondent.now)) }
     requires operation { IsKnownOperation catalogue.now operation }
-    ensures is { (r : Read) → KeepsNoted Root.Header decoder.now r →
+    ensures is { (r : Read) → KeepsNoted catalogue.now Root.Header decoder.now r →
         operation ≡ operation_of catalogue.now header.now (noted_of true r) →
         body_type catalogue.now result ≡ body_type_after
         (signatures_of catalogue.now (Q.answer (Q.state correspondent.now)))

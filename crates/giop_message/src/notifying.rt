@@ -29,7 +29,7 @@ pub fn operation_of(
     decoder: &Decoder,
 ) -> Option<OpId>
     requires header { length header.now ≡ 12 }
-    ensures is { (r : Read) → KeepsNoted (root_of section) decoder.now r →
+    ensures is { (r : Read) → KeepsNoted catalogue.now (root_of section) decoder.now r →
         is_header section ≡ true →
         result ≡ operation_of catalogue.now header.now (noted_of true r) }
     ensures none { is_header section ≡ false → result ≡ None }
@@ -43,11 +43,11 @@ pub fn operation_of(
     }
 }
 
-/// The operation that a Request names, by the decoder of its header.
+/// The operation that a Request names, by the decoder of its header: of the interface of its object key, if there is one.
 #[tactic(auto, unfolding(crate::specs::HeaderEnds::operation_of))]
 fn named_operation(catalogue: &Catalogue, header: &[u8], decoder: &Decoder) -> Option<OpId>
     requires header { length header.now ≡ 12 }
-    ensures is { (r : Read) → KeepsNoted Root.Header decoder.now r →
+    ensures is { (r : Read) → KeepsNoted catalogue.now Root.Header decoder.now r →
         result ≡ operation_of catalogue.now header.now (noted_of true r) }
     ensures known { IsKnownOperation catalogue.now result }
 {
@@ -57,7 +57,7 @@ fn named_operation(catalogue: &Catalogue, header: &[u8], decoder: &Decoder) -> O
     let Some(name) = decoder.name() else {
         return None;
     };
-    catalogue.operation(name)
+    catalogue.operation_for(name, decoder.interface(catalogue))
 }
 
 /// Tells the correspondent of the section of a message that has ended: of a header, with the operation that it names, or
@@ -74,7 +74,7 @@ pub fn notify_of_section<Q: Correspondent>(
     ensures known { (C : Table) → IsKnownOperation C operation →
         AreKnown C (Q.answer (Q.state correspondent.old)) →
         AreKnown C (Q.answer (Q.state correspondent.new)) }
-    ensures told { (r : Read) → KeepsNoted (root_of section) decoder.now r →
+    ensures told { (C : Table) (r : Read) → KeepsNoted C (root_of section) decoder.now r →
         Q.state correspondent.new ≡ after_event Q.notified (Q.state correspondent.old)
         (section_event section number header.now r operation) }
 {
@@ -99,7 +99,7 @@ fn notify_of_header<Q: Correspondent>(
     ensures known { (C : Table) → IsKnownOperation C operation →
         AreKnown C (Q.answer (Q.state correspondent.old)) →
         AreKnown C (Q.answer (Q.state correspondent.new)) }
-    ensures told { (r : Read) → KeepsNoted Root.Header decoder.now r →
+    ensures told { (C : Table) (r : Read) → KeepsNoted C Root.Header decoder.now r →
         Q.state correspondent.new ≡ after_event Q.notified (Q.state correspondent.old)
         (header_event number header.now (noted_of true r) operation) }
 {
@@ -114,7 +114,7 @@ fn notify_of_header<Q: Correspondent>(
 
 /// Whether a Request expects a reply; one of which it wasn't read does.
 fn expects_reply(decoder: &Decoder) -> bool
-    ensures { (r : Read) → KeepsNoted Root.Header decoder.now r →
+    ensures { (C : Table) (r : Read) → KeepsNoted C Root.Header decoder.now r →
         result ≡ expects_reply (noted_of true r).expects_reply }
 {
     match decoder.expects_reply() {
@@ -133,7 +133,7 @@ fn notify_of_request<Q: Correspondent>(
     ensures known { (C : Table) → IsKnownOperation C operation →
         AreKnown C (Q.answer (Q.state correspondent.old)) →
         AreKnown C (Q.answer (Q.state correspondent.new)) }
-    ensures told { (r : Read) → KeepsNoted Root.Header decoder.now r →
+    ensures told { (C : Table) (r : Read) → KeepsNoted C Root.Header decoder.now r →
         Q.state correspondent.new ≡ after_event Q.notified (Q.state correspondent.old)
         (request_event number (noted_of true r).request_id (noted_of true r).name operation
         (noted_of true r).expects_reply) }
@@ -149,7 +149,7 @@ fn notify_of_request<Q: Correspondent>(
 fn notify_of_reply<Q: Correspondent>(correspondent: &mut Q, number: u64, decoder: &Decoder)
     ensures known { (C : Table) → AreKnown C (Q.answer (Q.state correspondent.old)) →
         AreKnown C (Q.answer (Q.state correspondent.new)) }
-    ensures told { (r : Read) → KeepsNoted Root.Header decoder.now r →
+    ensures told { (C : Table) (r : Read) → KeepsNoted C Root.Header decoder.now r →
         Q.state correspondent.new ≡ after_event Q.notified (Q.state correspondent.old)
         (reply_event number (noted_of true r).request_id) }
 {
@@ -163,7 +163,7 @@ fn notify_of_reply<Q: Correspondent>(correspondent: &mut Q, number: u64, decoder
 fn notify_of_exception<Q: Correspondent>(correspondent: &mut Q, number: u64, decoder: &Decoder)
     ensures known { (C : Table) → AreKnown C (Q.answer (Q.state correspondent.old)) →
         AreKnown C (Q.answer (Q.state correspondent.new)) }
-    ensures told { (root : PathRoot) (r : Read) → KeepsNoted root decoder.now r →
+    ensures told { (C : Table) (root : PathRoot) (r : Read) → KeepsNoted C root decoder.now r →
         Q.state correspondent.new ≡ after_event Q.notified (Q.state correspondent.old)
         (raise_event number (noted_of (is_header_root root) r).name) }
 {

@@ -6,6 +6,7 @@ ghost use Rattle.giop_decode.specs.ReadResult.{Read as MessageReader};
 ghost use Rattle.giop_decode.specs.Noted.{noted_of};
 ghost use Rattle.giop_decode.specs.DecoderState.{KeepsNoted};
 ghost use Rattle.giop_message.specs.MessageSteps.{request_call};
+ghost use Rattle.giop_message.specs.Signatures.{Answer, signatures_of};
 
 use crate::body_type::BodyTypeId;
 use crate::correspondent::Correspondent;
@@ -15,16 +16,23 @@ use crate::part::Part;
 use crate::word::{fault_word, is_shown};
 use giop_cdr::pad;
 use giop_decode::{Decoder, Progress};
-use giop_print::{Out, OutFault, Root, call_line, fault_line};
+use giop_print::{Out, OutFault, Root, call_line, fault_line, interface_call_line};
 use giop_sig::Catalogue;
 
 /// Writes the call line of a Request, whose operation has just ended in its header.
-#[tactic(auto, unfolding(crate::specs::MessageSteps::request_call, crate::specs::MessageSteps::called_text))]
-fn call<O: Out>(decoder: &Decoder, number: u64, header: &[u8], out: &mut O) -> Result<(), OutFault>
+#[tactic(auto, unfolding(crate::specs::MessageSteps::request_call, crate::specs::MessageSteps::called_text, crate::specs::Signatures::signatures_of))]
+fn call<O: Out>(
+    catalogue: &Catalogue,
+    decoder: &Decoder,
+    number: u64,
+    header: &[u8],
+    out: &mut O,
+) -> Result<(), OutFault>
     requires { length header.now ≡ 12 }
-    ensures { (r : MessageReader) → KeepsNoted Root.Header decoder.now r →
-        Writes result (O.log out.old) (O.log out.new)
-        (request_call number header.now (noted_of true r)) }
+    ensures { (answer : Answer) (r : MessageReader) →
+        KeepsNoted catalogue.now Root.Header decoder.now r →
+        Writes result (O.log out.old) (O.log out.new) (request_call
+        (signatures_of catalogue.now answer) number header.now (noted_of true r)) }
 {
     if kind_of(header) != 0 {
         return Ok(());
@@ -35,10 +43,20 @@ fn call<O: Out>(decoder: &Decoder, number: u64, header: &[u8], out: &mut O) -> R
     let Some(operation) = decoder.name() else {
         return Ok(());
     };
-    if is_shown(operation) {
-        call_line(out, number, id, operation)
-    } else {
-        Ok(())
+    if !is_shown(operation) {
+        return Ok(());
+    }
+    match decoder.interface(catalogue) {
+        None => call_line(out, number, id, operation),
+        Some(interface) => {
+            interface_call_line(
+                out,
+                number,
+                id,
+                operation,
+                catalogue.interface_name(interface),
+            )
+        }
     }
 }
 
@@ -119,7 +137,7 @@ impl Message {
                 match progress {
                     Progress::More => Ok((taken, false)),
                     Progress::Named => {
-                        call(decoder, self.number, &self.header, out)?;
+                        call(catalogue, decoder, self.number, &self.header, out)?;
                         Ok((taken, false))
                     }
                     Progress::Done => {

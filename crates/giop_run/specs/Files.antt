@@ -5,10 +5,10 @@ use Rattle.giop_print.specs.Output.{counted}
 use Rattle.giop_sig.specs.Builtin.{builtin_table}
 use Rattle.giop_sig.specs.Grammar.{SignatureFile}
 use Rattle.giop_sig.specs.Scopes.{table}
-use Rattle.giop_sig.specs.Table.{Table, operation_number}
+use Rattle.giop_sig.specs.Table.{Table, asked_number}
 use Rattle.giop_sig.specs.FileReading.{text_too_long, IsFirstRefusalUpTo}
 use Rattle.giop_sig.specs.Validity.{IsValid, SpellsUpTo}
-use Rattle.giop_sig.specs.RequestList.{Entry, Lists, IsOf, IsRefusedAs}
+use Rattle.giop_sig.specs.RequestList.{Entry, Lists, IsOf, IsRefusedAs, third_in}
 use Rattle.giop_message.specs.Signatures.{RequestTable}
 use Rattle.giop_checkpoint.specs.declared.fixed.Counts.{Counts}
 use Rattle.giop_checkpoint.specs.Refusals.{IsOurs}
@@ -60,11 +60,11 @@ pub record Declares (latest : ℕ) (text : List ℕ) (C : Table) : Type 0 where
   pub valid : IsValid file
   pub is : C ≡ table file
 
--- a text is a request list, and this is its request table for the operations of a catalogue
+-- a text is a request list for a catalogue, and this is its request table for the operations of that
 pub record Requests (text : List ℕ) (C : Table) (kept : RequestTable) : Type 0 where
   pub entries : List Entry
-  pub lists : Lists text entries
-  pub is : IsOf (operation_number C) entries kept
+  pub lists : Lists (third_in C) text entries
+  pub is : IsOf (asked_number C) entries kept
 
 -- the catalogue of the signature file, or without one the built-in types
 abbrev pub CatalogueOf : Folder → ℕ → Option (List ℕ) → Table → Type 0
@@ -111,20 +111,21 @@ NoCatalogue held refuses latest asked (faults.Checkpoint name why) = ⊥
 NoCatalogue held refuses latest asked (faults.Unwritable name) = ⊥
 NoCatalogue held refuses latest asked (faults.Run why) = ⊥
 
--- why there is no list: no memory, or the request file can't be read or is refused, by its name
-abbrev pub NoRequests : Folder → Refusals → Option (List ℕ) → ProgramFault → Type 0
-NoRequests held refuses asked (faults.Requests name why) =
+-- why there is no list for a catalogue: no memory, or the request file can't be read or is refused, by
+-- its name
+abbrev pub NoRequests : Folder → Refusals → Table → Option (List ℕ) → ProgramFault → Type 0
+NoRequests held refuses C asked (faults.Requests name why) =
     (asked ≡ Some name.now)
     × ((text : List ℕ) × IsFront requests_most (held name.now) text
-    × IsRefusedAs text why.line why.kind)
-NoRequests held refuses asked (faults.Unreadable name why) =
+    × IsRefusedAs (third_in C) text why.line why.kind)
+NoRequests held refuses C asked (faults.Unreadable name why) =
     (asked ≡ Some name.now) × CannotRead refuses name.now why
-NoRequests held refuses asked faults.OutOfMemory = Unit {0}
-NoRequests held refuses asked faults.Words = ⊥
-NoRequests held refuses asked (faults.Signatures name why look) = ⊥
-NoRequests held refuses asked (faults.Checkpoint name why) = ⊥
-NoRequests held refuses asked (faults.Unwritable name) = ⊥
-NoRequests held refuses asked (faults.Run why) = ⊥
+NoRequests held refuses C asked faults.OutOfMemory = Unit {0}
+NoRequests held refuses C asked faults.Words = ⊥
+NoRequests held refuses C asked (faults.Signatures name why look) = ⊥
+NoRequests held refuses C asked (faults.Checkpoint name why) = ⊥
+NoRequests held refuses C asked (faults.Unwritable name) = ⊥
+NoRequests held refuses C asked (faults.Run why) = ⊥
 
 -- why no checkpoint is loaded: no memory, or its file can't be read or is refused, by its name
 abbrev pub NoCheckpoint : Folder → Refusals → Option (List ℕ) → Counts → ProgramFault → Type 0
@@ -184,7 +185,7 @@ abbrev pub Refused : Folder → Refusals → Asked → ProgramFault → Type 0
 Refused held refuses asked fault =
     NoCatalogue held refuses asked.latest asked.signatures fault
     ⊎ ((C : Table) × CatalogueOf held asked.latest asked.signatures C
-    × NoRequests held refuses asked.requests fault)
+    × NoRequests held refuses C asked.requests fault)
     ⊎ ((C : Table) × (kept : RequestTable) × ReadsBy held asked C kept
     × (NoCheckpoint held refuses asked.resume (counts_of C kept) fault
     ⊎ NoStream refuses asked.stream fault))

@@ -4,7 +4,7 @@ ghost use Rattle.std.specs.Prelude.{◌≡◌, ◌≢◌, ◌<◌, ◌≤◌, �
 ghost use Rattle.std.specs.IoError.{error_kind};
 ghost use Rattle.std.specs.declared.io.ErrorKind.{ErrorKind as Kind};
 ghost use Rattle.giop_sig.specs.FileReading.{text_too_long, IsFirstRefusalUpTo};
-ghost use Rattle.giop_sig.specs.RequestList.{IsRefusedAs};
+ghost use Rattle.giop_sig.specs.RequestList.{IsRefusedAs, third_in};
 ghost use Rattle.giop_stream.specs.EngineHolds.{AreOf};
 ghost use Rattle.giop_run.specs.Console.{run_fault};
 ghost use Rattle.giop_run.specs.Looks.{HasReason, looks_of};
@@ -202,7 +202,7 @@ fn requests_of<'a>(
     // The refusal has the file's name, and is that of the text.
     ensures err { IfErr result (λ fault. (fault ≡ ProgramFault.OutOfMemory)
         ⊎ ((why : ListFault) × (fault ≡ ProgramFault.Requests name.entry why)
-        × IsRefusedAs text.now why.line why.kind)) }
+        × IsRefusedAs (third_in catalogue.now) text.now why.line why.kind)) }
 {
     match Requests::parse(alloc, text, catalogue) {
         Ok(requests) => Ok(requests),
@@ -219,7 +219,7 @@ pub fn requests<'a, R: Inputs + AllocGlobal>(
     ensures of { IfOk result (λ kept. AreOf catalogue.now kept) }
     ensures ok { IfOk result
         (RequestsOf (R.held rt.now) (option_map (λ n. n.now) name.entry) catalogue.now) }
-    ensures err { IfErr result (NoRequests (R.held rt.now) (R.refuses rt.now)
+    ensures err { IfErr result (NoRequests (R.held rt.now) (R.refuses rt.now) catalogue.now
         (option_map (λ n. n.now) name.entry)) }
     ensures file { IfErr result (λ fault. run_fault fault ≡ None) }
 {

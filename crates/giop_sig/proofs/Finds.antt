@@ -43,7 +43,7 @@ none_from None h = refl
 none_from (Some i) h = absurd (h i refl)
 
 -- a name longer than all is not found
-not_there : {X : Type 0} (name_in : X → List ℕ) (xs : List X) (d : X) (name : List ℕ)
+pub not_there : {X : Type 0} (name_in : X → List ℕ) (xs : List X) (d : X) (name : List ℕ)
     → (most : ℕ) → ((i : ℕ) → i < length xs → length (name_in (get_or xs i d)) ≤ most)
     → most < length name
     → position (λ x. bytes_eq name (name_in x)) xs ≡ None

@@ -2,7 +2,7 @@
 -- lists, and whose an object key is.
 use Rattle.std.proofs.Common.{◌≡◌, ◌⊎◌, inl, inr, ℕ, zero, suc, ◌+◌, ◌*◌, ◌/◌, ◌%◌, ◌<◌, ◌≤◌, Bool, true, false, cond, ◌||◌, ltb, eqb, nat_eq, List, [], ◌∷◌, ◌++◌, length, map, take, drop, get_or, Option, Some, None, refl, sym, ap, ◌∙◌, arith}
 use Rattle.std.specs.Prelude.{slice_set, IfSome}
-use Rattle.std.specs.List.{AllByRecursion, list_any, position, position_or_len}
+use Rattle.std.specs.List.{All, AllByRecursion, list_any, position, position_or_len}
 use Rattle.std.specs.Map.{lookup}
 use Rattle.std.specs.Option.{option_map, option_or}
 use Rattle.std.specs.Str.{bytes_eq}
@@ -15,10 +15,11 @@ use Rattle.arrayvec.specs.ArrayVec.{ArrayVec}
 use Rattle.indexmap.specs.IndexMap.{insert_entry}
 use Rattle.indexmap.specs.IndexSet.{insert_key}
 use Rattle.giop_sig.specs.declared.types.InterfaceId.{InterfaceId}
+use Rattle.giop_sig.specs.Table.{interface_id}
 use Rattle.giop_sig.specs.Interfaces.{Interfaces, digit, hex, whole_text, front_text, of_text, number_of, with_interface, longest_front, of_key, IsInterfaceOf}
 use Rattle.giop_sig.specs.InterfaceViews.{key_view, interfaces_view, IsKeyOf, AreKept}
 use Rattle.giop_sig.proofs.Added.{some_position, list_any-map, entry_last}
-use Rattle.giop_sig.proofs.Finds.{position-map}
+use Rattle.giop_sig.proofs.Finds.{position-map, not_there}
 use Rattle.giop_sig.proofs.ScopeLaws.{key_is, none_found, none_before}
 
 -- ---- hexadecimal digits
@@ -56,6 +57,20 @@ name_place i ks key id names same =
     sym (position-map (bytes_eq key.items) (λ (n : ArrayVec ℕ). n.items) ks)
     ∙ ap (λ (w : List ℕ). position (bytes_eq w) (items_of ks)) same
     ∙ ap (position (bytes_eq id)) names
+
+-- what is found by a repository id
+pub name_found : (i : Interfaces) (ks : List (ArrayVec ℕ)) (key : ArrayVec ℕ) (id : List ℕ)
+    (o : Option ℕ) → map (λ (n : ArrayVec ℕ). n.items) ks ≡ i.names → key.items ≡ id
+    → o ≡ position (key_is key) ks
+    → option_map interface_id o ≡ option_map interface_id (position (bytes_eq id) i.names)
+name_found i ks key id o names same is =
+    ap (option_map interface_id) (is ∙ name_place i ks key id names same)
+
+pub long_name : (i : Interfaces) (id : List ℕ) → All (λ (n : List ℕ). length n ≤ 128) i.names
+    → 128 < length id → None ≡ option_map interface_id (position (bytes_eq id) i.names)
+long_name i id short long =
+    sym (ap (option_map interface_id)
+    (not_there (λ (n : List ℕ). n) i.names [] id 128 (λ j lt. short j [] lt) long))
 
 within_by : {X : Type 0} (p : X → Bool) (x : X) (xs : List X) (v : Bool) → p x ≡ v
     → position_or_len p xs ≤ length xs → position_or_len p (x ∷ xs) ≤ length (x ∷ xs)
@@ -433,3 +448,48 @@ pub longest_among : (i : Interfaces) (key : List ℕ) (m : ℕ) (r : Option Inte
     → IfSome r (λ (x : InterfaceId). x.0 < length i.names)
 longest_among i key m None all e = tt
 longest_among i key m (Some x) all e = longest_known i key x.0 all m (sym e)
+
+-- the interface of an object key is one of them
+module _ (i : Interfaces) (key : List ℕ) (all : AllByRecursion (IsKeyOf (length i.names)) i.keys)
+  where
+    of_known : (b : Bool) (j : ℕ) → cond b None
+        (option_or (of_text i (whole_text key)) (longest_front i key (length key))) ≡ Some j →
+        j < length i.names
+    of_known true j e = absurd cc
+    of_known false j e =
+        or_known (length i.names) (of_text i (whole_text key)) (longest_front i key (length key)) j
+        (text_known i (whole_text key) j all) (longest_known i key j all (length key)) e
+
+    known_in : (o : Option ℕ) → of_key i key ≡ o → IfSome o (λ j. j < length i.names)
+    known_in None e = tt
+    known_in (Some j) e = of_known (ltb 128 (length key)) j e
+
+    pub key_known : IfSome (of_key i key) (λ j. j < length i.names)
+    key_known = known_in (of_key i key) refl
+
+-- where there is no KEY, no key has an interface
+text_without : (keys : List (List ℕ × ℕ)) (text : List ℕ) → length keys ≡ 0 →
+    lookup (bytes_eq text) keys ≡ None
+text_without [] text none = refl
+text_without (k ∷ keys) text none = absurd (omega (arith, none))
+
+or_none : (a b : Option ℕ) → a ≡ None → b ≡ None → option_or a b ≡ None
+or_none None b e k = k
+or_none (Some x) b e k = absurd cc
+
+longest_without : (i : Interfaces) (key : List ℕ) → length i.keys ≡ 0 → (n : ℕ) →
+    longest_front i key n ≡ None
+longest_without i key none zero = longest_zero i key ∙ text_without i.keys (front_text []) none
+longest_without i key none (suc n) =
+    longest_suc i key n
+    ∙ or_none (of_text i (front_text (take (suc n) key))) (longest_front i key n)
+    (text_without i.keys (front_text (take (suc n) key)) none) (longest_without i key none n)
+
+pub none_of_key : (i : Interfaces) (key : List ℕ) → length i.keys ≡ 0 → None ≡ of_key i key
+none_of_key i key none = by (ltb 128 (length key))
+  where
+    by : (b : Bool) → None ≡ cond b None
+        (option_or (of_text i (whole_text key)) (longest_front i key (length key)))
+    by true = refl
+    by false = sym (or_none (of_text i (whole_text key)) (longest_front i key (length key))
+        (text_without i.keys (whole_text key) none) (longest_without i key none (length key)))

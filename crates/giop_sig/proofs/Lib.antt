@@ -19,7 +19,6 @@ mod InterfaceLaws
 mod ListNumbers
 mod ListLines
 mod ListEntries
-mod OneToOne
 mod ListKept
 mod OneList
 mod ListOrder

@@ -14,6 +14,7 @@ pub mod Entries
 pub mod InterfaceViews
 pub mod Literals
 pub mod RequestList
+pub mod RequestViews
 pub mod Grammar
 pub mod Scopes
 pub mod Validity

@@ -1,12 +1,13 @@
 -- Request lists: which text is which list of entries, and which operation a list gives for a
 -- request id (docs/FORMATS.md; meaning).
-use Rattle.std.specs.Prelude.{◌≡◌, ℕ, ◌+◌, ◌^◌, ◌<◌, ◌≤◌, ◌==◌, ◌⊎◌, List, [], ◌∷◌, ◌++◌, length, map, filter, Option, Some, None, nat_eq, option_and_then, not, if◌then◌else◌}
+use Rattle.std.specs.Prelude.{◌≡◌, ℕ, ◌+◌, ◌^◌, ◌<◌, ◌≤◌, ◌==◌, ◌&&◌, ◌⊎◌, Bool, IsTrue, IfSome, List, [], ◌∷◌, ◌++◌, length, map, filter, Option, Some, None, nat_eq, option_and_then, not, if◌then◌else◌}
 use Rattle.std.specs.List.{All, list_all, onto_first}
 use Rattle.std.specs.Map.{lookup}
 use Rattle.std.specs.Option.{option_eq, option_map}
 use Rattle.std.specs.Set.{distinct_count}
 use Rattle.std.specs.Str.{bytes_eq}
 use Rattle.std.specs.Fmt.{decimal}
+use Rattle.giop_sig.specs.Table.{Table}
 use Rattle.giop_sig.specs.declared.types.OpId.{OpId}
 use Rattle.giop_sig.specs.declared.fault.ListFaultKind.{ListFaultKind}
 use Rattle.giop_sig.specs.declared.fault.ListFaultKind.TheVariants.{Syntax, Limit, OutOfMemory}
@@ -18,10 +19,15 @@ abbrev pub lines : List ℕ → List (List ℕ)
 lines [] = []
 lines (b ∷ bs) = if b == 10 then [] ∷ lines bs else onto_first b (lines bs)
 
--- one line of a list: a request of this id asked for the operation of this name
+-- what a request asked for: the name of an operation, and perhaps the repository id of an interface
+pub record Asked : Type 0 where
+  pub name : List ℕ
+  pub interface : Option (List ℕ)
+
+-- one line of a list: a request of this id asked for this
 pub record Entry : Type 0 where
   pub id : ℕ
-  pub name : List ℕ
+  pub asked : Asked
 
 -- a printed octet of ASCII, and no space
 abbrev pub IsNameOctet : ℕ → Type 0
@@ -33,62 +39,85 @@ pub record IsName (name : List ℕ) : Type 0 where
   pub short : length name ≤ 128
   pub octets : All IsNameOctet name
 
--- an entry that a line may be
-pub record IsEntry (e : Entry) : Type 0 where
-  pub id : e.id < 2 ^ 32
-  pub name : IsName e.name
+-- `third` says whether a line may have a third word: with a catalogue of version 3
+abbrev pub third_in : Table → Bool
+third_in C = C.version == 3
 
--- the line of an entry: its id in decimal with no leading zero, a space, its name
+-- what an entry may ask for; a repository id is of the octets of a name
+pub record IsAsked (third : Bool) (a : Asked) : Type 0 where
+  pub name : IsName a.name
+  pub interface : IfSome a.interface (λ id. IsTrue third × IsName id)
+
+-- an entry that a line may be
+pub record IsEntry (third : Bool) (e : Entry) : Type 0 where
+  pub id : e.id < 2 ^ 32
+  pub asked : IsAsked third e.asked
+
+-- a name, and perhaps a space and a repository id
+abbrev pub words : List ℕ → Option (List ℕ) → List ℕ
+words name None = name
+words name (Some id) = name ++ 32 ∷ id
+
+-- the line of an entry: its id in decimal with no leading zero, a space, its words
 abbrev pub line_of : Entry → List ℕ
-line_of e = decimal e.id ++ 32 ∷ e.name
+line_of e = decimal e.id ++ 32 ∷ words e.asked.name e.asked.interface
 
 -- the line is some entry's
-abbrev pub IsEntryLine : List ℕ → Type 0
-IsEntryLine line = (e : Entry) × IsEntry e × (line ≡ line_of e)
+abbrev pub IsEntryLine : Bool → List ℕ → Type 0
+IsEntryLine third line = (e : Entry) × IsEntry third e × (line ≡ line_of e)
 
 -- the text is the list of these entries
-pub record Lists (text : List ℕ) (es : List Entry) : Type 0 where
+pub record Lists (third : Bool) (text : List ℕ) (es : List Entry) : Type 0 where
   pub octets : length text ≤ 16777216
   pub count : length es ≤ 65536
-  pub entries : All IsEntry es
+  pub entries : All (IsEntry third) es
   pub spelled : lines text ≡ map line_of es
 
 -- ---- the refusals
 
 -- the lines before this one, the k-th, are entries
-pub record ReachesLine (text : List ℕ) (es : List Entry) (line : List ℕ) (k : ℕ) : Type 0 where
+pub record ReachesLine (third : Bool) (text : List ℕ) (es : List Entry) (line : List ℕ)
+    (k : ℕ) : Type 0 where
   pub octets : length text ≤ 16777216
-  pub entries : All IsEntry es
+  pub entries : All (IsEntry third) es
   pub rest : (after : List (List ℕ)) × (lines text ≡ map line_of es ++ line ∷ after)
   pub number : k ≡ length es + 1
 
 -- the first line refused is the k-th, and this is why: it is no entry, or the text is too long, or
 -- the line is an entry too many
-abbrev pub IsRefusedAs : List ℕ → ℕ → ListFaultKind → Type 0
-IsRefusedAs text k Syntax =
-    (es : List Entry) × (line : List ℕ) × ReachesLine text es line k
-    × (length es ≤ 65536) × ¬ (IsEntryLine line)
-IsRefusedAs text k Limit =
+abbrev pub IsRefusedAs : Bool → List ℕ → ℕ → ListFaultKind → Type 0
+IsRefusedAs third text k Syntax =
+    (es : List Entry) × (line : List ℕ) × ReachesLine third text es line k
+    × (length es ≤ 65536) × ¬ (IsEntryLine third line)
+IsRefusedAs third text k Limit =
     ((16777216 < length text) × (k ≡ 1))
-    ⊎ ((es : List Entry) × (line : List ℕ) × ReachesLine text es line k
-    × (length es ≡ 65536) × IsEntryLine line)
-IsRefusedAs text k OutOfMemory = k ≡ 0
+    ⊎ ((es : List Entry) × (line : List ℕ) × ReachesLine third text es line k
+    × (length es ≡ 65536) × IsEntryLine third line)
+IsRefusedAs third text k OutOfMemory = k ≡ 0
 
 -- ---- the operation of an id
 
--- the names that the entries of an id have
-abbrev pub names_of : List Entry → ℕ → List (List ℕ)
-names_of es id = map (λ e. e.name) (filter (λ e. id == e.id) es)
+-- what the entries of an id ask for
+abbrev pub asked_of : List Entry → ℕ → List Asked
+asked_of es id = map (λ e. e.asked) (filter (λ e. id == e.id) es)
 
--- the one name that all of these are
-abbrev pub the_one : List (List ℕ) → Option (List ℕ)
+-- the same name, and the same interface or none
+abbrev pub same_asked : Asked → Asked → Bool
+same_asked a b = bytes_eq a.name b.name && option_eq bytes_eq a.interface b.interface
+
+-- the one that all of these are
+abbrev pub the_one : List Asked → Option Asked
 the_one [] = None
-the_one (name ∷ names) = if list_all (bytes_eq name) names then Some name else None
+the_one (a ∷ others) = if list_all (same_asked a) others then Some a else None
 
--- the operation of an id: that of the one name that all its entries have, where find gives an
--- operation's number by its name
-abbrev pub operation_of : (List ℕ → Option ℕ) → List Entry → ℕ → Option ℕ
-operation_of find es id = option_and_then find (the_one (names_of es id))
+-- gives the number of the operation of a name and of an interface by its repository id, or of none
+abbrev pub Find : Type 0
+Find = List ℕ → Option (List ℕ) → Option ℕ
+
+-- the operation of an id: that of the one name, and the one interface or none, that all its entries
+-- have
+abbrev pub operation_of : Find → List Entry → ℕ → Option ℕ
+operation_of find es id = option_and_then (λ a. find a.name a.interface) (the_one (asked_of es id))
 
 -- ---- what is stored of a list: the ids, each once, with their operations
 
@@ -109,19 +138,27 @@ ids_of (e ∷ es) = e.id ∷ filter (λ id. not (id == e.id)) (ids_of es)
 abbrev pub as_operation : ℕ → OpId
 as_operation k = record { 0 = k }
 
--- what is stored of a list, by find: these ids, each with the operation of the one name that all
--- its entries have
-abbrev pub kept_of : (List ℕ → Option ℕ) → List Entry → List (ℕ × Option OpId)
+-- these ids, each with the one that all its entries ask for
+abbrev pub asked_by : List Entry → List (ℕ × Option Asked)
+asked_by es = map (λ id. (id, the_one (asked_of es id))) (ids_of es)
+
+-- an id with the operation of what is asked for with it, by find
+abbrev pub found_of : Find → ℕ × Option Asked → ℕ × Option OpId
+found_of find e =
+    (e.0, option_map as_operation (option_and_then (λ a. find a.name a.interface) e.1))
+
+-- what is stored of a list, by find: its ids, each with its operation
+abbrev pub kept_of : Find → List Entry → List (ℕ × Option OpId)
 kept_of find es = map (λ id. (id, option_map as_operation (operation_of find es id))) (ids_of es)
 
 -- what is stored gives the same operations as the list, by find
-pub record IsOf (find : List ℕ → Option ℕ) (es : List Entry)
-    (kept : List (ℕ × Option OpId)) : Type 0 where
+pub record IsOf (find : Find) (es : List Entry) (kept : List (ℕ × Option OpId)) : Type 0 where
   pub operation : (id : ℕ) → option_map (λ o. o.0) (kept_operation kept id)
       ≡ operation_of find es id
   pub count : length kept ≡ distinct_count nat_eq (map (λ e. e.id) es)
 
--- what is stored with an id after one more entry, for whose name this operation was found
-abbrev pub joined : Option (Option OpId) → Option OpId → Option OpId
-joined None found = found
-joined (Some kept) found = if option_eq (λ a b. a.0 == b.0) kept found then found else None
+-- the one that all entries of an id ask for, after one more entry
+abbrev pub joined : Option (Option Asked) → Asked → Option Asked
+joined None a = Some a
+joined (Some None) a = None
+joined (Some (Some b)) a = if same_asked b a then Some b else None

@@ -4,7 +4,7 @@ use Rattle.std.specs.Prelude.{ℕ, zero, suc, nat_lt, ◌+◌, ◌/◌, ◌%◌,
 use Rattle.std.specs.Ordering.{int_eq}
 use mathlib.Core.Bool.{beq}
 use Rattle.std.specs.List.{list_any, All}
-use Rattle.std.specs.Option.{option_map}
+use Rattle.std.specs.Option.{option_map, option_and_then}
 use Rattle.std.specs.Str.{bytes_eq}
 use Rattle.giop_cdr.specs.declared.prim.Primitive.{Primitive}
 use Rattle.giop_cdr.specs.declared.prim.Primitive.TheVariants as prims
@@ -234,9 +234,23 @@ operation_for t name (Some i) =
 abbrev pub interface_id : ℕ → InterfaceId
 interface_id i = record { 0 = i }
 
+-- the interface of a repository id
+abbrev pub named_interface : Table → List ℕ → Option InterfaceId
+named_interface t id = option_map interface_id (position (bytes_eq id) t.interfaces.names)
+
+-- the number of the operation of a name and of an interface by its repository id, or of none; an
+-- interface that the table doesn't have is none
+abbrev pub asked_number : Table → List ℕ → Option (List ℕ) → Option ℕ
+asked_number t name id =
+    option_map (λ o. o.0) (operation_for t name (option_and_then (named_interface t) id))
+
 -- the interface of an object key
 abbrev pub interface_in : Table → List ℕ → Option InterfaceId
 interface_in t key = option_map interface_id (of_key t.interfaces key)
+
+-- whether there is a KEY
+abbrev pub has_keys : Table → Bool
+has_keys t = nat_lt 0 (length t.interfaces.keys)
 
 -- the repository id of an interface
 abbrev pub interface_name : Table → ℕ → List ℕ

@@ -1,10 +1,10 @@
 //! The catalogue: the types of a signature file with the built-in ones, and its operations and exceptions by name.
-ghost use Rattle.std.specs.Prelude.{◌≡◌, ℕ, suc, ◌+◌, ◌^◌, ◌<◌, ◌≤◌, ◌++◌, ◌↔◌, codes, drop, nat_le, length, IsTrue, IfSome, IfOk, IfErr, OnOk, OnErr, None, MatchOption};
+ghost use Rattle.std.specs.Prelude.{◌≡◌, ℕ, suc, ◌+◌, ◌^◌, ◌<◌, ◌≤◌, ◌++◌, ◌↔◌, List, false, codes, drop, nat_le, length, IsTrue, IfSome, IfOk, IfErr, OnOk, OnErr, None, MatchOption};
 ghost use Rattle.std.specs.Option.{option_map};
 ghost use Rattle.giop_sig.specs.Types.{sequel, depth, part_of, name_in, enum_name_in, switch_of, select_in, interpreted_in, shape_in, HasShape, HasMember, HasPlace, HasInner, IsUnion};
 ghost use Rattle.giop_sig.specs.Fits.{IsFit, IsRoot};
 ghost use Rattle.giop_sig.specs.Interfaces.{IsInterfaceOf};
-ghost use Rattle.giop_sig.specs.Table.{node_at, shape_of, part_number, part_at, name_of, name_at, switch_at, selected, op_id, operation_key, keyed_number, operation_in, operation_for, interface_in, interface_name, operation_at, exception_in, identified_in, IsFormed, with_type, with_declared, with_operation, with_exception};
+ghost use Rattle.giop_sig.specs.Table.{node_at, shape_of, part_number, part_at, name_of, name_at, switch_at, selected, op_id, operation_key, keyed_number, operation_in, operation_for, interface_in, has_keys, named_interface, interface_name, operation_at, exception_in, identified_in, IsFormed, with_type, with_declared, with_operation, with_exception};
 ghost use Rattle.giop_sig.specs.Trees.{tree, tree_at, grow, catalogue_depth, depth_in, part_number_in};
 ghost use Rattle.giop_sig.specs.HeaderTypes.{header_number, header_type, fixed_number, fixed_type, IdStandsFirst, BeginsWithId, IsTable};
 
@@ -344,6 +344,14 @@ impl Catalogue {
         self.interfaces.of_key(key)
     }
 
+    /// The interface of a repository id. It takes no memory; an id of more than 128 octets has none.
+    pub fn named_interface(&self, id: &[u8]) -> Option<InterfaceId>
+        ensures is { result ≡ named_interface self.now id.now }
+        ensures known { IfSome result (λ i. i.0 < length self.now.interfaces.names) }
+    {
+        self.interfaces.named(id)
+    }
+
     /// The repository id of an interface.
     pub fn interface_name(&self, interface: InterfaceId) -> &[u8]
         requires { interface.0 < length self.now.interfaces.names }
@@ -351,6 +359,31 @@ impl Catalogue {
         ensures short { length result.now ≤ 128 }
     {
         self.interfaces.name(interface)
+    }
+
+    /// Whether there is a KEY: if not, no object key has an interface.
+    #[inline(always)]
+    pub fn has_keys(&self) -> bool
+        ensures is { result ≡ has_keys self.now }
+        ensures none { result ≡ false → (key : List ℕ) → interface_in self.now key ≡ None }
+    {
+        0 < self.interfaces.keys_len()
+    }
+
+    /// Whether there is an interface of this number.
+    pub fn has_interface(&self, interface: InterfaceId) -> bool
+        ensures { IsTrue result ↔ (interface.0 < length self.now.interfaces.names) }
+    {
+        (interface.0 as usize) < self.interfaces.len()
+    }
+
+    /// The interface of an object key is one of the catalogue's. It has no body, and is called for its contract.
+    #[inline(always)]
+    pub fn interface_laws(&self)
+        ensures { (key : List ℕ) → IfSome (interface_in self.now key)
+            (λ i. i.0 < length self.now.interfaces.names) }
+    {
+        self.interfaces.laws();
     }
 
     /// The struct of the exception with a repository id. It takes no memory; an id of more than 128 octets has none.

@@ -6,7 +6,7 @@ use thiserror::Error;
 /// The rule that a request list breaks. `Display` is the word that the program prints.
 #[derive(Clone, Copy, Debug, Drop, PartialEq, Eq, Error)]
 pub enum ListFaultKind {
-    /// The line is no entry: an id, a space and a name.
+    /// The line is no entry: an id, a name, and perhaps an interface, a space between two of them.
     #[error("syntax")]
     Syntax = 1,
     /// The text has more octets, or more entries, than a list may have.

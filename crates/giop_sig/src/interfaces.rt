@@ -1,8 +1,9 @@
 //! The interfaces of a signature file, and whose an object key is.
-ghost use Rattle.std.specs.Prelude.{◌≡◌, ◌⊎◌, ◌<◌, ◌≤◌, ◌++◌, ◌∷◌, [], true, length, slice_index_or, IfErr, IfSome, OnOk, None};
+ghost use Rattle.std.specs.Prelude.{◌≡◌, ℕ, List, ◌⊎◌, ◌<◌, ◌≤◌, ◌++◌, ◌∷◌, [], true, length, slice_index_or, position, IfErr, IfSome, OnOk, None};
 ghost use Rattle.std.specs.List.{list_any};
 ghost use Rattle.std.specs.Option.{option_map, is_some};
 ghost use Rattle.std.specs.Str.{bytes_eq};
+ghost use Rattle.giop_sig.specs.Table.{interface_id};
 ghost use Rattle.giop_sig.specs.Interfaces.{no_interfaces, digit, hex, whole_text, front_text, is_digit, digits_of, is_key, number_of, with_interface, with_key, of_text, longest_front, of_key};
 
 use crate::catalogue::Name;
@@ -15,6 +16,8 @@ use std::marker::Model;
 
 /// The most octets of an object key that has an interface.
 const OBJECT_KEY_MAX: usize = 128;
+/// The most octets of a repository id.
+const ID_MAX: usize = 128;
 /// The most octets of a key alone, in a KEY of 128 octets; a front has fewer.
 const WHOLE_MAX: usize = 64;
 /// How many sizes a KEY can have, in octets of a key.
@@ -120,6 +123,21 @@ impl InterfaceTable {
         }
     }
 
+    /// The interface of a repository id.
+    pub(crate) fn named(&self, id: &[u8]) -> Option<InterfaceId>
+        ensures is { result ≡ option_map interface_id (position (bytes_eq id.now) self.now.names) }
+        ensures known { IfSome result (λ i. i.0 < length self.now.names) }
+    {
+        // What holds of every table of interfaces is known of this one once it is read.
+        let names = &self.names;
+        if id.len() > ID_MAX {
+            return None;
+        }
+        let key: Name = ArrayVec::try_from(id).unwrap();
+        let place = names.get_index_of(&key)?;
+        Some(InterfaceId(place as u32))
+    }
+
     /// How many interfaces there are.
     pub(crate) fn len(&self) -> usize
         ensures { result ≡ length self.now.names }
@@ -203,6 +221,15 @@ impl InterfaceTable {
         Ok(())
     }
 
+    /// The interface of an object key is one of the table's. It has no body, and is called for its contract.
+    #[inline(always)]
+    pub(crate) fn laws(&self)
+        ensures { (key : List ℕ) → IfSome (of_key self.now key) (λ i. i < length self.now.names) }
+    {
+        // What holds of every table of interfaces is known of this one once it is read.
+        let _keys = &self.keys;
+    }
+
     /// The interface of a KEY.
     pub(crate) fn of_text(&self, text: &Name) -> Option<InterfaceId>
         ensures { option_map (λ i. i.0) result ≡ of_text self.now text.now.items }
@@ -257,6 +284,9 @@ impl InterfaceTable {
     {
         // What holds of every table of interfaces is known of this one once it is read.
         let _keys = &self.keys;
+        if self.keys_len() == 0 {
+            return None;
+        }
         if key.len() > OBJECT_KEY_MAX {
             return None;
         }

@@ -1,11 +1,14 @@
 //! Request lists: which operation the replies of an id answer (docs/FORMATS.md).
-ghost use Rattle.std.specs.Prelude.{◌≡◌, ℕ, ◌<◌, ◌≤◌, ◌^◌, List, length, IsTrue, ◌↔◌, MatchOption, IfOk, IfErr, IfSome, ◌∷◌, []};
-ghost use Rattle.std.specs.Option.{option_copied};
+ghost use Rattle.std.specs.Prelude.{◌≡◌, ℕ, Bool, ◌<◌, ◌≤◌, ◌^◌, List, length, map, Option, IsTrue, ◌↔◌, MatchOption, option_and_then, IfOk, IfErr, IfSome, ◌∷◌, [], nat_eq};
+ghost use Rattle.std.specs.HashMap.{IsUnique};
+ghost use Rattle.std.specs.Option.{option_copied, option_map};
 ghost use Rattle.std.specs.Fmt.{decimal};
-ghost use Rattle.giop_sig.specs.Table.{operation_number};
-ghost use Rattle.giop_sig.specs.RequestList.{lines, IsName, IsEntry, IsEntryLine, line_of, Lists, IsRefusedAs, IsOf, kept_of, kept_operation, Entry, joined};
+ghost use Rattle.giop_sig.specs.Table.{asked_number};
+ghost use Rattle.giop_sig.specs.RequestList.{lines, words, IsName, IsAsked, IsEntry, IsEntryLine, line_of, Lists, IsRefusedAs, IsOf, kept_of, kept_operation, found_of, third_in, same_asked, asked_by, Entry, joined};
+ghost use Rattle.giop_sig.specs.RequestViews.{words_view, asked_view};
 
 use crate::catalogue::Catalogue;
+use crate::draft::THIRD_VERSION;
 use crate::fault::{ListFault, ListFaultKind};
 use crate::types::OpId;
 use indexmap::IndexMap;
@@ -56,43 +59,97 @@ fn number(digits: &[u8]) -> Option<u32>
     u32::try_from(n).ok()
 }
 
-/// Whether this can be an operation's name: 1 to 128 printed octets of ASCII, none of them a space.
+/// Whether this can be a name or a repository id: 1 to 128 printed octets of ASCII, none of them a space.
 fn is_name(name: &[u8]) -> bool
     ensures { IsTrue result ↔ IsName name.now }
 {
     !name.is_empty() && name.len() <= NAME_MAX && name.iter().all(|b| *b >= 33 && *b <= 126)
 }
 
-/// The id and the name of the entry that a line is.
-fn entry(line: &[u8]) -> Option<(u32, &[u8])>
+/// The words of an entry after its id: the name of an operation, and perhaps the repository id of an interface.
+#[derive(Clone, Copy)]
+struct Words<'a> {
+    name: &'a [u8],
+    interface: Option<&'a [u8]>,
+}
+
+/// The words that a text is, with a space between two; `third` says whether there may be two.
+fn words_of(text: &[u8], third: bool) -> Option<Words<'_>>
     ensures { MatchOption result
-        (¬ (IsEntryLine line.now))
-        (λ x. IsEntry (record { id = x.0; name = x.1.now })
-        × (line.now ≡ line_of (record { id = x.0; name = x.1.now }))) }
+        ((name : List ℕ) (id : Option (List ℕ)) → text.now ≡ words name id
+        → IsAsked third (record { name = name; interface = id }) → ⊥)
+        (λ w. IsAsked third (words_view w)
+        × (text.now ≡ words (words_view w).name (words_view w).interface)) }
 {
-    let space = line.iter().position(|b| *b == b' ')?;
-    let id = number(&line[..space])?;
-    let name = &line[space + 1..];
-    if is_name(name) {
-        Some((id, name))
-    } else {
-        None
+    match text.iter().position(|b| *b == b' ') {
+        None => {
+            if !is_name(text) {
+                return None;
+            }
+            Some(Words {
+                name: text,
+                interface: None,
+            })
+        }
+        Some(space) => {
+            let (name, id) = (&text[..space], &text[space + 1..]);
+            if !(third && is_name(name) && is_name(id)) {
+                return None;
+            }
+            Some(Words {
+                name,
+                interface: Some(id),
+            })
+        }
     }
 }
 
-/// The operation stored with an id, after one more of its entries with the operation found for that.
-fn joined(kept: Option<&Option<OpId>>, found: Option<OpId>) -> Option<OpId>
-    ensures { result ≡ joined (option_copied kept.entry) found }
+/// The id and the words of the entry that a line is.
+fn entry(line: &[u8], third: bool) -> Option<(u32, Words<'_>)>
+    ensures { MatchOption result
+        (¬ (IsEntryLine third line.now))
+        (λ x. IsEntry third (record { id = x.0; asked = words_view x.1 })
+        × (line.now ≡ line_of (record { id = x.0; asked = words_view x.1 }))) }
+{
+    let space = line.iter().position(|b| *b == b' ')?;
+    let id = number(&line[..space])?;
+    Some((id, words_of(&line[space + 1..], third)?))
+}
+
+/// Whether these are the same words.
+fn is_same(a: &Words<'_>, b: &Words<'_>) -> bool
+    ensures { result ≡ same_asked (words_view a.now) (words_view b.now) }
+{
+    match (a.interface, b.interface) {
+        (None, None) => a.name == b.name,
+        (Some(x), Some(y)) => a.name == b.name && x == y,
+        _ => false,
+    }
+}
+
+/// The words that all entries of an id have, after one more of them.
+fn joined<'a>(kept: Option<&Option<Words<'a>>>, words: Words<'a>) -> Option<Words<'a>>
+    ensures { option_map words_view result
+        ≡ joined (option_map (option_map words_view) (option_copied kept.entry))
+        (words_view words.entry) }
 {
     match kept {
-        None => found,
-        Some(kept) => { if *kept == found { found } else { None } }
+        None => Some(words),
+        Some(None) => None,
+        Some(Some(kept)) => {
+            if is_same(kept, &words) {
+                Some(*kept)
+            } else {
+                None
+            }
+        }
     }
 }
 
 /// A text is one list at most.
 pub fn one_list()
-    ensures { (text : List ℕ) (es fs : List Entry) → Lists text es → Lists text fs → es ≡ fs }
+    ensures { (third : Bool) (text : List ℕ) (es fs : List Entry)
+        → Lists third text es → Lists third text fs → es ≡ fs }
 {}
 
 /// Which operation the replies of an id answer.
@@ -115,24 +172,27 @@ impl Model for Requests {
 }
 
 impl Requests {
-    /// Reads a list. `catalogue` knows the operations; the list may name others.
+    /// Reads a list. `catalogue` knows the operations and interfaces; the list may name others. If its version is 3, a line
+    /// may have a third word.
     pub fn parse(alloc: Global, text: &[u8], catalogue: &Catalogue) -> Result<Requests, ListFault>
         // The stored operations are those of the list that the text is.
         ensures ok { IfOk result (λ kept.
-            (es : List Entry) × Lists text.now es × IsOf (operation_number catalogue.now) es kept) }
+            (es : List Entry) × Lists (third_in catalogue.now) text.now es
+            × IsOf (asked_number catalogue.now) es kept) }
         // A refusal, unless for memory, is at the first line that is wrong.
-        ensures err { IfErr result (λ f. IsRefusedAs text.now f.line f.kind) }
+        ensures err { IfErr result (λ f.
+            IsRefusedAs (third_in catalogue.now) text.now f.line f.kind) }
         // They are a function of its entries, so that a list that is read once more gives the same.
-        ensures same { (es : List Entry) → Lists text.now es
-            → IfOk result (λ kept. kept ≡ kept_of (operation_number catalogue.now) es) }
+        ensures same { (es : List Entry) → Lists (third_in catalogue.now) text.now es
+            → IfOk result (λ kept. kept ≡ kept_of (asked_number catalogue.now) es) }
         // A list is refused for want of memory alone.
-        ensures only { (es : List Entry) → Lists text.now es
+        ensures only { (es : List Entry) → Lists (third_in catalogue.now) text.now es
             → IfErr result (λ f. f.kind ≡ ListFaultKind.OutOfMemory) }
     {
         read(alloc, text, catalogue)
     }
 
-    /// The catalogue's operation of the one name that all entries of the id have.
+    /// The catalogue's operation of the one name, and the one interface or none, that all entries of the id have.
     pub fn operation(&self, id: u32) -> Option<OpId>
         ensures { result ≡ kept_operation self.now id }
     {
@@ -147,12 +207,29 @@ impl Requests {
     }
 }
 
-/// Reads a list, line by line.
+/// Reads a list.
 fn read(alloc: Global, text: &[u8], catalogue: &Catalogue) -> Result<Requests, ListFault>
     ensures ok { IfOk result (λ kept.
-        (es : List Entry) × Lists text.now es × IsOf (operation_number catalogue.now) es kept
-        × (kept ≡ kept_of (operation_number catalogue.now) es)) }
-    ensures err { IfErr result (λ f. IsRefusedAs text.now f.line f.kind) }
+        (es : List Entry) × Lists (third_in catalogue.now) text.now es
+        × IsOf (asked_number catalogue.now) es kept
+        × (kept ≡ kept_of (asked_number catalogue.now) es)) }
+    ensures err { IfErr result (λ f. IsRefusedAs (third_in catalogue.now) text.now f.line f.kind) }
+{
+    let asked = read_lines(alloc, text, catalogue.version() == THIRD_VERSION)?;
+    let table = look_up(alloc, &asked, catalogue)?;
+    Ok(Requests { table })
+}
+
+/// Reads a list, line by line: what is asked for with each id.
+fn read_lines(
+    alloc: Global,
+    text: &[u8],
+    third: bool,
+) -> Result<IndexMap<u32, Option<Words<'_>>>, ListFault>
+    ensures ok { IfOk result (λ asked. (es : List Entry) × Lists third text.now es
+        × (map asked_view asked.entries ≡ asked_by es)) }
+    ensures unique { IfOk result (λ asked. IsUnique nat_eq asked) }
+    ensures err { IfErr result (λ f. IsRefusedAs third text.now f.line f.kind) }
 {
     if text.len() > TEXT_MAX {
         return Err(ListFault {
@@ -160,11 +237,11 @@ fn read(alloc: Global, text: &[u8], catalogue: &Catalogue) -> Result<Requests, L
             kind: ListFaultKind::Limit,
         });
     }
-    let mut table = IndexMap::new(alloc);
+    let mut asked: IndexMap<u32, Option<Words<'_>>> = IndexMap::new(alloc);
     let mut rest = text;
     let mut count: u32 = 0;
     while let Some((line, after)) = first_line(rest) {
-        let Some((id, name)) = entry(line) else {
+        let Some((id, words)) = entry(line, third) else {
             return Err(ListFault {
                 line: count + 1,
                 kind: ListFaultKind::Syntax,
@@ -176,10 +253,41 @@ fn read(alloc: Global, text: &[u8], catalogue: &Catalogue) -> Result<Requests, L
                 kind: ListFaultKind::Limit,
             });
         }
-        let kept = joined(table.get(&id), catalogue.operation(name));
-        table.insert(id, kept)?;
+        let one = joined(asked.get(&id), words);
+        asked.insert(id, one)?;
         count += 1;
         rest = after;
     }
-    Ok(Requests { table })
+    Ok(asked)
+}
+
+/// The operation that is asked for by these words, if there are any.
+fn found(catalogue: &Catalogue, words: Option<Words<'_>>) -> Option<OpId>
+    ensures { option_map (λ o. o.0) result
+        ≡ option_and_then (λ a. asked_number catalogue.now a.name a.interface)
+        (option_map words_view words.entry) }
+{
+    let words = words?;
+    let interface = match words.interface {
+        None => None,
+        Some(id) => catalogue.named_interface(id),
+    };
+    catalogue.operation_for(words.name, interface)
+}
+
+/// Looks up the operation of each id.
+fn look_up(
+    alloc: Global,
+    asked: &IndexMap<u32, Option<Words<'_>>>,
+    catalogue: &Catalogue,
+) -> Result<IndexMap<u32, Option<OpId>>, ListFault>
+    ensures ok { IfOk result (λ table. table.entries
+        ≡ map (found_of (asked_number catalogue.now)) (map asked_view asked.now.entries)) }
+    ensures err { IfErr result (λ f. (f.line ≡ 0) × (f.kind ≡ ListFaultKind.OutOfMemory)) }
+{
+    let mut table = IndexMap::new(alloc);
+    for (id, words) in asked.iter() {
+        table.insert(*id, found(catalogue, *words))?;
+    }
+    Ok(table)
 }

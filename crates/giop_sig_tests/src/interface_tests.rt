@@ -1,6 +1,6 @@
 //! Operations by interface: whose an object key is, and which operation has a name there.
 
-use giop_sig::{Catalogue, OpId};
+use giop_sig::{Catalogue, InterfaceId, OpId};
 use std::process::Abort;
 use std::test::Fail;
 
@@ -51,6 +51,22 @@ fn keys_are_found(rt: &impl Abort, catalogue: &Catalogue) {
     }
     assert!(rt; id_of(catalogue, &[b's'; 128]) == b"IDL:Stock:1.0".as_slice());
     assert!(rt; catalogue.interface(&[b's'; 129]).is_none());
+}
+
+#[test]
+fn an_interface_is_found_by_its_repository_id(rt: HostRuntime) -> Result<(), Fail> {
+    ids_are_found(&rt, &Catalogue::parse_types(rt.alloc(), FILE)?);
+    Ok(())
+}
+
+fn ids_are_found(rt: &impl Abort, catalogue: &Catalogue) {
+    let ids: [&[u8]; 3] = [b"IDL:Orders:1.0", b"IDL:Stock:1.0", b"IDL:Store:1.0"];
+    for number in 0..3_u32 {
+        let found = catalogue.named_interface(ids[number as usize]);
+        assert!(rt; found == Some(InterfaceId(number)), "{number}");
+    }
+    assert!(rt; catalogue.named_interface(b"orders").is_none());
+    assert!(rt; catalogue.named_interface(&[b's'; 129]).is_none());
 }
 
 /// The repository id of the interface of an object key.

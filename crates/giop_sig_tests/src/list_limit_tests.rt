@@ -62,28 +62,39 @@ fn add_entries(times: usize, last: &[u8], text: &mut Vec<u8>) -> Result<(), Allo
 
 /// Expects a name of 128 octets, and that one of 129 is refused.
 fn expect_names(rt: &(impl Abort + AllocGlobal), catalogue: &Catalogue) -> Result<(), Fail> {
-    expect_name(rt, catalogue, 128, "1")?;
-    expect_name(rt, catalogue, 129, "1 syntax")
+    expect_word(rt, catalogue, b"1 ", 128, "1")?;
+    expect_word(rt, catalogue, b"1 ", 129, "1 syntax")
 }
 
-fn expect_name(
+/// Expects what is told of an entry that ends with a word of so many octets.
+fn expect_word(
     rt: &(impl Abort + AllocGlobal),
     catalogue: &Catalogue,
+    front: &[u8],
     size: usize,
     want: &str,
 ) -> Result<(), Fail> {
     let mut text = Vec::new(rt.alloc());
-    add_name(size, &mut text)?;
+    add_word(front, size, &mut text)?;
     expect_told(rt, catalogue, &text, want);
     Ok(())
 }
 
-/// Adds an entry with a name of so many octets.
-fn add_name(size: usize, text: &mut Vec<u8>) -> Result<(), AllocError> {
-    text.extend_from_slice(b"1 ")?;
+fn add_word(front: &[u8], size: usize, text: &mut Vec<u8>) -> Result<(), AllocError> {
+    text.extend_from_slice(front)?;
     add_times(b"n", size, text)?;
     text.push(b'\n')?;
     Ok(())
+}
+
+#[test]
+fn an_interface_has_at_most_128_octets(rt: HostRuntime) -> Result<(), Fail> {
+    expect_interfaces(&rt, &Catalogue::parse_types(rt.alloc(), b"signatures 3;")?)
+}
+
+fn expect_interfaces(rt: &(impl Abort + AllocGlobal), catalogue: &Catalogue) -> Result<(), Fail> {
+    expect_word(rt, catalogue, b"7 get ", 128, "1")?;
+    expect_word(rt, catalogue, b"7 get ", 129, "1 syntax")
 }
 
 /// Expects which rule refuses a text of 16,777,216 octets, and one of more.

@@ -1,34 +1,100 @@
 //! Request lists: which texts are lists, what they say, and which line of the others is refused.
 
-use crate::list_rows::{READ, REFUSED};
+use crate::list_rows::{READ, REFUSED, THIRD_READ, THIRD_REFUSED};
 use crate::rows::{are_numbers, list_differs, row_of};
-use giop_sig::{Catalogue, ListFault, ListFaultKind, OpId, Requests, SigFault, one_list};
-use std::alloc::Global;
+use giop_sig::{Catalogue, ListFault, ListFaultKind, OpId, Requests, one_list};
 use std::process::Abort;
 use std::test::Fail;
 
-/// The operations `ask` and `nop`.
-fn ask_and_nop(alloc: Global) -> Result<Catalogue, SigFault> {
-    Catalogue::parse(
-        alloc,
-        b"signatures 1; operation void ask(); operation void nop();",
-    )
+/// The operations `ask` and `nop`, in a version. What a function answers stands in no goal of its callers, as a static would.
+fn ask_and_nop(version: u32) -> &'static [u8] {
+    match version {
+        1 => b"signatures 1; operation void ask(); operation void nop();",
+        2 => b"signatures 2; operation void ask(); operation void nop();",
+        _ => b"signatures 3; operation void ask(); operation void nop();",
+    }
+}
+
+/// Operations of one name, of interfaces and of none.
+fn gets() -> &'static [u8] {
+    b"signatures 3;\n\
+    operation void get(in ulonglong id) of \"IDL:A:1.0\";\n\
+    operation void get(in string name) of \"IDL:B:1.0\", \"IDL:C:1.0\";\n\
+    operation void get(); operation void put() of \"IDL:A:1.0\"; operation void nop();"
+}
+
+fn third_read() -> &'static [u8] {
+    THIRD_READ
+}
+
+fn third_refused() -> &'static [u8] {
+    THIRD_REFUSED
 }
 
 #[test]
 fn a_list_says_the_operation_of_each_id_or_its_first_wrong_line(
     rt: HostRuntime,
 ) -> Result<(), Fail> {
-    are_told(&rt, &ask_and_nop(rt.alloc())?)
+    for version in 1..4_u32 {
+        version_tells(&rt, version)?;
+    }
+    Ok(())
+}
+
+fn version_tells(rt: &(impl Abort + AllocGlobal), version: u32) -> Result<(), Fail> {
+    are_told(
+        rt,
+        &Catalogue::parse_types(rt.alloc(), ask_and_nop(version))?,
+    )
+}
+
+#[test]
+fn a_third_word_is_an_interface_in_version_3(rt: HostRuntime) -> Result<(), Fail> {
+    has_third_words(&rt, &Catalogue::parse_types(rt.alloc(), gets())?)
+}
+
+#[test]
+fn no_list_has_a_third_word_without_a_file(rt: HostRuntime) -> Result<(), Fail> {
+    has_none(&rt, &Catalogue::builtin(rt.alloc())?)
+}
+
+#[test]
+fn no_list_has_a_third_word_in_versions_1_and_2(rt: HostRuntime) -> Result<(), Fail> {
+    version_has_none(&rt, 1)?;
+    version_has_none(&rt, 2)
+}
+
+fn version_has_none(rt: &(impl Abort + AllocGlobal), version: u32) -> Result<(), Fail> {
+    has_none(
+        rt,
+        &Catalogue::parse_types(rt.alloc(), ask_and_nop(version))?,
+    )
+}
+
+fn has_third_words(rt: &(impl Abort + AllocGlobal), catalogue: &Catalogue) -> Result<(), Fail> {
+    are_read(rt, catalogue, third_read())?;
+    are_refused(rt, catalogue, third_refused())
+}
+
+fn has_none(rt: &(impl Abort + AllocGlobal), catalogue: &Catalogue) -> Result<(), Fail> {
+    for row in third_read().split(|octet| *octet == b'=') {
+        let differs = list_differs(rt.alloc(), row_of(row)?.1, catalogue, "1 syntax");
+        assert!(rt; differs.is_empty(), "{differs}: {row:?}");
+    }
+    Ok(())
 }
 
 fn are_told(rt: &(impl Abort + AllocGlobal), catalogue: &Catalogue) -> Result<(), Fail> {
-    are_read(rt, catalogue)?;
-    are_refused(rt, catalogue)
+    are_read(rt, catalogue, READ)?;
+    are_refused(rt, catalogue, REFUSED)
 }
 
-fn are_read(rt: &(impl Abort + AllocGlobal), catalogue: &Catalogue) -> Result<(), Fail> {
-    for row in READ.split(|octet| *octet == b'=') {
+fn are_read(
+    rt: &(impl Abort + AllocGlobal),
+    catalogue: &Catalogue,
+    rows: &[u8],
+) -> Result<(), Fail> {
+    for row in rows.split(|octet| *octet == b'=') {
         let (want, text) = row_of(row)?;
         is_read(rt, catalogue, text, want)?;
     }
@@ -60,8 +126,12 @@ fn says(list: &Requests, want: &str) -> bool {
     }
 }
 
-fn are_refused(rt: &(impl Abort + AllocGlobal), catalogue: &Catalogue) -> Result<(), Fail> {
-    for row in REFUSED.split(|octet| *octet == b'=') {
+fn are_refused(
+    rt: &(impl Abort + AllocGlobal),
+    catalogue: &Catalogue,
+    rows: &[u8],
+) -> Result<(), Fail> {
+    for row in rows.split(|octet| *octet == b'=') {
         let (want, text) = row_of(row)?;
         let differs = list_differs(rt.alloc(), text, catalogue, want);
         assert!(rt; differs.is_empty(), "{differs}, not {want}: {text:?}");
@@ -72,7 +142,7 @@ fn are_refused(rt: &(impl Abort + AllocGlobal), catalogue: &Catalogue) -> Result
 /// Run with each allocation refused in turn, this finds an answer that is neither the usual nor the refusal.
 #[test]
 fn want_of_memory_is_refused_as_such(rt: HostRuntime) -> Result<(), Fail> {
-    match ask_and_nop(rt.alloc()) {
+    match Catalogue::parse_types(rt.alloc(), ask_and_nop(1)) {
         Ok(catalogue) => reads_or_refuses(&rt, &catalogue),
         Err(_) => {}
     }

@@ -21,6 +21,7 @@ use Rattle.giop_message.specs.Signatures.{signatures_of}
 use Rattle.giop_message.specs.Messages as one
 use Rattle.giop_message.specs.Messages.{line_at, is_shown, call_of, calls, with_front, section_then, rest_in, rest, typed, option_typed, members_of, after_exception, body, type_if, request_body, result_body, reply_body, locate_body, is_request, body_of, is_aligned, padded, after_header, of_header, message, body_may_be_missing, close, message_lines, message_marks, stage_of}
 use Rattle.giop_message.specs.ReaderOfTable.{line_class_of, text_of, remarks_by, closes_by}
+use Rattle.giop_sig.specs.Interfaces.{longest_front}
 use Rattle.giop_stream.specs.HeaderOctets.{fronts, wrong, first_wrong, first_wrong_octet}
 use Rattle.giop_stream.specs.Framing.{with_first, cut_from, limit, limited, cut, messages, read_of}
 use Rattle.giop_stream.specs.Kinds.{may_be_cancelled, refused}
@@ -49,7 +50,7 @@ unfolding digits num twos_complement padding block number path_text hex hex_numb
     option_typed members_of after_exception body type_if request_body result_body reply_body
     locate_body is_request body_of is_aligned padded after_header of_header message
     body_may_be_missing close message_lines message_marks stage_of line_class_of text_of remarks_by
-    closes_by
+    closes_by longest_front
 one_message = 0
 
 -- those to cut a stream and to write its lines

@@ -15,6 +15,7 @@ use Rattle.giop_decode.specs.declared.frame.Within.TheVariants as withins
 use Rattle.giop_decode.specs.declared.leaf.Leaf.{Leaf as Innermost}
 use Rattle.giop_decode.specs.declared.leaf.Leaf.TheVariants as innermost
 use Rattle.giop_decode.specs.declared.notes.Buffer.TheVariants as buffers
+use Rattle.giop_decode.specs.declared.notes.Last.TheVariants as lasts
 use Rattle.giop_decode.specs.ReadResult.{Leaf}
 use Rattle.giop_decode.specs.Fits.{FitsIn, HasParts}
 use Rattle.giop_decode.specs.Transitions.{part_in, leaf_of, IsWithin}
@@ -68,7 +69,7 @@ in_body = record {
   piece = record { items = [] };
   notes = record {
     request_id = None;
-    status = None;
+    last = lasts.Nothing;
     expects_reply = None;
     name = record { items = [] };
     buffer = buffers.Begun;
@@ -202,7 +203,7 @@ first_stored = record {
       message = ltb-true 1 (2 ^ 64) refl;
       carry = omega arith;
       piece = omega arith;
-      notes = record { request_id = tt; status = tt; name = omega arith };
+      notes = record { request_id = tt; last = tt; name = omega arith };
     };
     leaf_range = ltb-true 8 (2 ^ 32) refl;
     outer_range = (
@@ -287,9 +288,9 @@ first_reads = record {
   keeps_noted = record {
     request_id = refl;
     status = refl;
+    interface = refl;
     expects_reply = refl;
-    name =
-        (refl, refl, omega arith);
+    name = (refl, refl, omega arith, refl);
   };
   same_order = refl;
   same_message = refl;
@@ -396,7 +397,13 @@ first_fits = record {
   known = below_all;
   clean = refl;
   at = omega arith;
-  id_in_header_only = λ other. refl;
+  of_root = record {
+    id = λ other. refl;
+    no_interface = λ other. refl;
+    no_key = λ other. tt;
+    keyless = λ other. tt;
+    interface = tt;
+  };
   name = refl;
 }
 

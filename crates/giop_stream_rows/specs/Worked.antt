@@ -3,7 +3,7 @@
 use Rattle.std.specs.Prelude.{◌≡◌, ℕ, ◌+◌, ◌-◌, ◌*◌, ◌==◌, nat_lt, if◌then◌else◌, List, [], ◌∷◌, ◌++◌, length, Some, None, codes}
 use Rattle.giop_sig.specs.Heard.{first_fronts}
 use Rattle.giop_sig.specs.Interfaces.{no_interfaces}
-use Rattle.giop_sig.specs.Table.{Node, members, Operation, Exception, Table, op_id, operation_key, operation_number}
+use Rattle.giop_sig.specs.Table.{Node, members, Operation, Exception, Table, op_id, operation_key, asked_number}
 use Rattle.giop_sig.specs.Builtin.{builtin_types, member}
 use Rattle.giop_sig.specs.Grammar.{SignatureFile}
 use Rattle.giop_sig.specs.Scopes.{table}
@@ -120,7 +120,7 @@ asks = table_of
     (late ∷ [])
 
 unfoldable pub entry : ℕ → List ℕ → Entry
-entry id name = record { id = id; name = name }
+entry id name = record { id = id; asked = record { name = name; interface = None } }
 
 -- 1 ask, 1 ask, 2 nop, 2 ask
 unfoldable pub entries : List Entry
@@ -134,4 +134,4 @@ kept = (1, Some (op_id 0)) ∷ (2, None) ∷ []
 
 -- it gives the operations that the list gives, for these declarations
 abbrev pub AreOfTheirList : Type 0
-AreOfTheirList = IsOf (operation_number asks) entries kept
+AreOfTheirList = IsOf (asked_number asks) entries kept

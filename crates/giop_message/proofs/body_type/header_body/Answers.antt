@@ -21,8 +21,8 @@ returns-then-kind_of-eq1-clause-is g c r keeps_noted is =
     let S = signatures_of c.args.catalogue.now
     (g.Q.Correspondent.answer (g.Q.Correspondent.state c.args.correspondent.now)) in
     c.reply_body.ensures.is ∙ (rw (
-      c.request_id.ensures roots.Header r keeps_noted,
-      c.status.ensures roots.Header r keeps_noted,
+      c.request_id.ensures c.args.catalogue.now roots.Header r keeps_noted,
+      c.status.ensures c.args.catalogue.now roots.Header r keeps_noted,
     )
     (sym (reply_wants S c.args.header.now (noted_of true r)
     (sym c.kind_of-2.ensures ∙ c.if-kind_of-eq1.true))))
@@ -41,6 +41,6 @@ returns-then-kind_of-eq4-clause-is g c r keeps_noted is =
     let answer = g.Q.Correspondent.answer (g.Q.Correspondent.state c.args.correspondent.now) in
     let S = signatures_of c.args.catalogue.now answer in
     c.locate_body.ensures.is answer ∙ (rw
-    (c.status-then-kind_of-eq4.ensures roots.Header r keeps_noted)
+    (c.status-then-kind_of-eq4.ensures c.args.catalogue.now roots.Header r keeps_noted)
     (sym (locate_wants S c.args.header.now (noted_of true r)
     (sym c.kind_of-3.ensures ∙ c.if-kind_of-eq4.true))))

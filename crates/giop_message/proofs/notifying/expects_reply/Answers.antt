@@ -4,7 +4,9 @@ use Rattle.giop_message.specs.HeaderEnds.{expects_reply}
 use Rattle.giop_message.proofs.notifying.expects_reply.Goals as goal
 
 pub returns-in-Some : goal.returns-in-Some
-returns-in-Some c r keeps_noted = ap expects_reply (c.in-Some.ensures roots.Header r keeps_noted)
+returns-in-Some c C r keeps_noted =
+    ap expects_reply (c.in-Some.ensures C roots.Header r keeps_noted)
 
 pub returns-in-None : goal.returns-in-None
-returns-in-None c r keeps_noted = ap expects_reply (c.in-None.ensures roots.Header r keeps_noted)
+returns-in-None c C r keeps_noted =
+    ap expects_reply (c.in-None.ensures C roots.Header r keeps_noted)

@@ -4,14 +4,14 @@ use Rattle.giop_message.specs.HeaderEnds.{after_event, reply_event}
 use Rattle.giop_message.proofs.notifying.notify_of_reply.Goals as goal
 
 pub returns-in-Some-clause-told : goal.returns-in-Some-clause-told
-returns-in-Some-clause-told g c r keeps_noted =
+returns-in-Some-clause-told g c C r keeps_noted =
     let st = g.Q.Correspondent.state c.args.correspondent.now in
     c.answered.ensures
     ∙ ap (λ o. after_event g.Q.Correspondent.notified st (reply_event c.args.number o))
-    (c.in-Some.ensures roots.Header r keeps_noted)
+    (c.in-Some.ensures C roots.Header r keeps_noted)
 
 pub returns-in_default-clause-told : goal.returns-in_default-clause-told
-returns-in_default-clause-told g c r keeps_noted =
+returns-in_default-clause-told g c C r keeps_noted =
     let st = g.Q.Correspondent.state c.args.correspondent.now in
     ap (λ o. after_event g.Q.Correspondent.notified st (reply_event c.args.number o))
-    (c.in_default.ensures roots.Header r keeps_noted)
+    (c.in_default.ensures C roots.Header r keeps_noted)

@@ -5,25 +5,25 @@ use Rattle.giop_message.specs.HeaderEnds.{Requested, shown, after_event, request
 use Rattle.giop_message.proofs.notifying.notify_of_request.Goals as goal
 
 pub returns-in_default-clause-told : goal.returns-in_default-clause-told
-returns-in_default-clause-told g c r keeps_noted =
+returns-in_default-clause-told g c C r keeps_noted =
     let st = g.Q.Correspondent.state c.args.correspondent.now in
     ap (λ o. after_event g.Q.Correspondent.notified st
     (request_event c.args.number o (noted_of true r).name c.args.operation
     (noted_of true r).expects_reply))
-    (c.in_default.ensures roots.Header r keeps_noted)
+    (c.in_default.ensures C roots.Header r keeps_noted)
 
 pub returns-clause-told : goal.returns-clause-told
-returns-clause-told g c r keeps_noted =
+returns-clause-told g c C r keeps_noted =
     let st = g.Q.Correspondent.state c.args.correspondent.now in
     c.called.ensures
     ∙ (ap (λ name. g.Q.Correspondent.notified st
     (Requested c.args.number c.in-Some.id name c.args.operation
     c.expects_reply-expects_reply.result))
-    (c.shown.ensures ∙ ap shown (c.name.ensures roots.Header r keeps_noted))
+    (c.shown.ensures ∙ ap shown (c.name.ensures C roots.Header r keeps_noted))
     ∙ (ap (λ expects. g.Q.Correspondent.notified st
     (Requested c.args.number c.in-Some.id (shown (noted_of true r).name) c.args.operation
-    expects)) (c.expects_reply-expects_reply.ensures r keeps_noted)
+    expects)) (c.expects_reply-expects_reply.ensures C r keeps_noted)
     ∙ ap (λ o. after_event g.Q.Correspondent.notified st
     (request_event c.args.number o (noted_of true r).name c.args.operation
     (noted_of true r).expects_reply))
-    (c.in-Some.ensures roots.Header r keeps_noted)))
+    (c.in-Some.ensures C roots.Header r keeps_noted)))

@@ -6,75 +6,111 @@ use Rattle.giop_message.specs.Headers.{kind}
 use Rattle.giop_message.proofs.taking.call.Goals as goal
 use Rattle.std.specs.Prelude.{if◌then◌else◌}
 use Rattle.std.proofs.lemmas.Bool.{ne_eqb}
-use Rattle.giop_print.specs.Lines.{call_line}
+use Rattle.std.specs.Option.{option_map}
+use Rattle.giop_sig.specs.declared.types.InterfaceId.{InterfaceId}
+use Rattle.giop_sig.specs.Table.{Table, interface_name}
+use Rattle.giop_decode.specs.DecoderState.{whose}
+use Rattle.giop_message.specs.Signatures.{Answer, Signatures, signatures_of}
 use Rattle.giop_message.specs.Messages.{is_request, is_shown}
-use Rattle.giop_message.specs.MessageSteps.{called_text, request_call}
+use Rattle.giop_message.specs.MessageSteps.{called_text, request_call, shown_call}
 
-no_request : (number : ℕ) (header : List ℕ) (h : Noted) → (kind header ≡ 0 → ⊥) →
-    request_call number header h ≡ []
+no_request : (S : Signatures) (number : ℕ) (header : List ℕ) (h : Noted) →
+    (kind header ≡ 0 → ⊥) → request_call S number header h ≡ []
 unfolding request_call is_request
-no_request number header h other = rw (ne_eqb (kind header) 0 other) refl
+no_request S number header h other = rw (ne_eqb (kind header) 0 other) refl
 
-no_id : (number : ℕ) (header : List ℕ) (h : Noted) → h.request_id ≡ None →
-    request_call number header h ≡ []
+no_id : (S : Signatures) (number : ℕ) (header : List ℕ) (h : Noted) → h.request_id ≡ None →
+    request_call S number header h ≡ []
 unfolding request_call called_text
-no_id number header h e = go (is_request header)
+no_id S number header h e = go (is_request header)
   where
-    go : (test : Bool) → (if test then called_text number h.request_id h.name else []) ≡ []
+    go : (test : Bool) →
+        (if test then called_text number h.request_id h.name (S.interface h.key) else []) ≡ []
     go true = rw e refl
     go false = refl
 
-no_name : (number : ℕ) (header : List ℕ) (h : Noted) → h.name ≡ None →
-    request_call number header h ≡ []
+no_name : (S : Signatures) (number : ℕ) (header : List ℕ) (h : Noted) → h.name ≡ None →
+    request_call S number header h ≡ []
 unfolding request_call called_text
-no_name number header h e = rw e (go (is_request header) h.request_id)
+no_name S number header h e = rw e (go (is_request header) h.request_id)
   where
-    go : (test : Bool) (id : Option ℕ) → (if test then called_text number id None else []) ≡ []
+    go : (test : Bool) (id : Option ℕ) →
+        (if test then called_text number id None (S.interface h.key) else []) ≡ []
     go true None = refl
     go true (Some id) = refl
     go false id = refl
 
-request_called : (number : ℕ) (header : List ℕ) (h : Noted) (id : ℕ) (name : List ℕ) →
-    kind header ≡ 0 → h.request_id ≡ Some id → h.name ≡ Some name →
-    request_call number header h ≡ (if is_shown name then call_line number id name else [])
+request_called : (S : Signatures) (number : ℕ) (header : List ℕ) (h : Noted) (id : ℕ)
+    (name : List ℕ) → kind header ≡ 0 → h.request_id ≡ Some id → h.name ≡ Some name →
+    request_call S number header h
+    ≡ (if is_shown name then shown_call number id name (S.interface h.key) else [])
 unfolding request_call is_request called_text
-request_called number header h id name is e f = rw (is, e, f) refl
+request_called S number header h id name is e f = rw (is, e, f) refl
+
+-- by the interface that the object key has in the table
+interface_called : (C : Table) (answer : Answer) (number : ℕ) (header : List ℕ) (h : Noted)
+    (id : ℕ) (name : List ℕ) (shown : Bool) (interface : Option InterfaceId) →
+    kind header ≡ 0 → h.request_id ≡ Some id → h.name ≡ Some name → shown ≡ is_shown name →
+    interface ≡ whose C h.key →
+    request_call (signatures_of C answer) number header h ≡ (if shown then
+    shown_call number id name (option_map (λ i. interface_name C i.0) interface) else [])
+unfolding signatures_of
+interface_called C answer number header h id name shown interface is e f test same =
+    rw (test, same) (request_called (signatures_of C answer) number header h id name is e f)
 
 pub returns-then-kind_of-ne0 : goal.returns-then-kind_of-ne0
-returns-then-kind_of-ne0 g c r keeps_noted =
-    rw (no_request c.args.number c.args.header.now (noted_of true r)
-    (λ e. c.if-kind_of-ne0.true (c.kind_of.ensures ∙ e))) (wrote-nil _)
+returns-then-kind_of-ne0 g c answer r keeps_noted =
+    rw (no_request (signatures_of c.args.catalogue.now answer) c.args.number c.args.header.now
+    (noted_of true r) (λ e. c.if-kind_of-ne0.true (c.kind_of.ensures ∙ e))) (wrote-nil _)
 
 pub returns-in_default : goal.returns-in_default
-returns-in_default g c r keeps_noted =
-    rw (no_id c.args.number c.args.header.now (noted_of true r)
-    (sym (c.in_default.ensures roots.Header r keeps_noted))) (wrote-nil _)
+returns-in_default g c answer r keeps_noted =
+    let C = c.args.catalogue.now in
+    rw (no_id (signatures_of C answer) c.args.number c.args.header.now (noted_of true r)
+    (sym (c.in_default.ensures C roots.Header r keeps_noted))) (wrote-nil _)
 
 pub returns-in_default-name : goal.returns-in_default-name
-returns-in_default-name g c r keeps_noted =
-    rw (no_name c.args.number c.args.header.now (noted_of true r)
-    (sym (c.in_default-name.ensures roots.Header r keeps_noted))) (wrote-nil _)
+returns-in_default-name g c answer r keeps_noted =
+    let C = c.args.catalogue.now in
+    rw (no_name (signatures_of C answer) c.args.number c.args.header.now (noted_of true r)
+    (sym (c.in_default-name.ensures C roots.Header r keeps_noted))) (wrote-nil _)
 
-pub returns-then-is_shown : goal.returns-then-is_shown
-returns-then-is_shown g c r keeps_noted =
-    let is : kind c.args.header.now ≡ 0 = sym c.kind_of.ensures ∙ c.if-kind_of-ne0.false in
+pub returns-then-not-is_shown : goal.returns-then-not-is_shown
+returns-then-not-is_shown g c answer r keeps_noted =
+    let C = c.args.catalogue.now in
     rw (
-      request_called c.args.number c.args.header.now (noted_of true r) c.in-Some.id
-          c.in-Some-name.operation.now is
-          (sym (c.in-Some.ensures roots.Header r keeps_noted))
-          (sym (c.in-Some-name.ensures roots.Header r keeps_noted)),
-      ← c.is_shown.ensures,
-      c.if-is_shown.true,
+      interface_called C answer c.args.number c.args.header.now (noted_of true r) c.in-Some.id
+          c.in-Some-name.operation.now c.is_shown.result _
+          (sym c.kind_of.ensures ∙ c.if-kind_of-ne0.false)
+          (sym (c.in-Some.ensures C roots.Header r keeps_noted))
+          (sym (c.in-Some-name.ensures C roots.Header r keeps_noted)) c.is_shown.ensures refl,
+      c.if-not-is_shown.true,
+    ) (wrote-nil _)
+
+pub returns-in-None : goal.returns-in-None
+returns-in-None g c answer r keeps_noted =
+    let C = c.args.catalogue.now in
+    let same = rw c.in-None.is at (c.interface.ensures.is roots.Header r keeps_noted) in
+    rw (
+      interface_called C answer c.args.number c.args.header.now (noted_of true r) c.in-Some.id
+          c.in-Some-name.operation.now c.is_shown.result None
+          (sym c.kind_of.ensures ∙ c.if-kind_of-ne0.false)
+          (sym (c.in-Some.ensures C roots.Header r keeps_noted))
+          (sym (c.in-Some-name.ensures C roots.Header r keeps_noted)) c.is_shown.ensures same,
+      c.if-not-is_shown.false,
     ) c.call_line.ensures
 
-pub returns-else-is_shown : goal.returns-else-is_shown
-returns-else-is_shown g c r keeps_noted =
-    let is : kind c.args.header.now ≡ 0 = sym c.kind_of.ensures ∙ c.if-kind_of-ne0.false in
+pub returns-in-Some-interface : goal.returns-in-Some-interface
+returns-in-Some-interface g c answer r keeps_noted =
+    let C = c.args.catalogue.now in
+    let interface = c.in-Some-interface.interface in
+    let same = rw c.in-Some-interface.is at (c.interface.ensures.is roots.Header r keeps_noted) in
     rw (
-      request_called c.args.number c.args.header.now (noted_of true r) c.in-Some.id
-          c.in-Some-name.operation.now is
-          (sym (c.in-Some.ensures roots.Header r keeps_noted))
-          (sym (c.in-Some-name.ensures roots.Header r keeps_noted)),
-      ← c.is_shown.ensures,
-      c.if-is_shown.false,
-    ) (wrote-nil _)
+      interface_called C answer c.args.number c.args.header.now (noted_of true r) c.in-Some.id
+          c.in-Some-name.operation.now c.is_shown.result (Some interface)
+          (sym c.kind_of.ensures ∙ c.if-kind_of-ne0.false)
+          (sym (c.in-Some.ensures C roots.Header r keeps_noted))
+          (sym (c.in-Some-name.ensures C roots.Header r keeps_noted)) c.is_shown.ensures same,
+      c.if-not-is_shown.false,
+      ← c.interface_name.ensures.is,
+    ) c.interface_call_line.ensures

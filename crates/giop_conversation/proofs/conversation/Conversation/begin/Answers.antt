@@ -1,4 +1,4 @@
-use Rattle.std.proofs.Common.{◌≡◌, Option}
+use Rattle.std.proofs.Common.{◌≡◌}
 use Rattle.giop_conversation.specs.Captured.{live_stream}
 use Rattle.giop_conversation.proofs.conversation.Conversation.begin.Goals as goal
 

@@ -1,4 +1,4 @@
-use Rattle.std.proofs.Common.{◌/◌, vec_len, refl, ◌∙◌}
+use Rattle.std.proofs.Common.{◌/◌, vec_len, refl}
 use Rattle.giop_conversation.proofs.FailingBelow.{counted_more}
 use Rattle.giop_conversation.proofs.FailingLemmas.{once, none_failed}
 use Rattle.giop_conversation.proofs.FollowedLemmas.{element, octets_told}

@@ -1,4 +1,4 @@
-use Rattle.std.proofs.Common.{refl, sym, ap, ◌∙◌, arith}
+use Rattle.std.proofs.Common.{true, refl, sym, ap, ◌∙◌, arith}
 use Rattle.giop_decode.specs.Transitions.{within_more}
 use Rattle.giop_decode.proofs.Starting.{first_reads, first_fits, fit_some}
 use Rattle.giop_decode.proofs.Surrounding.{ahead_by}
@@ -16,7 +16,7 @@ returns-clause-reads c =
     c.new-self.ensures (λ here. c.begin-first.ensures.begun here ∙ rw c.clear.ensures refl)
     (c.begin-first.ensures.stand c.args.offset (rw c.clear.ensures tt))
     (rw c.clear.ensures at c.begin-first.ensures.leaf)
-    c.clear-3.ensures refl refl refl refl
+    (c.clear-3.ensures.nothing C true) refl refl refl refl
 
 pub returns-clause-fits : goal.returns-clause-fits
 returns-clause-fits c some =
@@ -32,4 +32,10 @@ returns-clause-fits c some =
     a.1 ∙ sym (a.2 ∙ ap (within_more a.0) (rw c.clear.ensures refl)))
     (rw c.clear.ensures at c.begin-first.ensures.leaf)
     (c.begin-first.ensures.linked c.args.of.0 (rw c.clear.ensures refl))
-    c.begin-first.ensures.known_outer c.begin-first.ensures.known (omega arith) c.clear-3.ensures
+    c.begin-first.ensures.known_outer c.begin-first.ensures.known (omega arith)
+    (c.clear-3.ensures.nothing C true) c.clear-3.ensures.no_key
+
+pub returns-then-is_empty-clause-reads : goal.returns-then-is_empty-clause-reads
+returns-then-is_empty-clause-reads c =
+    let noted = c.clear-3.ensures.nothing c.args.catalogue.now true in
+    search (arith)

@@ -135,10 +135,11 @@ returns c d b =
       inside = λ here lines says. ap ends_in_string (come here lines says)
           ∙ (e.inside (here + 1) lines
           ∙ ap (λ U. transition_in_string U transition) (sym same));
-      id = λ no. rw e.notes (c.note-named.ensures.id (rw (c.root.ensures, b.head) no))
-          ∙ ap (λ n. n.request_id) b.notes;
-      notes = λ h here at lines before says.
+      of_root = λ was.
+          let keeps = rw (c.root.ensures, b.head) at c.note-named.ensures.of_root in
+          rw e.notes (keeps (rw b.notes was));
+      notes = λ asked h here at lines before says.
           let told = rw (c.as_slice.ensures.value, c.deref.ensures.0, c.root.ensures, b.head) at
-          (c.note-named.ensures.notes h (here + 1) at lines (rw b.notes before)) in
+          (c.note-named.ensures.notes asked h (here + 1) at lines (rw b.notes before)) in
           rw e.notes (told (behind_gives C d now of step rest here at lines b says));
     }

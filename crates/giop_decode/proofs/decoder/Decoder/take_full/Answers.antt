@@ -1,5 +1,5 @@
-use Rattle.std.proofs.Common.{arith, sym, ◌∙◌, ap}
-use Rattle.giop_decode.specs.NextPieces.{path_front}
+use Rattle.std.proofs.Common.{arith, sym, ◌∙◌, ap, subst}
+use Rattle.giop_decode.specs.NextPieces.{IsQuiet, path_front}
 use Rattle.giop_decode.proofs.SoFar.{none_taken, so_far, taken_some, then_broken, then_some}
 use Rattle.giop_decode.proofs.decoder.Decoder.take_full.Goals as goal
 use Rattle.giop_print.proofs.Writing.{rest_from}
@@ -9,6 +9,7 @@ loop-piece-init g c =
     record {
       so_far = none_taken c.args.catalogue.now c.args.self.now c.args.octets.now _ c.requires.fits;
       within = omega arith;
+      quiet = c.requires.quiet;
       outside = c.requires.outside;
       front = c.requires.front;
       short = c.requires.short;
@@ -37,6 +38,7 @@ loop-piece-preserved g c =
     record {
       so_far = then;
       within = then.within;
+      quiet = subst (λ d. IsQuiet c.args.catalogue.now d.head.root) (sym next) before.quiet;
       outside = ap (λ d. d.inside) next ∙ before.outside;
       front = before.front ∙ ap (path_front c.args.catalogue.now) (sym next);
       short = before.short;

@@ -1,7 +1,7 @@
 use Rattle.std.proofs.Common.{◌≡◌, ◌-◌, ◌≤◌, length}
 use Rattle.giop_print.specs.Line.{line_text}
 use Rattle.giop_decode.specs.declared.frame.Within.TheVariants as withins
-use Rattle.giop_decode.specs.NextPieces.{path_front}
+use Rattle.giop_decode.specs.NextPieces.{IsQuiet, path_front}
 use Rattle.giop_decode.proofs.SoFar.{TakenSoFar}
 use Rattle.giop_decode.proofs.decoder.Decoder.take_full.Given as goal
 
@@ -11,6 +11,7 @@ invariant-loop-piece g l =
       so_far : TakenSoFar l.catalogue l.initial.self l.self l.octets l.taken
           (g.O.Out.log l.initial.out) (g.O.Out.log l.out);
       within : l.taken ≤ length l.octets;
+      quiet : IsQuiet l.catalogue l.self.head.root;
       outside : l.self.inside ≡ withins.Nothing;
       front : line_text l.front ≡ path_front l.catalogue l.self;
       short : length (line_text l.front) ≤ 90;

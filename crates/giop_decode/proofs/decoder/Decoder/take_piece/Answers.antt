@@ -8,8 +8,8 @@ pub returns-in_err-piece_line-clause-takes : goal.returns-in_err-piece_line-clau
 returns-in_err-piece_line-clause-takes g c =
     let C = c.args.catalogue.now in
     let d = c.args.self.now in
-    piece_broken C d c.args.piece c.requires.fits c.requires.ahead c.requires.outside
-    c.from_residual.result _ _ _ c.from_residual.ensures.0
+    piece_broken C d c.args.piece c.requires.fits c.requires.ahead c.requires.quiet
+    c.requires.outside c.from_residual.result _ _ _ c.from_residual.ensures.0
     (c.in_err-piece_line.ensures d.head.message (root_word d.head.root
     ++ frames_text C d.outer.items)
     c.requires.front)
@@ -18,7 +18,8 @@ pub returns-clause-takes : goal.returns-clause-takes
 returns-clause-takes g c =
     let C = c.args.catalogue.now in
     let d = c.args.self.now in
-    piece_some C d c.args.piece c.requires.fits c.requires.ahead c.requires.outside _ _
+    piece_some C d c.args.piece c.requires.fits c.requires.ahead c.requires.quiet
+    c.requires.outside _ _
     (c.in_ok-piece_line.ensures d.head.message (root_word d.head.root
     ++ frames_text C d.outer.items)
     c.requires.front)

@@ -16,8 +16,8 @@ returns-then-is_padded-clause-arrives g c answers number header s section r ende
     let S = signatures_of C (answers number) in
     let h = noted_of (is_header_root (root_of section)) r in
     let d = c.args.self.now.decoder in
-    let here = subst (λ p. Ended d p section r) c.in-Typed.is ended in
-    let keeps_noted = subst (λ x. KeepsNoted (root_of x) d r) (sym here.0) here.1 in
+    let here = subst (λ p. Ended C d p section r) c.in-Typed.is ended in
+    let keeps_noted = subst (λ x. KeepsNoted C (root_of x) d r) (sym here.0) here.1 in
     let some : is_padded header section (12 + length s) ≡ true =
     rw (← at.same_header, ← at.at, ← here.0) (sym c.is_padded.ensures ∙ c.if-is_padded.true) in
     let wants = rw (at.same_header, here.0) at
@@ -39,8 +39,8 @@ returns-else-is_padded-clause-arrives g c answers number header s section r ende
     let S = signatures_of C (answers number) in
     let h = noted_of (is_header_root (root_of section)) r in
     let d = c.args.self.now.decoder in
-    let here = subst (λ p. Ended d p section r) c.in-Typed.is ended in
-    let keeps_noted = subst (λ x. KeepsNoted (root_of x) d r) (sym here.0) here.1 in
+    let here = subst (λ p. Ended C d p section r) c.in-Typed.is ended in
+    let keeps_noted = subst (λ x. KeepsNoted C (root_of x) d r) (sym here.0) here.1 in
     let none : is_padded header section (12 + length s) ≡ false =
     rw (← at.same_header, ← at.at, ← here.0) (sym c.is_padded.ensures ∙ c.if-is_padded.false) in
     let wants = rw (at.same_header, here.0) at

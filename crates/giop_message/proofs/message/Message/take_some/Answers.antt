@@ -3,6 +3,7 @@ use Rattle.giop_print.proofs.Writing.{writes_failed, wrote-append, wrote-nil}
 use Rattle.giop_decode.specs.declared.decoder.Decoder.{Decoder}
 use Rattle.giop_decode.specs.DecoderState.{KeepsNoted}
 use Rattle.giop_decode.specs.ReadResult.{Read}
+use Rattle.giop_sig.specs.Table.{Table}
 use Rattle.giop_message.specs.declared.part.Part.{Part}
 use Rattle.giop_message.specs.declared.part.Part.TheVariants as parts
 use Rattle.giop_message.specs.declared.part.Section.{Section}
@@ -16,10 +17,10 @@ use Rattle.giop_message.proofs.SectionRuns.{if_err, first_alone, standing, took,
 use Rattle.giop_message.proofs.message.Message.take_some.Goals as goal
 
 -- a section that has ended is still the part
-ended_in : (d : Decoder) (section : Section) (r : Read) {part : Part} → part ≡ parts.Typed section →
-    KeepsNoted (root_of section) d r → Ended d part section r
-ended_in d section r is keeps_noted =
-    subst (λ p. Ended d p section r) (sym is) (refl, keeps_noted)
+ended_in : {C : Table} (d : Decoder) (section : Section) (r : Read) {part : Part} →
+    part ≡ parts.Typed section → KeepsNoted C (root_of section) d r → Ended C d part section r
+ended_in {C} d section r is keeps_noted =
+    subst (λ p. Ended C d p section r) (sym is) (refl, keeps_noted)
 
 pub returns-in_err-taken-in-Typed-clause-writes : goal.returns-in_err-taken-in-Typed-clause-writes
 returns-in_err-taken-in-Typed-clause-writes g c answers number header s f =
@@ -50,7 +51,7 @@ returns-in_err-call-in-Named-clause-writes g c answers number header s f =
     let ran = c.in_ok-taken-in-Typed.ensures in
     let k = took t c.args.octets.now c.in_ok-taken-in-Typed.taken ran.within
     (ran.some c.requires.some) (by_reads t ran.takes) c.in-Named.is in
-    let called = c.in_err-call-in-Named.ensures
+    let called = c.in_err-call-in-Named.ensures (answers number)
     (ReadWith t (take c.in_ok-taken-in-Typed.taken c.args.octets.now)) (keeps_noted_header k) in
     failed_front c.from_residual-in_err-call-in-Named.result c.args.place
     c.from_residual-in_err-call-in-Named.ensures.0 k (text_named k c.args.place)
@@ -62,7 +63,7 @@ returns-in_ok-call-in-Named-clause-writes g c answers number header s f =
     let ran = c.in_ok-taken-in-Typed.ensures in
     let k = took t c.args.octets.now c.in_ok-taken-in-Typed.taken ran.within
     (ran.some c.requires.some) (by_reads t ran.takes) c.in-Named.is in
-    let called = c.in_ok-call-in-Named.ensures
+    let called = c.in_ok-call-in-Named.ensures (answers number)
     (ReadWith t (take c.in_ok-taken-in-Typed.taken c.args.octets.now)) (keeps_noted_header k) in
     took_front _ c.args.place _ _ refl k (rw (text_named k c.args.place)
     (wrote-append _ _ _ _ _ (by_reads t ran.writes) called))

@@ -1,0 +1,92 @@
+//! Whose the object keys of Requests are, by the KEYs of a signature file: a decoder of the header is stored and restored
+//! after each octet.
+ghost use Rattle.std.specs.Prelude.{IfSome};
+ghost use Rattle.giop_decode.specs.DecoderState.{Fits};
+
+use giop_cdr::Order;
+use giop_decode::{Decoder, Progress};
+use giop_print::{Root, Sheet};
+use giop_sig::Catalogue;
+use giop_testing::spelled;
+use std::process::Abort;
+use std::test::Fail;
+
+const SIGNATURES: &[u8] =
+    br#"signatures 3; key "6f7264657273" of "IDL:Orders:1.0"; key "73*" of "IDL:Stock:1.0";"#;
+
+/// The minor version, the header's octets from offset 12 on up to the object key, which may come in pieces, and the key's
+/// interface.
+static ROWS: [(u8, &str, &str); 8] = [
+    (
+        0,
+        "00000000 00000007 01 ee*3 00000006 6f7264657273",
+        "IDL:Orders:1.0",
+    ),
+    (
+        1,
+        "00000000 00000007 01 ee*3 00000005 73746f636b",
+        "IDL:Stock:1.0",
+    ),
+    (
+        2,
+        "00000007 03 ee*3 0000 ee*2 00000006 6f7264657273",
+        "IDL:Orders:1.0",
+    ),
+    // Its front is a KEY with * alone.
+    (0, "00000000 00000007 01 ee*3 00000007 6f726465727332", "-"),
+    // In four pieces, and one octet too long.
+    (
+        0,
+        "00000000 00000007 01 ee*3 00000080 73*128",
+        "IDL:Stock:1.0",
+    ),
+    (0, "00000000 00000007 01 ee*3 00000081 73*129", "-"),
+    (2, "00000007 03 ee*3 0000 ee*2 00000000", "-"),
+    // The key in a profile of the target.
+    (
+        2,
+        "00000007 03 ee*3 0001 ee*2 00000000 0000001a 00 010200 ee*0 00000002 6100 0af9 00000006 6f7264657273",
+        "-",
+    ),
+];
+
+/// The decoder that is restored of what is stored of this one.
+fn again(catalogue: &Catalogue, decoder: &Decoder) -> Option<Decoder>
+    ensures { IfSome result (λ d. Fits catalogue.now d) }
+{
+    let mut fixed = [0; 208];
+    let mut frames = [0; 576];
+    let count = usize::from(decoder.store(&mut fixed, &mut frames));
+    Decoder::restore(catalogue, &fixed, frames.get(..24 * count)?)
+}
+
+/// The interface of the object key in a Request's header of this minor version that begins with these octets.
+fn interface_of<'a>(catalogue: &'a Catalogue, minor: u8, octets: &[u8]) -> Option<&'a [u8]> {
+    let of = catalogue.header(minor, 0)?;
+    let mut decoder = Decoder::start(catalogue, of, Order::Big, 12, 1, Root::Header);
+    decoder = again(catalogue, &decoder)?;
+    let mut room = [0; 1024];
+    let mut sheet = Sheet::new(&mut room);
+    for octet in octets {
+        match decoder.take(catalogue, *octet, &mut sheet) {
+            Ok(Progress::More) => decoder = again(catalogue, &decoder)?,
+            _ => return None,
+        }
+    }
+    Some(catalogue.interface_name(decoder.interface(catalogue)?))
+}
+
+#[test]
+fn an_object_key_has_the_interface_of_its_key(rt: HostRuntime) -> Result<(), Fail> {
+    let catalogue = Catalogue::parse_types(rt.alloc(), SIGNATURES)?;
+    each_has_its_interface(&rt, &catalogue);
+    Ok(())
+}
+
+fn each_has_its_interface(rt: &impl Abort, catalogue: &Catalogue) {
+    for (minor, octets, wanted) in ROWS {
+        let mut room = [0; 256];
+        let interface = interface_of(catalogue, minor, spelled(octets, &mut room));
+        assert!(rt; interface.unwrap_or(b"-") == wanted.as_bytes(), "{octets}");
+    }
+}
