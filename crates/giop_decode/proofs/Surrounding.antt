@@ -550,17 +550,11 @@ counted_ahead_by tick n i now old d h ahead below =
     let lt : i < length old = omega (arith, h.same) in
     rw (get_at i now old d h.back) (ahead_ticked_get n old i d ahead lt)
 
-pub coding_step : (order : Order) (at : ℕ) (outer : List Frame) (i : ℕ) (f d : Frame)
-    (now next : Order × ℕ) → i < length outer → f ≡ get_or outer i d →
-    now ≡ coding_by order at (take i outer) → next ≡ coding_of now f.inside f.index →
-    next ≡ coding_by order at (take (i + 1) outer)
-coding_step order at outer i f d now next below is e n =
-    rw (
-      take_more outer i d below,
-      coding_push order at (take i outer) (get_or outer i d),
-      ← is,
-      ← e,
-    ) n
+pub coding_next : (order : Order) (at : ℕ) (outer : List Frame) (i : ℕ) (d : Frame) →
+    i < length outer → coding_of (coding_by order at (take i outer)) (get_or outer i d).inside
+    (get_or outer i d).index ≡ coding_by order at (take (i + 1) outer)
+coding_next order at outer i d below =
+    rw (take_more outer i d below, coding_push order at (take i outer) (get_or outer i d)) refl
 
 -- the reading after a part has ended, with some lines
 abbrev pub gone_behind : Table → List Line → ℕ → List Frame → Option Innermost → Read

@@ -272,21 +272,14 @@ pub(crate) fn coding(inside: Within, order: Order, at: u8, outer: &[Frame]) -> (
     if let Within::Nothing = inside {
         return (order, at);
     }
-    let mut coding = (order, at);
-    for frame in outer {
-        coding = coding_at(coding, *frame);
+    let mut left = outer.len();
+    while left > 0 {
+        left -= 1;
+        if let Some(order) = outer[left].inside {
+            return (order, (outer[left].index % 8) as u8);
+        }
     }
-    coding
-}
-
-/// How octets are taken in a part, from how they are taken around it.
-fn coding_at(coding: (Order, u8), frame: Frame) -> (Order, u8)
-    ensures { result ≡ coding_of coding frame.inside frame.index }
-{
-    match frame.inside {
-        Some(order) => (order, (frame.index % 8) as u8),
-        None => coding,
-    }
+    (order, at)
 }
 
 /// Whether a type is the struct without members, which takes no octet.
@@ -494,7 +487,7 @@ pub(crate) fn go_on(
                         outer.pop();
                     }
                     Some(told) => {
-                        if let Some(part) = part_told(catalogue, outer, frame, told) {
+                        if let Some(part) = part_told(catalogue, outer, told) {
                             return Some(Leaf::Number(begin(catalogue, outer, inside, part)));
                         }
                     }
@@ -508,16 +501,12 @@ pub(crate) fn go_on(
 /// Goes on after the innermost part's first part, which has told what follows: answers the type of the part that does,
 /// or ends the part, and where octets of no type follow each part around it up to an encapsulation.
 #[inline(never)]
-fn part_told(
-    catalogue: &Catalogue,
-    outer: &mut ArrayVec<Frame, 24>,
-    frame: Frame,
-    told: Stage,
-) -> Option<TypeId>
+fn part_told(catalogue: &Catalogue, outer: &mut ArrayVec<Frame, 24>, told: Stage) -> Option<TypeId>
     requires known { AreKnown catalogue.now outer.old.items }
     requires open { (at : ℕ) × OpenFrom 24 (open_parts catalogue.now at outer.old.items) }
-    requires innermost { outer.old.items ≡ frames_above outer.old.items ++ frame ∷ [] }
-    requires told { frame.told ≡ Some told }
+    requires some { outer.old.items ≡ [] → ⊥ }
+    requires told { (above : List Frame) (frame : Frame) → outer.old.items ≡ above ++ frame ∷ [] →
+        frame.told ≡ Some told }
     ensures known { AreKnown catalogue.now outer.new.items }
     ensures most { (most : Within) → IsAtMost (is_inside outer.old.items) most →
         IsAtMost (is_inside outer.new.items) most }
@@ -527,6 +516,9 @@ fn part_told(
         part.0) }
     ensures none { IfNone result (IsPast catalogue.now outer.old.items outer.new.items) }
 {
+    let Some(frame) = innermost(outer) else {
+        unreachable!();
+    };
     let room = 24 - outer.len() as u8;
     match catalogue.following(frame.of, signal(told, frame.index), room) {
         Following::Then(place) => {

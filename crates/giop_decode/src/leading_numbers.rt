@@ -317,6 +317,7 @@ fn just_four(octets: &[u8]) -> &[u8]
 }
 
 /// The number that four octets spell.
+#[inline(always)]
 pub(crate) fn long_of(order: Order, octets: &[u8]) -> u32
     requires { length octets.now ≡ 4 }
     ensures { result ≡ num order octets.now }

@@ -46,17 +46,15 @@ const FRONT: usize = 128;
 const RUN: usize = 16;
 
 impl Decoder {
-    /// Whether a primitive's number comes next that is one of several parts of which three are to come, in no header, and there are
-    /// octets for more than one.
+    /// Whether the number that comes next is a primitive's, and one of several parts of which three are to come, in no header,
+    /// and there are octets for more than one.
     #[inline(always)]
-    pub(crate) fn has_parts(&self, catalogue: &Catalogue, octets: &[u8]) -> bool
-        requires { Fits catalogue.now self.now }
+    pub(crate) fn has_parts(&self, catalogue: &Catalogue, of: TypeId, octets: &[u8]) -> bool
+        requires fits { Fits catalogue.now self.now }
+        requires leaf { self.now.leaf ≡ Some (Leaf.Number of) }
         ensures some { IsTrue result → 0 < length self.now.outer.items }
         ensures body { IsTrue result → is_header_root self.now.head.root ≡ false }
     {
-        let Some(Leaf::Number(of)) = self.leaf else {
-            return false;
-        };
         let Shape::Prim(_) = catalogue.shape(of) else {
             return false;
         };

@@ -77,18 +77,48 @@ impl Decoder {
             (O.log out.old) (O.log out.new) result }
     {
         if self.inside != Within::Nothing {
-            let (count, progress) = self.take_one(catalogue, octets, out)?;
-            return Ok((count, progress));
+            return self.take_one(catalogue, octets, out);
         }
-        if self.has_parts(catalogue, octets) {
-            let (count, progress) = self.take_parts(catalogue, octets, out)?;
-            return Ok((count, progress));
+        let Some(leaf) = self.leaf else {
+            unreachable!();
+        };
+        let coded = (self.order, self.at);
+        match leaf {
+            Leaf::Number(of) => {
+                if self.has_parts(catalogue, of, octets) {
+                    return self.take_parts(catalogue, octets, out);
+                }
+                self.take_number(catalogue, coded, of, octets, out)
+            }
+            Leaf::Opening { of, count } => self.take_opening(catalogue, of, count, octets, out),
+            Leaf::Content { .. } => {
+                if self.has_pieces(catalogue, octets) {
+                    return self.take_pieces(catalogue, octets, out);
+                }
+                self.take_content(catalogue, leaf, octets, out)
+            }
         }
-        if self.has_pieces(catalogue, octets) {
-            let (count, progress) = self.take_pieces(catalogue, octets, out)?;
-            return Ok((count, progress));
-        }
-        self.take_unit(catalogue, (self.order, self.at), octets, out)
+    }
+
+    /// Takes the octet with the byte order of an encapsulation.
+    #[inline(always)]
+    fn take_opening<O: Out>(
+        &mut self,
+        catalogue: &Catalogue,
+        of: TypeId,
+        count: u32,
+        octets: &[u8],
+        out: &mut O,
+    ) -> Result<(usize, Progress), OutFault>
+        requires fits { Fits catalogue.now self.old }
+        requires leaf { self.old.leaf ≡ Some (Leaf.Opening of count) }
+        requires ahead { HaveOctetsLeft (ticked_by (length octets.now - 1) self.old.outer.items) }
+        requires some { 0 < length octets.now }
+        ensures { TakesSome catalogue.now self.old self.new octets.now
+            (O.log out.old) (O.log out.new) result }
+    {
+        let step = take_order(catalogue, of, count, octets[0]);
+        self.take_ahead(catalogue, octets, ahead_of(of, 1, step, &[]), out)
     }
 
     /// The same, but for numbers and full pieces one at a time, and within encapsulations too: there of the octets up to
@@ -132,10 +162,7 @@ impl Decoder {
         };
         match leaf {
             Leaf::Number(of) => self.take_number(catalogue, coded, of, octets, out),
-            Leaf::Opening { of, count } => {
-                let step = take_order(catalogue, of, count, octets[0]);
-                self.take_ahead(catalogue, octets, ahead_of(of, 1, step, &[]), out)
-            }
+            Leaf::Opening { of, count } => self.take_opening(catalogue, of, count, octets, out),
             Leaf::Content { .. } => self.take_content(catalogue, leaf, octets, out),
         }
     }
@@ -200,8 +227,7 @@ impl Decoder {
                 }
             }
         }
-        let (count, progress) = self.take_parted_number(catalogue, coded, of, octets, out)?;
-        Ok((count, progress))
+        self.take_parted_number(catalogue, coded, of, octets, out)
     }
 
     /// Takes the rest of a piece, where it stands whole at the head of the octets, with the zero that ends it where it is
@@ -229,8 +255,7 @@ impl Decoder {
         let size = left.min(32).saturating_sub(self.piece.len());
         let behind = octets_behind(catalogue, of, left);
         if octets.len() < size + behind {
-            let (count, progress) = self.take_parted_piece(catalogue, leaf, octets, out)?;
-            return Ok((count, progress));
+            return self.take_parted_piece(catalogue, leaf, octets, out);
         }
         let rest = &octets[..size];
         let count = size + behind;

@@ -2,7 +2,7 @@
 
 ghost use Rattle.std.specs.Prelude.{◌≡◌, ◌≤◌, [], length, take, IfOk, OnOk, MatchResult};
 ghost use Rattle.std.specs.Io.KnownBytes.{Appends, Keeps, append_known};
-ghost use Rattle.giop_print.specs.Output.{Took, Failed};
+ghost use Rattle.giop_print.specs.Output.{Took, Failed, Writes};
 
 use super::buffer::{Buffer, ROOM};
 use super::flush::Flush;
@@ -78,6 +78,16 @@ impl<W: Write + Drop> Lines<W> {
         self.buffer.add(&octets[..taken]);
         Ok(taken)
     }
+
+    /// Writes a line for which there is no room. It is a function of its own, so that a line for which there is needs no stack.
+    #[cold]
+    #[inline(never)]
+    fn put_line_behind(&mut self, text: &[u8]) -> Result<(), OutFault>
+        ensures { Writes result (lines_log W.contents self.old) (lines_log W.contents self.new)
+            text.now }
+    {
+        self.put_all(text)
+    }
 }
 
 impl<W: Write + Drop> Out for Lines<W> {
@@ -100,7 +110,7 @@ impl<W: Write + Drop> Out for Lines<W> {
     fn put_line(&mut self, line: &mut Line) -> Result<(), OutFault> {
         let text = line.text();
         if text.len() > self.buffer.left() {
-            return self.put_all(text);
+            return self.put_line_behind(text);
         }
         self.buffer.add(text);
         Ok(())

@@ -86,9 +86,10 @@ pub fn fault_message<O: Out>(
         (part_of (message_reader C l) (event place w (Faults fault)) o) }
     ensures ready { (C : Table) (n : ℕ) → IsReady C n message.new }
 {
-    if message.take().is_none() {
+    if message.is_none() {
         return Ok(false);
     }
+    forget(message);
     framing_fault_line(out, number, fault, place)?;
     Ok(true)
 }

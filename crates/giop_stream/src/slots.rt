@@ -1,6 +1,6 @@
 //! The messages that have begun and not ended: the open ones in their slots, and the current one, which is being read.
 
-ghost use Rattle.std.specs.Prelude.{◌≡◌, ◌+◌, ◌<◌, ◌≤◌, ◌^◌, ℕ, [], length, take, true, Option, Some, None, OnOk, IfOk, if◌then◌else◌};
+ghost use Rattle.std.specs.Prelude.{◌≡◌, ◌+◌, ◌<◌, ◌≤◌, ◌^◌, ℕ, [], length, take, true, Bool, Option, Some, None, OnOk, IfOk, if◌then◌else◌};
 ghost use Rattle.giop_print.specs.Output.{Writes};
 ghost use Rattle.giop_sig.specs.Table.{Table};
 ghost use Rattle.giop_message.specs.Signatures.{Answers};
@@ -265,13 +265,37 @@ impl Slots {
                 *is_over = true;
                 close_message(message, catalogue, place, out)
             }
-            PayloadOwner::Open(owner) => match owner.take() {
-                Some(k) => match self.slots.take(k) {
-                    Some(entry) => close_message(&entry.value.message, catalogue, place, out),
-                    None => Ok(false),
-                },
+            PayloadOwner::Open(_) => self.close_open(catalogue, place, out),
+        }
+    }
+
+    /// The same where the owner isn't the current message. It is a function of its own, so that what runs at the end of every
+    /// message needs no stack for an open one.
+    #[inline(never)]
+    fn close_open<O: Out>(
+        &mut self,
+        catalogue: &Catalogue,
+        place: u64,
+        out: &mut O,
+    ) -> Result<bool, OutFault>
+        requires ready { AreReady catalogue.now (place + 1) self.old }
+        requires open { (message : Option Message) (is_over : Bool) →
+            self.old.owner ≡ PayloadOwner.Current message is_over → ⊥ }
+        ensures does { (l : Answers) (c : Tracked) (owner_of_next : Option MessageKey) →
+            SlotsRepresent catalogue.now l self.old c owner_of_next → Rising c.still_open →
+            DoesEffect catalogue.now l one_if result (O.log out.old) (O.log out.new) self.new
+            (effect_to catalogue.now l place c owner_of_next Closes) None }
+        ensures room { KeepsRoom self.old self.new }
+    {
+        let PayloadOwner::Open(owner) = &mut self.owner else {
+            unreachable!();
+        };
+        match owner.take() {
+            Some(k) => match self.slots.take(k) {
+                Some(entry) => close_message(&entry.value.message, catalogue, place, out),
                 None => Ok(false),
             },
+            None => Ok(false),
         }
     }
 

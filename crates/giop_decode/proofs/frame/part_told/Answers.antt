@@ -37,28 +37,30 @@ pub returns-in-Then-clause-most : goal.returns-in-Then-clause-most
 returns-in-Then-clause-most c most h =
     let items = c.args.outer.now.items in
     let rest = frames_above items in
-    let f = c.args.frame in
+    let f = c.in-Some.frame in
     let all = rest ++ f ∷ [] in
-    let there = subst (λ fs. IsAtMost (is_inside fs) most) c.requires.innermost h in
+    let told = c.requires.told rest f c.in-Some.ensures.some in
+    let there = subst (λ fs. IsAtMost (is_inside fs) most) c.in-Some.ensures.some h in
     most_any (is_inside c.replace.new.outer.items) most
     (subst (λ x. IsAtMost x most)
-    (ap (λ b. within_by b (holds_one all)) (told_last rest f c.args.told c.requires.told)) there)
+    (ap (λ b. within_by b (holds_one all)) (told_last rest f c.args.told told)) there)
 
 pub returns-in-Then-clause-part : goal.returns-in-Then-clause-part
 returns-in-Then-clause-part c =
     let C = c.args.catalogue.now in
     let items = c.args.outer.now.items in
     let rest = frames_above items in
-    let f = c.args.frame in
-    let is = c.requires.innermost in
+    let f = c.in-Some.frame in
+    let is = c.in-Some.ensures.some in
+    let told = c.requires.told rest f is in
     let start = c.requires.open.0 in
     let P = tell_popped C start items rest f c.args.told c.requires.known c.requires.open.1 is
-    c.requires.told in
+    told in
     let to = c.replace.ensures rest f is in
-    let s = told_here C items rest f c.args.told start is c.requires.told P c.len.result
+    let s = told_here C items rest f c.args.told start is told P c.len.result
     (Then (c.in-Then.place - 1)) c.len.ensures.value
     (rw c.signal.ensures at c.in-Then.ensures.is) in
-    (then_told C items rest f c.args.told start is c.requires.told P c.in-Then.place
+    (then_told C items rest f c.args.told start is told P c.in-Then.place
     c.replace.new.outer.items _ c.part.result.0 c.in-Then.ensures.place s to refl
     c.part.ensures.known c.part.ensures.number
     (c.part.ensures.rooms (led_bare (tree C f.of.0) (P.within 24).0))).0
@@ -68,16 +70,17 @@ returns-in-Then-clause-known c =
     let C = c.args.catalogue.now in
     let items = c.args.outer.now.items in
     let rest = frames_above items in
-    let f = c.args.frame in
-    let is = c.requires.innermost in
+    let f = c.in-Some.frame in
+    let is = c.in-Some.ensures.some in
+    let told = c.requires.told rest f is in
     let start = c.requires.open.0 in
     let P = tell_popped C start items rest f c.args.told c.requires.known c.requires.open.1 is
-    c.requires.told in
+    told in
     let to = c.replace.ensures rest f is in
-    let s = told_here C items rest f c.args.told start is c.requires.told P c.len.result
+    let s = told_here C items rest f c.args.told start is told P c.len.result
     (Then (c.in-Then.place - 1)) c.len.ensures.value
     (rw c.signal.ensures at c.in-Then.ensures.is) in
-    (then_told C items rest f c.args.told start is c.requires.told P c.in-Then.place
+    (then_told C items rest f c.args.told start is told P c.in-Then.place
     c.replace.new.outer.items _ c.part.result.0 c.in-Then.ensures.place s to refl
     c.part.ensures.known c.part.ensures.number
     (c.part.ensures.rooms (led_bare (tree C f.of.0) (P.within 24).0))).1
@@ -86,10 +89,11 @@ pub returns-in-Then-clause-stand : goal.returns-in-Then-clause-stand
 returns-in-Then-clause-stand c at h =
     let items = c.args.outer.now.items in
     let rest = frames_above items in
-    let f = c.args.frame in
-    let is = c.requires.innermost in
+    let f = c.in-Some.frame in
+    let is = c.in-Some.ensures.some in
+    let told = c.requires.told rest f is in
     let P = tell_popped c.args.catalogue.now c.requires.open.0 items rest f c.args.told
-    c.requires.known c.requires.open.1 is c.requires.told in
+    c.requires.known c.requires.open.1 is told in
     rw (c.replace.ensures rest f is) (stand_push at rest _
     (stand_pop at rest f (subst (StandAt at) is h)) (rw (P.within 24).1 tt))
 
@@ -98,43 +102,47 @@ returns-in-Ends-clause-none c =
     let C = c.args.catalogue.now in
     let items = c.args.outer.now.items in
     let rest = frames_above items in
-    let f = c.args.frame in
-    let is = c.requires.innermost in
+    let f = c.in-Some.frame in
+    let is = c.in-Some.ensures.some in
+    let told = c.requires.told rest f is in
     let start = c.requires.open.0 in
     let P = tell_popped C start items rest f c.args.told c.requires.known c.requires.open.1 is
-    c.requires.told in
-    let s = told_here C items rest f c.args.told start is c.requires.told P c.len.result
+    told in
+    let s = told_here C items rest f c.args.told start is told P c.len.result
     Ends c.len.ensures.value (rw c.signal.ensures at c.in-Ends.ensures.is) in
-    ends_told C items rest f c.args.told start is c.requires.told P c.pop.new.self.items s
+    ends_told C items rest f c.args.told start is told P c.pop.new.self.items s
     c.pop.ensures.rest
 
 pub returns-in-Stops-clause-known : goal.returns-in-Stops-clause-known
 returns-in-Stops-clause-known c =
     let C = c.args.catalogue.now in
     let items = c.args.outer.now.items in
-    let P = tell_popped C c.requires.open.0 items (frames_above items) c.args.frame c.args.told
-    c.requires.known c.requires.open.1 c.requires.innermost c.requires.told in
+    let is = c.in-Some.ensures.some in
+    let P = tell_popped C c.requires.open.0 items (frames_above items) c.in-Some.frame c.args.told
+    c.requires.known c.requires.open.1 is (c.requires.told _ _ is) in
     c.leave.ensures.known C (rw c.pop-in-Stops.ensures.rest P.known_rest)
 
 pub returns-in-Stops-clause-stand : goal.returns-in-Stops-clause-stand
 returns-in-Stops-clause-stand c at h =
     let items = c.args.outer.now.items in
+    let is = c.in-Some.ensures.some in
     c.leave.ensures.stand at (rw c.pop-in-Stops.ensures.rest
-    (stand_pop at (frames_above items) c.args.frame (subst (StandAt at) c.requires.innermost h)))
+    (stand_pop at (frames_above items) c.in-Some.frame (subst (StandAt at) is h)))
 
 pub returns-in-Stops-clause-none : goal.returns-in-Stops-clause-none
 returns-in-Stops-clause-none c =
     let C = c.args.catalogue.now in
     let items = c.args.outer.now.items in
     let rest = frames_above items in
-    let f = c.args.frame in
-    let is = c.requires.innermost in
+    let f = c.in-Some.frame in
+    let is = c.in-Some.ensures.some in
+    let told = c.requires.told rest f is in
     let start = c.requires.open.0 in
     let P = tell_popped C start items rest f c.args.told c.requires.known c.requires.open.1 is
-    c.requires.told in
-    let s = told_here C items rest f c.args.told start is c.requires.told P c.len.result
+    told in
+    let s = told_here C items rest f c.args.told start is told P c.len.result
     Stops c.len.ensures.value (rw c.signal.ensures at c.in-Stops.ensures.is) in
-    stops_told C items rest f c.args.told start is c.requires.told P c.pop-in-Stops.new.self.items
+    stops_told C items rest f c.args.told start is told P c.pop-in-Stops.new.self.items
     c.leave.new.outer.items s c.pop-in-Stops.ensures.rest
     (λ at h. c.leave.ensures.are_open C at h)
     (λ coding path at S. c.leave.ensures.next C coding path at S

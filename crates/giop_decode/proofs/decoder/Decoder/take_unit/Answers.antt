@@ -1,36 +1,7 @@
-use Rattle.std.proofs.Common.{◌-◌, length, Some, ◌∙◌, ap}
-use Rattle.giop_decode.proofs.Rooms.{held_in_room}
-use Rattle.giop_decode.specs.declared.leaf.Leaf.TheVariants as innermost
-use Rattle.giop_decode.proofs.Advancing.{stands_at}
 use Rattle.giop_decode.proofs.Counting.{coding_small}
-use Rattle.giop_decode.proofs.Whole.{comes_order}
 use Rattle.giop_decode.proofs.decoder.Decoder.take_unit.Goals as goal
 
 pub take_number-requires-clause-small : goal.take_number-requires-clause-small
 take_number-requires-clause-small g c =
     let d = c.args.self.now in
     rw c.requires.coded at (coding_small d.order d.at d.outer.items c.requires.fits.at)
-
-pub take_order-step-requires-clause-kind : goal.take_order-step-requires-clause-kind
-take_order-step-requires-clause-kind g c =
-    held_in_room c.args.catalogue.now (24 - length c.args.self.now.outer.items) 24 c.in-Opening.of.0
-    (stands_at c.args.catalogue.now c.args.self.now c.requires.fits
-    (innermost.Opening c.in-Opening.of c.in-Opening.count)
-    (c.in-Some.is ∙ ap Some c.in-Opening.is)).fits.kind
-
-pub take_order-step-requires-clause-fit : goal.take_order-step-requires-clause-fit
-take_order-step-requires-clause-fit g c = (
-  _,
-  _,
-  (stands_at c.args.catalogue.now c.args.self.now c.requires.fits
-      (innermost.Opening c.in-Opening.of c.in-Opening.count)
-      (c.in-Some.is ∙ ap Some c.in-Opening.is)).fit,
-)
-
-pub take_ahead-requires-clause-ahead : goal.take_ahead-requires-clause-ahead
-take_ahead-requires-clause-ahead g c =
-    let v = c.take_order-step.ensures in
-    let a = c.ahead_of.ensures in
-    rw (a.of, a.count, a.step, a.rest) (comes_order c.args.catalogue.now c.args.self.now
-    c.in-Opening.of c.in-Opening.count c.args.octets.now c.take_order-step.result c.requires.fits
-    (c.in-Some.is ∙ ap Some c.in-Opening.is) c.requires.some v.fits v.transitions)

@@ -1,4 +1,4 @@
-use Rattle.std.proofs.Common.{◌≡◌, ◌<◌, ◌≤◌, length, sym, ap, ◌∙◌, Some, ◌-◌, arith}
+use Rattle.std.proofs.Common.{◌≡◌, ◌<◌, ◌≤◌, length, sym, ◌∙◌, arith}
 use Rattle.giop_stream.specs.FramingView.{framing_view}
 use Rattle.giop_stream.proofs.CodeSteps.Lacking.{stopped_lacks, between_lacks, within_lacks, payload_lacks}
 use Rattle.giop_stream.proofs.framing.Framing.lacking.Goals as goal
