@@ -4,6 +4,7 @@ from __future__ import annotations
 
 import signal
 import subprocess
+import tempfile
 import unittest
 from typing import List, NamedTuple
 
@@ -177,6 +178,14 @@ class Texts(unittest.TestCase):
             ],
         )
 
+    def test_declared_keys_are_left_out(self) -> None:
+        lines = told("6f61", "IDL:A:1.0") + told("6f62", "IDL:A:1.0") + told("6f63", "IDL:A:1.0")
+        with tempfile.NamedTemporaryFile() as file:
+            file.write(b'signatures 3;\nkey "6f61" of "IDL:B:1.0"; key  "6f62*" of "A";\n// key "6f63" of "A";\n')
+            file.flush()
+            told_anew = printed(PROGRAM, lines, "--signatures", file.name).splitlines()
+        self.assertEqual(told_anew, ['key "6f62" of "IDL:A:1.0";', 'key "6f63" of "IDL:A:1.0";'])
+
     def test_hostile_lines(self) -> None:
         printed(PROGRAM, (HERE / "hostile.lines").read_text())
 
@@ -193,6 +202,7 @@ class Ends(unittest.TestCase):
             (["/no/such\x1b"], 4, "giop-keys: /no/such\\x1b: cannot read\n"),
             (["/"], 4, "giop-keys: /: cannot read\n"),
             ([str(SCRIPTS.parent / "examples/session.pcap")], 3, ": a capture: giopcap "),
+            (["--signatures", "/no/such"], 4, "giop-keys: /no/such: cannot read\n"),
             (["--keys"], 2, "unrecognized arguments: --keys"),
         ]
         for words, status, said in rows:
