@@ -1,5 +1,5 @@
 -- The code has a state: what is noted of a segment, and of a connection that is known from now on.
-use Rattle.std.proofs.Common.{◌≡◌, ℕ, ◌+◌, ◌<◌, cond, nat_eq, List, [], ◌∷◌, ◌++◌, length, set, Bool, true, false, Option, Some, None, refl, sym, ◌∙◌, ap, subst, arith, length-set}
+use Rattle.std.proofs.Common.{◌≡◌, ℕ, ◌+◌, ◌<◌, cond, nat_eq, List, [], ◌∷◌, ◌++◌, length, get_or, set, Bool, true, false, Option, Some, None, refl, sym, ◌∙◌, ap, subst, arith, length-set}
 use Rattle.std.specs.List.{insert}
 use Rattle.tcp_segment.specs.declared.endpoint.Flow.{Flow as Endpoints}
 use Rattle.tcp_segment.specs.Segments.{Segment}
@@ -15,7 +15,7 @@ use Rattle.tcp_connections.specs.declared.syns.KeptSyn.{KeptSyn}
 use Rattle.tcp_connections.specs.Connections.{State, place_of, place_among, next_room, rest_of_rooms, made_known, syn_kept, with_segment}
 use Rattle.tcp_connections.specs.State.{IsSound, IsState, state_of, times}
 use Rattle.tcp_connections.proofs.Sound.{sound_seen, known_sound}
-use Rattle.tcp_connections.proofs.Times.{next_is, rest_is, times_last, times_own}
+use Rattle.tcp_connections.proofs.Times.{next_is, rest_is, times_at, times_last, times_own}
 
 pub noted : (O : List Event → Type 0) (live : List ℕ) (c c' : Connections) (w : State)
     (room id : ℕ) → IsState O live c w
@@ -135,12 +135,12 @@ made_is w p rest room e =
 pub made : (O O' : List Event → Type 0) (live live' : List ℕ) (c c' : Connections) (w : State)
     (p : EndpointPair) (rest : List ℕ) (room : ℕ) → IsState O live c w
     → O' (opened room p w.events) → live' ≡ lives (opened room p w.events)
-    → c.free.free.items ≡ rest ++ room ∷ [] → place_of p c.table.keys.items ≡ None
+    → c.free.free.items ≡ rest ++ room ∷ [] → place_of p c.table.keys ≡ None
     → ((e : List Event) → state_of c' e ≡ record (state_of c e) {
       known =
-          insert c.table.keys.items (place_among p c.table.keys.items) p;
+          insert c.table.keys (place_among p c.table.keys) p;
       rooms =
-          insert c.table.rooms.items (place_among p c.table.keys.items) room;
+          insert c.table.rooms (place_among p c.table.keys) room;
       free = rest;
       lasts =
           set c.flows.stamps.last.items room c.segments;
@@ -190,7 +190,7 @@ others_of c es =
 pub entered : (c c' : Connections) (es : List Event) →
     ((e : List Event) → others_of c' e ≡ others_of c e) →
     (known : List EndpointPair) (rooms free lasts : List ℕ) (syns : List (Option KeptSyn))
-    (came : List Bool) → c'.table.keys.items ≡ known → c'.table.rooms.items ≡ rooms
+    (came : List Bool) → c'.table.keys ≡ known → c'.table.rooms ≡ rooms
     → c'.free.free.items ≡ free →
     c'.flows.stamps.last.items ≡ lasts → c'.syns.kept.items ≡ syns → c'.flows.came.ids.items ≡ came
     → state_of c' es ≡ record (state_of c es) {
@@ -204,8 +204,8 @@ pub entered : (c c' : Connections) (es : List Event) →
     }
 entered c c' es others known rooms free lasts syns came k r f l y o =
     ap (λ (u : State). record u {
-      known = c'.table.keys.items;
-      rooms = c'.table.rooms.items;
+      known = c'.table.keys;
+      rooms = c'.table.rooms;
       free =
           c'.free.free.items;
       lasts = c'.flows.stamps.last.items;
@@ -215,7 +215,7 @@ entered c c' es others known rooms free lasts syns came k r f l y o =
     ∙ ap (λ (ps : List EndpointPair). record (state_of c es) {
       known = ps;
       rooms =
-          c'.table.rooms.items;
+          c'.table.rooms;
       free = c'.free.free.items;
       lasts = c'.flows.stamps.last.items;
       syns = c'.syns.kept.items;
@@ -281,3 +281,12 @@ pub taken_below : (w : State) (rest : List ℕ) (room : ℕ) → IsSound w → w
 taken_below w rest room h e =
     let own : ◌≡◌ {A = ℕ} (cond (nat_eq room room) 1 0) 1 = times_own room in
     h.below room (omega (arith, ap (times room) e, times_last room rest room, own))
+
+-- and no connection has it
+pub taken_free : (w : State) (rest : List ℕ) (room : ℕ) → IsSound w → w.free ≡ rest ++ room ∷ [] →
+    (place : ℕ) → place < length w.rooms → get_or w.rooms place 0 ≡ room → ⊥
+taken_free w rest room h e place l is =
+    let own : ◌≡◌ {A = ℕ} (cond (nat_eq room room) 1 0) 1 = times_own room in
+    let some : 0 < times room w.rooms =
+    subst (λ (n : ℕ). 0 < times n w.rooms) is (times_at w.rooms place l) in
+    omega (arith, some, h.once room, ap (times room) e, times_last room rest room, own)

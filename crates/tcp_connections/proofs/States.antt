@@ -229,8 +229,8 @@ sound_of O live c w h = search (arith, sound_any)
 
 -- the room of a place is one of at most 65,536
 pub small_room : (O : List Event → Type 0) (live : List ℕ) (c : Connections) (w : State)
-    (place : ℕ) → IsState O live c w → place < length c.table.keys.items →
-    get_or c.table.rooms.items place 0 < 65536
+    (place : ℕ) → IsState O live c w → place < length c.table.keys →
+    get_or c.table.rooms place 0 < 65536
 small_room O live c w place h l = search (arith, sound_of, room_below)
 
 -- nor of which connection makes room
@@ -243,7 +243,7 @@ eldest_any c es fs (suc n) = search (arith, cond, eldest_any c es fs n)
 -- ---- A connection is forgotten.
 
 pub known_of : (O : List Event → Type 0) (live : List ℕ) (c : Connections) (w : State) →
-    IsState O live c w → c.table.keys.items ≡ w.known
+    IsState O live c w → c.table.keys ≡ w.known
 known_of O live c w h = search (arith)
 
 pub connection_forgotten : (O' : List Event → Type 0) (live' : List ℕ) (c c' : Connections)
@@ -252,8 +252,8 @@ pub connection_forgotten : (O' : List Event → Type 0) (live' : List ℕ) (c c'
     2 * room_at w place + 1 < length w.flows
     → ((e : List Event) → state_of c' e ≡ record (state_of c e) {
       known =
-          remove c.table.keys.items place;
-      rooms = remove c.table.rooms.items place;
+          remove c.table.keys place;
+      rooms = remove c.table.rooms place;
       free =
           c.free.free.items ++ room_at w place ∷ [];
     })

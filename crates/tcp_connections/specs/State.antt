@@ -42,8 +42,8 @@ abbrev pub state_of : Connections → List Event → State
 state_of c events = record {
   ports = c.ports.items;
   blocks = c.pool.blocks;
-  known = c.table.keys.items;
-  rooms = c.table.rooms.items;
+  known = c.table.keys;
+  rooms = c.table.rooms;
   free = c.free.free.items;
   lasts = c.flows.stamps.last.items;
   syns = c.syns.kept.items;

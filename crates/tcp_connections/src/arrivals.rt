@@ -80,7 +80,7 @@ impl Connections {
         requires state { HasState (L.observed to.old.listener) to.old.live.items self.old }
         requires within { id < vec_len self.old.flows.states }
         requires whole { length segment.payload.now ≤ 262_144 }
-        requires taken { 0 < times (id / 2) self.old.table.rooms.items }
+        requires taken { 0 < times (id / 2) self.old.table.rooms }
         ensures does { Makes result (λ w. payload_taken L.reader w id (segment_view segment.entry))
             (L.observed to.old.listener) to.old.live.items self.old
             (L.observed to.new.listener) to.new.live.items self.new }
@@ -113,7 +113,7 @@ impl Connections {
         requires state { HasState (L.observed to.old.listener) to.old.live.items self.old }
         requires within { id < vec_len self.old.flows.states }
         requires whole { length segment.payload.now ≤ 262_144 }
-        requires taken { 0 < times (id / 2) self.old.table.rooms.items }
+        requires taken { 0 < times (id / 2) self.old.table.rooms }
         requires vacant { get_or self.old.flows.states.items id None ≡ None }
         ensures does { Makes result (λ w. payload_taken L.reader w id (segment_view segment.entry))
             (L.observed to.old.listener) to.old.live.items self.old
@@ -156,7 +156,7 @@ impl Connections {
         requires state { HasState (L.observed to.old.listener) to.old.live.items self.old }
         requires within { id < vec_len self.old.flows.states }
         requires whole { length segment.payload.now ≤ 262_144 }
-        requires taken { 0 < times (id / 2) self.old.table.rooms.items }
+        requires taken { 0 < times (id / 2) self.old.table.rooms }
         requires vacant { get_or self.old.flows.states.items id None ≡ None }
         ensures does { Makes result (λ w. began L.reader w id
             (spec_first_number (segment_view segment.entry)) (segment_view segment.entry).payload)

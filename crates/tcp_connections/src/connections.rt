@@ -13,6 +13,7 @@ ghost use Rattle.tcp_connections.specs.Connections.{is_answer as spec_is_answer}
 ghost use Rattle.tcp_connections.specs.Connections.{is_following as spec_is_following};
 
 use crate::flows::Flows;
+use crate::guesses::Guesses;
 use crate::syns::{KeptSyn, KeptSyns};
 use arrayvec::ArrayVec;
 use std::alloc::{AllocError, Global};
@@ -34,8 +35,8 @@ pub struct Connections {
     segments: u64,
     /// The packet that is read.
     pub(crate) arrival: Arrival,
-    /// The place that the connection of the last segment had: a guess, since others come and go.
-    recent: usize,
+    /// Where the connection of a segment may stand.
+    guesses: Guesses,
 }
 
 impl Connections {
@@ -67,6 +68,7 @@ impl Connections {
         let syns = KeptSyns::new(alloc, most as usize)?;
         let flows = Flows::new(alloc, most)?;
         let pool = Pool::new(alloc, blocks, 2 * most as usize)?;
+        let guesses = Guesses::new(alloc, most as usize)?;
         Ok(Connections {
             ports,
             table,
@@ -79,7 +81,7 @@ impl Connections {
                 time: None,
                 packet: 0,
             },
-            recent: 0,
+            guesses,
         })
     }
 
@@ -114,9 +116,11 @@ impl Connections {
     {
         self.segments += 1;
         let (pair, side) = pair_of(segment.flow);
-        let Some(place) = self.place_of(&pair) else {
+        let slot = self.guesses.slot(&pair);
+        let Some(place) = self.place_of(&pair, slot) else {
             return self.take_unknown(pair, side, segment, to);
         };
+        self.guesses.note(slot, place);
         let room = self.table.room(place);
         let id = flow_id(room, side);
         if self.is_kept(id, segment) {
@@ -141,7 +145,7 @@ impl Connections {
         requires state { HasState (L.observed to.old.listener) to.old.live.items self.old }
         requires whole { length segment.payload.now ≤ 262_144 }
         requires flow { (spec_pair_of segment.flow).1 ≡ side }
-        requires place { place < vec_len self.old.table.keys }
+        requires place { place < length self.old.table.keys }
         ensures does { Makes result
             (λ w. known_taken L.reader w place (segment_view segment.entry))
             (L.observed to.old.listener) to.old.live.items self.old
@@ -151,7 +155,6 @@ impl Connections {
         let room = self.table.room(place);
         let id = flow_id(room, side);
         self.note(room, id);
-        self.recent = place;
         self.acknowledgement(flow_id(room, other(side)), segment, to)?;
         self.payload(id, segment, to)?;
         self.fin(id, segment, to)?;
@@ -170,7 +173,7 @@ impl Connections {
         requires state { HasState (L.observed to.old.listener) to.old.live.items self.old }
         requires whole { length segment.payload.now ≤ 262_144 }
         requires flow { spec_pair_of segment.flow ≡ (pair, side) }
-        requires new { place_of pair self.old.table.keys.items ≡ None }
+        requires new { place_of pair self.old.table.keys ≡ None }
         ensures does { Makes result (λ w. unknown_taken L.reader w (segment_view segment.entry))
             (L.observed to.old.listener) to.old.live.items self.old
             (L.observed to.new.listener) to.new.live.items self.new }
@@ -194,8 +197,8 @@ impl Connections {
         to: &mut Streams<L>,
     ) -> Result<u32, ListenerFault>
         requires state { HasState (L.observed to.old.listener) to.old.live.items self.old }
-        requires new { place_of pair self.old.table.keys.items ≡ None }
-        requires room { vec_len self.old.table.keys < self.old.table.most }
+        requires new { place_of pair self.old.table.keys ≡ None }
+        requires room { length self.old.table.keys < self.old.table.most }
         ensures does { Makes result (λ w. made_known w pair)
             (L.observed to.old.listener) to.old.live.items self.old
             (L.observed to.new.listener) to.new.live.items self.new }
@@ -208,6 +211,7 @@ impl Connections {
             return Err(ListenerFault);
         };
         self.table.add(place, pair, room);
+        self.guesses.note(self.guesses.slot(&pair), place);
         self.flows.open(room, self.segments);
         self.syns.set(room, None);
         let lesser = flow_id(room, Side::FromLesser);
@@ -217,15 +221,15 @@ impl Connections {
         Ok(room)
     }
 
-    /// The place of a pair among those that are known: first that of the last segment is looked at.
-    fn place_of(&self, pair: &EndpointPair) -> Option<usize>
+    /// The place of a pair among those that are known: first the one that is guessed for its slot is looked at.
+    fn place_of(&self, pair: &EndpointPair, slot: usize) -> Option<usize>
         requires sound { IsSound (state_of self.now []) }
-        ensures place { result ≡ place_of pair.now self.now.table.keys.items }
-        ensures within { IfSome result (λ place. place < vec_len self.now.table.keys) }
+        ensures place { result ≡ place_of pair.now self.now.table.keys }
+        ensures within { IfSome result (λ place. place < length self.now.table.keys) }
     {
-        let recent = self.recent;
-        if recent < self.table.len() && *self.table.key(recent) == *pair {
-            return Some(recent);
+        let guess = self.guesses.at(slot);
+        if guess < self.table.len() && *self.table.key(guess) == *pair {
+            return Some(guess);
         }
         match self.table.place(pair) {
             Ok(place) => Some(place),
@@ -236,9 +240,9 @@ impl Connections {
     /// The place where a pair that isn't known belongs.
     fn place_for(&self, pair: &EndpointPair) -> usize
         requires sound { IsSound (state_of self.now []) }
-        requires new { place_of pair.now self.now.table.keys.items ≡ None }
-        ensures place { result ≡ place_among pair.now self.now.table.keys.items }
-        ensures within { result ≤ vec_len self.now.table.keys }
+        requires new { place_of pair.now self.now.table.keys ≡ None }
+        ensures place { result ≡ place_among pair.now self.now.table.keys }
+        ensures within { result ≤ length self.now.table.keys }
     {
         match self.table.place(pair) {
             Ok(place) => place,

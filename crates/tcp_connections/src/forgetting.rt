@@ -1,8 +1,7 @@
 //! Connections are forgotten: by a RST or a SYN, or to make room for another, first those without a
 //! live stream, then those of which segments of one flow alone came. What they hold is shown before.
 
-ghost use Rattle.std.specs.Prelude.{◌≡◌, ◌<◌, ◌^◌, [], List, cond, OnOk, OnErr};
-ghost use Rattle.std.specs.Vec.{vec_len};
+ghost use Rattle.std.specs.Prelude.{◌≡◌, ◌<◌, ◌^◌, [], List, length, cond, OnOk, OnErr};
 ghost use Rattle.tcp_segment.specs.Segments.{segment_view};
 ghost use Rattle.tcp_waiting.specs.Payload.{count_of};
 
@@ -27,7 +26,7 @@ impl Connections {
         to: &mut Streams<L>,
     ) -> Result<(), ListenerFault>
         requires state { HasState (L.observed to.old.listener) to.old.live.items self.old }
-        requires place { place < vec_len self.old.table.keys }
+        requires place { place < length self.old.table.keys }
         ensures does { Makes result
             (λ w. reset_taken L.reader w place side (segment_view segment.entry))
             (L.observed to.old.listener) to.old.live.items self.old
@@ -53,7 +52,7 @@ impl Connections {
         to: &mut Streams<L>,
     ) -> Result<(), ListenerFault>
         requires state { HasState (L.observed to.old.listener) to.old.live.items self.old }
-        requires place { place < vec_len self.old.table.keys }
+        requires place { place < length self.old.table.keys }
         ensures does { Makes result (λ w. ended_by L.reader w place side cause)
             (L.observed to.old.listener) to.old.live.items self.old
             (L.observed to.new.listener) to.new.live.items self.new }
@@ -116,7 +115,7 @@ impl Connections {
         to: &mut Streams<L>,
     ) -> Result<(), ListenerFault>
         requires state { HasState (L.observed to.old.listener) to.old.live.items self.old }
-        requires place { place < vec_len self.old.table.keys }
+        requires place { place < length self.old.table.keys }
         ensures does { Makes result (λ w. forgotten w place side cause)
             (L.observed to.old.listener) to.old.live.items self.old
             (L.observed to.new.listener) to.new.live.items self.new }
@@ -178,7 +177,7 @@ impl Connections {
         to: &mut Streams<L>,
     ) -> Result<(), ListenerFault>
         requires state { HasState (L.observed to.old.listener) to.old.live.items self.old }
-        requires place { place < vec_len self.old.table.keys }
+        requires place { place < length self.old.table.keys }
         ensures does { Makes result (λ w. cleared L.reader w place)
             (L.observed to.old.listener) to.old.live.items self.old
             (L.observed to.new.listener) to.new.live.items self.new }
@@ -192,9 +191,9 @@ impl Connections {
     /// The place of the connection that makes room: by the ranks, or by a walk if two rooms have the least.
     fn eldest(&mut self) -> usize
         requires sound { IsSound (state_of self.old []) }
-        requires some { 0 < vec_len self.old.table.keys }
-        ensures place { result ≡ eldest (state_of self.old []) (vec_len self.old.table.keys) }
-        ensures within { result < vec_len self.new.table.keys }
+        requires some { 0 < length self.old.table.keys }
+        ensures place { result ≡ eldest (state_of self.old []) (length self.old.table.keys) }
+        ensures within { result < length self.new.table.keys }
         ensures same { (events : List Event) → state_of self.new events
             ≡ state_of self.old events }
         ensures free { self.new.free.most ≡ self.old.free.most }
@@ -211,9 +210,9 @@ impl Connections {
     /// The place of the connection that makes room, by a walk over all.
     fn walk(&self) -> usize
         requires sound { IsSound (state_of self.now []) }
-        requires some { 0 < vec_len self.now.table.keys }
-        ensures place { result ≡ eldest (state_of self.now []) (vec_len self.now.table.keys) }
-        ensures within { result < vec_len self.now.table.keys }
+        requires some { 0 < length self.now.table.keys }
+        ensures place { result ≡ eldest (state_of self.now []) (length self.now.table.keys) }
+        ensures within { result < length self.now.table.keys }
     {
         let mut best = 0;
         let mut place = 0;
@@ -227,10 +226,10 @@ impl Connections {
     /// Of two places, that of the connection that makes room rather than the other.
     fn elder(&self, place: usize, best: usize) -> usize
         requires sound { IsSound (state_of self.now []) }
-        requires place { place < vec_len self.now.table.keys }
-        requires within { best < vec_len self.now.table.keys }
+        requires place { place < length self.now.table.keys }
+        requires within { best < length self.now.table.keys }
         ensures place { result ≡ cond (goes_before (state_of self.now []) place best) place best }
-        ensures within { result < vec_len self.now.table.keys }
+        ensures within { result < length self.now.table.keys }
     {
         if self.goes_before(place, best) {
             place
@@ -242,8 +241,8 @@ impl Connections {
     /// Whether the connection at one place makes room rather than that at another.
     fn goes_before(&self, place: usize, other: usize) -> bool
         requires sound { IsSound (state_of self.now []) }
-        requires place { place < vec_len self.now.table.keys }
-        requires other { other < vec_len self.now.table.keys }
+        requires place { place < length self.now.table.keys }
+        requires other { other < length self.now.table.keys }
         ensures { result ≡ goes_before (state_of self.now []) place other }
     {
         self.flows

@@ -8,6 +8,7 @@ mod capture_end;
 mod connections;
 mod flows;
 mod forgetting;
+mod guesses;
 mod laws;
 mod syns;
 

@@ -1,2 +1,4 @@
+mod Blocks
+mod Keys
 mod Leaves
 mod Trees

@@ -1,2 +1,4 @@
+pub mod Order
 pub mod Ranks
 pub mod Rooms
+pub mod Table

@@ -3,6 +3,7 @@
 #![tactic(auto)]
 
 mod free_rooms;
+mod order;
 mod ranks;
 mod room_table;
 mod stamps;

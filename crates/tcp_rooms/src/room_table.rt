@@ -1,99 +1,117 @@
-//! Which room a key has: a sorted list, searched by halves, in memory that is allocated once.
+//! Which room a key has: the keys by their rooms, and the rooms in the order of their keys, searched by halves, in memory that
+//! is allocated once.
 
-ghost use Rattle.std.specs.Prelude.{◌≡◌, ◌≤◌, ◌<◌, [], ℕ, IfOk, IfSome, None, get_or, nat_le};
+ghost use Rattle.std.specs.Prelude.{◌≡◌, ◌≤◌, ◌<◌, [], ℕ, length, IfOk, IfSome, None, get_or, nat_le};
 ghost use Rattle.std.specs.List.{insert, remove};
 ghost use Rattle.std.specs.List.Sorted.{IsBinarySearchResult, IsSearchInRange};
-ghost use Rattle.std.specs.Vec.{vec_len, vec_capacity};
 
+use crate::order::Order;
 use std::alloc::{AllocError, Global};
+use std::cmp::Ordering;
+use std::marker::Model;
 
 /// The keys that are known, in their order, and the room of each. Nothing that the keys are makes it slower than a search
-/// by halves.
+/// by halves, and a key that comes or goes moves few others' rooms and no key.
 #[derive(Drop)]
 pub struct RoomTable<K: Ord> {
-    keys: Vec<K>,
-    rooms: Vec<u32>,
-    most: usize,
-    /// The key that each room had last: where to look for a room.
+    /// The key that each room had last.
     last: Vec<Option<K>>,
-    ghost keys_fit: { most ≤ vec_capacity keys },
-    ghost rooms_fit: { most ≤ vec_capacity rooms },
-    ghost as_many: { vec_len keys ≡ vec_len rooms },
+    /// The rooms that keys have, by the order of these.
+    order: Order,
+    most: usize,
+}
+
+impl<K: Ord> Model for RoomTable<K> {
+    ghost use Rattle.tcp_rooms.specs.Table.{TableView, table_of, IsTable};
+
+    ghost Value = { TableView K };
+
+    ghost view = { λ t. table_of t.last.items t.order t.most };
+
+    ghost invariant = { λ t. IsTable t.last.items t.order t.most };
 }
 
 impl<K: Ord + Copy> RoomTable<K> {
     /// A table of no key, with memory for at most so many. No other call allocates.
     pub fn new(alloc: Global, most: usize) -> Result<RoomTable<K>, AllocError>
-        ensures keys { IfOk result (λ t. t.keys.items ≡ []) }
-        ensures rooms { IfOk result (λ t. t.rooms.items ≡ []) }
+        requires { most ≤ 65536 }
+        ensures keys { IfOk result (λ t. t.keys ≡ []) }
+        ensures rooms { IfOk result (λ t. t.rooms ≡ []) }
         ensures most { IfOk result (λ t. t.most ≡ most) }
     {
-        let keys = Vec::with_capacity(alloc, most)?;
-        let rooms = Vec::with_capacity(alloc, most)?;
         let last = vec![in alloc; None; most]?;
-        Ok(RoomTable {
-            keys,
-            rooms,
-            most,
-            last,
-        })
+        let order = Order::new(alloc, most)?;
+        Ok(RoomTable { last, order, most })
     }
 
     /// How many keys are known.
     pub fn len(&self) -> usize
-        ensures { result ≡ vec_len self.now.keys }
+        ensures { result ≡ length self.now.keys }
     {
-        self.keys.len()
+        self.order.len()
     }
 
     /// Whether as many keys are known as may be.
     pub fn is_full(&self) -> bool
-        ensures { result ≡ nat_le self.now.most (vec_len self.now.keys) }
+        ensures { result ≡ nat_le self.now.most (length self.now.keys) }
     {
-        self.keys.len() >= self.most
+        self.order.len() >= self.most
     }
 
     /// The place of a key in the order of the keys, or the one where it would stand.
     pub fn place(&self, key: &K) -> Result<usize, usize>
-        ensures place { IsBinarySearchResult (λ y. K.cmp y key.now) self.now.keys.items result }
-        ensures range { IsSearchInRange result (vec_len self.now.keys) }
+        ensures place { IsBinarySearchResult (λ y. K.cmp y key.now) self.now.keys result }
+        ensures range { IsSearchInRange result (length self.now.keys) }
     {
-        self.keys.binary_search(key)
+        let mut low = 0;
+        let mut high = self.len();
+        while low < high {
+            let middle = low + (high - low) / 2;
+            match self.key(middle).cmp(key) {
+                Ordering::Equal => return Ok(middle),
+                Ordering::Less => low = middle + 1,
+                Ordering::Greater => high = middle,
+            }
+        }
+        Err(low)
     }
 
     /// The key at a place.
     pub fn key(&self, place: usize) -> &K
-        requires { place < vec_len self.now.keys }
-        ensures { (default : K) → result.now ≡ get_or self.now.keys.items place default }
+        requires { place < length self.now.keys }
+        ensures { (default : K) → result.now ≡ get_or self.now.keys place default }
     {
-        &self.keys[place]
+        match &self.last[self.order.at(place) as usize] {
+            Some(key) => key,
+            None => unreachable!(),
+        }
     }
 
     /// The room of the key at a place.
     pub fn room(&self, place: usize) -> u32
-        requires { place < vec_len self.now.keys }
-        ensures { result ≡ get_or self.now.rooms.items place 0 }
+        requires { place < length self.now.keys }
+        ensures { result ≡ get_or self.now.rooms place 0 }
     {
-        self.rooms[place]
+        self.order.at(place)
     }
 
     /// The place of the key that has a room: that of the one that it had last, or else by a walk.
     pub fn place_of_room(&self, room: u32) -> Option<usize>
-        ensures none { (result ≡ None) → (place : ℕ) → place < vec_len self.now.rooms
-            → get_or self.now.rooms.items place 0 ≡ room → ⊥ }
-        ensures some { IfSome result (λ place. (place < vec_len self.now.rooms)
-            × (get_or self.now.rooms.items place 0 ≡ room)) }
+        ensures none { (result ≡ None) → (place : ℕ) → place < length self.now.rooms
+            → get_or self.now.rooms place 0 ≡ room → ⊥ }
+        ensures some { IfSome result (λ place. (place < length self.now.rooms)
+            × (get_or self.now.rooms place 0 ≡ room)) }
     {
         match self.place_of_last(room) {
             Some(place) => Some(place),
-            None => self.rooms.iter().position(|other| *other == room),
+            None => self.walk(room),
         }
     }
 
     /// The place of the key that a room had last, if it has it still.
     fn place_of_last(&self, room: u32) -> Option<usize>
-        ensures { IfSome result (λ place. (place < vec_len self.now.rooms)
-            × (get_or self.now.rooms.items place 0 ≡ room)) }
+        ensures { IfSome result (λ place. (place < length self.now.rooms)
+            × (get_or self.now.rooms place 0 ≡ room)) }
     {
         let Some(Some(key)) = self.last.get(room as usize) else {
             return None;
@@ -101,41 +119,52 @@ impl<K: Ord + Copy> RoomTable<K> {
         let Ok(place) = self.place(key) else {
             return None;
         };
-        if self.rooms[place] == room {
+        if self.room(place) == room {
             return Some(place);
         }
         None
     }
 
-    /// A key has a room from now on.
-    pub fn add(&mut self, place: usize, key: K, room: u32)
-        requires place { place ≤ vec_len self.old.keys }
-        requires some { vec_len self.old.keys < self.old.most }
-        ensures keys { self.new.keys.items ≡ insert self.old.keys.items place key }
-        ensures rooms { self.new.rooms.items ≡ insert self.old.rooms.items place room }
-        ensures most { self.new.most ≡ self.old.most }
-        ensures memory { (vec_capacity self.new.keys ≡ vec_capacity self.old.keys)
-            × (vec_capacity self.new.rooms ≡ vec_capacity self.old.rooms) }
+    /// The place of the key that has a room, by a walk over all.
+    fn walk(&self, room: u32) -> Option<usize>
+        ensures none { (result ≡ None) → (place : ℕ) → place < length self.now.rooms
+            → get_or self.now.rooms place 0 ≡ room → ⊥ }
+        ensures some { IfSome result (λ place. (place < length self.now.rooms)
+            × (get_or self.now.rooms place 0 ≡ room)) }
     {
-        // Neither fails: there has been room for the most keys since the table was made.
-        let _key = self.keys.insert(place, key);
-        let _room = self.rooms.insert(place, room);
-        if let Some(last) = self.last.get_mut(room as usize) {
-            *last = Some(key);
+        let mut place = 0;
+        while place < self.order.len() {
+            if self.order.at(place) == room {
+                return Some(place);
+            }
+            place += 1;
         }
+        None
+    }
+
+    /// A key has a room from now on, which no other key has.
+    pub fn add(&mut self, place: usize, key: K, room: u32)
+        requires place { place ≤ length self.old.keys }
+        requires some { length self.old.keys < self.old.most }
+        requires room { room < self.old.most }
+        requires free { (place : ℕ) → place < length self.old.rooms
+            → get_or self.old.rooms place 0 ≡ room → ⊥ }
+        ensures keys { self.new.keys ≡ insert self.old.keys place key }
+        ensures rooms { self.new.rooms ≡ insert self.old.rooms place room }
+        ensures most { self.new.most ≡ self.old.most }
+    {
+        self.last[room as usize] = Some(key);
+        self.order.insert(place, room as u16);
     }
 
     /// The key at a place is forgotten, and its memory kept. Answers the room that it had.
     pub fn forget(&mut self, place: usize) -> u32
-        requires { place < vec_len self.old.keys }
-        ensures keys { self.new.keys.items ≡ remove self.old.keys.items place }
-        ensures rooms { self.new.rooms.items ≡ remove self.old.rooms.items place }
-        ensures room { result ≡ get_or self.old.rooms.items place 0 }
+        requires { place < length self.old.keys }
+        ensures keys { self.new.keys ≡ remove self.old.keys place }
+        ensures rooms { self.new.rooms ≡ remove self.old.rooms place }
+        ensures room { result ≡ get_or self.old.rooms place 0 }
         ensures most { self.new.most ≡ self.old.most }
-        ensures memory { (vec_capacity self.new.keys ≡ vec_capacity self.old.keys)
-            × (vec_capacity self.new.rooms ≡ vec_capacity self.old.rooms) }
     {
-        self.keys.remove(place);
-        self.rooms.remove(place)
+        self.order.remove(place)
     }
 }

@@ -1,4 +1,4 @@
-//! The room of the least rank, and the place of a room's key.
+//! The room of the least rank, the place of a room's key, and the order of many keys.
 
 use std::test::Fail;
 use tcp_rooms::{Ranks, RoomTable};
@@ -42,7 +42,7 @@ const PLACES: [(u32, Option<usize>); 5] = [
 fn the_key_of_a_room_stands_at_its_place(rt: HostRuntime) -> Result<(), Fail> {
     let mut table = RoomTable::new(rt.alloc(), 4)?;
     for (key, room) in KEYS {
-        assert!(rt; !table.is_full());
+        assert!(rt; !table.is_full() && room < 4 && table.place_of_room(room).is_none());
         let place = match table.place(&key) {
             Ok(place) => place,
             Err(place) => place,
@@ -52,5 +52,32 @@ fn the_key_of_a_room_stands_at_its_place(rt: HostRuntime) -> Result<(), Fail> {
     for (room, place) in PLACES {
         assert_eq!(rt; table.place_of_room(room), place, "room {room}");
     }
+    Ok(())
+}
+
+/// So many keys take several blocks of rooms. It is a prime, so that the multiples of a number below it are as many.
+const MANY: u32 = 9_001;
+
+#[test]
+fn many_keys_stand_in_their_order(rt: HostRuntime) -> Result<(), Fail> {
+    let mut table = RoomTable::new(rt.alloc(), 9_001)?;
+    for room in 0..MANY {
+        let key = room * 4_099 % MANY;
+        assert!(rt; !table.is_full() && table.place_of_room(room).is_none());
+        let place = match table.place(&key) {
+            Ok(place) => place,
+            Err(place) => place,
+        };
+        table.add(place, key, room);
+    }
+    for number in 0..MANY / 2 {
+        let place = number as usize;
+        assert!(rt; place < table.len());
+        assert_eq!(rt; *table.key(place), 2 * number, "before a key goes");
+        table.forget(place);
+        assert!(rt; place < table.len());
+        assert_eq!(rt; *table.key(place), 2 * number + 1, "behind a key that goes");
+    }
+    assert_eq!(rt; table.len(), 4_501);
     Ok(())
 }

@@ -10,19 +10,19 @@ use Rattle.tcp_connections.proofs.connections.Connections.clear.Goals as goal
 pub elder_side-requires : goal.elder_side-requires
 elder_side-requires g c =
     let b = small_room _ _ _ _ c.args.place c.requires.state.1
-    (omega (arith, c.requires.place, c.args.self.now.table.keys.ok.0)) in
+    (omega (arith, c.requires.place)) in
     omega (arith, c.room-room.ensures, b)
 
 pub show-requires-clause-room : goal.show-requires-clause-room
 show-requires-clause-room g c =
     let b = small_room _ _ _ _ c.args.place c.requires.state.1
-    (omega (arith, c.requires.place, c.args.self.now.table.keys.ok.0)) in
+    (omega (arith, c.requires.place)) in
     omega (arith, c.room-room.ensures, b)
 
 pub elder_side-requires-2 : goal.elder_side-requires-2
 elder_side-requires-2 g c =
     let b = small_room _ _ _ _ c.args.place c.requires.state.1
-    (omega (arith, c.requires.place, c.args.self.now.table.keys.ok.0)) in
+    (omega (arith, c.requires.place)) in
     omega (arith, c.room-room.ensures, b)
 
 pub forget-requires-clause-state : goal.forget-requires-clause-state
@@ -38,8 +38,6 @@ forget-requires-clause-place g c =
     omega (
       arith,
       c.requires.place,
-      c.args.self.now.table.keys.ok.0,
-      c.show.new.self.table.keys.ok.0,
       ap length (known_of _ _ _ _ n),
       ap length (shown_kept g.L.Listener.reader w c.room-room.result c.elder_side.result).known,
       ap length (known_of _ _ _ _ c.requires.state.1),

@@ -1,5 +1,4 @@
 use Rattle.std.proofs.Common.{◌≡◌, ◌<◌, ℕ, [], length, sym, ap, subst, ◌∙◌, arith}
-use Rattle.std.specs.Vec.{vec_len}
 use Rattle.tcp_connections.specs.Connections.{State, eldest}
 use Rattle.tcp_connections.specs.Ranks.{IsBeforeAll}
 use Rattle.tcp_connections.specs.State.{state_of}
@@ -14,10 +13,9 @@ returns-clause-place c =
       arith,
       c.in-Some-place_of_room.ensures.some.0,
       c.requires.sound.pairs,
-      c.args.self.now.table.rooms.ok.0,
     ) in
-    let many : length w.known ≡ vec_len c.args.self.now.table.keys =
-    omega (arith, c.args.self.now.table.keys.ok.0) in
+    let many : length w.known ≡ length c.args.self.now.table.keys =
+    omega (arith) in
     only_eldest w place c.requires.sound within
     (subst (λ (r : ℕ). IsBeforeAll w.flows w.came w.lasts r)
     (sym c.in-Some-place_of_room.ensures.some.1) c.in-Some.ensures.some)

@@ -10,7 +10,7 @@ use Rattle.tcp_connections.proofs.connections.Connections.forget.Goals as goal
 pub flow_id-requires : goal.flow_id-requires
 flow_id-requires g c =
     let b = small_room _ _ _ _ c.args.place c.requires.state.1
-    (omega (arith, c.requires.place, c.args.self.now.table.keys.ok.0)) in
+    (omega (arith, c.requires.place)) in
     omega (arith, c.room-room.ensures, b)
 
 pub forget_flow-requires-2 : goal.forget_flow-requires-2
@@ -30,9 +30,7 @@ forget-requires g c =
     omega (
       arith,
       c.requires.place,
-      c.args.self.now.table.keys.ok.0,
       ap length k,
-      c.forget_flow-2.new.self.table.keys.ok.0,
     )
 
 pub give_back-requires : goal.give_back-requires
@@ -44,7 +42,7 @@ give_back-requires g c =
     c.args.cause ∙ forgot_known w c.flow_id.result c.args.cause
     ∙ sym (known_of _ _ _ _ c.requires.state.1) in
     let less = some_known _ _ _ _ c.args.place n
-    (omega (arith, c.requires.place, c.args.self.now.table.keys.ok.0, ap length k)) in
+    (omega (arith, c.requires.place, ap length k)) in
     omega (arith, less, c.forget_flow-2.new.self.free.free.ok.0)
 
 pub returns-clause-does : goal.returns-clause-does
@@ -61,7 +59,6 @@ returns-clause-does g c w h =
     let l : place < length w.known = omega (
       arith,
       c.requires.place,
-      c.args.self.now.table.keys.ok.0,
       ap length (known_of _ _ _ _ h),
     ) in
     let below = room_below w place h.sound l in

@@ -13,7 +13,6 @@ returns-then-not-is_full-clause-does g c w h =
       arith,
       less,
       h.room,
-      c.args.self.now.table.keys.ok.0,
       ap length (known_of _ _ _ _ h),
     ))) h
 
@@ -32,11 +31,11 @@ returns-clause-does g c w h =
     let full = leb-true _ _ (sym c.is_full.ensures ∙ c.if-not-is_full.false) in
     let n : c.eldest-place.result ≡ eldest w (length w.known) =
     c.eldest-place.ensures.place ∙ ap (eldest (state_of c.args.self.now []))
-    (c.args.self.now.table.keys.ok.0 ∙ ap length known)
+    (ap length known)
     ∙ eldest_any c.args.self.now [] w.events (length w.known)
     ∙ ap (λ (u : State). eldest u (length w.known)) h.same in
     moved_ok c.clear.result _ _ _ _ _
-    (room_made F w (omega (arith, full, h.room, c.args.self.now.table.keys.ok.0, ap length known))
+    (room_made F w (omega (arith, full, h.room, ap length known))
     ∙ ap (cleared F w) (sym n))
     (c.clear.ensures.does w (kept _ _ c.args.self.now c.eldest-place.new.self w
     c.eldest-place.ensures.same c.eldest-place.ensures.free c.eldest-place.ensures.room h))

@@ -10,7 +10,7 @@ use Rattle.tcp_connections.proofs.connections.Connections.reset.Goals as goal
 pub flow_id-id-requires : goal.flow_id-id-requires
 flow_id-id-requires g c =
     let b = small_room _ _ _ _ c.args.place c.requires.state.1
-    (omega (arith, c.requires.place, c.args.self.now.table.keys.ok.0)) in
+    (omega (arith, c.requires.place)) in
     omega (arith, c.room.ensures, b)
 
 pub returns-then-not-segment-clause-does : goal.returns-then-not-segment-clause-does

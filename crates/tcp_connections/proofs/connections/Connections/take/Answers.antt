@@ -47,14 +47,14 @@ returns-in_default-clause-count g c =
 pub flow_id-id-requires : goal.flow_id-id-requires
 flow_id-id-requires g c =
     let b = small_room _ _ _ _ c.in-Some.place c.requires.state.1
-    (omega (arith, c.in-Some.ensures.within, c.args.self.now.table.keys.ok.0)) in
+    (omega (arith, c.in-Some.ensures.within)) in
     omega (arith, c.room-room.ensures, b)
 
 pub keep_syn-requires : goal.keep_syn-requires
 keep_syn-requires g c =
     let sound = sound_of _ _ _ _ c.requires.state.1 in
     let b = room_below (state_of c.args.self.now []) c.in-Some.place sound
-    (omega (arith, c.in-Some.ensures.within, c.args.self.now.table.keys.ok.0)) in
+    (omega (arith, c.in-Some.ensures.within)) in
     record {
       room = omega (arith, b, c.room-room.ensures, c.args.self.now.flows.stamps.last.ok.0);
       own = ap (λ (n : ℕ). n / 2) c.flow_id-id.ensures.id
@@ -85,11 +85,17 @@ returns-then-is_kept-clause-does g c w h =
     ∙ ap (λ (r : ℕ). syn_kept v r (flow_id (room_at w place) (pair_of V.flow).1) V) (sym at)
     ∙ ap (λ (i : ℕ). syn_kept v c.room-room.result i V) (sym id))
     (syn_noted (g.L.Listener.observed c.args.to.now.listener) c.args.to.now.live.items
-    (record c.args.self.now { segments = c.args.self.now.segments + 1 }) c.keep_syn.new.self v
+    (record c.args.self.now {
+      segments = c.args.self.now.segments + 1;
+      guesses = c.note.new.self;
+    }) c.keep_syn.new.self v
     c.room-room.result c.flow_id-id.result V
     (counted (g.L.Listener.observed c.args.to.now.listener)
     c.args.to.now.live.items c.args.self.now
-    (record c.args.self.now { segments = c.args.self.now.segments + 1 }) w h (λ e. refl) refl refl)
+    (record c.args.self.now {
+      segments = c.args.self.now.segments + 1;
+      guesses = c.note.new.self;
+    }) w h (λ e. refl) refl refl)
     c.keep_syn.ensures.kept c.keep_syn.ensures.free c.keep_syn.ensures.room)
 
 pub returns-then-is_kept-clause-count : goal.returns-then-is_kept-clause-count
@@ -102,7 +108,10 @@ end_by-requires-clause-state g c = (
   _,
   (counted (g.L.Listener.observed c.args.to.now.listener)
       c.args.to.now.live.items c.args.self.now
-      (record c.args.self.now { segments = c.args.self.now.segments + 1 }) c.requires.state.0
+      (record c.args.self.now {
+        segments = c.args.self.now.segments + 1;
+        guesses = c.note.new.self;
+      }) c.requires.state.0
       c.requires.state.1 (λ e. refl) refl refl),
 )
 
@@ -112,7 +121,10 @@ take_unknown-requires-then-is_anew-clause-state g c = (
   _,
   c.in_ok-end_by.ensures.does _ (counted (g.L.Listener.observed c.args.to.now.listener)
       c.args.to.now.live.items c.args.self.now
-      (record c.args.self.now { segments = c.args.self.now.segments + 1 }) c.requires.state.0
+      (record c.args.self.now {
+        segments = c.args.self.now.segments + 1;
+        guesses = c.note.new.self;
+      }) c.requires.state.0
       c.requires.state.1 (λ e. refl) refl refl),
 )
 
@@ -125,7 +137,10 @@ take_unknown-requires-then-is_anew-clause-new g c =
     let v : State = record w { segments = w.segments + 1 } in
     let n = c.in_ok-end_by.ensures.does _ (counted (g.L.Listener.observed c.args.to.now.listener)
     c.args.to.now.live.items c.args.self.now
-    (record c.args.self.now { segments = c.args.self.now.segments + 1 }) c.requires.state.0
+    (record c.args.self.now {
+      segments = c.args.self.now.segments + 1;
+      guesses = c.note.new.self;
+    }) c.requires.state.0
     c.requires.state.1 (λ e. refl) refl refl) in
     let some : place_of pair w.known ≡ Some c.in-Some.place =
     ap (place_of pair) (sym (known_of _ _ _ _ h)) ∙ sym c.place_of.ensures.place
@@ -165,7 +180,10 @@ returns-then-is_anew-clause-does g c w h =
     (c.take_unknown-then-is_anew.ensures.does _
     (c.in_ok-end_by.ensures.does _ (counted (g.L.Listener.observed c.args.to.now.listener)
     c.args.to.now.live.items c.args.self.now
-    (record c.args.self.now { segments = c.args.self.now.segments + 1 }) w h (λ e. refl) refl
+    (record c.args.self.now {
+      segments = c.args.self.now.segments + 1;
+      guesses = c.note.new.self;
+    }) w h (λ e. refl) refl
     refl)))
 
 pub returns-then-is_anew-clause-count : goal.returns-then-is_anew-clause-count
@@ -179,7 +197,10 @@ pub take_known-requires-clause-state : goal.take_known-requires-clause-state
 take_known-requires-clause-state g c = (
   _,
   (counted (g.L.Listener.observed c.args.to.now.listener) c.args.to.now.live.items c.args.self.now
-      (record c.args.self.now { segments = c.args.self.now.segments + 1 }) c.requires.state.0
+      (record c.args.self.now {
+        segments = c.args.self.now.segments + 1;
+        guesses = c.note.new.self;
+      }) c.requires.state.0
       c.requires.state.1 (λ e. refl) refl refl),
 )
 
@@ -209,7 +230,10 @@ returns-clause-does g c w h =
     moved_ok c.take_known.result _ _ _ _ _ (step_known F w V place some not_kept known)
     (c.take_known.ensures.does _ (counted (g.L.Listener.observed c.args.to.now.listener)
     c.args.to.now.live.items c.args.self.now
-    (record c.args.self.now { segments = c.args.self.now.segments + 1 }) w h (λ e. refl) refl
+    (record c.args.self.now {
+      segments = c.args.self.now.segments + 1;
+      guesses = c.note.new.self;
+    }) w h (λ e. refl) refl
     refl))
 
 pub returns-clause-count : goal.returns-clause-count

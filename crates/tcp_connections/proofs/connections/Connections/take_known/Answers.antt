@@ -14,14 +14,14 @@ use Rattle.tcp_connections.proofs.connections.Connections.take_known.Goals as go
 pub flow_id-id-requires : goal.flow_id-id-requires
 flow_id-id-requires g c =
     let b = small_room _ _ _ _ c.args.place c.requires.state.1
-    (omega (arith, c.requires.place, c.args.self.now.table.keys.ok.0)) in
+    (omega (arith, c.requires.place)) in
     omega (arith, c.room-room.ensures, b)
 
 pub note-requires : goal.note-requires
 note-requires g c =
     let sound = sound_of _ _ _ _ c.requires.state.1 in
     let b = room_below (state_of c.args.self.now []) c.args.place sound
-    (omega (arith, c.requires.place, c.args.self.now.table.keys.ok.0)) in
+    (omega (arith, c.requires.place)) in
     record {
       room = omega (arith, b, c.room-room.ensures, c.args.self.now.flows.stamps.last.ok.0);
       own = ap (λ (n : ℕ). n / 2) c.flow_id-id.ensures.id ∙ half c.room-room.result c.args.side;
@@ -58,7 +58,7 @@ payload-requires-clause-within g c =
     (segment_view c.args.segment) in
     let sound = sound_of _ _ _ _ h in
     let b = room_below (state_of c.args.self.now []) c.args.place sound
-    (omega (arith, c.requires.place, c.args.self.now.table.keys.ok.0)) in
+    (omega (arith, c.requires.place)) in
     omega (
       arith,
       b,
@@ -82,14 +82,14 @@ payload-requires-clause-taken g c =
     (with_segment w c.room-room.result c.flow_id-id.result) c.flow_id.result
     (segment_view c.args.segment) in
     let sound = sound_of _ _ _ _ h in
-    let rooms : c.acknowledgement.new.self.table.rooms.items ≡ c.args.self.now.table.rooms.items =
+    let rooms : c.acknowledgement.new.self.table.rooms ≡ c.args.self.now.table.rooms =
     ap (λ (u : State). u.rooms) n.same ∙ k.rooms ∙ sym (ap (λ (u : State). u.rooms) h.same) in
-    let own = times_at c.args.self.now.table.rooms.items c.args.place
-    (omega (arith, c.requires.place, c.args.self.now.table.keys.ok.0, sound.pairs)) in
+    let own = times_at c.args.self.now.table.rooms c.args.place
+    (omega (arith, c.requires.place, sound.pairs)) in
     let id : c.flow_id-id.result / 2 ≡ c.room-room.result =
     ap (λ (n : ℕ). n / 2) c.flow_id-id.ensures.id ∙ half c.room-room.result c.args.side in
     subst (λ (rs : List ℕ). 0 < times (c.flow_id-id.result / 2) rs) (sym rooms)
-    (subst (λ (n : ℕ). 0 < times n c.args.self.now.table.rooms.items)
+    (subst (λ (n : ℕ). 0 < times n c.args.self.now.table.rooms)
     (sym (id ∙ c.room-room.ensures)) own)
 
 pub fin-requires : goal.fin-requires
@@ -134,9 +134,7 @@ reset-requires-clause-place g c =
     omega (
       arith,
       c.requires.place,
-      c.args.self.now.table.keys.ok.0,
       ap length known,
-      c.fin.new.self.table.keys.ok.0,
     )
 
 pub hear-requires : goal.hear-requires

@@ -42,7 +42,6 @@ make_known-requires-clause-room g c =
       less,
       n.room,
       ap length (known_of _ _ _ _ n),
-      c.make_room.new.self.table.keys.ok.0,
     )
 
 pub flow_id-id-requires : goal.flow_id-id-requires

@@ -8,7 +8,7 @@ pub loop-place-init : goal.loop-place-init
 unfolding eldest
 loop-place-init c = (
   omega arith,
-  omega (arith, c.requires.some, c.args.self.now.table.keys.ok.0),
+  omega (arith, c.requires.some),
   refl,
 )
 
@@ -16,8 +16,8 @@ pub loop-place-preserved : goal.loop-place-preserved
 loop-place-preserved c =
     let w = state_of c.args.self.now [] in
     let n = c.loop-place.place in (
-      omega (arith, c.loop-place-test.true, c.len.ensures, c.args.self.now.table.keys.ok.0),
-      omega (arith, c.elder-best.ensures.within, c.args.self.now.table.keys.ok.0),
+      omega (arith, c.loop-place-test.true, c.len.ensures),
+      omega (arith, c.elder-best.ensures.within),
       c.elder-best.ensures.place ∙ ap (λ (b : ℕ). cond (goes_before w n b) n b)
           c.loop-place.invariant.2 ∙ sym (eldest_more w n),
     )

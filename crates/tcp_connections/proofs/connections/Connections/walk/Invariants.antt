@@ -5,8 +5,8 @@ use Rattle.tcp_connections.proofs.connections.Connections.walk.Given as goal
 
 abbrev pub invariant-loop-place : goal.invariant-loop-place
 invariant-loop-place l =
-    (l.place ≤ length l.self.table.keys.items) × (l.best < length l.self.table.keys.items)
+    (l.place ≤ length l.self.table.keys) × (l.best < length l.self.table.keys)
     × (l.best ≡ eldest (state_of l.self []) l.place)
 
 abbrev pub decreases-loop-place : goal.decreases-loop-place
-decreases-loop-place l = length l.self.table.keys.items - l.place
+decreases-loop-place l = length l.self.table.keys - l.place

@@ -1,0 +1,183 @@
+//! Rooms by their places in an order, in memory that is allocated once: where one comes or goes, few others are moved.
+
+ghost use Rattle.std.specs.Prelude.{◌≡◌, ◌≤◌, ◌<◌, ◌*◌, suc, [], IfOk, get_or, length};
+ghost use Rattle.std.specs.List.{insert, remove, concat};
+ghost use Rattle.tcp_rooms.specs.Order.{rows_of, HaveMemory, HasGap, IsFilled};
+
+use std::alloc::{AllocError, Global};
+use std::collections::VecDeque;
+use std::marker::Model;
+
+/// How many rooms a block holds.
+const BLOCK: usize = 4096;
+
+/// Rooms by their places. Each block is full but the last that holds any.
+#[derive(Drop)]
+pub(crate) struct Order {
+    blocks: Vec<VecDeque<u16>>,
+    len: usize,
+}
+
+impl Model for Order {
+    ghost use Rattle.tcp_rooms.specs.Order.{OrderView, order_of, IsKept};
+
+    ghost Value = { OrderView };
+
+    ghost view = { order_of };
+
+    ghost invariant = { IsKept };
+}
+
+impl Order {
+    /// No room has a place. There is memory for at least so many; no other call allocates.
+    pub(crate) fn new(alloc: Global, most: usize) -> Result<Order, AllocError>
+        requires { most ≤ 65536 }
+        ensures items { IfOk result (λ o. o.items ≡ []) }
+        ensures most { IfOk result (λ o. most ≤ o.most) }
+    {
+        let count = most / BLOCK + 1;
+        let mut blocks = Vec::with_capacity(alloc, count)?;
+        while blocks.len() < count {
+            let block = VecDeque::with_capacity(alloc, BLOCK)?;
+            blocks.push_reserved(block);
+        }
+        Ok(Order { blocks, len: 0 })
+    }
+
+    /// How many rooms have a place.
+    pub(crate) fn len(&self) -> usize
+        ensures { result ≡ length self.now.items }
+    {
+        self.len
+    }
+
+    /// The room at a place.
+    pub(crate) fn at(&self, place: usize) -> u32
+        requires { place < length self.now.items }
+        ensures { result ≡ get_or self.now.items place 0 }
+    {
+        u32::from(self.blocks[place / BLOCK][place % BLOCK])
+    }
+
+    /// A room has a place from now on, and those that stand there and after it the next ones.
+    pub(crate) fn insert(&mut self, place: usize, room: u16)
+        requires place { place ≤ length self.old.items }
+        requires some { length self.old.items < self.old.most }
+        ensures items { self.new.items ≡ insert self.old.items place room }
+        ensures most { self.new.most ≡ self.old.most }
+    {
+        put_in(&mut self.blocks, self.len, place, room);
+        self.len += 1;
+    }
+
+    /// The room at a place goes, and those after it have the places before theirs. Answers the room.
+    pub(crate) fn remove(&mut self, place: usize) -> u32
+        requires { place < length self.old.items }
+        ensures items { self.new.items ≡ remove self.old.items place }
+        ensures room { result ≡ get_or self.old.items place 0 }
+        ensures most { self.new.most ≡ self.old.most }
+    {
+        let room = self.at(place);
+        take_out(&mut self.blocks, self.len, place);
+        self.len -= 1;
+        room
+    }
+}
+
+/// A room has a place from now on. The place that is free behind the last room becomes one of the block where it stands.
+fn put_in(blocks: &mut [VecDeque<u16>], len: usize, place: usize, room: u16)
+    requires memory { HaveMemory blocks.old }
+    requires filled { IsFilled (rows_of blocks.old) }
+    requires len { len ≡ length (concat (rows_of blocks.old)) }
+    requires place { place ≤ len }
+    requires some { len < 4096 * length blocks.old }
+    ensures memory { HaveMemory blocks.new }
+    ensures filled { IsFilled (rows_of blocks.new) }
+    ensures items { concat (rows_of blocks.new) ≡ insert (concat (rows_of blocks.old)) place room }
+    ensures blocks { length blocks.new ≡ length blocks.old }
+{
+    let block = place / BLOCK;
+    open_gap(blocks, len / BLOCK, block);
+    // It doesn't fail: a place of the block is free.
+    let _inserted = blocks[block].insert(place % BLOCK, room);
+}
+
+/// The room at a place goes. The place that it leaves free becomes one behind the last room.
+fn take_out(blocks: &mut [VecDeque<u16>], len: usize, place: usize)
+    requires memory { HaveMemory blocks.old }
+    requires filled { IsFilled (rows_of blocks.old) }
+    requires len { len ≡ length (concat (rows_of blocks.old)) }
+    requires place { place < len }
+    ensures memory { HaveMemory blocks.new }
+    ensures filled { IsFilled (rows_of blocks.new) }
+    ensures items { concat (rows_of blocks.new) ≡ remove (concat (rows_of blocks.old)) place }
+    ensures blocks { length blocks.new ≡ length blocks.old }
+{
+    let block = place / BLOCK;
+    let _removed = blocks[block].remove(place % BLOCK);
+    close_gap(blocks, block, (len - 1) / BLOCK);
+}
+
+/// The free place of one block is one of an earlier block from now on.
+fn open_gap(blocks: &mut [VecDeque<u16>], from: usize, to: usize)
+    requires memory { HaveMemory blocks.old }
+    requires gap { HasGap from (rows_of blocks.old) }
+    requires order { to ≤ from }
+    ensures memory { HaveMemory blocks.new }
+    ensures gap { HasGap to (rows_of blocks.new) }
+    ensures items { concat (rows_of blocks.new) ≡ concat (rows_of blocks.old) }
+    ensures blocks { length blocks.new ≡ length blocks.old }
+{
+    let mut free = from;
+    while free > to {
+        free -= 1;
+        pass_on(blocks, free);
+    }
+}
+
+/// The free place of one block is one of a later block from now on, where the blocks before that one stay full.
+fn close_gap(blocks: &mut [VecDeque<u16>], from: usize, to: usize)
+    requires memory { HaveMemory blocks.old }
+    requires gap { HasGap from (rows_of blocks.old) }
+    requires order { from ≤ to }
+    requires many { 4096 * to ≤ length (concat (rows_of blocks.old)) }
+    ensures memory { HaveMemory blocks.new }
+    ensures gap { HasGap to (rows_of blocks.new) }
+    ensures items { concat (rows_of blocks.new) ≡ concat (rows_of blocks.old) }
+    ensures blocks { length blocks.new ≡ length blocks.old }
+{
+    let mut free = from;
+    while free < to {
+        pass_back(blocks, free);
+        free += 1;
+    }
+}
+
+/// The last room of a block stands first in the next block from now on, which has a free place.
+fn pass_on(blocks: &mut [VecDeque<u16>], block: usize)
+    requires memory { HaveMemory blocks.old }
+    requires gap { HasGap (suc block) (rows_of blocks.old) }
+    ensures memory { HaveMemory blocks.new }
+    ensures gap { HasGap block (rows_of blocks.new) }
+    ensures items { concat (rows_of blocks.new) ≡ concat (rows_of blocks.old) }
+    ensures blocks { length blocks.new ≡ length blocks.old }
+{
+    if let Some(room) = blocks[block].pop_back() {
+        blocks[block + 1].push_front_reserved(room);
+    }
+}
+
+/// The first room of the block after one that has a free place stands last in that one from now on.
+fn pass_back(blocks: &mut [VecDeque<u16>], block: usize)
+    requires memory { HaveMemory blocks.old }
+    requires gap { HasGap block (rows_of blocks.old) }
+    requires many { 4096 * suc block ≤ length (concat (rows_of blocks.old)) }
+    ensures memory { HaveMemory blocks.new }
+    ensures gap { HasGap (suc block) (rows_of blocks.new) }
+    ensures items { concat (rows_of blocks.new) ≡ concat (rows_of blocks.old) }
+    ensures blocks { length blocks.new ≡ length blocks.old }
+{
+    if let Some(room) = blocks[block + 1].pop_front() {
+        blocks[block].push_back_reserved(room);
+    }
+}
