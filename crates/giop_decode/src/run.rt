@@ -121,8 +121,8 @@ impl Decoder {
         self.take_ahead(catalogue, octets, ahead_of(of, 1, step, &[]), out)
     }
 
-    /// The same, but for numbers and full pieces one at a time, and within encapsulations too: there of the octets up to
-    /// where one ends.
+    /// Does what `take_some` does, but takes numbers and full pieces one at a time, and octets within encapsulations too: of
+    /// these those up to the end of one.
     #[inline(never)]
     pub(crate) fn take_one<O: Out>(
         &mut self,
