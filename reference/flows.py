@@ -122,7 +122,7 @@ class FlowState:
             return
         self.held.append(left)
         self.go_on()
-        while self.held and (self._is_far() or self._capture.blocks() > self._capture.limits.blocks):
+        while self._is_far():
             self.gap()
 
     def _is_far(self) -> bool:
@@ -371,9 +371,10 @@ class Capture:
     def _states(self) -> List[FlowState]:
         return [state for connection in self._known.values() for state in connection.flows.values()]
 
-    def blocks(self) -> int:
-        """The blocks that are in use of the pool."""
-        return sum(state.blocks() for state in self._states())
+    def _relieve(self) -> None:
+        """While the pool is short the flow that holds the most gives up, of several the one of the oldest stream."""
+        while sum(state.blocks() for state in self._states()) > self.limits.blocks:
+            min(self._states(), key=lambda state: (-state.blocks(), number_of(state))).gap()
 
     def take(self, segment: Segment) -> None:
         """What a segment does."""
@@ -401,6 +402,7 @@ class Capture:
             connection.flows[segment.flow] = state
         if state and not segment.is_reset:
             state.payload_came(segment.number, segment.payload)
+            self._relieve()
         if state and segment.is_fin:
             state.fin_came(segment.end())
         if state and segment.is_reset and state.is_near(segment.sequence):

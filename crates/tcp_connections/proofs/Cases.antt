@@ -7,13 +7,14 @@ use Rattle.tcp_flow.specs.declared.hearing.Heard.{Heard}
 use Rattle.tcp_flow.specs.declared.flow.CloseCause.{CloseCause}
 use Rattle.tcp_flow.specs.declared.flow.CloseCause.TheVariants.{Reset, Syn}
 use Rattle.tcp_flow.specs.declared.flow.FlowState.{FlowState}
-use Rattle.tcp_flow.specs.Flow.{Flow, Passes, Reader, Setting, Arrival, Octets, End, Hears, setting, closed, gap, step as flow_step, held_by_others}
+use Rattle.tcp_flow.specs.Flow.{Flow, Passes, Reader, Arrival, Octets, End, Hears, closed, gap, step as flow_step, held_by_others}
 use Rattle.tcp_flow.specs.State.{state}
 use Rattle.tcp_flow.proofs.Steps.{heard_none}
 use Rattle.tcp_streams.specs.declared.pair.Side.{Side}
 use Rattle.tcp_streams.specs.Pairs.{pair_of, opposite, flow_id}
 use Rattle.tcp_streams.specs.Lives.{lives}
-use Rattle.tcp_connections.specs.Connections.{State, with_segment, flow_at, with_flow, arrived, began, gapped, closed_at, flow_forgotten, place_of, room_at, gaps_at, ended_by, cleared, goes_before, eldest, with_room, next_room, made_known, first_number, number_behind, is_first, is_looked_through, looked_through, with_capture_event, is_kept, is_anew, is_reset, syn_at, syn_kept, flow_of_side, fin_taken, unknown_taken, heard, acknowledgement_heard, payload_taken, reset_taken, known_taken, step, is_holding, gaps_from}
+use Rattle.tcp_waiting.specs.Payload.{blocks_of}
+use Rattle.tcp_connections.specs.Connections.{State, with_segment, flow_at, with_flow, arrived, began, gapped, closed_at, flow_forgotten, place_of, room_at, gaps_at, ended_by, cleared, goes_before, eldest, with_room, next_room, made_known, first_number, number_behind, is_first, is_looked_through, looked_through, with_capture_event, is_kept, is_anew, is_reset, syn_at, syn_kept, flow_of_side, fin_taken, unknown_taken, heard, acknowledgement_heard, payload_taken, reset_taken, known_taken, step, is_holding, gaps_from, heaviest, relieved, within_pool}
 
 pub arrived_none : (F : Reader) (w : State) (id : ℕ) (a : Arrival) → flow_at w id ≡ None →
     arrived F w id a ≡ w
@@ -22,7 +23,7 @@ arrived_none F w id a e = rw (e, arrived) refl
 
 pub arrived_some : (F : Reader) (w : State) (id : ℕ) (a : Arrival) (s : FlowState) →
     flow_at w id ≡ Some s → arrived F w id a
-    ≡ with_flow w id (flow_step (setting F w.blocks) (state s w.held w.events) a)
+    ≡ with_flow w id (flow_step F (state s w.held w.events) a)
 unfolding arrived
 arrived_some F w id a s e = rw (e, arrived) refl
 
@@ -62,10 +63,10 @@ unfolding flow_forgotten
 forgot_some w id cause s e = rw (e, flow_forgotten) refl
 
 -- where nothing waits, a packet says nothing of what is missing
-none_missed : (A : Setting) (f : Flow) (h : Heard) → length f.held ≡ 0 →
-    flow_step A f (Hears h) ≡ f
+none_missed : (F : Reader) (f : Flow) (h : Heard) → length f.held ≡ 0 →
+    flow_step F f (Hears h) ≡ f
 unfolding flow_step
-none_missed A f h none = heard_none A.reader (length f.held) h f (omega (arith, none))
+none_missed F f h none = heard_none F (length f.held) h f (omega (arith, none))
 
 same_flow : (w : State) (id : ℕ) (s : FlowState) → flow_at w id ≡ Some s →
     with_flow w id (state s w.held w.events) ≡ w
@@ -79,7 +80,7 @@ none_heard : (F : Reader) (w : State) (id : ℕ) (h : Heard) (o : Option FlowSta
 none_heard F w id h None none e = arrived_none F w id (Hears h) e
 none_heard F w id h (Some s) none e =
     arrived_some F w id (Hears h) s e
-    ∙ ap (with_flow w id) (none_missed (setting F w.blocks) (state s w.held w.events) h none)
+    ∙ ap (with_flow w id) (none_missed F (state s w.held w.events) h none)
     ∙ same_flow w id s e
 
 pub none_waits : (F : Reader) (w : State) (id : ℕ) (acknowledged : Option ℕ) (answers : Bool) →
@@ -117,14 +118,17 @@ pub payload_reset : (F : Reader) (w : State) (id : ℕ) (s : Segment) (f : FlowS
     flow_at w id ≡ Some f → s.reset ≡ true → payload_taken F w id s ≡ w
 unfolding payload_taken
 payload_reset F w id s f e r = rw (e, payload_taken)
-    (cond-true s.reset w (arrived F w id (Octets (first_number s) s.payload w.arrival)) r)
+    (cond-true s.reset w
+    (within_pool F (arrived F w id (Octets (first_number s) s.payload w.arrival))) r)
 
 pub payload_later : (F : Reader) (w : State) (id : ℕ) (s : Segment) (f : FlowState) →
     flow_at w id ≡ Some f → s.reset ≡ false →
-    payload_taken F w id s ≡ arrived F w id (Octets (first_number s) s.payload w.arrival)
+    payload_taken F w id s
+    ≡ within_pool F (arrived F w id (Octets (first_number s) s.payload w.arrival))
 unfolding payload_taken
 payload_later F w id s f e r = rw (e, payload_taken)
-    (cond-false s.reset w (arrived F w id (Octets (first_number s) s.payload w.arrival)) r)
+    (cond-false s.reset w
+    (within_pool F (arrived F w id (Octets (first_number s) s.payload w.arrival))) r)
 
 pub no_fin : (F : Reader) (w : State) (id : ℕ) (s : Segment) → s.fin ≡ false →
     fin_taken F w id s ≡ w
@@ -272,6 +276,30 @@ at_gap F zero w id l e = absurd (omega (arith, l))
 at_gap F (suc count) w id l e =
     let k : suc count - 1 ≡ count = omega arith in
     rw (k, e, gaps_at) refl
+
+-- ---- The pool is short.
+
+pub relieved_none : (F : Reader) (count : ℕ) (w : State) → count ≤ 0 → relieved F count w ≡ w
+unfolding relieved
+relieved_none F zero w l = refl
+relieved_none F (suc count) w l = absurd (omega (arith, l))
+
+pub relieved_enough : (F : Reader) (count : ℕ) (w : State) → blocks_of w.held ≤ w.blocks →
+    relieved F count w ≡ w
+unfolding relieved
+relieved_enough F zero w l = refl
+relieved_enough F (suc count) w l =
+    let e : nat_lt w.blocks (blocks_of w.held) ≡ false = le-ltb w.blocks (blocks_of w.held) l in
+    rw (e, relieved) refl
+
+pub relieved_gap : (F : Reader) (count : ℕ) (w : State) → 0 < count → w.blocks < blocks_of w.held
+    → relieved F count w ≡ relieved F (count - 1) (gapped F w (heaviest w))
+unfolding relieved
+relieved_gap F zero w z l = absurd (omega (arith, z))
+relieved_gap F (suc count) w z l =
+    let k : suc count - 1 ≡ count = omega arith in
+    let e : nat_lt w.blocks (blocks_of w.held) ≡ true = lt-ltb w.blocks (blocks_of w.held) l in
+    rw (k, e, relieved) refl
 
 -- ---- The end of the capture.
 

@@ -33,6 +33,7 @@ noted O live c c' w room id h same free table =
       sound = sound_seen w (set w.lasts room w.segments) w.syns (set w.came id true) w.segments
           w.events w.arrival
           long h.sound;
+      blocks = h.blocks;
       free = free ∙ h.free ∙ sym long;
       room = table ∙ h.room ∙ sym long;
     }
@@ -55,6 +56,7 @@ syn_noted O live c c' w room id s h same free table =
       sound = sound_seen w (set w.lasts room w.segments)
           (set w.syns room (Some (record { flow = id; number = onward s.sequence 1 })))
           (set w.came id true) w.segments w.events w.arrival long h.sound;
+      blocks = h.blocks;
       free = free ∙ h.free ∙ sym long;
       room = table ∙ h.room ∙ sym long;
     }
@@ -71,6 +73,7 @@ counted O live c c' w h same free table =
       same = same w.events ∙ ap (λ (u : State). record u { segments = u.segments + 1 }) h.same;
       told = h.told;
       sound = sound_seen w w.lasts w.syns w.came (w.segments + 1) w.events w.arrival refl h.sound;
+      blocks = h.blocks;
       free = free ∙ h.free;
       room = table ∙ h.room;
     }
@@ -176,6 +179,7 @@ made O O' live live' c c' w p rest room h observed living free new state most ta
           (h.told id e);
       sound = known_sound w p rest room (set w.lasts room w.segments) (set w.syns room None)
           (came_none w.came room) (opened room p w.events) h.sound had unknown long;
+      blocks = h.blocks;
       free = most ∙ h.free ∙ sym long;
       room = table ∙ h.room ∙ sym long;
     })

@@ -225,7 +225,7 @@ pub record SoFar (left rank : ℕ) (w : State) : Type 0 where
   pub enough : length w.held + length (lives w.events) ≤ left + rank
   pub before : (r : ℕ) → r < rank → count_of (get_or (lives w.events) r 0) w.held ≡ 0
 
-none_held : (id next : ℕ) (ps : List Payload) → is_some (first id next ps) ≡ false →
+pub none_held : (id next : ℕ) (ps : List Payload) → is_some (first id next ps) ≡ false →
     count_of id ps ≡ 0
 none_held id next ps e = search (arith, others_all, count_gone)
 
@@ -307,7 +307,7 @@ by_gap left rank w g id same some l fewer others t so =
     }
 
 -- a flow that holds something is in step
-holds_live : (w : State) (id : ℕ) (s : FlowState) → IsSound w → flow_at w id ≡ Some s →
+pub holds_live : (w : State) (id : ℕ) (s : FlowState) → IsSound w → flow_at w id ≡ Some s →
     is_some (first s.id s.next w.held) ≡ true → is_some s.live ≡ true
 unfolding first_of
 holds_live w id s h a e =

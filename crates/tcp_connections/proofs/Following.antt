@@ -2,17 +2,16 @@
 -- and where the capture ends.
 use Rattle.std.proofs.Common.{◌≡◌, ℕ, ◌<◌, ◌≤◌, ◌^◌, cond, List, [], ◌∷◌, ◌++◌, length, set, get_or, Option, Some, None, is_some, unwrap_or, refl, sym, ◌∙◌, ap, subst, arith, inl, inr, true≢false, length-set, get_or-set_same, get_or-set_other}
 use Rattle.std.proofs.lemmas.Bool.{cases_eq}
-use Rattle.tcp_waiting.specs.Payload.{Payload, payload, blocks_of}
+use Rattle.tcp_waiting.specs.Payload.{Payload, payload}
 use Rattle.tcp_waiting.proofs.Counts.{first_none}
 use Rattle.tcp_flow.specs.declared.flow.CloseCause.{CloseCause}
 use Rattle.tcp_flow.specs.declared.flow.FlowState.{FlowState}
 use Rattle.tcp_flow.specs.declared.tail.Tail.{Tail}
-use Rattle.tcp_flow.specs.Flow.{Flow, Reader, Setting, Arrival, Octets, End, Hears, setting, fresh, first_of, lives as has_stream, payload_came, closed, gap, step as flow_step, first_payload}
+use Rattle.tcp_flow.specs.Flow.{Flow, Reader, Arrival, Octets, End, Hears, fresh, first_of, lives as has_stream, payload_came, closed, gap, step as flow_step, first_payload}
 use Rattle.tcp_flow.specs.Laws.{AllFollow, AllArePartsOf, IsPartOf, IsTailOf, IsGapless, IsSettled, due_of}
 use Rattle.tcp_flow.specs.State.{state}
 use Rattle.tcp_flow.proofs.Direct.{came_settled, fin_settled, heard_settled, gap_settled, fresh_settled}
 use Rattle.tcp_flow.proofs.Others.{step_others, gap_others}
-use Rattle.tcp_flow.proofs.Room.{room_after, fin_blocks, gap_blocks, heard_blocks}
 use Rattle.tcp_flow.proofs.States.{settled_whatever}
 use Rattle.tcp_flow.proofs.Truth.{runs_more, runs_grow, all_grow, tail_grows, came_true, gap_true, true_keeps}
 use Rattle.tcp_flow.proofs.Told.{IsKept, closed_told, came_told, step_told, gap_told}
@@ -117,25 +116,18 @@ flow_behind payloads w id f h l own g beside =
 
 -- ---- What comes for a flow.
 
-step_blocks : (A : Setting) (f : Flow) (a : Arrival) → blocks_of f.held ≤ A.blocks →
-    blocks_of (flow_step A f a).held ≤ A.blocks
+step_settled : (F : Reader) (f : Flow) (a : Arrival) → IsSettled f →
+    (flow_step F f a).next < 2 ^ 32 → IsSettled (flow_step F f a)
 unfolding flow_step
-step_blocks A f (Octets n octets arrival) l = room_after A f (payload f.id n octets arrival) refl l
-step_blocks A f (End n) l = omega (arith, l, fin_blocks A.reader f n)
-step_blocks A f (Hears h) l = omega (arith, l, heard_blocks A.reader (length f.held) h f)
-
-step_settled : (A : Setting) (f : Flow) (a : Arrival) → IsSettled f →
-    (flow_step A f a).next < 2 ^ 32 → IsSettled (flow_step A f a)
-unfolding flow_step
-step_settled A f (Octets n octets arrival) t l = came_settled A f
+step_settled F f (Octets n octets arrival) t l = came_settled F f
     (payload f.id n octets arrival) t l
-step_settled A f (End n) t l = fin_settled A.reader f n t l
-step_settled A f (Hears h) t l = heard_settled A.reader (length f.held) h f t l
+step_settled F f (End n) t l = fin_settled F f n t l
+step_settled F f (Hears h) t l = heard_settled F (length f.held) h f t l
 
 -- what comes for a flow that has these payloads leaves it with those
 unfoldable pub Goes : List Payload → List Payload → Reader → State → ℕ → Arrival → Type 0
 Goes payloads more F w id a = (f : Flow) → f.id ≡ id → IsGapless payloads f →
-    IsGapless more (flow_step (setting F w.blocks) f a)
+    IsGapless more (flow_step F f a)
 
 pub arrived_both : (payloads more : List Payload) (F : Reader) (w : State) (id : ℕ) (a : Arrival) →
     IsSound w → Follow payloads w → Follow more w
@@ -148,24 +140,22 @@ arrived_both payloads more F w id a h t u goes = by (flow_at w id) refl
     by None e = subst (λ (v : State). IsSound v × Follow more v) (sym (arrived_none F w id a e))
         (h, u)
     by (Some s) e =
-        let A : Setting = setting F w.blocks in
         let before : Flow = state s w.held w.events in
-        let f : Flow = flow_step A before a in
+        let f : Flow = flow_step F before a in
         let own : s.id ≡ id = (t.own id s e).0 in
         let g : IsGapless more f = goes before own (flow_before payloads w id s t e) in
-        let same : f.id ≡ id = (step_told (λ es. Unit {0}) id (λ es event of x. tt) A before a
+        let same : f.id ≡ id = (step_told (λ es. Unit {0}) id (λ es event of x. tt) F before a
         (record { same = own; told = tt })).same in
         let within : id < length w.flows = some_within w.flows id s e in
-        let settled : IsSettled f = step_settled A before a
+        let settled : IsSettled f = step_settled F before a
         (settled_whatever s w.held [] w.events (h.settled id s e)) g.next in
         subst (λ (v : State). IsSound v × Follow more v) (sym (arrived_some F w id a s e)) (
           with_flow_sound w id f h within same
-              (beside_own id s.id w.held f.held own (step_others A before a))
-              (step_blocks A before a h.blocks)
+              (beside_own id s.id w.held f.held own (step_others F before a))
               (settled_whatever (flow_state f) f.held f.events [] settled) (apart_some w id s h e),
           flow_behind more w id f u within same g (λ other apart.
               (step_told (λ es. AllFollow more other None es (due_in (flow_at w other))) id
-              (others_kept more id other (due_in (flow_at w other)) apart) A before a
+              (others_kept more id other (due_in (flow_at w other)) apart) F before a
               (record { same = own; told = u.events other })).told),
         )
 
@@ -178,32 +168,30 @@ pub began_both : (payloads : List Payload) (F : Reader) (w : State) (id n : ℕ)
     (began F w id n octets)
 unfolding began first_payload flow_step first_of
 began_both payloads F w id n octets small h t u e within apart =
-    let A : Setting = setting F w.blocks in
     let p : Payload = payload id n octets w.arrival in
     let more : List Payload = payloads ++ p ∷ [] in
     let before : Flow = fresh id n w.held w.events in
-    let f : Flow = payload_came A before p in
+    let f : Flow = payload_came F before p in
     let none : AllFollow payloads id None w.events None =
     subst (λ (o : Option FlowState). AllFollow payloads id None w.events (due_in o)) e
     (t.events id) in
-    let g : IsGapless more f = came_true A payloads before p small
+    let g : IsGapless more f = came_true F payloads before p small
     (record {
       next = small;
       held = t.held;
       tail = λ u d. absurd (true≢false (sym (ap is_some d)));
       events = none;
     }) in
-    let same : f.id ≡ id = (came_told (λ es. Unit {0}) id (λ es event of x. tt) A before p
+    let same : f.id ≡ id = (came_told (λ es. Unit {0}) id (λ es event of x. tt) F before p
     (record { same = refl; told = tt })).same in
     let idle : IsSettled before = fresh_settled before refl
     (ap is_some (first_none id n w.held (h.vacant id e))) in (
-      with_flow_sound w id f h within same (step_others A before (Octets n octets w.arrival))
-          (room_after A before p refl h.blocks)
-          (settled_whatever (flow_state f) f.held f.events [] (came_settled A before p idle g.next))
+      with_flow_sound w id f h within same (step_others F before (Octets n octets w.arrival))
+          (settled_whatever (flow_state f) f.held f.events [] (came_settled F before p idle g.next))
           apart,
       flow_behind more w id f u within same g (λ other away.
           (came_told (λ es. AllFollow more other None es (due_in (flow_at w other))) id
-          (others_kept more id other (due_in (flow_at w other)) away) A before p
+          (others_kept more id other (due_in (flow_at w other)) away) F before p
           (record { same = refl; told = u.events other })).told),
     )
 
@@ -256,7 +244,6 @@ gapped_sound F w id payloads h t = by (flow_at w id) refl
         subst IsSound (sym (gapped_some F w id s e))
         (with_flow_sound w id f h (some_within w.flows id s e) same
         (beside_own id s.id w.held f.held own (gap_others F before))
-        (omega (arith, h.blocks, gap_blocks F before))
         (settled_whatever (flow_state f) f.held f.events [] (gap_settled F before g.next))
         (apart_some w id s h e))
 

@@ -1,14 +1,15 @@
 -- What a flow's step leaves: which connections are known, in which rooms.
-use Rattle.std.proofs.Common.{◌≡◌, ℕ, ◌/◌, Bool, true, false, cond, nat_lt, List, length, Option, Some, None, refl, sym, subst, arith, length-set}
+use Rattle.std.proofs.Common.{◌≡◌, ℕ, ◌/◌, Bool, true, false, cond, nat_lt, List, length, Option, Some, None, refl, sym, ◌∙◌, subst, arith, length-set}
 use Rattle.tcp_segment.specs.Segments.{Segment}
 use Rattle.tcp_flow.specs.declared.flow.FlowState.{FlowState}
-use Rattle.tcp_flow.specs.Flow.{Flow, Passes, Reader, Arrival, Octets, End, setting, step as flow_step, first_payload}
+use Rattle.tcp_flow.specs.Flow.{Flow, Passes, Reader, Arrival, Octets, End, gap, step as flow_step, first_payload}
 use Rattle.tcp_flow.specs.State.{state}
 use Rattle.tcp_streams.specs.declared.pair.Side.{Side}
 use Rattle.tcp_streams.specs.declared.pair.Side.TheVariants.{FromLesser, FromGreater}
 use Rattle.tcp_streams.specs.Pairs.{flow_id}
-use Rattle.tcp_connections.specs.Connections.{State, flow_at, flow_state, with_flow, arrived, began, heard, acknowledgement_heard, payload_taken, fin_taken, first_number, number_behind, is_first, is_looked_through, looked_through, with_capture_event}
-use Rattle.tcp_connections.proofs.Cases.{arrived_none, arrived_some}
+use Rattle.tcp_connections.specs.Connections.{State, flow_at, flow_state, with_flow, arrived, began, gapped, within_pool, heard, acknowledgement_heard, payload_taken, fin_taken, first_number, number_behind, is_first, is_looked_through, looked_through, with_capture_event}
+use Rattle.tcp_connections.proofs.Cases.{arrived_none, arrived_some, gapped_none, gapped_some}
+use Rattle.tcp_connections.proofs.Repeated.{relieved_keep}
 
 pub record IsKept (w v : State) : Type 0 where
   pub known : v.known ≡ w.known
@@ -46,13 +47,13 @@ arrived_kept F w id a = by (flow_at w id) refl
     by : (o : Option FlowState) → flow_at w id ≡ o → IsKept w (arrived F w id a)
     by None e = subst (IsKept w) (sym (arrived_none F w id a e)) (kept_self w)
     by (Some s) e = subst (IsKept w) (sym (arrived_some F w id a s e))
-        (with_flow_kept w id (flow_step (setting F w.blocks) (state s w.held w.events) a))
+        (with_flow_kept w id (flow_step F (state s w.held w.events) a))
 
 pub began_kept : (F : Reader) (w : State) (id number : ℕ) (octets : List ℕ) →
     IsKept w (began F w id number octets)
 unfolding began
 began_kept F w id number octets = with_flow_kept w id
-    (first_payload (setting F w.blocks) id number octets w.arrival w.held w.events)
+    (first_payload F id number octets w.arrival w.held w.events)
 
 either : (w : State) (b : Bool) (u v : State) → IsKept w u → IsKept w v → IsKept w (cond b u v)
 either w true u v h k = h
@@ -79,6 +80,23 @@ looked_kept w s = either w (is_looked_through w.ports s)
       segments = refl;
     }) (kept_self w)
 
+-- a gap
+pub gapped_kept : (F : Reader) (v w : State) (id : ℕ) → IsKept v w → IsKept v (gapped F w id)
+gapped_kept F v w id h = by (flow_at w id) refl
+  where
+    by : (o : Option FlowState) → flow_at w id ≡ o → IsKept v (gapped F w id)
+    by None e = subst (IsKept v) (sym (gapped_none F w id e)) h
+    by (Some s) e =
+        let k = with_flow_kept w id (gap F (state s w.held w.events)) in
+        subst (IsKept v) (sym (gapped_some F w id s e)) (record {
+          known = k.known ∙ h.known;
+          rooms = k.rooms ∙ h.rooms;
+          free = k.free ∙ h.free;
+          lasts = k.lasts ∙ h.lasts;
+          flows = k.flows ∙ h.flows;
+          segments = k.segments ∙ h.segments;
+        })
+
 pub payload_kept : (F : Reader) (w : State) (id : ℕ) (s : Segment) →
     IsKept w (payload_taken F w id s)
 unfolding payload_taken
@@ -88,12 +106,15 @@ payload_kept F w id s =
       | None ↦ cond (is_first w.ports s)
           (began F w id (first_number s) s.payload) (looked_through w s)
       | Some f ↦ cond s.reset w
-          (arrived F w id (Octets (first_number s) s.payload w.arrival))
+          (within_pool F (arrived F w id (Octets (first_number s) s.payload w.arrival)))
     ])) [
       | None ↦ either w (is_first w.ports s) (began F w id (first_number s) s.payload)
           (looked_through w s) (began_kept F w id (first_number s) s.payload) (looked_kept w s)
-      | Some f ↦ either w s.reset w (arrived F w id (Octets (first_number s) s.payload w.arrival))
-          (kept_self w) (arrived_kept F w id (Octets (first_number s) s.payload w.arrival))
+      | Some f ↦
+          (let v : State = arrived F w id (Octets (first_number s) s.payload w.arrival) in
+          either w s.reset w (within_pool F v) (kept_self w)
+          (relieved_keep F (IsKept w) (gapped_kept F w) (length v.held) v
+          (arrived_kept F w id (Octets (first_number s) s.payload w.arrival))))
     ]
 
 pub fin_kept : (F : Reader) (w : State) (id : ℕ) (s : Segment) → IsKept w (fin_taken F w id s)

@@ -9,6 +9,7 @@ pub mod Following
 pub mod Forgotten
 pub mod Gapless
 pub mod Gone
+pub mod Heaviest
 pub mod Kept
 pub mod Living
 pub mod Owners

@@ -8,10 +8,10 @@ use Rattle.tcp_flow.specs.declared.flow.CloseCause.TheVariants as causes
 use Rattle.tcp_waiting.specs.Numbers.{age, onward}
 use Rattle.tcp_waiting.specs.declared.arrival.Arrival as origin
 use Rattle.tcp_waiting.specs.Payload.{Payload, payload, has_as_much, put}
-use Rattle.tcp_flow.specs.Flow.{Flow, Event, Opens, Begins, Delivers, Closes, OfCapture, ComesFrom, Reader, Setting, Arrival, Octets, End, Hears, left, with_event, delivered, looked_through as flow_looked, tail_before, told_from, taken, at, closed, holding, gone_on, within_bounds, payload_came, fin_came, gap, fresh, first_payload, step, CaptureEvent, Passes, stopped, checked, number_after, handed, start_at, started, resumed, awaiting, out_of_step, lives as has_stream}
+use Rattle.tcp_flow.specs.Flow.{Flow, Event, Opens, Begins, Delivers, Closes, OfCapture, ComesFrom, Reader, Arrival, Octets, End, Hears, left, with_event, delivered, looked_through as flow_looked, tail_before, told_from, taken, at, closed, holding, gone_on, within_window, payload_came, fin_came, gap, fresh, first_payload, step, CaptureEvent, Passes, stopped, checked, number_after, handed, start_at, started, resumed, awaiting, out_of_step, lives as has_stream}
 use Rattle.tcp_flow.specs.declared.tail.Tail.{Tail}
 use Rattle.tcp_flow.proofs.Tails.{looked_by}
-use Rattle.tcp_flow.proofs.Preserving.{Keeps, gone_on_keeps, relieved_keeps, heard_keeps, gap_keeps}
+use Rattle.tcp_flow.proofs.Preserving.{Keeps, gone_on_keeps, window_keeps, heard_keeps, gap_keeps}
 use Rattle.tcp_streams.specs.Lives.{lives, lives_from, behind, begun, ended, without, most_ids, AreIds}
 use Rattle.tcp_streams.proofs.Ids.{none_ids, begun_ids, ended_ids}
 use Rattle.tcp_streams.proofs.Order.{lives_more}
@@ -224,19 +224,19 @@ turn_keeps F id es l =
       fins = λ f n t. record { same = t.same; own = t.own; beside = t.beside };
     }
 
-came_turn : (A : Setting) (id : ℕ) (es : List Event) (f : Flow) (p : Payload) →
+came_turn : (F : Reader) (id : ℕ) (es : List Event) (f : Flow) (p : Payload) →
     id < most_ids →
-    IsTurn id es f → IsTurn id es (payload_came A f p)
+    IsTurn id es f → IsTurn id es (payload_came F f p)
 unfolding payload_came holding
-came_turn A id es f p l t =
+came_turn F id es f p l t =
     let q : Payload = left f.next (is_some f.live) p in
-    let k : Keeps A.reader (IsTurn id es) = turn_keeps A.reader id es l in
+    let k : Keeps F (IsTurn id es) = turn_keeps F id es l in
     let h : Flow = record f { held = put q f.held } in
     either (IsTurn id es) (nat_eq (length q.octets) 0
     || has_as_much f.id q.number (length q.octets) f.held) f
-    (within_bounds A (length f.held + 1) (gone_on A.reader h)) t
-    (relieved_keeps A (IsTurn id es) k (length f.held + 1) (gone_on A.reader h)
-    (gone_on_keeps A.reader (IsTurn id es) k h
+    (within_window F (length f.held + 1) (gone_on F h)) t
+    (window_keeps F (IsTurn id es) k (length f.held + 1) (gone_on F h)
+    (gone_on_keeps F (IsTurn id es) k h
     (record { same = t.same; own = t.own; beside = t.beside })))
 
 fin_turn : (F : Reader) (id : ℕ) (es : List Event) (f : Flow) (n : ℕ) →
@@ -250,27 +250,27 @@ fin_turn F id es f n l t =
     (gone_on_keeps F (IsTurn id es) k (record f { fin = Some n })
     (record { same = t.same; own = t.own; beside = t.beside })) t
 
-pub step_turn : (A : Setting) (id : ℕ) (es : List Event) (f : Flow) (a : Arrival) →
+pub step_turn : (F : Reader) (id : ℕ) (es : List Event) (f : Flow) (a : Arrival) →
     id < most_ids →
-    IsTurn id es f → IsTurn id es (step A f a)
+    IsTurn id es f → IsTurn id es (step F f a)
 unfolding step
-step_turn A id es f (Octets n octets arrival) l t = came_turn A id es f
+step_turn F id es f (Octets n octets arrival) l t = came_turn F id es f
     (payload f.id n octets arrival) l t
-step_turn A id es f (End n) l t = fin_turn A.reader id es f n l t
-step_turn A id es f (Hears h) l t =
-    heard_keeps A.reader (IsTurn id es) (turn_keeps A.reader id es l) (length f.held) h f t
+step_turn F id es f (End n) l t = fin_turn F id es f n l t
+step_turn F id es f (Hears h) l t =
+    heard_keeps F (IsTurn id es) (turn_keeps F id es l) (length f.held) h f t
 
 pub gap_turn : (F : Reader) (id : ℕ) (es : List Event) (f : Flow) →
     id < most_ids → IsTurn id es f →
     IsTurn id es (gap F f)
 gap_turn F id es f l t = gap_keeps F (IsTurn id es) (turn_keeps F id es l) f t
 
-pub first_turn : (A : Setting) (id n : ℕ) (octets : List ℕ) (arrival : origin.Arrival)
+pub first_turn : (F : Reader) (id n : ℕ) (octets : List ℕ) (arrival : origin.Arrival)
     (held : List Payload) (es : List Event) → id < most_ids →
-    IsTurn id es (first_payload A id n octets arrival held es)
+    IsTurn id es (first_payload F id n octets arrival held es)
 unfolding first_payload
-first_turn A id n octets arrival held es l =
-    came_turn A id es (fresh id n held es) (payload id n octets arrival) l
+first_turn F id n octets arrival held es l =
+    came_turn F id es (fresh id n held es) (payload id n octets arrival) l
     (record { same = refl; own = λ e. absurd (true≢false (sym e)); beside = λ j k. refl })
 
 -- what a flow has done so far is nothing yet

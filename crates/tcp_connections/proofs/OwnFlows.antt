@@ -13,8 +13,8 @@ use Rattle.tcp_waiting.specs.declared.arrival.Arrival as origin
 use Rattle.tcp_waiting.specs.Payload.{Payload, payload, no_payload, has_as_much, put, place_of, key_of}
 use Rattle.tcp_waiting.proofs.Held.{all_at, all_insert, all_remove}
 use Rattle.tcp_waiting.proofs.Order.{first_within, first_own}
-use Rattle.tcp_flow.specs.Flow.{Flow, Event, Begins, Delivers, Closes, OfCapture, Reader, Setting, lives, out_of_step, resumed, awaiting, Arrival, Octets, End, Hears, left, with_event, delivered, looked_through, tail_before, told_from, taken, first_of, is_due, at, closed, holding, gone_on, within_bounds, payload_came, fin_came, gap, step, CaptureEvent, stopped, checked, handed, start_at, started}
-use Rattle.tcp_flow.proofs.Preserving.{Keeps, gone_on_keeps, relieved_keeps, heard_keeps, gap_keeps}
+use Rattle.tcp_flow.specs.Flow.{Flow, Event, Begins, Delivers, Closes, OfCapture, Reader, lives, out_of_step, resumed, awaiting, Arrival, Octets, End, Hears, left, with_event, delivered, looked_through, tail_before, told_from, taken, first_of, is_due, at, closed, holding, gone_on, within_window, payload_came, fin_came, gap, step, CaptureEvent, stopped, checked, handed, start_at, started}
+use Rattle.tcp_flow.proofs.Preserving.{Keeps, gone_on_keeps, window_keeps, heard_keeps, gap_keeps}
 use Rattle.tcp_flow.specs.Laws.{IsTailOf}
 use Rattle.tcp_flow.proofs.Tails.{Looks, looked_keeps, in_vain}
 use Rattle.tcp_flow.proofs.Truth.{reached, closed_idle, resumed_lives, resumed_next}
@@ -326,13 +326,13 @@ module _ (segments : List Segment) (owners : ℕ → Option Endpoints) (id : ℕ
         };
       }
 
-  pub came_own : (A : Setting) (f : Flow) (p : Payload) → p.flow ≡ id →
+  pub came_own : (F : Reader) (f : Flow) (p : Payload) → p.flow ≡ id →
       IsPartOf segments o p.number p.octets → IsOwn segments owners id o f →
-      IsOwn segments owners id o (payload_came A f p)
+      IsOwn segments owners id o (payload_came F f p)
   unfolding payload_came holding
-  came_own A f p mine part t =
+  came_own F f p mine part t =
       let q : Payload = left f.next (is_some f.live) p in
-      let k : Keeps A.reader (IsOwn segments owners id o) = own_keeps A.reader in
+      let k : Keeps F (IsOwn segments owners id o) = own_keeps F in
       let h : Flow = record f { held = put q f.held } in
       let of : owners q.flow ≡ Some o =
       ap owners (flow_left f.next (is_some f.live) p ∙ mine) ∙ own in
@@ -349,9 +349,9 @@ module _ (segments : List Segment) (owners : ℕ → Option Endpoints) (id : ℕ
       } in
       either (IsOwn segments owners id o) (nat_eq (length q.octets) 0
       || has_as_much f.id q.number (length q.octets) f.held) f
-      (within_bounds A (length f.held + 1) (gone_on A.reader h)) t
-      (relieved_keeps A (IsOwn segments owners id o) k (length f.held + 1) (gone_on A.reader h)
-      (gone_on_keeps A.reader (IsOwn segments owners id o) k h v))
+      (within_window F (length f.held + 1) (gone_on F h)) t
+      (window_keeps F (IsOwn segments owners id o) k (length f.held + 1) (gone_on F h)
+      (gone_on_keeps F (IsOwn segments owners id o) k h v))
 
   fin_own : (F : Reader) (f : Flow) (n : ℕ) → IsOwn segments owners id o f →
       IsOwn segments owners id o (fin_came F f n)
@@ -364,16 +364,16 @@ module _ (segments : List Segment) (owners : ℕ → Option Endpoints) (id : ℕ
       (k.fins f (Some n) t)) t
 
   -- what comes is, where it is octets, part of a segment of the flow
-  pub step_own : (A : Setting) (f : Flow) (a : Arrival) →
+  pub step_own : (F : Reader) (f : Flow) (a : Arrival) →
       ((n : ℕ) (octets : List ℕ) (arrival : origin.Arrival) → a ≡ Octets n octets arrival →
       IsPartOf segments o n octets) →
-      IsOwn segments owners id o f → IsOwn segments owners id o (step A f a)
+      IsOwn segments owners id o f → IsOwn segments owners id o (step F f a)
   unfolding step
-  step_own A f (Octets n octets arrival) part t =
-      came_own A f (payload f.id n octets arrival) t.same (part n octets arrival refl) t
-  step_own A f (End n) part t = fin_own A.reader f n t
-  step_own A f (Hears h) part t = heard_keeps A.reader (IsOwn segments owners id o)
-      (own_keeps A.reader) (length f.held) h f t
+  step_own F f (Octets n octets arrival) part t =
+      came_own F f (payload f.id n octets arrival) t.same (part n octets arrival refl) t
+  step_own F f (End n) part t = fin_own F f n t
+  step_own F f (Hears h) part t = heard_keeps F (IsOwn segments owners id o)
+      (own_keeps F) (length f.held) h f t
 
   pub gap_own : (F : Reader) (f : Flow) → IsOwn segments owners id o f →
       IsOwn segments owners id o (gap F f)

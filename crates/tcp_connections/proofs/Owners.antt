@@ -8,7 +8,7 @@ use Rattle.tcp_flow.specs.declared.flow.CloseCause.{CloseCause}
 use Rattle.tcp_flow.specs.declared.flow.FlowState.{FlowState}
 use Rattle.tcp_waiting.specs.declared.arrival.Arrival as origin
 use Rattle.tcp_waiting.specs.Payload.{Payload, payload}
-use Rattle.tcp_flow.specs.Flow.{Flow, Event, Opens, Begins, Delivers, Closes, OfCapture, flow_of, lives as has_stream, Reader, Setting, Arrival, Octets, setting, fresh, payload_came, closed, gap, step as flow_step, first_payload}
+use Rattle.tcp_flow.specs.Flow.{Flow, Event, Opens, Begins, Delivers, Closes, OfCapture, flow_of, lives as has_stream, Reader, Arrival, Octets, fresh, payload_came, closed, gap, step as flow_step, first_payload}
 use Rattle.tcp_flow.specs.State.{state}
 use Rattle.tcp_flow.proofs.Told.{IsKept, closed_told, came_told, step_told, gap_told}
 use Rattle.tcp_streams.specs.declared.pair.EndpointPair.{EndpointPair}
@@ -173,7 +173,6 @@ arrived_owns segments F w id a numbers part h = by (flow_at w id) refl
     by : (p : Option FlowState) → flow_at w id ≡ p → Owns segments (arrived F w id a)
     by None e = subst (Owns segments) (sym (arrived_none F w id a e)) h
     by (Some s) e =
-        let A : Setting = setting F w.blocks in
         let f : Flow = state s w.held w.events in
         let st = subst (StandsAs segments (stands_for w.events id)) e (h.flows id) in
         let o : Endpoints = st.0 in
@@ -183,10 +182,10 @@ arrived_owns segments F w id a numbers part h = by (flow_at w id) refl
         let t : IsOwn segments (owner_of w.events) id o f =
         own_before segments w id s o h same (numbers id s e).1 st.1.0 st.1.1 in
         subst (Owns segments) (sym (arrived_some F w id a s e))
-        (owned_flow segments w id o (flow_step A f a) h (some_within w.flows id s e) own
-        (step_own segments (owner_of w.events) id o own A f a (part o own) t)
+        (owned_flow segments w id o (flow_step F f a) h (some_within w.flows id s e) own
+        (step_own segments (owner_of w.events) id o own F f a (part o own) t)
         (λ j n. (step_told (λ es. Stands segments j es (stands_for w.events j)) id
-        (others_stand segments j id (stands_for w.events j) n) A f a
+        (others_stand segments j id (stands_for w.events j) n) F f a
         (record { same = same; told = stands_now segments w j h })).told))
 
 -- the first payload of a flow comes
@@ -201,14 +200,13 @@ pub began_owns : (segments : List Segment) (F : Reader) (w : State) (id n : ℕ)
     → Owns segments w → Owns segments (began F w id n octets)
 unfolding began first_payload
 began_owns segments F w id n octets o small e within own part h =
-    let A : Setting = setting F w.blocks in
     let before : Flow = fresh id n w.held w.events in
     let idle : stands_for w.events id ≡ Idle o =
     idle_of (stands_for w.events id) o
     (subst (StandsAs segments (stands_for w.events id)) e (h.flows id))
     own in
-    owned_flow segments w id o (payload_came A before (payload id n octets w.arrival)) h within own
-    (came_own segments (owner_of w.events) id o own A before (payload id n octets w.arrival)
+    owned_flow segments w id o (payload_came F before (payload id n octets w.arrival)) h within own
+    (came_own segments (owner_of w.events) id o own F before (payload id n octets w.arrival)
     refl part
     (record {
       same = refl;
@@ -218,7 +216,7 @@ began_owns segments F w id n octets o small e within own part h =
       stands = record { come = h.come id; is = idle };
     }))
     (λ j m. (came_told (λ es. Stands segments j es (stands_for w.events j)) id
-    (others_stand segments j id (stands_for w.events j) m) A before (payload id n octets w.arrival)
+    (others_stand segments j id (stands_for w.events j) m) F before (payload id n octets w.arrival)
     (record { same = refl; told = stands_now segments w j h })).told)
 
 pub gapped_owns : (segments : List Segment) (F : Reader) (w : State) (id : ℕ) → AreNumbered w →

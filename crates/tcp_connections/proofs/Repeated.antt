@@ -2,8 +2,9 @@
 use Rattle.std.proofs.Common.{ℕ, zero, suc, Bool, true, false, nat_lt, List, [], ◌∷◌, length, get_or}
 use Rattle.tcp_flow.specs.declared.flow.CloseCause.{CloseCause}
 use Rattle.tcp_flow.specs.Flow.{Reader}
+use Rattle.tcp_waiting.specs.Payload.{blocks_of}
 use Rattle.tcp_streams.specs.Lives.{lives}
-use Rattle.tcp_connections.specs.Connections.{State, flow_at, gapped, gaps_at, is_holding, gaps_from, closed_at, end_cause, all_closed}
+use Rattle.tcp_connections.specs.Connections.{State, flow_at, heaviest, relieved, gapped, gaps_at, is_holding, gaps_from, closed_at, end_cause, all_closed}
 
 -- gaps of one flow
 pub own_keep : (F : Reader) (P : State → Type 0) (id : ℕ) → ((w : State) → P w → P (gapped F w id))
@@ -15,6 +16,21 @@ own_keep F P id k (suc count) w h =
       | true ↦ gaps_at F count (gapped F w id) id
       | false ↦ w
     ])) [ true ↦ own_keep F P id k count (gapped F w id) (k w h) | false ↦ h ]
+
+-- those while the pool is short
+pub relieved_keep : (F : Reader) (P : State → Type 0) →
+    ((w : State) (id : ℕ) → P w → P (gapped F w id)) → (count : ℕ) (w : State) → P w →
+    P (relieved F count w)
+unfolding relieved
+relieved_keep F P k zero w h = h
+relieved_keep F P k (suc count) w h =
+    elim (nat_lt w.blocks (blocks_of w.held)) as (λ (b : Bool). P (elim b [
+      | true ↦ relieved F count (gapped F w (heaviest w))
+      | false ↦ w
+    ])) [
+      | true ↦ relieved_keep F P k count (gapped F w (heaviest w)) (k w (heaviest w) h)
+      | false ↦ h
+    ]
 
 -- those of the end of the capture
 pub gaps_keep : (F : Reader) (P : State → Type 0) →

@@ -12,7 +12,7 @@ use Rattle.tcp_flow.specs.declared.hearing.Heard.{Heard}
 use Rattle.tcp_flow.specs.declared.flow.CloseCause.{CloseCause}
 use Rattle.tcp_flow.specs.declared.flow.CloseCause.TheVariants.{Room}
 use Rattle.tcp_flow.specs.declared.flow.FlowState.{FlowState}
-use Rattle.tcp_flow.specs.Flow.{Flow, Event, CaptureEvent, Opens, OfCapture, lives as has_stream, Reader, Setting, Arrival, Octets, End, Hears, setting, payload_came, closed, step as flow_step, held_by_others}
+use Rattle.tcp_flow.specs.Flow.{Flow, Event, CaptureEvent, Opens, OfCapture, lives as has_stream, Reader, Arrival, Octets, End, Hears, payload_came, closed, step as flow_step, held_by_others}
 use Rattle.tcp_flow.specs.Laws.{AllFollow, OwnMayFollow, AllArePartsOf, IsGapless, due_of}
 use Rattle.tcp_flow.specs.State.{state}
 use Rattle.tcp_flow.proofs.Truth.{runs_more, closed_idle, came_true, fin_true, heard_true, true_keeps}
@@ -22,7 +22,7 @@ use Rattle.tcp_streams.specs.declared.pair.Side.{Side}
 use Rattle.tcp_streams.specs.declared.pair.Side.TheVariants.{FromLesser, FromGreater}
 use Rattle.tcp_streams.specs.Lives.{lives, elder_side}
 use Rattle.tcp_streams.specs.Pairs.{opposite, flow_id, flow_from}
-use Rattle.tcp_connections.specs.Connections.{State, flow_at, arrived, began, flow_forgotten, place_of, room_at, gapped, shown, forgotten, shown_by_age, eldest, with_room, next_room, rest_of_rooms, made_known, first_number, number_behind, looked_through, with_capture_event, fin_taken, heard, payload_taken, reset_taken}
+use Rattle.tcp_connections.specs.Connections.{State, flow_at, within_pool, arrived, began, flow_forgotten, place_of, room_at, gapped, shown, forgotten, shown_by_age, eldest, with_room, next_room, rest_of_rooms, made_known, first_number, number_behind, looked_through, with_capture_event, fin_taken, heard, payload_taken, reset_taken}
 use Rattle.tcp_connections.specs.Gapless.{IsOfSegment}
 use Rattle.tcp_connections.specs.Owned.{IsPartOf}
 use Rattle.tcp_connections.specs.State.{IsSound, times}
@@ -33,6 +33,7 @@ use Rattle.tcp_connections.proofs.Forgotten.{forgot_either, both_forgotten, forg
 use Rattle.tcp_connections.proofs.Owners.{owner_of, Owns, arrived_owns, began_owns, gapped_owns}
 use Rattle.tcp_connections.proofs.OwnersKnown.{MadeKnown, told_owns, forgot_owns, theirs_without, made_owns}
 use Rattle.tcp_connections.proofs.OwnFlows.{either, all_push}
+use Rattle.tcp_connections.proofs.Repeated.{relieved_keep}
 use Rattle.tcp_connections.proofs.Shown.{shown_kept, shown_keeps}
 use Rattle.tcp_connections.proofs.Sound.{IsApart, some_none, some_within, room_below, sound_seen, forgot_sound, known_sound}
 use Rattle.tcp_connections.proofs.Unknown.{eldest_within, next_free, next_below}
@@ -133,7 +134,6 @@ later_at : (segments : List Segment) (F : Reader) (w : State) (id : ℕ) (s : Se
     (arrived F w id (Octets (first_number s) s.payload w.arrival))
 unfolding with_payload flow_step Goes
 later_at segments F w id s among own h =
-    let A : Setting = setting F w.blocks in
     let n : ℕ = first_number s in
     let small : n < 2 ^ 32 = omega arith in
     let both =
@@ -142,8 +142,8 @@ later_at segments F w id s among own h =
     h.follow (follow_grown h.payloads (payload id n s.payload w.arrival) w h.follow)
     (λ f same g.
     subst (λ (k : ℕ). IsGapless (h.payloads ++ payload k n s.payload w.arrival ∷ [])
-    (payload_came A f (payload f.id n s.payload w.arrival))) same
-    (came_true A h.payloads f (payload f.id n s.payload w.arrival) small g)) in
+    (payload_came F f (payload f.id n s.payload w.arrival))) same
+    (came_true F h.payloads f (payload f.id n s.payload w.arrival) small g)) in
     record {
       sound = both.0;
       payloads = with_payload h.payloads id s w.arrival;
@@ -184,6 +184,22 @@ pub looked_at : (segments : List Segment) (w : State) (s : Segment) → At segme
 unfolding looked_through
 looked_at segments w s h = search (arith, either, capture_at)
 
+gapped_at : (segments : List Segment) (F : Reader) (w : State) (id : ℕ) → At segments w →
+    At segments (gapped F w id)
+gapped_at segments F w id h =
+    record {
+      sound = gapped_sound F w id h.payloads h.sound h.follow;
+      payloads = h.payloads;
+      came = h.came;
+      follow = gapped_follow h.payloads F w id h.follow;
+      owns = gapped_owns segments F w id h.follow.own h.owns;
+    }
+
+pooled_at : (segments : List Segment) (F : Reader) (w : State) → At segments w →
+    At segments (within_pool F w)
+pooled_at segments F w h =
+    relieved_keep F (At segments) (gapped_at segments F) (length w.held) w h
+
 pub payload_at : (segments : List Segment) (F : Reader) (w : State) (id : ℕ) (s : Segment) →
     IsIn segments s → owner_of w.events id ≡ Some s.flow → At segments w → id < length w.flows →
     IsApart w id → At segments (payload_taken F w id s)
@@ -194,6 +210,7 @@ payload_at segments F w id s among own h within apart = search (
   either,
   first_at,
   looked_at,
+  pooled_at,
   later_at,
 )
 
@@ -306,17 +323,6 @@ forgotten_at segments w place side cause l h =
             v.owns.known;
         beyond = v.owns.beyond;
       };
-    }
-
-gapped_at : (segments : List Segment) (F : Reader) (w : State) (id : ℕ) → At segments w →
-    At segments (gapped F w id)
-gapped_at segments F w id h =
-    record {
-      sound = gapped_sound F w id h.payloads h.sound h.follow;
-      payloads = h.payloads;
-      came = h.came;
-      follow = gapped_follow h.payloads F w id h.follow;
-      owns = gapped_owns segments F w id h.follow.own h.owns;
     }
 
 -- what it holds is shown before

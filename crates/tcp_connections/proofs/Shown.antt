@@ -4,16 +4,16 @@ use Rattle.std.specs.List.{remove}
 use Rattle.tcp_waiting.specs.Payload.{Payload, count_of}
 use Rattle.tcp_flow.specs.declared.flow.CloseCause.{CloseCause}
 use Rattle.tcp_flow.specs.declared.flow.FlowState.{FlowState}
-use Rattle.tcp_flow.specs.Flow.{Reader, first_of, gap}
+use Rattle.tcp_flow.specs.Flow.{Reader, first_of}
 use Rattle.tcp_flow.specs.State.{state}
 use Rattle.tcp_flow.proofs.Room.{gap_fewer}
 use Rattle.tcp_streams.specs.declared.pair.EndpointPair.{EndpointPair}
 use Rattle.tcp_streams.specs.declared.pair.Side.{Side}
 use Rattle.tcp_streams.specs.Pairs.{flow_id, opposite}
 use Rattle.tcp_connections.specs.Connections.{State, flow_at, with_flow, gapped, gaps_at, is_holding, shown, forgotten}
-use Rattle.tcp_connections.proofs.Cases.{gapped_none, gapped_some}
+use Rattle.tcp_connections.proofs.Cases.{gapped_some}
 use Rattle.tcp_connections.proofs.Forgotten.{forgotten_known, forgotten_lasts}
-use Rattle.tcp_connections.proofs.Kept.{IsKept, kept_self, with_flow_kept}
+use Rattle.tcp_connections.proofs.Kept.{IsKept, kept_self, gapped_kept}
 use Rattle.tcp_connections.proofs.Repeated.{own_keep}
 
 pub shown_keeps : (F : Reader) (P : State → Type 0) →
@@ -26,22 +26,6 @@ shown_keeps F P k w room side h =
     let v : State = gaps_at F (length w.held) w own in
     own_keep F P other (λ u. k u other) (length v.held) v
     (own_keep F P own (λ u. k u own) (length w.held) w h)
-
-gapped_kept : (F : Reader) (v w : State) (id : ℕ) → IsKept v w → IsKept v (gapped F w id)
-gapped_kept F v w id h = by (flow_at w id) refl
-  where
-    by : (o : Option FlowState) → flow_at w id ≡ o → IsKept v (gapped F w id)
-    by None e = subst (IsKept v) (sym (gapped_none F w id e)) h
-    by (Some s) e =
-        let k = with_flow_kept w id (gap F (state s w.held w.events)) in
-        subst (IsKept v) (sym (gapped_some F w id s e)) (record {
-          known = k.known ∙ h.known;
-          rooms = k.rooms ∙ h.rooms;
-          free = k.free ∙ h.free;
-          lasts = k.lasts ∙ h.lasts;
-          flows = k.flows ∙ h.flows;
-          segments = k.segments ∙ h.segments;
-        })
 
 -- each gap leaves less
 pub gapped_fewer : (F : Reader) (w : State) (id : ℕ) → is_holding w.held (flow_at w id) ≡ true →

@@ -4,12 +4,12 @@ use Rattle.std.specs.List.{insert, remove}
 use Rattle.std.proofs.lemmas.Bool.{cases_eq, cases_Bool, eqb-true, ne_eqb}
 use Rattle.std.proofs.lemmas.List.Edits.{length-insert, length-remove}
 use Rattle.tcp_waiting.specs.declared.arrival.Arrival as origin
-use Rattle.tcp_waiting.specs.Payload.{Payload, count_of, blocks_of}
+use Rattle.tcp_waiting.specs.Payload.{Payload, count_of}
 use Rattle.tcp_flow.specs.declared.flow.FlowState.{FlowState}
 use Rattle.tcp_flow.specs.Flow.{Flow, Event, held_by_others}
 use Rattle.tcp_flow.specs.Laws.{IsSettled}
 use Rattle.tcp_flow.specs.State.{state}
-use Rattle.tcp_flow.proofs.Others.{settled_beside, others_blocks, others_twice}
+use Rattle.tcp_flow.proofs.Others.{settled_beside, others_twice}
 use Rattle.tcp_streams.specs.declared.pair.EndpointPair.{EndpointPair}
 use Rattle.tcp_streams.specs.Pairs.{compare_pairs}
 use Rattle.tcp_connections.specs.Connections.{State, flow_at, flow_state, with_flow, place_of, place_among}
@@ -90,10 +90,10 @@ own_flow w id j o l e = ap (λ (k : ℕ). get_or (set w.flows id o) k None) e
     ∙ get_or-set_same w.flows id o None l
 
 pub with_flow_sound : (w : State) (id : ℕ) (f : Flow) → IsSound w → id < length w.flows →
-    f.id ≡ id → held_by_others id f.held ≡ held_by_others id w.held → blocks_of f.held ≤ w.blocks
+    f.id ≡ id → held_by_others id f.held ≡ held_by_others id w.held
     → IsSettled (state (flow_state f) f.held []) → IsApart w id → IsSound (with_flow w id f)
 unfolding with_flow IsApart
-with_flow_sound w id f h l own beside blocks settled apart =
+with_flow_sound w id f h l own beside settled apart =
     let flow : Option FlowState = Some (flow_state f) in
     record {
       some = h.some;
@@ -111,7 +111,6 @@ with_flow_sound w id f h l own beside blocks settled apart =
       all = h.all;
       flows = length-set w.flows id flow ∙ h.flows;
       order = h.order;
-      blocks = blocks;
       ids =
           λ j s e.
           elim (cases_eq j id) [
@@ -166,7 +165,6 @@ forgot_sound w id events h l =
       all = h.all;
       flows = length-set w.flows id None ∙ h.flows;
       order = h.order;
-      blocks = omega (arith, h.blocks, others_blocks id w.held);
       ids =
           λ j s e.
           elim (cases_eq j id) [
@@ -218,7 +216,6 @@ sound_seen w lasts syns came segments events arrival e h =
       all = rw e h.all;
       flows = rw e h.flows;
       order = h.order;
-      blocks = h.blocks;
       ids = h.ids;
       settled = h.settled;
       vacant = h.vacant;
@@ -273,7 +270,6 @@ known_sound w p rest room lasts syns came events h free new e =
       all = rw e (omega (arith, h.all, long, pairs));
       flows = rw e h.flows;
       order = sorted_insert p w.known h.order new;
-      blocks = h.blocks;
       ids = h.ids;
       settled = h.settled;
       vacant = h.vacant;
@@ -325,7 +321,6 @@ unknown_sound w place room h l at lesser greater =
       all = omega (arith, h.all, pairs, long);
       flows = h.flows;
       order = sorted_remove w.known place h.order;
-      blocks = h.blocks;
       ids = h.ids;
       settled = h.settled;
       vacant = h.vacant;

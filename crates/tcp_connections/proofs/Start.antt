@@ -3,7 +3,7 @@ use Rattle.std.proofs.Common.{◌≡◌, ℕ, ◌+◌, ◌*◌, ◌≤◌, List,
 use Rattle.std.proofs.lemmas.List.{length-replicate}
 use Rattle.std.specs.List.Sorted.{IsStrictlySortedBy}
 use Rattle.tcp_waiting.specs.declared.arrival.Arrival as origin
-use Rattle.tcp_waiting.specs.Payload.{Payload, count_of, blocks_of}
+use Rattle.tcp_waiting.specs.Payload.{Payload, count_of}
 use Rattle.tcp_flow.specs.declared.flow.FlowState.{FlowState}
 use Rattle.tcp_flow.specs.Flow.{Event}
 use Rattle.tcp_rooms.specs.Rooms.{rooms_below}
@@ -16,7 +16,7 @@ use Rattle.tcp_connections.proofs.Times.{all_below, rooms_length, no_flow, none_
 
 pub none_sound : (ports : List ℕ) (blocks most : ℕ) (events : List Event) → 1 ≤ most →
     most ≤ 65536 → IsSound (none_known ports blocks most events)
-unfolding count_of blocks_of times IsStrictlySortedBy
+unfolding count_of times IsStrictlySortedBy
 none_sound ports blocks most events some few =
     let long : length {A = ℕ} (replicate most 0) ≡ most = length-replicate most 0 in
     record {
@@ -30,7 +30,6 @@ none_sound ports blocks most events some few =
       all = omega (arith, long, rooms_length most);
       flows = omega (arith, long, length-replicate (2 * most) no_flow);
       order = tt;
-      blocks = omega arith;
       ids = λ id s e. absurd (some_none (get_or (replicate (2 * most) no_flow) id None) s e
           (none_there (2 * most) id));
       settled = λ id s e. absurd (some_none (get_or (replicate (2 * most) no_flow) id None) s e

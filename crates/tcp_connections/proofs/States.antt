@@ -11,6 +11,7 @@ use Rattle.tcp_flow.specs.declared.flow.ListenerFault.{ListenerFault}
 use Rattle.tcp_flow.specs.Flow.{Flow, Event, CaptureEvent, OfCapture, held_by_others}
 use Rattle.tcp_flow.specs.Laws.{IsSettled}
 use Rattle.tcp_flow.specs.State.{state, IsState as IsFlow}
+use Rattle.tcp_flow.proofs.Others.{others_blocks}
 use Rattle.tcp_connections.specs.declared.came.Came.{Came}
 use Rattle.tcp_connections.specs.declared.connections.Connections.{Connections}
 use Rattle.tcp_connections.specs.declared.flows.Flows.{Flows}
@@ -20,16 +21,17 @@ use Rattle.tcp_streams.specs.declared.pair.Side.{Side}
 use Rattle.tcp_streams.specs.Lives.{lives, behind, most_ids}
 use Rattle.tcp_streams.proofs.Order.{lives_more}
 use Rattle.tcp_connections.specs.Connections.{State, none_known, flow_at, live_at, live_of, with_flow, with_packet, with_capture_event, room_at, flow_forgotten, forgotten, eldest}
-use Rattle.tcp_connections.specs.State.{IsSound, IsState, IsAt, state_of, times}
+use Rattle.tcp_connections.specs.State.{IsSound, IsStateOver, IsState, IsAt, state_of, times}
 use Rattle.tcp_connections.proofs.Living.{IsTold, IsTurn, no_turn}
 use Rattle.tcp_connections.proofs.Forgotten.{both_forgotten, forgotten_sound}
 use Rattle.tcp_connections.proofs.Times.{none_there}
 use Rattle.tcp_connections.proofs.Sound.{IsApart, room_below, some_within, apart_some, with_flow_sound, forgot_sound, sound_seen}
 
 -- what is so of the code's state, whatever has happened, is so of each that it has
-pub by_state : (P : State → Type 0) (O : List Event → Type 0) (live : List ℕ) (c : Connections)
-    (w : State) → IsState O live c w
-    → ((es : List Event) → IsState O live c (state_of c es) → P (state_of c es)) → P w
+pub by_state : {over : ℕ} (P : State → Type 0) (O : List Event → Type 0) (live : List ℕ)
+    (c : Connections)
+    (w : State) → IsStateOver over O live c w
+    → ((es : List Event) → IsStateOver over O live c (state_of c es) → P (state_of c es)) → P w
 by_state P O live c w h k = search (arith, is_some)
 
 pub moved_ok : {X : Type 0} (r : Result X ListenerFault) (O : List Event → Type 0) (live : List ℕ)
@@ -71,8 +73,24 @@ kept O live c c' w same free room h = record {
   same = same w.events ∙ h.same;
   told = h.told;
   sound = h.sound;
+  blocks = h.blocks;
   free = free ∙ h.free;
   room = room ∙ h.room;
+}
+
+-- fewer blocks are too few
+pub enough : {over rest : ℕ} (O : List Event → Type 0) (live : List ℕ) (c : Connections)
+    (w : State) → IsStateOver over O live c w → blocks_of w.held ≤ w.blocks + rest →
+    IsStateOver rest O live c w
+enough O live c w h blocks = record {
+  observed = h.observed;
+  live = h.live;
+  same = h.same;
+  told = h.told;
+  sound = h.sound;
+  blocks = blocks;
+  free = h.free;
+  room = h.room;
 }
 
 -- only flows, and what they hold, have changed
@@ -94,15 +112,17 @@ changed c c' es rest flows held f b h =
     ∙ ap (λ (ps : List Payload). record (state_of c es) { flows = flows; held = ps }) h
 
 -- on Ok, by what has happened
-pub makes_by : (O O' : List Event → Type 0) (live live' : List ℕ) (c c' : Connections)
+pub makes_by : {over rest : ℕ} (O O' : List Event → Type 0) (live live' : List ℕ)
+    (c c' : Connections)
     (f : State → State)
-    → ((es : List Event) → IsState O live c (state_of c es) →
-    IsState O' live' c' (f (state_of c es))) → (w : State) → IsState O live c w →
-    IsState O' live' c' (f w)
+    → ((es : List Event) → IsStateOver over O live c (state_of c es) →
+    IsStateOver rest O' live' c' (f (state_of c es))) → (w : State) → IsStateOver over O live c w →
+    IsStateOver rest O' live' c' (f w)
 makes_by O O' live live' c c' f k w h = search (arith, by_state)
 
-pub moved : (O : List Event → Type 0) (live : List ℕ) (c : Connections) (v w : State) → v ≡ w →
-    IsState O live c w → IsState O live c v
+pub moved : {over : ℕ} (O : List Event → Type 0) (live : List ℕ) (c : Connections)
+    (v w : State) → v ≡ w →
+    IsStateOver over O live c w → IsStateOver over O live c v
 moved O live c v w e h = search (arith)
 
 pub beside_own : (id own : ℕ) (held held' : List Payload) → own ≡ id →
@@ -128,8 +148,9 @@ told_flow w id o events told l own beside j = search (
 )
 
 -- a flow that the code has, before it does anything
-pub turn_start : (O : List Event → Type 0) (live : List ℕ) (c : Connections) (es : List Event)
-    (id : ℕ) (s : FlowState) → IsState O live c (state_of c es) →
+pub turn_start : {over : ℕ} (O : List Event → Type 0) (live : List ℕ) (c : Connections)
+    (es : List Event)
+    (id : ℕ) (s : FlowState) → IsStateOver over O live c (state_of c es) →
     flow_at (state_of c es) id ≡ Some s
     → IsTurn id es (state s c.pool.held es)
 unfolding live_of
@@ -139,21 +160,23 @@ pub small_id : (w : State) (id : ℕ) → IsSound w → id < length w.flows → 
 small_id w id h l = search (arith)
 
 -- a flow's step, beside all others
-pub flow_done : (O O' : List Event → Type 0) (live live' : List ℕ) (c c' : Connections)
+pub flow_done : {over rest : ℕ} (O O' : List Event → Type 0) (live live' : List ℕ)
+    (c c' : Connections)
     (es : List Event) (id : ℕ) (s' : FlowState) (f : Flow)
-    → IsState O live c (state_of c es) → id < length c.flows.states.items
+    → IsStateOver over O live c (state_of c es) → id < length c.flows.states.items
     → IsFlow (λ e. O' e × (live' ≡ lives e)) s' c'.pool.held f
     → s'.id ≡ id → held_by_others id c'.pool.held ≡ held_by_others id c.pool.held →
-    blocks_of c'.pool.held ≤ c.pool.blocks → IsSettled (state s' c'.pool.held []) →
+    blocks_of c'.pool.held ≤ c.pool.blocks + rest → IsSettled (state s' c'.pool.held []) →
     IsApart (state_of c es) id → IsTurn id es f
     → ((e : List Event) → rest_of c' e ≡ rest_of c e) →
     c'.flows.states.items ≡ set c.flows.states.items id (Some s') → c'.pool.blocks ≡ c.pool.blocks
     → c'.free.most ≡ c.free.most → c'.table.most ≡ c.table.most
-    → IsState O' live' c' (with_flow (state_of c es) id f)
+    → IsStateOver rest O' live' c' (with_flow (state_of c es) id f)
 unfolding with_flow live_of
-flow_done O O' live live' c c' es id s' f h l n own beside blocks settled apart turn rest flows pool
+flow_done {rest = most} O O' live live' c c' es id s' f h l n own beside blocks settled apart turn
+    rest flows pool
     free room =
-    subst (λ (g : Flow). IsState O' live' c' (with_flow (state_of c es) id g)) n.same
+    subst (λ (g : Flow). IsStateOver most O' live' c' (with_flow (state_of c es) id g)) n.same
     (record {
       observed = n.observed.0;
       live = n.observed.1;
@@ -162,28 +185,32 @@ flow_done O O' live live' c c' es id s' f h l n own beside blocks settled apart 
       told = told_flow (state_of c es) id (Some s') f.events h.told l
           (λ e. turn.own (sym (ap (λ (g : Flow). is_some g.live) n.same) ∙ e)) turn.beside;
       sound = with_flow_sound (state_of c es) id (state s' c'.pool.held f.events) h.sound l own
-          beside blocks settled apart;
+          beside settled apart;
+      blocks = blocks;
       free = free ∙ h.free;
       room = room ∙ h.room;
     })
 
 -- what the code has of a flow, before it does anything
-pub flow_start : (O : List Event → Type 0) (live : List ℕ) (c : Connections) (es : List Event)
-    (s : FlowState) → IsState O live c (state_of c es) →
+pub flow_start : {over : ℕ} (O : List Event → Type 0) (live : List ℕ) (c : Connections)
+    (es : List Event)
+    (s : FlowState) → IsStateOver over O live c (state_of c es) →
     IsFlow (λ e. O e × (live ≡ lives e)) s c.pool.held (state s c.pool.held es)
 flow_start O live c es s h = search (arith)
 
 -- a step of a flow that the code has, by what it leaves
-pub flow_turned : (O O' : List Event → Type 0) (live live' : List ℕ) (c c' : Connections)
-    (es : List Event) (id : ℕ) (s s' : FlowState) (f : Flow) → IsState O live c (state_of c es) →
+pub flow_turned : {over rest : ℕ} (O O' : List Event → Type 0) (live live' : List ℕ)
+    (c c' : Connections)
+    (es : List Event) (id : ℕ) (s s' : FlowState) (f : Flow) →
+    IsStateOver over O live c (state_of c es) →
     flow_at (state_of c es) id ≡ Some s → IsFlow (λ e. O' e × (live' ≡ lives e)) s' c'.pool.held f
     → s'.id ≡ s.id → held_by_others s.id c'.pool.held ≡ held_by_others s.id c.pool.held →
-    blocks_of c'.pool.held ≤ c.pool.blocks → IsSettled (state s' c'.pool.held [])
+    blocks_of c'.pool.held ≤ c.pool.blocks + rest → IsSettled (state s' c'.pool.held [])
     → (id < most_ids → IsTurn id es (state s c.pool.held es) → IsTurn id es f)
     → ((e : List Event) → rest_of c' e ≡ rest_of c e) →
     c'.flows.states.items ≡ set c.flows.states.items id (Some s') → c'.pool.blocks ≡ c.pool.blocks
     → c'.free.most ≡ c.free.most → c'.table.most ≡ c.table.most
-    → IsState O' live' c' (with_flow (state_of c es) id f)
+    → IsStateOver rest O' live' c' (with_flow (state_of c es) id f)
 flow_turned O O' live live' c c' es id s s' f h e n own beside blocks settled turn =
     let same : s.id ≡ id = h.sound.ids id s e in
     let within : id < length c.flows.states.items = some_within c.flows.states.items id s e in
@@ -219,6 +246,7 @@ forgot_done O O' live live' c c' es id s' f h l n turn rest flows pool held free
           (sym e)))
           turn.beside;
       sound = forgot_sound (state_of c es) id f.events h.sound l;
+      blocks = omega (arith, h.blocks, others_blocks id c.pool.held);
       free = free ∙ h.free;
       room = room ∙ h.room;
     }
@@ -274,6 +302,7 @@ connection_forgotten O' live' c c' w place side cause sound h l m same free room
           }) h.same;
       told = h.told;
       sound = forgotten_sound w place side cause sound h.sound l m;
+      blocks = h.blocks;
       free = free ∙ h.free;
       room = room ∙ h.room;
     }
@@ -334,6 +363,7 @@ pub starts : (O : List Event → Type 0) (live : List ℕ) (c : Connections) (po
     (blocks most : ℕ) (events : List Event) → O events → live ≡ lives events
     → state_of c events ≡ none_known ports blocks most events → IsSound (state_of c []) →
     c.free.most ≡ most → c.table.most ≡ most → IsState O live c (state_of c events)
+unfolding blocks_of
 starts O live c ports blocks most events o lived same sound free room =
     let many : length (state_of c events).lasts ≡ most =
     ap (λ (w : State). length w.lasts) same ∙ length-replicate most 0 in
@@ -344,6 +374,7 @@ starts O live c ports blocks most events o lived same sound free room =
       told = subst (λ (w : State). (id : ℕ) → is_some (live_at w id) ≡ true →
           0 < times id (lives w.events)) (sym same) (none_live ports blocks most events);
       sound = sound_any c [] events sound;
+      blocks = omega (arith, ap (λ (w : State). blocks_of w.held) same);
       free = free ∙ sym many;
       room = room ∙ sym many;
     }
@@ -362,6 +393,7 @@ packet_read O live c c' w time same free table h =
       same = same w.events ∙ ap (λ (u : State). with_packet u time) h.same;
       told = h.told;
       sound = sound_seen w w.lasts w.syns w.came w.segments w.events a refl h.sound;
+      blocks = h.blocks;
       free = free ∙ h.free;
       room = table ∙ h.room;
     }

@@ -8,11 +8,11 @@ use Rattle.tcp_segment.specs.declared.endpoint.Flow as endpoints
 use Rattle.tcp_segment.specs.Segments.{Segment}
 use Rattle.tcp_waiting.specs.declared.arrival.Arrival as origin
 use Rattle.tcp_waiting.specs.Numbers.{onward}
-use Rattle.tcp_waiting.specs.Payload.{Payload, first}
+use Rattle.tcp_waiting.specs.Payload.{Payload, first, blocks_of, load_of}
 use Rattle.tcp_flow.specs.declared.flow.CloseCause.{CloseCause}
 use Rattle.tcp_flow.specs.declared.flow.CloseCause.TheVariants.{Reset, Syn, Room, Gap, End as CaptureEnd}
 use Rattle.tcp_flow.specs.declared.flow.FlowState.{FlowState}
-use Rattle.tcp_flow.specs.Flow.{Flow, Event, CaptureEvent, Opens, OfCapture, Passes, Reader, Arrival, Octets, End, Hears, setting, is_near, stream_at, is_beginning, lives as has_stream, closed, gap, step as flow_step, first_payload, held_by_others}
+use Rattle.tcp_flow.specs.Flow.{Flow, Event, CaptureEvent, Opens, OfCapture, Passes, Reader, Arrival, Octets, End, Hears, is_near, stream_at, is_beginning, lives as has_stream, closed, gap, step as flow_step, first_payload, held_by_others}
 use Rattle.tcp_flow.specs.State.{state}
 use Rattle.tcp_connections.specs.declared.syns.KeptSyn.{KeptSyn}
 use Rattle.tcp_rooms.specs.Rooms.{rooms_below}
@@ -94,13 +94,13 @@ unfoldable pub arrived : Reader → State → ℕ → Arrival → State
 arrived F w id arrival =
     elim (flow_at w id) [
       | None ↦ w
-      | Some s ↦ with_flow w id (flow_step (setting F w.blocks) (state s w.held w.events) arrival)
+      | Some s ↦ with_flow w id (flow_step F (state s w.held w.events) arrival)
     ]
 
 -- the first payload comes for a flow
 unfoldable pub began : Reader → State → ℕ → ℕ → List ℕ → State
 began F w id number octets =
-    with_flow w id (first_payload (setting F w.blocks) id number octets w.arrival w.held w.events)
+    with_flow w id (first_payload F id number octets w.arrival w.held w.events)
 
 -- a gap of a flow
 unfoldable pub gapped : Reader → State → ℕ → State
@@ -127,6 +127,34 @@ gaps_at F (suc count) w id =
 -- what a flow holds is gone on with: each gap leaves less of it
 abbrev pub emptied : Reader → State → ℕ → State
 emptied F w id = gaps_at F (length w.held) w id
+
+-- of two flows the one that gives up where the pool is short: the one that holds more blocks, or the
+-- first, if both hold as many
+abbrev pub heavier : List Payload → ℕ → ℕ → ℕ
+heavier held a b = cond (nat_lt (load_of a held) (load_of b held)) b a
+
+-- of a flow and others after it the one that does
+unfoldable pub heaviest_from : List Payload → ℕ → List ℕ → ℕ
+heaviest_from held id [] = id
+heaviest_from held id (other ∷ ids) = heaviest_from held (heavier held id other) ids
+
+-- the flow that gives up where the pool is short: the one that holds the most blocks, of several that
+-- of the oldest stream
+abbrev pub heaviest : State → ℕ
+heaviest w = heaviest_from w.held (get_or (lives w.events) 0 0) (lives w.events)
+
+-- while the pool has too few blocks for what is held, a gap of the flow that gives up: at most so many
+unfoldable pub relieved : Reader → ℕ → State → State
+relieved F zero w = w
+relieved F (suc count) w =
+    elim (nat_lt w.blocks (blocks_of w.held)) [
+      | true ↦ relieved F count (gapped F w (heaviest w))
+      | false ↦ w
+    ]
+
+-- the pool has blocks enough for what is held: each gap leaves less of it
+abbrev pub within_pool : Reader → State → State
+within_pool F w = relieved F (length w.held) w
 
 -- a flow's live stream closes
 unfoldable pub closed_at : State → ℕ → CloseCause → State
@@ -386,13 +414,15 @@ heard F w id acknowledged answers = arrived F w id (Hears (record {
 abbrev pub acknowledgement_heard : Reader → State → ℕ → Segment → State
 acknowledgement_heard F w id s = heard F w id s.acknowledgement (nat_lt 0 (length s.payload))
 
--- a payload: the first of its flow, or a later one
+-- a payload: the first of its flow, of which nothing is held, or a later one, after which the pool
+-- may be short
 unfoldable pub payload_taken : Reader → State → ℕ → Segment → State
 payload_taken F w id s =
     elim (flow_at w id) [
       | None ↦
           cond (is_first w.ports s) (began F w id (first_number s) s.payload) (looked_through w s)
-      | Some f ↦ cond s.reset w (arrived F w id (Octets (first_number s) s.payload w.arrival))
+      | Some f ↦ cond s.reset w
+          (within_pool F (arrived F w id (Octets (first_number s) s.payload w.arrival)))
     ]
 
 -- whether a segment of a flow is a RST that counts: its number is near the one that is due

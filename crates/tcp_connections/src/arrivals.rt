@@ -1,7 +1,7 @@
 //! What a segment brings the flows of its connection: what it says of octets that are missing, a
 //! payload, with which a flow may begin, and a FIN.
 
-ghost use Rattle.std.specs.Prelude.{◌≡◌, ◌≤◌, ◌<◌, ◌/◌, length, get_or, OnErr, None};
+ghost use Rattle.std.specs.Prelude.{◌≡◌, ◌≤◌, ◌<◌, ◌/◌, length, get_or, OnErr, None, Some};
 ghost use Rattle.std.specs.Vec.{vec_len};
 ghost use Rattle.tcp_segment.specs.Segments.{segment_view};
 ghost use Rattle.tcp_connections.specs.Connections.{first_number as spec_first_number};
@@ -17,8 +17,8 @@ impl Connections {
     ghost use Rattle.tcp_connections.specs.Connections.{is_first, is_chosen, acknowledgement_heard, heard};
     ghost use Rattle.tcp_connections.specs.Connections.{payload_taken, began, arrived, fin_taken};
     ghost use Rattle.tcp_connections.specs.Connections.{State, looked_through, is_looked_through};
-    ghost use Rattle.tcp_flow.specs.Flow.{End};
-    ghost use Rattle.tcp_connections.specs.State.{IsState, HasState, Makes, times};
+    ghost use Rattle.tcp_flow.specs.Flow.{End, Octets};
+    ghost use Rattle.tcp_connections.specs.State.{IsState, HasState, Makes, MakesOver, times};
 
     /// A segment says what it acknowledges of the opposite flow, and whether it has octets.
     pub(crate) fn acknowledgement<L: Listener + Drop>(
@@ -86,12 +86,35 @@ impl Connections {
             (L.observed to.new.listener) to.new.live.items self.new }
         ensures cause { OnErr result (L.failed to.new.listener) }
     {
-        let Some(mut flow) = self.flow(id) else {
+        let Some(flow) = self.flow(id) else {
             return self.first_payload(id, segment, to);
         };
         if segment.reset {
             return Ok(());
         }
+        self.later_payload(id, flow, segment, to)?;
+        self.relieve(to)
+    }
+
+    /// A payload comes of a flow that has begun: what is held may take more blocks than there are.
+    #[inline]
+    fn later_payload<L: Listener + Drop>(
+        &mut self,
+        id: u32,
+        mut flow: FlowState,
+        segment: Segment<'_>,
+        to: &mut Streams<L>,
+    ) -> Result<(), ListenerFault>
+        requires state { HasState (L.observed to.old.listener) to.old.live.items self.old }
+        requires whole { length segment.payload.now ≤ 262_144 }
+        requires flow { get_or self.old.flows.states.items id None ≡ Some flow }
+        ensures does { MakesOver 0 256 result (λ w. arrived L.reader w id
+            (Octets (spec_first_number (segment_view segment.entry))
+            (segment_view segment.entry).payload w.arrival))
+            (L.observed to.old.listener) to.old.live.items self.old
+            (L.observed to.new.listener) to.new.live.items self.new }
+        ensures cause { OnErr result (L.failed to.new.listener) }
+    {
         flow.payload(
             first_number(segment),
             segment.payload,

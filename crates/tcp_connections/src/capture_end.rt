@@ -10,7 +10,7 @@ impl Connections {
     ghost use Rattle.tcp_streams.specs.Lives.{lives};
     ghost use Rattle.tcp_connections.specs.Connections.{State, is_holding, end_cause, gapped};
     ghost use Rattle.tcp_connections.specs.Connections.{closed_at, gaps_from, all_closed, ended, live_of};
-    ghost use Rattle.tcp_connections.specs.State.{IsState, IsAt, HasState, Makes, Ends};
+    ghost use Rattle.tcp_connections.specs.State.{IsState, IsAt, HasState, Makes, MakesOver, Ends};
 
     /// The capture ends: while flows hold something, a gap of the one whose last stream has the
     /// least number, until nothing is held; then the live streams close by their order. No flow has one
@@ -74,8 +74,7 @@ impl Connections {
         id: u32,
         to: &mut Streams<L>,
     ) -> Result<(), ListenerFault>
-        requires state { HasState (L.observed to.old.listener) to.old.live.items self.old }
-        ensures does { Makes result (λ w. gapped L.reader w id)
+        ensures does { (over : ℕ) → MakesOver over over result (λ w. gapped L.reader w id)
             (L.observed to.old.listener) to.old.live.items self.old
             (L.observed to.new.listener) to.new.live.items self.new }
         ensures cause { OnErr result (L.failed to.new.listener) }

@@ -3,10 +3,12 @@
 ghost use Rattle.std.specs.Prelude.{ℕ, ◌≡◌, ◌≤◌, ◌<◌, ◌++◌, ◌∷◌, [], List, length, is_some, None, true};
 ghost use Rattle.tcp_segment.specs.Segments.{Segment};
 ghost use Rattle.tcp_flow.specs.Flow.{CaptureEvent, OfCapture, Reader};
+ghost use Rattle.tcp_streams.specs.Lives.{lives};
 ghost use Rattle.tcp_streams.specs.declared.pair.EndpointPair.{EndpointPair};
-ghost use Rattle.tcp_connections.specs.Connections.{State, none_known, place_of, after, with_capture_event, ended};
+ghost use Rattle.tcp_connections.specs.Connections.{State, none_known, place_of, after, with_capture_event, ended, heaviest};
 ghost use Rattle.tcp_connections.specs.Forgetting.{IsForgottenBy, MakesRoom};
 ghost use Rattle.tcp_connections.specs.Gapless.{AreGapless, AreWhole, HaveRooms};
+ghost use Rattle.tcp_connections.specs.Heaviest.{IsHeaviest};
 ghost use Rattle.tcp_connections.specs.Owned.{AreOwned};
 ghost use Rattle.tcp_connections.specs.State.{IsState, HasState};
 
@@ -47,6 +49,13 @@ pub fn nothing_else_forgets()
 pub fn the_eldest_makes_room()
     ensures { (reader : Reader) (w : State) → 0 < length w.known
         → length w.lasts ≤ length w.known → MakesRoom reader w }
+{}
+
+/// Where the pool is short, the flow that gives up holds the most blocks of all whose streams live or were closed by a gap, and
+/// of several the one whose last stream began first. It has no body, and is called for its contract.
+pub fn the_heaviest_gives_up()
+    ensures { (w : State) → 0 < length (lives w.events)
+        → IsHeaviest w.held (lives w.events) (heaviest w) }
 {}
 
 /// Streams are without a gap, whatever segments come: octets come and a stream closes only while it lives, and they stand one

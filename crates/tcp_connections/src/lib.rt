@@ -10,6 +10,7 @@ mod flows;
 mod forgetting;
 mod guesses;
 mod laws;
+mod relieving;
 mod syns;
 
 pub use connections::Connections;

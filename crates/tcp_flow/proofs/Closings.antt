@@ -4,10 +4,10 @@ use Rattle.std.proofs.lemmas.List.{append_assoc}
 use Rattle.tcp_flow.specs.declared.flow.CloseCause.{CloseCause}
 use Rattle.tcp_flow.specs.declared.tail.Tail.{Tail}
 use Rattle.tcp_waiting.specs.Payload.{Payload, has_as_much, put}
-use Rattle.tcp_flow.specs.Flow.{Flow, Event, Closes, OfCapture, ComesFrom, Passes, Reader, Setting, left, with_event, stopped, checked, delivered, started, resumed, lives, out_of_step, looked_through, tail_before, told_from, taken, closed, holding, gone_on, within_bounds, payload_came}
+use Rattle.tcp_flow.specs.Flow.{Flow, Event, Closes, OfCapture, ComesFrom, Passes, Reader, left, with_event, stopped, checked, delivered, started, resumed, lives, out_of_step, looked_through, tail_before, told_from, taken, closed, holding, gone_on, within_window, payload_came}
 use Rattle.tcp_flow.specs.Order.{octets_in, octets_of, closes_in, closes_of}
 use Rattle.tcp_flow.proofs.Tails.{looked_by}
-use Rattle.tcp_flow.proofs.Preserving.{Keeps, gone_on_keeps, relieved_keeps}
+use Rattle.tcp_flow.proofs.Preserving.{Keeps, gone_on_keeps, window_keeps}
 
 -- ---- One more event.
 
@@ -90,14 +90,14 @@ closed_more n id g cause l =
 more_keeps : (F : Reader) (n id : ℕ) → Keeps F (λ (g : Flow). n < closes_of id g.events)
 more_keeps F n id = search (arith, taken_more, closed_more)
 
-pub came_more : (A : Setting) (n id : ℕ) (f : Flow) (p : Payload) → n < closes_of id f.events →
-    n < closes_of id (payload_came A f p).events
+pub came_more : (F : Reader) (n id : ℕ) (f : Flow) (p : Payload) → n < closes_of id f.events →
+    n < closes_of id (payload_came F f p).events
 unfolding payload_came holding
-came_more A n id f p l =
+came_more F n id f p l =
     let P : Flow → Type 0 = λ (g : Flow). n < closes_of id g.events in
     let q : Payload = left f.next (is_some f.live) p in
     let h : Flow = record f { held = put q f.held } in
     either P (nat_eq (length q.octets) 0 || has_as_much f.id q.number (length q.octets) f.held) f
-    (within_bounds A (length f.held + 1) (gone_on A.reader h)) l
-    (relieved_keeps A P (more_keeps A.reader n id) (length f.held + 1) (gone_on A.reader h)
-    (gone_on_keeps A.reader P (more_keeps A.reader n id) h l))
+    (within_window F (length f.held + 1) (gone_on F h)) l
+    (window_keeps F P (more_keeps F n id) (length f.held + 1) (gone_on F h)
+    (gone_on_keeps F P (more_keeps F n id) h l))

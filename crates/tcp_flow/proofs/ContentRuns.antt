@@ -7,7 +7,7 @@ use Rattle.std.proofs.lemmas.List.{length-drop}
 use Rattle.tcp_waiting.specs.Numbers.{onward, age}
 use Rattle.tcp_waiting.specs.declared.arrival.Arrival as packet
 use Rattle.tcp_waiting.specs.Payload.{Payload, payload, without_first, has_as_much, put, place_of, key_of}
-use Rattle.tcp_flow.specs.Flow.{Flow, Setting, Arrival, Octets, End, Hears, left, holding, gone_on, payload_came, step, after}
+use Rattle.tcp_flow.specs.Flow.{Flow, Reader, Arrival, Octets, End, Hears, left, holding, gone_on, payload_came, step, after}
 use Rattle.tcp_flow.specs.Laws.{IsSettled}
 use Rattle.tcp_flow.specs.Order.{closes_of, Agrees, StandsIn}
 use Rattle.tcp_flow.proofs.Closings.{came_more}
@@ -15,7 +15,7 @@ use Rattle.tcp_waiting.proofs.Held.{all_insert}
 use Rattle.tcp_flow.proofs.Content.{SomeOf, some_left, some_put, some_with, Case, Piece, Reaches, Covered, So, HasGone, left_live, some_octets, so_keeps}
 use Rattle.tcp_flow.proofs.Direct.{came_settled}
 use Rattle.tcp_flow.proofs.Places.{age_before, age_behind, same_place, place_further, drop_content}
-use Rattle.tcp_flow.proofs.Preserving.{gone_on_keeps, relieved_keeps}
+use Rattle.tcp_flow.proofs.Preserving.{gone_on_keeps, window_keeps}
 use Rattle.tcp_flow.proofs.Steps.{came_nothing, came_held}
 
 -- ---- One payload comes.
@@ -115,14 +115,14 @@ nothing_so x U K f number place k octets so small num early within e same end =
     ]
 
 -- a payload of the content comes
-came_so : (A : Setting) (x : Case) (U : ℕ → Type 0) (K L : Type 0) (f : Flow) (n place : ℕ)
+came_so : (F : Reader) (x : Case) (U : ℕ → Type 0) (K L : Type 0) (f : Flow) (n place : ℕ)
     (octets : List ℕ) (arrival : packet.Arrival) → length x.content < 2 ^ 31
     → Agrees x.start x.content place n octets →
     ((u : ℕ) → U u → place ≤ u → place + length octets ≤ u) →
     (L → IsOrHas x K place (place + length octets))
-    → So x U K f → HasGone x U L (payload_came A f (payload f.id n octets arrival))
+    → So x U K f → HasGone x U L (payload_came F f (payload f.id n octets arrival))
 unfolding HasGone IsOrHas holding
-came_so A x U K L f n place octets arrival small agrees spans new so =
+came_so F x U K L f n place octets arrival small agrees spans new so =
     let p : Payload = payload f.id n octets arrival in
     let k : ℕ = age f.next n in
     let aged : k ≡ age (onward x.start so.r) (onward x.start place) =
@@ -141,7 +141,7 @@ came_so A x U K L f n place octets arrival small agrees spans new so =
     || has_as_much f.id q.number (length q.octets) f.held)) [
       | inl e ↦
           subst (λ (h : Flow). (x.closings < closes_of x.id h.events) ⊎ So x U L h)
-          (sym (came_nothing A f p q is_left e))
+          (sym (came_nothing F f p q is_left e))
           (inr (record {
             same = so.same;
             live = so.live;
@@ -207,10 +207,10 @@ came_so A x U K L f n place octets arrival small agrees spans new so =
                 ];
           } in
           subst (λ (h : Flow). (x.closings < closes_of x.id h.events) ⊎ So x U L h)
-          (sym (came_held A f p q is_left e))
-          (relieved_keeps A (HasGone x U L) (so_keeps A.reader x U L small) (length f.held + 1)
-          (gone_on A.reader h) (gone_on_keeps A.reader (HasGone x U L)
-          (so_keeps A.reader x U L small) h (inr held))))
+          (sym (came_held F f p q is_left e))
+          (window_keeps F (HasGone x U L) (so_keeps F x U L small) (length f.held + 1)
+          (gone_on F h) (gone_on_keeps F (HasGone x U L)
+          (so_keeps F x U L small) h (inr held))))
     ]
 
 -- ---- All that comes.
@@ -227,56 +227,56 @@ Comes x U (Octets n octets arrival) =
 Comes x U (End n) = ⊥
 Comes x U (Hears packet) = ⊥
 
-step_so : (A : Setting) (x : Case) (U : ℕ → Type 0) (K L : Type 0) (f : Flow) (n place : ℕ)
+step_so : (F : Reader) (x : Case) (U : ℕ → Type 0) (K L : Type 0) (f : Flow) (n place : ℕ)
     (octets : List ℕ) (arrival : packet.Arrival) → length x.content < 2 ^ 31
     → Agrees x.start x.content place n octets →
     ((u : ℕ) → U u → place ≤ u → place + length octets ≤ u) →
     (L → IsOrHas x K place (place + length octets))
-    → IsSo x U K f → IsSo x U L (payload_came A f (payload f.id n octets arrival))
+    → IsSo x U K f → IsSo x U L (payload_came F f (payload f.id n octets arrival))
 unfolding IsSo HasGone
-step_so A x U K L f n place octets arrival small agrees spans new (inl m) =
-    inl (came_more A x.closings x.id f (payload f.id n octets arrival) m)
-step_so A x U K L f n place octets arrival small agrees spans new (inr h) =
-    elim (came_so A x U K L f n place octets arrival small agrees spans new h.0) [
+step_so F x U K L f n place octets arrival small agrees spans new (inl m) =
+    inl (came_more F x.closings x.id f (payload f.id n octets arrival) m)
+step_so F x U K L f n place octets arrival small agrees spans new (inr h) =
+    elim (came_so F x U K L f n place octets arrival small agrees spans new h.0) [
       | inl m ↦ inl m
       | inr so ↦
           (let low : onward x.start so.r < 2 ^ 32 = omega arith in
           inr (
             so,
-            came_settled A f (payload f.id n octets arrival) h.1
+            came_settled F f (payload f.id n octets arrival) h.1
                 (subst (λ (m : ℕ). m < 2 ^ 32) (sym so.next) low),
           ))
     ]
 
-pub run : (A : Setting) (x : Case) (U : ℕ → Type 0) (K : Type 0) (cs : List Arrival) (f : Flow) →
+pub run : (F : Reader) (x : Case) (U : ℕ → Type 0) (K : Type 0) (cs : List Arrival) (f : Flow) →
     length x.content < 2 ^ 31 → AllByRecursion (Comes x U) cs → IsSo x U K f →
-    IsSo x U K (after A f cs)
+    IsSo x U K (after F f cs)
 unfolding after step Comes IsOrHas
-run A x U K [] f small h t = t
-run A x U K (Octets n octets arrival ∷ cs) f small h t =
-    run A x U K cs (payload_came A f (payload f.id n octets arrival)) small h.1
-    (step_so A x U K K f n h.0.0 octets arrival small h.0.1.0 h.0.1.1 (λ k. inl k) t)
-run A x U K (End n ∷ cs) f small h t = absurd h.0
-run A x U K (Hears packet ∷ cs) f small h t = absurd h.0
+run F x U K [] f small h t = t
+run F x U K (Octets n octets arrival ∷ cs) f small h t =
+    run F x U K cs (payload_came F f (payload f.id n octets arrival)) small h.1
+    (step_so F x U K K f n h.0.0 octets arrival small h.0.1.0 h.0.1.1 (λ k. inl k) t)
+run F x U K (End n ∷ cs) f small h t = absurd h.0
+run F x U K (Hears packet ∷ cs) f small h t = absurd h.0
 
 -- the one payload is among them
-pub run_has : (A : Setting) (x : Case) (U : ℕ → Type 0) (n : ℕ) (octets : List ℕ)
+pub run_has : (F : Reader) (x : Case) (U : ℕ → Type 0) (n : ℕ) (octets : List ℕ)
     (arrival : packet.Arrival) (cs : List Arrival) (f : Flow) → length x.content < 2 ^ 31
     → Agrees x.start x.content x.place n octets → x.place + length octets ≡ x.end →
     ((u : ℕ) → U u → x.place ≤ u → x.place + length octets ≤ u)
     → StandsIn cs (Octets n octets arrival) → AllByRecursion (Comes x U) cs → IsSo x U ⊥ f →
-    IsSo x U (Unit {0}) (after A f cs)
+    IsSo x U (Unit {0}) (after F f cs)
 unfolding after step Comes StandsIn IsOrHas
-run_has A x U n octets arrival [] f small agrees end spans s h t = absurd s
-run_has A x U n octets arrival (d ∷ ds) f small agrees end spans (inl e) h t =
-    subst (λ (c : Arrival). IsSo x U (Unit {0}) (after A (step A f c) ds)) e
-    (run A x U (Unit {0}) ds (payload_came A f (payload f.id n octets arrival)) small h.1
-    (step_so A x U ⊥ (Unit {0}) f n x.place octets arrival small agrees spans
+run_has F x U n octets arrival [] f small agrees end spans s h t = absurd s
+run_has F x U n octets arrival (d ∷ ds) f small agrees end spans (inl e) h t =
+    subst (λ (c : Arrival). IsSo x U (Unit {0}) (after F (step F f c) ds)) e
+    (run F x U (Unit {0}) ds (payload_came F f (payload f.id n octets arrival)) small h.1
+    (step_so F x U ⊥ (Unit {0}) f n x.place octets arrival small agrees spans
     (λ k. inr (refl, end)) t))
-run_has A x U n octets arrival (Octets m os came ∷ ds) f small agrees end spans (inr s) h t =
-    run_has A x U n octets arrival ds (payload_came A f (payload f.id m os came)) small agrees
+run_has F x U n octets arrival (Octets m os came ∷ ds) f small agrees end spans (inr s) h t =
+    run_has F x U n octets arrival ds (payload_came F f (payload f.id m os came)) small agrees
     end spans s h.1
-    (step_so A x U ⊥ ⊥ f m h.0.0 os came small h.0.1.0 h.0.1.1 (λ k. inl k) t)
-run_has A x U n octets arrival (End m ∷ ds) f small agrees end spans (inr s) h t = absurd h.0
-run_has A x U n octets arrival (Hears packet ∷ ds) f small agrees end spans (inr s) h t =
+    (step_so F x U ⊥ ⊥ f m h.0.0 os came small h.0.1.0 h.0.1.1 (λ k. inl k) t)
+run_has F x U n octets arrival (End m ∷ ds) f small agrees end spans (inr s) h t = absurd h.0
+run_has F x U n octets arrival (Hears packet ∷ ds) f small agrees end spans (inr s) h t =
     absurd h.0

@@ -3,19 +3,19 @@
 use Rattle.std.proofs.Common.{◌≡◌, ℕ, zero, suc, ◌+◌, ◌^◌, ◌<◌, ◌≤◌, Bool, true, false, cond, nat_eq, nat_lt, nat_le, ◌&&◌, not, List, [], ◌∷◌, length, get_or, Option, Some, None, is_some, IfSome, refl, sym, ◌∙◌, ap, arith, add-one, inl, inr}
 use Rattle.std.specs.Option.{option_map}
 use Rattle.std.specs.List.{insert, remove}
-use Rattle.std.proofs.lemmas.Bool.{cases_Bool, cases_eq, and_parts, or_parts, ltb-true, lt-ltb, true≢false, eqb-true, eqb-false, eq-eqb, ne_eqb, both_ways, cond-true, cond-false, not-true, not-false, or_from, and_left, and_right, not_from_true}
+use Rattle.std.proofs.lemmas.Bool.{cases_Bool, cases_eq, and_parts, or_parts, ltb-true, lt-ltb, true≢false, eqb-true, eqb-false, eq-eqb, ne_eqb, both_ways, cond-true, cond-false, not-true, not-false, or_from, or_left, and_left, and_right, not_from_true}
 use Rattle.std.proofs.lemmas.List.{get_or_default}
 use Rattle.std.proofs.lemmas.List.Edits.{length-insert, get_or-insert_at}
 use Rattle.tcp_flow.specs.declared.hearing.Heard.{Heard}
 use Rattle.tcp_flow.specs.declared.flow.CloseCause.TheVariants.{Fin}
 use Rattle.tcp_waiting.specs.Numbers.{is_to_come, rank}
-use Rattle.tcp_waiting.specs.Payload.{Payload, no_payload, earlier, first, has_as_much, put, place_of, key_of}
-use Rattle.tcp_flow.specs.Flow.{Flow, Reader, Setting, first_of, is_due, at, taken, drained_at_most, drained, fin_is_reached, closed, without_stale_fin, ended, gone_on, parted, passed_over, gap, is_too_much, within_bounds, is_lost, heard, holding, payload_came, left, fin_came}
+use Rattle.tcp_waiting.specs.Payload.{Payload, no_payload, earlier, first, has_as_much, put, place_of, key_of, is_far, blocks_of}
+use Rattle.tcp_flow.specs.Flow.{Flow, Reader, first_of, is_due, at, taken, drained_at_most, drained, fin_is_reached, closed, without_stale_fin, ended, gone_on, parted, passed_over, gap, within_window, is_lost, heard, holding, payload_came, left, fin_came}
 use Rattle.tcp_flow.specs.Laws.{AreLater, IsSettled}
 use Rattle.tcp_waiting.proofs.Order.{both, first_here, first_within, place_within}
-use Rattle.tcp_flow.proofs.Steps.{length_remove, flowing_none, flowing_stays, flowing_takes, due_not, relieved_stops, came_held}
+use Rattle.tcp_flow.proofs.Steps.{length_remove, flowing_none, flowing_stays, flowing_takes, due_not, window_stops, came_held, came_nothing}
 use Rattle.tcp_flow.proofs.Truth.{reached}
-use Rattle.tcp_flow.proofs.Room.{Stays, taken_stays, none_some, left_flow, much_some}
+use Rattle.tcp_flow.proofs.Room.{Stays, taken_stays, none_some, left_flow, far_some, window_blocks}
 use Rattle.tcp_flow.proofs.Firsts.{first_some, later_least, come_by_rank}
 
 put_gone : (ps : List Payload) (i : ℕ) (q : Payload) → i ≤ length ps →
@@ -216,27 +216,27 @@ gone_on_ends F f =
     (flowing_ends F (length f.held) f (omega arith)) in
     either IsEnded (is_some e.live) e (record e { fin = None }) h h
 
-relieved_ends : (A : Setting) (count : ℕ) (f : Flow) → IsEnded f → IsEnded (within_bounds A count f)
-unfolding within_bounds gap
-relieved_ends A zero f h = h
-relieved_ends A (suc count) f h =
-    elim (is_too_much A f) as (λ (b : Bool).
-    IsEnded (elim b [ true ↦ within_bounds A count (gap A.reader f) | false ↦ f ])) [
-      | true ↦ relieved_ends A count (gap A.reader f)
-          (gone_on_ends A.reader (parted f (passed_over A.reader f)))
+window_ends : (F : Reader) (count : ℕ) (f : Flow) → IsEnded f → IsEnded (within_window F count f)
+unfolding within_window gap
+window_ends F zero f h = h
+window_ends F (suc count) f h =
+    elim (is_far f.id f.next f.held) as (λ (b : Bool).
+    IsEnded (elim b [ true ↦ within_window F count (gap F f) | false ↦ f ])) [
+      | true ↦ window_ends F count (gap F f)
+          (gone_on_ends F (parted f (passed_over F f)))
       | false ↦ h
     ]
 
-pub came_settled : (A : Setting) (f : Flow) (p : Payload) → IsSettled f →
-    (payload_came A f p).next < 2 ^ 32 → IsSettled (payload_came A f p)
+pub came_settled : (F : Reader) (f : Flow) (p : Payload) → IsSettled f →
+    (payload_came F f p).next < 2 ^ 32 → IsSettled (payload_came F f p)
 unfolding payload_came
-came_settled A f p t = search (
+came_settled F f p t = search (
   arith,
   is_some,
   either,
   nat_eq,
   ended_settled,
-  relieved_ends,
+  window_ends,
   gone_on_ends,
 )
 
@@ -298,13 +298,13 @@ unfolding first_of
 due_later f q small t due = search (arith, cases_Bool, is_some, later_none)
 
 -- a payload that is due at once: what it does, without holding it
-pub came_direct : (A : Setting) (f : Flow) (p q : Payload) → q ≡ left f.next (is_some f.live) p →
+pub came_direct : (F : Reader) (f : Flow) (p q : Payload) → q ≡ left f.next (is_some f.live) p →
     p.flow ≡ f.id → f.next < 2 ^ 32 → IsSettled f → nat_eq (length q.octets) 0 ≡ false
     → ((is_some f.live) ≡ true → q.number ≡ f.next) →
     ((is_some f.live) && is_to_come f.next q.number) ≡ false
-    → payload_came A f p ≡ within_bounds A (length f.held + 1)
-    (gone_on A.reader (taken A.reader f q))
-came_direct A f p q e own small t some due now = search (
+    → payload_came F f p ≡ within_window F (length f.held + 1)
+    (gone_on F (taken F f q))
+came_direct F f p q e own small t some due now = search (
   arith,
   due_later,
   left_flow,
@@ -315,6 +315,26 @@ came_direct A f p q e own small t some due now = search (
   later_has,
   gone_on_direct,
 )
+
+-- of a flow that isn't in step and holds nothing: it is taken, and nothing more is held
+pub first_blocks : (F : Reader) (f : Flow) (p : Payload) → p.flow ≡ f.id → f.next < 2 ^ 32 →
+    is_some f.live ≡ false → is_some (first_of f) ≡ false →
+    blocks_of (payload_came F f p).held ≤ blocks_of f.held
+first_blocks F f p own small dead none =
+    let q : Payload = left f.next (is_some f.live) p in
+    elim (cases_Bool (nat_eq (length q.octets) 0)) [
+      | inl e ↦ rw (came_nothing F f p q refl (or_left (nat_eq (length q.octets) 0)
+          (has_as_much f.id q.number (length q.octets) f.held) e)) (omega arith)
+      | inr e ↦
+          (let t : Stays f (taken F f q) = taken_stays F f q in
+          rw (came_direct F f p q refl own small (fresh_settled f dead none) e
+          (λ l. absurd (true≢false (sym l ∙ dead)))
+          (and_left (is_some f.live) (is_to_come f.next q.number) dead)) (omega (
+            arith,
+            window_blocks F (length f.held + 1) (taken F f q),
+            ap blocks_of t.held,
+          )))
+    ]
 
 -- what is left of a payload and is not to come is due
 pub due_number : (next : ℕ) (live : Bool) (p q : Payload) → next < 2 ^ 32 → p.number < 2 ^ 32 →
@@ -392,20 +412,20 @@ none_of : (r : Option ℕ) → is_some r ≡ false → r ≡ None
 none_of None h = refl
 none_of (Some i) h = cc
 
-pub nothing_kept : (A : Setting) (count : ℕ) (f : Flow) →
+none_far : (f : Flow) → first_of f ≡ None → is_far f.id f.next f.held ≡ false
+unfolding first_of
+none_far f none =
+    elim (cases_Bool (is_far f.id f.next f.held)) [
+      | inl e ↦ absurd (true≢false (sym (far_some f.id f.next f.held e) ∙ ap is_some none))
+      | inr e ↦ e
+    ]
+
+pub nothing_kept : (F : Reader) (count : ℕ) (f : Flow) →
     (not (is_some (first_of f)) && not (is_some f.fin)) ≡ true →
-    within_bounds A count (gone_on A.reader f) ≡ f
-nothing_kept A count f h = search (
-  arith,
-  both,
-  and_parts,
-  not,
-  is_some,
-  not-true,
-  cases_Bool,
-  both_ways,
-  much_some,
-  none_gone_on,
-  none_of,
-  relieved_stops,
-)
+    within_window F count (gone_on F f) ≡ f
+nothing_kept F count f h =
+    let kept = and_parts (not (is_some (first_of f))) (not (is_some f.fin)) h in
+    let none : first_of f ≡ None = none_of (first_of f) (not-true (is_some (first_of f)) kept.0) in
+    let fin : f.fin ≡ None = none_of f.fin (not-true (is_some f.fin) kept.1) in
+    ap (within_window F count) (none_gone_on F f none fin)
+    ∙ window_stops F count f (none_far f none)

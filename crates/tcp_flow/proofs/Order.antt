@@ -5,7 +5,7 @@ use Rattle.std.proofs.lemmas.Bool.{and_parts, or_parts, eq-eqb}
 use Rattle.tcp_waiting.specs.Numbers.{rank}
 use Rattle.tcp_waiting.specs.declared.arrival.Arrival as packet
 use Rattle.tcp_waiting.specs.Payload.{Payload, first}
-use Rattle.tcp_flow.specs.Flow.{Flow, Setting, Arrival, Octets, End, Hears, first_of, after}
+use Rattle.tcp_flow.specs.Flow.{Flow, Reader, Arrival, Octets, End, Hears, first_of, after}
 use Rattle.tcp_flow.specs.Laws.{IsSettled, AreLater}
 use Rattle.tcp_flow.specs.Order.{octets_of, closes_of, Agrees, IsOfContent, StandsIn, IsAt, OrderMakesNoDifference}
 use Rattle.tcp_flow.proofs.Content.{Case, Piece, Covered, So, SomeOf}
@@ -154,23 +154,23 @@ record IsReached (start at : ℕ) (content front : List ℕ) (ps : List Arrival)
   pub least : (u : ℕ) → at ≤ u → IsUnspanned start content ps u → r ≤ u
   pub said : octets ≡ front ++ take (r - at) (drop at content)
 
-reached : (A : Setting) (f : Flow) (start at : ℕ) (content : List ℕ) (ps cs : List Arrival) →
+reached : (F : Reader) (f : Flow) (start at : ℕ) (content : List ℕ) (ps cs : List Arrival) →
     length content < 2 ^ 31 → IsAt start at content f
     → AllByRecursion (IsOfContent start content) ps →
     ((c : Arrival) → StandsIn ps c → StandsIn cs c) →
     ((c : Arrival) → StandsIn cs c → StandsIn ps c)
-    → closes_of f.id (after A f cs).events ≡ closes_of f.id f.events →
+    → closes_of f.id (after F f cs).events ≡ closes_of f.id f.events →
     IsReached start at content (octets_of f.id f.events) ps
-    (octets_of f.id (after A f cs).events)
+    (octets_of f.id (after F f cs).events)
 unfolding IsSo IsUnspanned
-reached A f start at content ps cs small h agree into back same =
+reached F f start at content ps cs small h agree into back same =
     let U : ℕ → Type 0 = IsUnspanned start content ps in
     let comes : (place end : ℕ) → AllByRecursion (Comes (case_of f start at content place end) U)
     cs =
     λ place end. members (Comes (case_of f start at content place end) U) cs
     (λ c s. comes_of start at content f ps place end c (back c s)
     (member (IsOfContent start content) ps c agree (back c s))) in
-    elim (run A (case_of f start at content 0 0) U ⊥ cs f small (comes 0 0)
+    elim (run F (case_of f start at content 0 0) U ⊥ cs f small (comes 0 0)
     (start_so f start at content U 0 0 h)) [
       | inl m ↦ absurd (omega (arith, m, same))
       | inr t ↦
@@ -180,7 +180,7 @@ reached A f start at content ps cs small h agree into back same =
             from = so.from;
             unspanned =
                 λ place end s l.
-                elim (run_has A (case_of f start at content place end) U s.number s.octets s.arrival
+                elim (run_has F (case_of f start at content place end) U s.number s.octets s.arrival
                 cs f small s.agrees s.long (λ u k m. omega (arith, k place end s m, s.long))
                 (into (Octets s.number s.octets s.arrival) s.among) (comes place end)
                 (start_so f start at content U place end h)) [
@@ -190,7 +190,7 @@ reached A f start at content ps cs small h agree into back same =
                       (omega (arith, v.0.within, small)) (omega (arith, so.within, small))
                       (sym v.0.next ∙ so.next) in
                       let z : end ≤ v.0.r = not_beyond (case_of f start at content place end) U
-                      (Unit {0}) (after A f cs) v.0 v.1 small (omega (arith, own, l))
+                      (Unit {0}) (after F f cs) v.0 v.1 small (omega (arith, own, l))
                       (v.0.covered tt) in
                       omega (arith, z, own))
                 ];
@@ -200,10 +200,10 @@ reached A f start at content ps cs small h agree into back same =
     ]
 
 pub order_makes_no_difference : OrderMakesNoDifference
-order_makes_no_difference A f start at content ps qs small h agree into back closes_p closes_q =
+order_makes_no_difference F f start at content ps qs small h agree into back closes_p closes_q =
     let front : List ℕ = octets_of f.id f.events in
-    let p = reached A f start at content ps ps small h agree (λ c s. s) (λ c s. s) closes_p in
-    let q = reached A f start at content ps qs small h agree
+    let p = reached F f start at content ps ps small h agree (λ c s. s) (λ c s. s) closes_p in
+    let q = reached F f start at content ps qs small h agree
     (λ c s. member (StandsIn qs) ps c into s) (λ c s. member (StandsIn ps) qs c back s) closes_q
     in
     let same : p.r ≡ q.r = omega (

@@ -5,9 +5,9 @@ use Rattle.std.specs.List.{insert, remove}
 use Rattle.std.proofs.lemmas.Bool.{or_parts, eq-eqb, ne_eqb, eqb-true}
 use Rattle.tcp_waiting.specs.Payload.{Payload, no_payload, first, blocks_of, has_as_much, put, place_of, key_of}
 use Rattle.tcp_waiting.specs.Numbers.{age, rank}
-use Rattle.tcp_flow.specs.Flow.{Flow, Reader, Setting, Arrival, Octets, End, Hears, held_by_others, first_of, left, gone_on, gap, within_bounds, holding, payload_came, fin_came, step}
+use Rattle.tcp_flow.specs.Flow.{Flow, Reader, Arrival, Octets, End, Hears, held_by_others, first_of, left, gone_on, gap, within_window, holding, payload_came, fin_came, step}
 use Rattle.tcp_flow.specs.Laws.{AreLater, IsSettled}
-use Rattle.tcp_flow.proofs.Preserving.{Keeps, gone_on_keeps, gap_keeps, relieved_keeps, heard_keeps}
+use Rattle.tcp_flow.proofs.Preserving.{Keeps, gone_on_keeps, gap_keeps, window_keeps, heard_keeps}
 use Rattle.tcp_flow.proofs.Room.{Holds, held_keeps, left_flow}
 use Rattle.tcp_flow.proofs.Firsts.{first_some}
 
@@ -73,12 +73,12 @@ same_others : (f : Flow) → Holds (OthersHold (held_by_others f.id f.held)) f.i
 unfolding OthersHold
 same_others f = search (arith)
 
-came_others : (A : Setting) (f : Flow) (p : Payload) → p.flow ≡ f.id →
-    Holds (OthersHold (held_by_others f.id f.held)) f.id (payload_came A f p)
+came_others : (F : Reader) (f : Flow) (p : Payload) → p.flow ≡ f.id →
+    Holds (OthersHold (held_by_others f.id f.held)) f.id (payload_came F f p)
 unfolding payload_came holding OthersHold
-came_others A f p own =
+came_others F f p own =
     let P = Holds (OthersHold (held_by_others f.id f.held)) f.id in
-    let k = others_keeps A.reader (held_by_others f.id f.held) f.id in
+    let k = others_keeps F (held_by_others f.id f.held) f.id in
     let q : Payload = left f.next (is_some f.live) p in
     let h : Flow = record f { held = put q f.held } in
     let start : P h = record {
@@ -88,30 +88,30 @@ came_others A f p own =
           (left_flow f.next (is_some f.live) p ∙ own);
     } in
     either P (nat_eq (length q.octets) 0 || has_as_much f.id q.number (length q.octets) f.held) f
-    (within_bounds A (length f.held + 1) (gone_on A.reader h)) (same_others f)
-    (relieved_keeps A P k (length f.held + 1) (gone_on A.reader h)
-    (gone_on_keeps A.reader P k h start))
+    (within_window F (length f.held + 1) (gone_on F h)) (same_others f)
+    (window_keeps F P k (length f.held + 1) (gone_on F h)
+    (gone_on_keeps F P k h start))
 
-step_holds : (A : Setting) (f : Flow) (a : Arrival) →
-    Holds (OthersHold (held_by_others f.id f.held)) f.id (step A f a)
+step_holds : (F : Reader) (f : Flow) (a : Arrival) →
+    Holds (OthersHold (held_by_others f.id f.held)) f.id (step F f a)
 unfolding step fin_came OthersHold
-step_holds A f (Octets n octets arrival) = search (arith, came_others)
-step_holds A f (End n) =
+step_holds F f (Octets n octets arrival) = search (arith, came_others)
+step_holds F f (End n) =
     let P = Holds (OthersHold (held_by_others f.id f.held)) f.id in
     either P (is_some f.live && nat_eq (age f.next n) 0)
-    (gone_on A.reader (record f { fin = Some n })) f
-    (gone_on_keeps A.reader P (others_keeps A.reader (held_by_others f.id f.held) f.id)
+    (gone_on F (record f { fin = Some n })) f
+    (gone_on_keeps F P (others_keeps F (held_by_others f.id f.held) f.id)
     (record f { fin = Some n }) (record { own = refl; held = refl })) (same_others f)
-step_holds A f (Hears h) =
-    heard_keeps A.reader (Holds (OthersHold (held_by_others f.id f.held)) f.id)
-    (others_keeps A.reader (held_by_others f.id f.held) f.id) (length f.held) h f
+step_holds F f (Hears h) =
+    heard_keeps F (Holds (OthersHold (held_by_others f.id f.held)) f.id)
+    (others_keeps F (held_by_others f.id f.held) f.id) (length f.held) h f
     (same_others f)
 
 -- a step leaves what others hold
-pub step_others : (A : Setting) (f : Flow) (a : Arrival) →
-    held_by_others f.id (step A f a).held ≡ held_by_others f.id f.held
+pub step_others : (F : Reader) (f : Flow) (a : Arrival) →
+    held_by_others f.id (step F f a).held ≡ held_by_others f.id f.held
 unfolding OthersHold
-step_others A f a = (step_holds A f a).held
+step_others F f a = (step_holds F f a).held
 
 pub gap_others : (F : Reader) (f : Flow) →
     held_by_others f.id (gap F f).held ≡ held_by_others f.id f.held

@@ -1,11 +1,12 @@
 -- What taking, closing and a FIN keep, a flow keeps whatever comes.
+use Rattle.tcp_waiting.specs.Payload.{is_far}
 use Rattle.std.proofs.Common.{arith, ◌≡◌, ℕ, zero, suc, Bool, true, false, cond, Option, Some, None, is_some, refl, true≢false}
 use Rattle.std.proofs.lemmas.Bool.{cases_Bool}
 use Rattle.std.specs.List.{remove}
 use Rattle.tcp_flow.specs.declared.hearing.Heard.{Heard}
 use Rattle.tcp_flow.specs.declared.flow.CloseCause.{CloseCause}
 use Rattle.tcp_flow.specs.declared.flow.CloseCause.TheVariants.{Gap}
-use Rattle.tcp_flow.specs.Flow.{Flow, Reader, Setting, taken, first_of, is_due, at, drained_at_most, drained, closed, without_stale_fin, ended, gone_on, lives, awaiting, parted, passed_over, gap, is_too_much, within_bounds, is_lost, heard}
+use Rattle.tcp_flow.specs.Flow.{Flow, Reader, taken, first_of, is_due, at, drained_at_most, drained, closed, without_stale_fin, ended, gone_on, lives, awaiting, parted, passed_over, gap, within_window, is_lost, heard}
 
 pub record Keeps (F : Reader) (P : Flow → Type 0) : Type 0 where
   pub takes : (f : Flow) (i : ℕ) → first_of f ≡ Some i → is_due f i ≡ true → P f →
@@ -77,14 +78,14 @@ pub gap_keeps : (F : Reader) (P : Flow → Type 0) → Keeps F P → (f : Flow) 
 unfolding gap
 gap_keeps F P k f p = search (arith, gone_on_keeps, parted_keeps)
 
-pub relieved_keeps : (A : Setting) (P : Flow → Type 0) → Keeps A.reader P →
-    (count : ℕ) (f : Flow) → P f → P (within_bounds A count f)
-unfolding within_bounds
-relieved_keeps A P k zero f p = p
-relieved_keeps A P k (suc count) f p =
-    elim (is_too_much A f) as (λ (b : Bool).
-    P (elim b [ true ↦ within_bounds A count (gap A.reader f) | false ↦ f ])) [
-      | true ↦ relieved_keeps A P k count (gap A.reader f) (gap_keeps A.reader P k f p)
+pub window_keeps : (F : Reader) (P : Flow → Type 0) → Keeps F P →
+    (count : ℕ) (f : Flow) → P f → P (within_window F count f)
+unfolding within_window
+window_keeps F P k zero f p = p
+window_keeps F P k (suc count) f p =
+    elim (is_far f.id f.next f.held) as (λ (b : Bool).
+    P (elim b [ true ↦ within_window F count (gap F f) | false ↦ f ])) [
+      | true ↦ window_keeps F P k count (gap F f) (gap_keeps F P k f p)
       | false ↦ p
     ]
 

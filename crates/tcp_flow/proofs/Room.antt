@@ -1,22 +1,21 @@
--- The pool's blocks suffice after each payload: the gaps end, and what other flows hold is left
--- alone.
-use Rattle.std.proofs.Common.{◌≡◌, ℕ, zero, suc, ◌+◌, ◌-◌, ◌/◌, ◌<◌, ◌≤◌, Bool, true, false, cond, nat_eq, nat_lt, ◌&&◌, ◌||◌, not, List, [], ◌∷◌, length, get_or, Option, Some, None, is_some, refl, sym, ◌∙◌, ap, subst, arith, inl, inr, unwrap_or, ◌^◌}
-use Rattle.std.specs.List.{insert, remove}
-use Rattle.std.proofs.lemmas.Bool.{cases_Bool, and_cases, or_cases, or_parts, and_parts, ltb-false, not-true, true≢false, eq-eqb, or_left, or_right, cond-true, cond-false}
+-- What a step of a flow takes of the pool's blocks, and that its gaps end.
+use Rattle.std.proofs.Common.{◌≡◌, ℕ, zero, suc, ◌+◌, ◌-◌, ◌/◌, ◌<◌, ◌≤◌, Bool, true, false, cond, nat_eq, nat_lt, ◌&&◌, ◌||◌, not, List, [], ◌∷◌, length, get_or, Option, Some, None, is_some, refl, sym, ◌∙◌, ap, subst, arith, length-drop, inl, inr, unwrap_or, ◌^◌}
+use Rattle.tcp_waiting.proofs.Queries.{blocks_insert}
+use Rattle.std.specs.List.{remove}
+use Rattle.std.proofs.lemmas.Bool.{cases_Bool, or_cases, and_parts, not-true, true≢false, or_left, or_right, cond-true, cond-false}
 use Rattle.std.proofs.lemmas.List.{nil_from_length}
-use Rattle.std.proofs.lemmas.List.Edits.{length-insert}
 use Rattle.tcp_flow.specs.declared.flow.CloseCause.{CloseCause}
 use Rattle.tcp_flow.specs.declared.flow.CloseCause.TheVariants.{Gap}
 use Rattle.tcp_flow.specs.declared.hearing.Heard.{Heard}
 use Rattle.tcp_flow.specs.declared.tail.Tail.{Tail}
 use Rattle.tcp_waiting.specs.Numbers.{ahead, onward, age, is_to_come}
 use Rattle.tcp_waiting.specs.Payload.{without_first, Payload, no_payload, window, first, blocks_of, is_far, has_as_much, put, place_of, key_of}
-use Rattle.tcp_flow.specs.Flow.{Flow, Reader, Setting, left, with_event, stopped, checked, handed, delivered, looked_through, tail_before, told_from, lives, out_of_step, started, resumed, taken, first_of, is_due, at, drained_at_most, drained, closed, gone_on, awaiting, parted, passing, passed_over, gap, is_too_much, within_bounds, is_lost, heard, holding, payload_came, fin_came}
-use Rattle.tcp_waiting.proofs.Order.{first_within, first_own, place_within}
+use Rattle.tcp_flow.specs.Flow.{Flow, Reader, left, with_event, stopped, checked, handed, delivered, looked_through, tail_before, told_from, lives, out_of_step, started, resumed, taken, first_of, is_due, at, drained_at_most, drained, closed, gone_on, awaiting, parted, passing, passed_over, gap, within_window, is_lost, heard, holding, payload_came, fin_came}
+use Rattle.tcp_waiting.proofs.Order.{first_within, first_own}
 use Rattle.tcp_flow.proofs.Tails.{looked_by}
 use Rattle.tcp_flow.proofs.Firsts.{first_some, first_anywhere, first_reached}
 use Rattle.tcp_flow.proofs.Steps.{length_remove, flowing_takes, due_now, due_reached}
-use Rattle.tcp_flow.proofs.Preserving.{gap_keeps, Keeps, flowing_by, rest_keeps, gone_on_keeps, relieved_keeps, heard_keeps}
+use Rattle.tcp_flow.proofs.Preserving.{gap_keeps, Keeps, flowing_by, rest_keeps, gone_on_keeps, window_keeps, heard_keeps}
 
 same : {X : Type 0} (get : Flow → X) (b : Bool) (f g : Flow) (x : X) → get f ≡ x → get g ≡ x →
     get (cond b f g) ≡ x
@@ -116,54 +115,7 @@ held_keeps F P id keeps =
       fins = λ f n h. record { own = h.own; held = h.held };
     }
 
--- blocks of other flows
-others : ℕ → List Payload → ℕ
-others id [] = 0
-others id (p ∷ ps) = cond (nat_eq p.flow id) 0 ((length p.octets + 1023) / 1024) + others id ps
-
-others_remove : (id : ℕ) (ps : List Payload) (i : ℕ) → i < length ps →
-    (get_or ps i no_payload).flow ≡ id → others id (remove ps i) ≡ others id ps
-unfolding others
-others_remove id [] i h own = absurd (omega (arith, h))
-others_remove id (p ∷ ps) zero h own = rw (eq-eqb p.flow id own) (omega arith)
-others_remove id (p ∷ ps) (suc i) h own =
-    ap (λ (n : ℕ). cond (nat_eq p.flow id) 0 ((length p.octets + 1023) / 1024) + n)
-    (others_remove id ps i (omega (arith, h)) own)
-
-others_put : (id : ℕ) (ps : List Payload) (i : ℕ) (q : Payload) → q.flow ≡ id →
-    others id (insert ps i q) ≡ others id ps
-unfolding others
-others_put id [] zero q own = rw (eq-eqb q.flow id own) refl
-others_put id [] (suc i) q own = rw (eq-eqb q.flow id own) refl
-others_put id (p ∷ ps) zero q own = rw (eq-eqb q.flow id own) (omega arith)
-others_put id (p ∷ ps) (suc i) q own = ap (λ (n : ℕ).
-    cond (nat_eq p.flow id) 0 ((length p.octets + 1023) / 1024) + n) (others_put id ps i q own)
-
-least : (b : Bool) (n : ℕ) → cond b 0 n ≤ n
-least true n = omega arith
-least false n = omega arith
-
-others_most : (id : ℕ) (ps : List Payload) → others id ps ≤ blocks_of ps
-unfolding others blocks_of
-others_most id [] = omega arith
-others_most id (p ∷ ps) = omega (
-  arith,
-  others_most id ps,
-  least (nat_eq p.flow id) ((length p.octets + 1023) / 1024),
-)
-
--- nothing of its own: the blocks are others'
-none_blocks : (id next : ℕ) (ps : List Payload) → is_some (first id next ps) ≡ false →
-    blocks_of ps ≡ others id ps
-unfolding others blocks_of
-none_blocks id next [] h = refl
-none_blocks id next (p ∷ ps) h =
-    let e : (nat_eq p.flow id ≡ false) × (is_some (first id next ps) ≡ false) =
-    or_parts (nat_eq p.flow id) (is_some (first id next ps)) (sym (first_some id next p ps) ∙ h)
-    in
-    rw (e.0, none_blocks id next ps e.1) refl
-
-far_some : (id next : ℕ) (ps : List Payload) → is_far id next ps ≡ true →
+pub far_some : (id next : ℕ) (ps : List Payload) → is_far id next ps ≡ true →
     is_some (first id next ps) ≡ true
 unfolding is_far
 far_some id next [] h = absurd (true≢false (sym h))
@@ -174,17 +126,6 @@ far_some id next (p ∷ ps) h =
       | inl x ↦ or_left (nat_eq p.flow id) (is_some (first id next ps))
           (and_parts (nat_eq p.flow id) (nat_lt window (ahead next p.number + length p.octets)) x).0
       | inr x ↦ or_right (nat_eq p.flow id) (is_some (first id next ps)) (far_some id next ps x)
-    ]
-
--- too much is something of its own
-pub much_some : (A : Setting) (f : Flow) → is_too_much A f ≡ true → is_some (first_of f) ≡ true
-unfolding is_too_much first_of
-much_some A f h =
-    elim (or_cases (is_far f.id f.next f.held)
-    (is_some (first f.id f.next f.held) && nat_lt A.blocks (blocks_of f.held)) h) [
-      | inl x ↦ far_some f.id f.next f.held x
-      | inr x ↦ (and_parts (is_some (first f.id f.next f.held)) (nat_lt A.blocks (blocks_of f.held))
-          x).0
     ]
 
 some_is : (r : Option ℕ) → is_some r ≡ true → (i : ℕ) × (r ≡ Some i)
@@ -326,32 +267,6 @@ pub none_some : (f : Flow) → length f.held ≤ 0 → is_some (first_of f) ≡ 
 unfolding first_of first
 none_some f h = rw (nil_from_length f.held (omega (arith, h))) refl
 
--- the gaps end
-settles : (A : Setting) (count : ℕ) (f : Flow) → length f.held ≤ count →
-    is_too_much A (within_bounds A count f) ≡ false
-unfolding within_bounds
-settles A zero f l =
-    elim (cases_Bool (is_too_much A f)) [
-      | inl e ↦ absurd (true≢false (sym (much_some A f e) ∙ none_some f (omega (arith, l))))
-      | inr e ↦ e
-    ]
-settles A (suc count) f l =
-    elim (is_too_much A f) as (λ (b : Bool). is_too_much A f ≡ b →
-    is_too_much A (elim b [ true ↦ within_bounds A count (gap A.reader f) | false ↦ f ])
-    ≡ false) [
-      | true ↦ (λ e. settles A count (gap A.reader f)
-          (gap_shrinks A.reader f count (much_some A f e) l))
-      | false ↦ (λ e. e)
-    ] refl
-
-IsOthers : ℕ → ℕ → List Payload → Type 0
-IsOthers blocks id ps = others id ps ≡ blocks
-
-others_keeps : (F : Reader) (blocks id : ℕ) → Keeps F (Holds (IsOthers blocks) id)
-unfolding IsOthers
-others_keeps F blocks id = held_keeps F (IsOthers blocks) id
-    (λ ps i l own h. others_remove id ps i l own ∙ h)
-
 flow_either : (b : Bool) (p q : Payload) (n : ℕ) → p.flow ≡ n → q.flow ≡ n → (cond b p q).flow ≡ n
 flow_either true p q n e d = e
 flow_either false p q n e d = d
@@ -367,62 +282,6 @@ blocks_either : (blocks : ℕ) (b : Bool) (f g : Flow) → blocks_of f.held ≤ 
 blocks_either blocks true f g e d = e
 blocks_either blocks false f g e d = d
 
-most_put : (ps : List Payload) (q : Payload) → AtMost (length ps + 1) 0 (put q ps)
-unfolding AtMost
-most_put ps q =
-    omega (arith, length-insert ps (place_of (key_of q) ps) q (place_within (key_of q) ps))
-
-others_own : (f r : Flow) → Holds (IsOthers (others f.id f.held)) f.id r →
-    others r.id r.held ≡ others f.id f.held
-unfolding IsOthers
-others_own f r h = rw h.own h.held
-
-none_of : (f : Flow) → is_some (first_of f) ≡ false → blocks_of f.held ≡ others f.id f.held
-unfolding first_of
-none_of f x = none_blocks f.id f.next f.held x
-
-enough_by : (A : Setting) (f : Flow) → is_too_much A f ≡ false → others f.id f.held ≤ A.blocks →
-    blocks_of f.held ≤ A.blocks
-unfolding is_too_much
-enough_by A f h o =
-    let n : (is_some (first_of f) && nat_lt A.blocks (blocks_of f.held)) ≡ false =
-    (or_parts (is_far f.id f.next f.held)
-    (is_some (first_of f) && nat_lt A.blocks (blocks_of f.held)) h).1 in
-    elim (and_cases (is_some (first_of f)) (nat_lt A.blocks (blocks_of f.held)) n) [
-      | inl x ↦ (let b : blocks_of f.held ≡ others f.id f.held = none_of f x in omega arith)
-      | inr x ↦ ltb-false A.blocks (blocks_of f.held) x
-    ]
-
--- after a payload that came the blocks suffice
-pub room_after : (A : Setting) (f : Flow) (p : Payload) → p.flow ≡ f.id →
-    blocks_of f.held ≤ A.blocks → blocks_of (payload_came A f p).held ≤ A.blocks
-unfolding payload_came holding IsOthers AtMost
-room_after A f p own room =
-    let q : Payload = left f.next (is_some f.live) p in
-    let h : Flow = record f { held = put q f.held } in
-    let g : Flow = gone_on A.reader h in
-    let r : Flow = within_bounds A (length f.held + 1) g in
-    let few : length g.held ≤ length f.held + 1 =
-    (gone_on_keeps A.reader (Holds (AtMost (length f.held + 1)) f.id)
-    (most_keeps A.reader (length f.held + 1) f.id) h
-    (record { own = refl; held = most_put f.held q })).held in
-    let start : Holds (IsOthers (others f.id f.held)) f.id h =
-    record {
-      own = refl;
-      held = others_put f.id f.held (place_of (key_of q) f.held) q
-          (left_flow f.next (is_some f.live) p ∙ own);
-    } in
-    let k : Keeps A.reader (Holds (IsOthers (others f.id f.held)) f.id) =
-    others_keeps A.reader (others f.id f.held) f.id in
-    let kept : Holds (IsOthers (others f.id f.held)) f.id r =
-    relieved_keeps A (Holds (IsOthers (others f.id f.held)) f.id) k (length f.held + 1) g
-    (gone_on_keeps A.reader (Holds (IsOthers (others f.id f.held)) f.id) k h start) in
-    let enough : blocks_of r.held ≤ A.blocks =
-    enough_by A r (settles A (length f.held + 1) g few)
-    (omega (arith, room, others_most f.id f.held, others_own f r kept)) in
-    blocks_either A.blocks (nat_eq (length q.octets) 0
-    || has_as_much f.id q.number (length q.octets) f.held) f r room enough
-
 blocks_remove : (ps : List Payload) (i : ℕ) → blocks_of (remove ps i) ≤ blocks_of ps
 unfolding blocks_of
 blocks_remove [] zero = omega arith
@@ -437,6 +296,51 @@ blocks_keeps : (F : Reader) (blocks id : ℕ) → Keeps F (Holds (InBlocks block
 unfolding InBlocks
 blocks_keeps F blocks id = held_keeps F (InBlocks blocks) id
     (λ ps i l own h. omega (arith, h, blocks_remove ps i))
+
+left_shorter : (next : ℕ) (live : Bool) (p : Payload) →
+    length (left next live p).octets ≤ length p.octets
+unfolding left
+left_shorter next live p = by (nat_lt window (age next p.number) && not live)
+  where
+    by : (b : Bool) → length (cond b p (without_first (age next p.number) p)).octets
+        ≤ length p.octets
+    by true = omega arith
+    by false = simp length-drop (omega arith)
+
+-- a payload that comes takes no more blocks than its own
+pub came_blocks : (F : Reader) (f : Flow) (p : Payload) →
+    blocks_of (payload_came F f p).held ≤ blocks_of f.held + (length p.octets + 1023) / 1024
+unfolding payload_came holding InBlocks
+came_blocks F f p =
+    let q : Payload = left f.next (is_some f.live) p in
+    let h : Flow = record f { held = put q f.held } in
+    let most : ℕ = blocks_of f.held + (length p.octets + 1023) / 1024 in
+    let k : Keeps F (Holds (InBlocks most) f.id) = blocks_keeps F most f.id in
+    let start : Holds (InBlocks most) f.id h =
+    record {
+      own = refl;
+      held = omega (
+        arith,
+        blocks_insert f.held (place_of (key_of q) f.held) q,
+        left_shorter f.next (is_some f.live) p,
+      );
+    } in
+    blocks_either most
+    (nat_eq (length q.octets) 0 || has_as_much f.id q.number (length q.octets) f.held) f
+    (within_window F (length f.held + 1) (gone_on F h)) (omega arith)
+    (window_keeps F (Holds (InBlocks most) f.id) k (length f.held + 1) (gone_on F h)
+    (gone_on_keeps F (Holds (InBlocks most) f.id) k h start)).held
+
+-- going on, and gaps after it, take no more
+pub window_blocks : (F : Reader) (count : ℕ) (f : Flow) →
+    blocks_of (within_window F count (gone_on F f)).held ≤ blocks_of f.held
+unfolding InBlocks
+window_blocks F count f =
+    let k : Keeps F (Holds (InBlocks (blocks_of f.held)) f.id) =
+    blocks_keeps F (blocks_of f.held) f.id in
+    (window_keeps F (Holds (InBlocks (blocks_of f.held)) f.id) k count (gone_on F f)
+    (gone_on_keeps F (Holds (InBlocks (blocks_of f.held)) f.id) k f
+    (record { own = refl; held = omega arith }))).held
 
 -- no other payload comes: no more blocks
 pub fin_blocks : (F : Reader) (f : Flow) (n : ℕ) →

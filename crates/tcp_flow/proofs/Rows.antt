@@ -2,8 +2,8 @@
 use Rattle.std.proofs.Common.{◌≡◌, ℕ, Bool, false, cond, nat_eq, List, [], ◌∷◌, ◌++◌, Option, Some, None, true, refl}
 use Rattle.tcp_flow.specs.declared.flow.CloseCause.TheVariants.{Fin, Gap, Fault}
 use Rattle.tcp_waiting.specs.declared.arrival.Arrival as origin
-use Rattle.tcp_waiting.specs.Payload.{earlier, first, blocks_of, is_far, has_as_much, place_of}
-use Rattle.tcp_flow.specs.Flow.{Event, Begins, Delivers, Closes, OfCapture, ComesFrom, Passes, Setting, Arrival, Octets, End, Hears, header_at, chain_from, stream_at, left, with_event, checked, delivered, cut_up, tail_before, begun, all_delivered, rejoined, looked_through, told_from, taken, first_of, at, is_due, drained_at_most, drained, fin_is_reached, closed, without_stale_fin, ended, gone_on, passing, passed_over, parted, gap, is_too_much, within_bounds, holding, payload_came, fin_came, is_lost, heard, step, after, first_payload}
+use Rattle.tcp_waiting.specs.Payload.{earlier, first, is_far, has_as_much, place_of}
+use Rattle.tcp_flow.specs.Flow.{Event, Reader, Begins, Delivers, Closes, OfCapture, ComesFrom, Passes, Arrival, Octets, End, Hears, header_at, chain_from, stream_at, left, with_event, checked, delivered, cut_up, tail_before, begun, all_delivered, rejoined, looked_through, told_from, taken, first_of, at, is_due, drained_at_most, drained, fin_is_reached, closed, without_stale_fin, ended, gone_on, passing, passed_over, parted, gap, within_window, holding, payload_came, fin_came, is_lost, heard, step, after, first_payload}
 
 -- the reader is at a fault at its 7th octet where what it was handed last begins with an octet 255
 unfoldable is_bad : Event → Option ℕ
@@ -15,8 +15,8 @@ any_bad [] = None
 any_bad (h ∷ []) = is_bad h
 any_bad (h ∷ k ∷ hs) = any_bad (k ∷ hs)
 
-unfoldable setting : Setting
-setting = record { reader = record { faulted = any_bad; lacking = λ hs id. None }; blocks = 3 }
+unfoldable reader : Reader
+reader = record { faulted = any_bad; lacking = λ hs id. None }
 
 unfoldable header : List ℕ
 header = 71 ∷ 73 ∷ 79 ∷ 80 ∷ 1 ∷ 0 ∷ []
@@ -49,21 +49,18 @@ heard_at number answers time = Hears (record {
 })
 
 unfoldable events : List Arrival → ℕ → List Event
-events cs n = (after setting (first_payload setting 7 n header (packet n) [] []) cs).events
+events cs n = (after reader (first_payload reader 7 n header (packet n) [] []) cs).events
 
 -- where the message that a stream is in lacks four octets
-unfoldable knowing : Setting
-knowing = record {
-  reader = record { faulted = any_bad; lacking = λ hs id. Some 4 };
-  blocks = 3;
-}
+unfoldable knowing : Reader
+knowing = record { faulted = any_bad; lacking = λ hs id. Some 4 }
 
 unfoldable events_known : List Arrival → List Event
 events_known cs = (after knowing (first_payload knowing 7 1000 header (packet 1) [] []) cs).events
 
 -- what happens by a first payload of these octets, at 1000, and what comes after it
 unfoldable events_from : List ℕ → List Arrival → List Event
-events_from xs cs = (after setting (first_payload setting 7 1000 xs (packet 1000) [] []) cs).events
+events_from xs cs = (after reader (first_payload reader 7 1000 xs (packet 1000) [] []) cs).events
 
 -- the beginning of a stream at a number, behind so many octets that are in none
 unfoldable begins_at : ℕ → ℕ → Bool → Event
@@ -156,7 +153,7 @@ record Rows : Type 0 where
       ∷ octets 1009 header ∷ []) 1000)
       ≡ first_begins ∷ Delivers 7 header ∷ Delivers 7 (255 ∷ 1 ∷ 2 ∷ []) ∷ Closes 7 Fault
       ∷ begins_at 1009 2 true ∷ Delivers 7 header ∷ []
-  in-a-first-payload-is-found : in_flows (first_payload setting 7 1000 (5 ∷ message)
+  in-a-first-payload-is-found : in_flows (first_payload reader 7 1000 (5 ∷ message)
       (packet 1) [] []).events ≡ begins_at 1001 1 true ∷ Delivers 7 message ∷ []
   in-vain-is-told-once : events (End 1006 ∷ octets 1006 (9 ∷ []) ∷ []) 1000
       ≡ OfCapture (ComesFrom (packet 1000)) ∷ first_begins ∷ Delivers 7 header ∷ Closes 7 Fin
@@ -185,17 +182,14 @@ record Rows : Type 0 where
   fin-at-once : in_flows (events (End 1006 ∷ octets 1006 (9 ∷ []) ∷ octets 1007 header ∷ []) 1000)
       ≡ first_begins ∷ Delivers 7 header ∷ Closes 7 Fin ∷ begins_at 1007 1 true
       ∷ Delivers 7 header ∷ []
-  pool-of-three : in_flows (events (octets 1008 (1 ∷ []) ∷ octets 1010 (2 ∷ []) ∷ octets 1012
-      (3 ∷ []) ∷
-      octets 1014 (4 ∷ []) ∷ []) 1000) ≡ first_begins ∷ Delivers 7 header ∷ Closes 7 Gap ∷ []
 
 rows : Rows
 unfolding header_at chain_from stream_at left with_event checked delivered begun cut_up
     tail_before all_delivered rejoined looked_through told_from taken earlier first first_of at
     is_due drained_at_most drained fin_is_reached closed without_stale_fin ended gone_on passing
-    passed_over parted gap blocks_of is_far is_too_much within_bounds has_as_much holding
+    passed_over parted gap is_far within_window has_as_much holding
     place_of payload_came fin_came is_lost heard step after first_payload events events_from
-    in_flows setting packet knowing events_known octets acknowledged held_at heard_at header
+    in_flows reader packet knowing events_known octets acknowledged held_at heard_at header
     message begins_at first_begins any_bad is_bad
 rows = record {
   begins = refl;
@@ -235,5 +229,4 @@ rows = record {
   fin-to-come = refl;
   fin-before-next-is-nothing = refl;
   fin-at-once = refl;
-  pool-of-three = refl;
 }

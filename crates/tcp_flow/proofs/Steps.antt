@@ -4,9 +4,9 @@ use Rattle.std.specs.List.{remove}
 use Rattle.std.proofs.lemmas.Bool.{cond-true, cond-false, and_left, and_right, and_from}
 use Rattle.tcp_waiting.specs.Numbers.{is_to_come}
 use Rattle.tcp_waiting.proofs.Order.{first_within, first_own}
-use Rattle.tcp_waiting.specs.Payload.{Payload, payload, no_payload, first, has_as_much}
+use Rattle.tcp_waiting.specs.Payload.{Payload, payload, no_payload, first, has_as_much, is_far}
 use Rattle.tcp_flow.specs.declared.hearing.Heard.{Heard}
-use Rattle.tcp_flow.specs.Flow.{Flow, Reader, left, delivered, looked_through, tail_before, told_from, resumed, taken, first_of, is_due, at, drained_at_most, Setting, is_too_much, within_bounds, gap, is_lost, heard, payload_came, gone_on, holding}
+use Rattle.tcp_flow.specs.Flow.{Flow, Reader, left, delivered, looked_through, tail_before, told_from, resumed, taken, first_of, is_due, at, drained_at_most, within_window, gap, is_lost, heard, payload_came, gone_on, holding}
 
 pub taken_none : (F : Reader) (f : Flow) (p q : Payload) → q ≡ left f.next (is_some f.live) p →
     nat_eq (length q.octets) 0 ≡ true → taken F f p ≡ f
@@ -81,22 +81,23 @@ unfolding is_due
 due_not f i l e = search (arith, and_from, is_some)
 
 -- gaps while too much is held
-pub relieved_stops : (A : Setting) (count : ℕ) (f : Flow) → is_too_much A f ≡ false →
-    within_bounds A count f ≡ f
-unfolding within_bounds
-relieved_stops A zero f e = refl
-relieved_stops A (suc count) f e = rw (e, within_bounds) refl
+pub window_stops : (F : Reader) (count : ℕ) (f : Flow) → is_far f.id f.next f.held ≡ false →
+    within_window F count f ≡ f
+unfolding within_window
+window_stops F zero f e = refl
+window_stops F (suc count) f e = rw (e, within_window) refl
 
-pub relieved_goes : (A : Setting) (count : ℕ) (f : Flow) → 0 < count → is_too_much A f ≡ true →
-    within_bounds A count f ≡ within_bounds A (count - 1) (gap A.reader f)
-unfolding within_bounds
-relieved_goes A zero f h e = absurd (omega (arith, h))
-relieved_goes A (suc count) f h e = search (arith)
+pub window_goes : (F : Reader) (count : ℕ) (f : Flow) → 0 < count →
+    is_far f.id f.next f.held ≡ true →
+    within_window F count f ≡ within_window F (count - 1) (gap F f)
+unfolding within_window
+window_goes F zero f h e = absurd (omega (arith, h))
+window_goes F (suc count) f h e = search (arith)
 
-pub relieved_none : (A : Setting) (count : ℕ) (f : Flow) → count ≤ 0 → within_bounds A count f ≡ f
-unfolding within_bounds
-relieved_none A zero f h = refl
-relieved_none A (suc count) f h = absurd (omega (arith, h))
+pub window_none : (F : Reader) (count : ℕ) (f : Flow) → count ≤ 0 → within_window F count f ≡ f
+unfolding within_window
+window_none F zero f h = refl
+window_none F (suc count) f h = absurd (omega (arith, h))
 
 -- gaps by what a packet says
 pub heard_stops : (F : Reader) (count : ℕ) (h : Heard) (f : Flow) → is_lost h f ≡ false →
@@ -117,14 +118,14 @@ heard_none F zero h f l = refl
 heard_none F (suc count) h f l = absurd (omega (arith, l))
 
 -- a payload comes
-pub came_nothing : (A : Setting) (f : Flow) (p q : Payload) → q ≡ left f.next (is_some f.live) p →
+pub came_nothing : (F : Reader) (f : Flow) (p q : Payload) → q ≡ left f.next (is_some f.live) p →
     (nat_eq (length q.octets) 0 || has_as_much f.id q.number (length q.octets) f.held) ≡ true →
-    payload_came A f p ≡ f
+    payload_came F f p ≡ f
 unfolding payload_came
-came_nothing A f p q e t = search (arith, nat_eq, is_some, cond-true)
+came_nothing F f p q e t = search (arith, nat_eq, is_some, cond-true)
 
-pub came_held : (A : Setting) (f : Flow) (p q : Payload) → q ≡ left f.next (is_some f.live) p →
+pub came_held : (F : Reader) (f : Flow) (p q : Payload) → q ≡ left f.next (is_some f.live) p →
     (nat_eq (length q.octets) 0 || has_as_much f.id q.number (length q.octets) f.held) ≡ false
-    → payload_came A f p ≡ within_bounds A (length f.held + 1) (gone_on A.reader (holding f q))
+    → payload_came F f p ≡ within_window F (length f.held + 1) (gone_on F (holding f q))
 unfolding payload_came
-came_held A f p q e t = search (arith, nat_eq, is_some, cond-false)
+came_held F f p q e t = search (arith, nat_eq, is_some, cond-false)

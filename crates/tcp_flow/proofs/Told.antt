@@ -4,9 +4,9 @@ use Rattle.tcp_flow.specs.declared.flow.CloseCause.{CloseCause}
 use Rattle.tcp_flow.specs.declared.tail.Tail.{Tail}
 use Rattle.tcp_waiting.specs.Numbers.{age}
 use Rattle.tcp_waiting.specs.Payload.{Payload, payload, has_as_much, put}
-use Rattle.tcp_flow.specs.Flow.{Flow, Event, flow_of, OfCapture, Passes, CaptureEvent, Reader, Setting, Arrival, Octets, End, Hears, left, with_event, stopped, checked, delivered, started, resumed, looked_through, told_from, taken, at, closed, holding, gone_on, within_bounds, payload_came, fin_came, gap, step}
+use Rattle.tcp_flow.specs.Flow.{Flow, Event, flow_of, OfCapture, Passes, CaptureEvent, Reader, Arrival, Octets, End, Hears, left, with_event, stopped, checked, delivered, started, resumed, looked_through, told_from, taken, at, closed, holding, gone_on, within_window, payload_came, fin_came, gap, step}
 use Rattle.tcp_flow.proofs.Tails.{looked_by}
-use Rattle.tcp_flow.proofs.Preserving.{Keeps, cond_keeps, gone_on_keeps, relieved_keeps, heard_keeps, gap_keeps}
+use Rattle.tcp_flow.proofs.Preserving.{Keeps, cond_keeps, gone_on_keeps, window_keeps, heard_keeps, gap_keeps}
 
 -- it is so of all that has happened, after a flow of this id
 pub record Told (Q : List Event → Type 0) (id : ℕ) (f : Flow) : Type 0 where
@@ -85,18 +85,18 @@ module _ (Q : List Event → Type 0) (id : ℕ) (more : IsKept Q id) where
   told_keeps : (F : Reader) → Keeps F (Told Q id)
   told_keeps F = search (arith, taken_told, closed_told)
 
-  pub came_told : (A : Setting) (f : Flow) (p : Payload) → Told Q id f →
-      Told Q id (payload_came A f p)
+  pub came_told : (F : Reader) (f : Flow) (p : Payload) → Told Q id f →
+      Told Q id (payload_came F f p)
   unfolding payload_came holding
-  came_told A f p t =
+  came_told F f p t =
       let q : Payload = left f.next (is_some f.live) p in
       let h : Flow = record f { held = put q f.held } in
-      let k : Keeps A.reader (Told Q id) = told_keeps A.reader in
+      let k : Keeps F (Told Q id) = told_keeps F in
       cond_keeps (Told Q id) (nat_eq (length q.octets) 0
       || has_as_much f.id q.number (length q.octets) f.held) f
-      (within_bounds A (length f.held + 1) (gone_on A.reader h)) t
-      (relieved_keeps A (Told Q id) k (length f.held + 1) (gone_on A.reader h)
-      (gone_on_keeps A.reader (Told Q id) k h (record { same = t.same; told = t.told })))
+      (within_window F (length f.held + 1) (gone_on F h)) t
+      (window_keeps F (Told Q id) k (length f.held + 1) (gone_on F h)
+      (gone_on_keeps F (Told Q id) k h (record { same = t.same; told = t.told })))
 
   fin_told : (F : Reader) (f : Flow) (n : ℕ) → Told Q id f → Told Q id (fin_came F f n)
   unfolding fin_came
@@ -105,11 +105,11 @@ module _ (Q : List Event → Type 0) (id : ℕ) (more : IsKept Q id) where
       cond_keeps (Told Q id) (is_some f.live && nat_eq (age f.next n) 0) (gone_on F g) f
       (gone_on_keeps F (Told Q id) (told_keeps F) g (record { same = t.same; told = t.told })) t
 
-  pub step_told : (A : Setting) (f : Flow) (a : Arrival) → Told Q id f → Told Q id (step A f a)
+  pub step_told : (F : Reader) (f : Flow) (a : Arrival) → Told Q id f → Told Q id (step F f a)
   unfolding step
-  step_told A f (Octets n octets arrival) t = came_told A f (payload f.id n octets arrival) t
-  step_told A f (End n) t = fin_told A.reader f n t
-  step_told A f (Hears h) t = heard_keeps A.reader (Told Q id) (told_keeps A.reader)
+  step_told F f (Octets n octets arrival) t = came_told F f (payload f.id n octets arrival) t
+  step_told F f (End n) t = fin_told F f n t
+  step_told F f (Hears h) t = heard_keeps F (Told Q id) (told_keeps F)
       (length f.held) h f t
 
   pub gap_told : (F : Reader) (f : Flow) → Told Q id f → Told Q id (gap F f)

@@ -9,11 +9,11 @@ use Rattle.tcp_flow.specs.declared.flow.CloseCause.{CloseCause}
 use Rattle.tcp_flow.specs.declared.flow.CloseCause.TheVariants.{Gap}
 use Rattle.tcp_waiting.specs.Numbers.{onward, age, is_to_come}
 use Rattle.tcp_waiting.specs.Payload.{Payload, no_payload, has_as_much, put, place_of, key_of}
-use Rattle.tcp_flow.specs.Flow.{gap, Flow, Event, CaptureEvent, Delivers, Reader, Setting, left, with_event, stopped, checked, handed, delivered, started, lives, out_of_step, resumed, awaiting, looked_through, tail_before, told_from, OfCapture, taken, first_of, is_due, at, closed, payload_came, holding, within_bounds, gone_on, fin_came, heard}
+use Rattle.tcp_flow.specs.Flow.{gap, Flow, Event, CaptureEvent, Delivers, Reader, left, with_event, stopped, checked, handed, delivered, started, lives, out_of_step, resumed, awaiting, looked_through, tail_before, told_from, OfCapture, taken, first_of, is_due, at, closed, payload_came, holding, within_window, gone_on, fin_came, heard}
 use Rattle.tcp_flow.specs.Laws.{IsPartOf, OwnMayFollow, MayFollow, AllFollow, AllArePartsOf, due_of, IsTailOf, IsGapless}
 use Rattle.tcp_waiting.proofs.Order.{first_within, first_own}
 use Rattle.tcp_flow.proofs.Tails.{Looks, looked_keeps, tail_map, delivered_id, in_vain}
-use Rattle.tcp_flow.proofs.Preserving.{gap_keeps, Keeps, relieved_keeps, gone_on_keeps, heard_keeps}
+use Rattle.tcp_flow.proofs.Preserving.{gap_keeps, Keeps, window_keeps, gone_on_keeps, heard_keeps}
 
 onward_onward : (n k a : ℕ) → onward (onward n k) a ≡ onward n (k + a)
 onward_onward n k a = omega arith
@@ -379,14 +379,14 @@ left_all : (payloads : List Payload) (next : ℕ) (live : Bool) (p : Payload) �
 unfolding left
 left_all payloads next live p h = search (arith, either, nat_lt, not, has_more)
 
-pub came_true : (A : Setting) (payloads' : List Payload) (f : Flow) (p : Payload) →
-    p.number < 2 ^ 32 → IsGapless payloads' f → IsGapless (payloads' ++ p ∷ []) (payload_came A f p)
+pub came_true : (F : Reader) (payloads' : List Payload) (f : Flow) (p : Payload) →
+    p.number < 2 ^ 32 → IsGapless payloads' f → IsGapless (payloads' ++ p ∷ []) (payload_came F f p)
 unfolding payload_came holding
-came_true A payloads' f p small t =
+came_true F payloads' f p small t =
     let all : List Payload = payloads' ++ p ∷ [] in
     let q : Payload = left f.next (is_some f.live) p in
     let u : IsGapless all f = true_grows payloads' p f t in
-    let k : Keeps A.reader (IsGapless all) = true_keeps A.reader all in
+    let k : Keeps F (IsGapless all) = true_keeps F all in
     let h : Flow = record f { held = put q f.held } in
     let v : IsGapless all h = record {
       next = u.next;
@@ -398,9 +398,9 @@ came_true A payloads' f p small t =
     } in
     either (IsGapless all) (nat_eq (length q.octets) 0
     || has_as_much f.id q.number (length q.octets) f.held) f
-    (within_bounds A (length f.held + 1) (gone_on A.reader h)) u
-    (relieved_keeps A (IsGapless all) k (length f.held + 1) (gone_on A.reader h)
-    (gone_on_keeps A.reader (IsGapless all) k h v))
+    (within_window F (length f.held + 1) (gone_on F h)) u
+    (window_keeps F (IsGapless all) k (length f.held + 1) (gone_on F h)
+    (gone_on_keeps F (IsGapless all) k h v))
 
 pub fin_true : (F : Reader) (payloads' : List Payload) (f : Flow) (n : ℕ) → IsGapless payloads' f →
     IsGapless payloads' (fin_came F f n)

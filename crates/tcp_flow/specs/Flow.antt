@@ -9,7 +9,7 @@ use Rattle.tcp_flow.specs.declared.tail.Tail.{Tail}
 use Rattle.tcp_flow.specs.declared.hearing.Heard.{Heard}
 use Rattle.tcp_segment.specs.declared.endpoint.Flow as endpoints
 use Rattle.tcp_waiting.specs.declared.arrival.Arrival as origin
-use Rattle.tcp_waiting.specs.Payload.{Payload, payload, no_payload, without_first, window, first, blocks_of, is_far, has_as_much, put}
+use Rattle.tcp_waiting.specs.Payload.{Payload, payload, no_payload, without_first, window, first, is_far, has_as_much, put}
 use Rattle.tcp_waiting.specs.Numbers.{ahead, onward, age, is_to_come}
 
 -- what happens in a capture beside its flows: what is delivered next came in this packet; these
@@ -44,14 +44,6 @@ flow_of (OfCapture event) = None
 pub record Reader : Type 0 where
   pub faulted : List Event → Option ℕ
   pub lacking : List Event → ℕ → Option ℕ
-
--- what a flow stands among: the readers, and the blocks of the pool
-pub record Setting : Type 0 where
-  pub reader : Reader
-  pub blocks : ℕ
-
-abbrev pub setting : Reader → ℕ → Setting
-setting reader blocks = record { reader = reader; blocks = blocks }
 
 -- a flow: its id, the number that is due; while it is in step the number that its stream begins with,
 -- and whether it waits for that stream; a FIN to come; from which number on octets are in no stream,
@@ -375,25 +367,22 @@ parted f (Some count) = awaiting f count
 unfoldable pub gap : Reader → Flow → Flow
 gap F f = gone_on F (parted f (passed_over F f))
 
-unfoldable pub is_too_much : Setting → Flow → Bool
-is_too_much A f =
-    is_far f.id f.next f.held || (is_some (first_of f) && nat_lt A.blocks (blocks_of f.held))
-
--- gaps while too much is held: at most `count` times
-unfoldable pub within_bounds : Setting → ℕ → Flow → Flow
-within_bounds A zero f = f
-within_bounds A (suc count) f =
-    elim (is_too_much A f) [ true ↦ within_bounds A count (gap A.reader f) | false ↦ f ]
+-- gaps while a payload that the flow holds ends too far after the number that is due: at most `count`
+-- times
+unfoldable pub within_window : Reader → ℕ → Flow → Flow
+within_window F zero f = f
+within_window F (suc count) f =
+    elim (is_far f.id f.next f.held) [ true ↦ within_window F count (gap F f) | false ↦ f ]
 
 unfoldable pub holding : Flow → Payload → Flow
 holding f p = record f { held = put p f.held }
 
 -- a payload comes
-unfoldable pub payload_came : Setting → Flow → Payload → Flow
-payload_came A f p =
+unfoldable pub payload_came : Reader → Flow → Payload → Flow
+payload_came F f p =
     let q : Payload = left f.next (is_some f.live) p in
     cond (nat_eq (length q.octets) 0 || has_as_much f.id q.number (length q.octets) f.held) f
-    (within_bounds A (length f.held + 1) (gone_on A.reader (holding f q)))
+    (within_window F (length f.held + 1) (gone_on F (holding f q)))
 
 -- a FIN comes, with the number after the payload
 unfoldable pub fin_came : Reader → Flow → ℕ → Flow
@@ -441,15 +430,15 @@ pub data Arrival : Type 0 where
   End : ℕ → Arrival
   Hears : Heard → Arrival
 
-unfoldable pub step : Setting → Flow → Arrival → Flow
-step A f (Octets n octets arrival) = payload_came A f (payload f.id n octets arrival)
-step A f (End n) = fin_came A.reader f n
-step A f (Hears h) = heard A.reader (length f.held) h f
+unfoldable pub step : Reader → Flow → Arrival → Flow
+step F f (Octets n octets arrival) = payload_came F f (payload f.id n octets arrival)
+step F f (End n) = fin_came F f n
+step F f (Hears h) = heard F (length f.held) h f
 
 -- the flow after all that comes, the first first
-unfoldable pub after : Setting → Flow → List Arrival → Flow
-after A f [] = f
-after A f (c ∷ cs) = after A (step A f c) cs
+unfoldable pub after : Reader → Flow → List Arrival → Flow
+after F f [] = f
+after F f (c ∷ cs) = after F (step F f c) cs
 
 -- a flow of which nothing came: a number is due
 abbrev pub fresh : ℕ → ℕ → List Payload → List Event → Flow
@@ -468,10 +457,10 @@ fresh id n held events = record {
 }
 
 -- a flow of which the first payload comes: its number is due
-unfoldable pub first_payload : Setting → ℕ → ℕ → List ℕ → origin.Arrival → List Payload →
+unfoldable pub first_payload : Reader → ℕ → ℕ → List ℕ → origin.Arrival → List Payload →
     List Event → Flow
-first_payload A id n octets arrival held events =
-    payload_came A (fresh id n held events) (payload id n octets arrival)
+first_payload F id n octets arrival held events =
+    payload_came F (fresh id n held events) (payload id n octets arrival)
 
 -- the payloads that other flows hold
 unfoldable pub held_by_others : ℕ → List Payload → List Payload

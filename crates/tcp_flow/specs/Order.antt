@@ -3,7 +3,7 @@
 use Rattle.std.specs.Prelude.{◌≡◌, ◌⊎◌, ℕ, ◌+◌, ◌<◌, ◌≤◌, ◌^◌, cond, nat_eq, List, [], ◌∷◌, ◌++◌, length, take, drop, is_some, true, false}
 use Rattle.std.specs.List.{AllByRecursion}
 use Rattle.tcp_waiting.specs.Numbers.{onward}
-use Rattle.tcp_flow.specs.Flow.{Flow, Event, Opens, Begins, Delivers, Closes, OfCapture, Arrival, Octets, End, Hears, Setting, first_of, lives, after}
+use Rattle.tcp_flow.specs.Flow.{Flow, Reader, Event, Opens, Begins, Delivers, Closes, OfCapture, Arrival, Octets, End, Hears, first_of, lives, after}
 
 -- the octets that an event delivers to a flow
 abbrev pub octets_in : ℕ → Event → List ℕ
@@ -61,10 +61,10 @@ pub record IsAt (start at : ℕ) (content : List ℕ) (f : Flow) : Type 0 where
 -- has come.
 abbrev pub OrderMakesNoDifference : Type 0
 OrderMakesNoDifference =
-    (A : Setting) (f : Flow) (start at : ℕ) (content : List ℕ) (ps qs : List Arrival)
+    (F : Reader) (f : Flow) (start at : ℕ) (content : List ℕ) (ps qs : List Arrival)
     → length content < 2 ^ 31 → IsAt start at content f
     → AllByRecursion (IsOfContent start content) ps
     → AllByRecursion (StandsIn qs) ps → AllByRecursion (StandsIn ps) qs
-    → closes_of f.id (after A f ps).events ≡ closes_of f.id f.events
-    → closes_of f.id (after A f qs).events ≡ closes_of f.id f.events
-    → octets_of f.id (after A f ps).events ≡ octets_of f.id (after A f qs).events
+    → closes_of f.id (after F f ps).events ≡ closes_of f.id f.events
+    → closes_of f.id (after F f qs).events ≡ closes_of f.id f.events
+    → octets_of f.id (after F f ps).events ≡ octets_of f.id (after F f qs).events

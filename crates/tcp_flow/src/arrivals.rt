@@ -1,6 +1,6 @@
 //! What comes for a flow: its first payload, later ones, and its FIN.
 
-ghost use Rattle.std.specs.Prelude.{◌≡◌, ◌≤◌, ◌∷◌, ◌++◌, [], List, IfOk, OnOk, OnErr, length};
+ghost use Rattle.std.specs.Prelude.{◌≡◌, ◌≤◌, ◌∷◌, ◌++◌, ◌+◌, [], List, IfOk, OnOk, OnErr, length};
 
 use crate::flow::{FlowState, Listener, ListenerFault};
 use tcp_waiting::{Arrival, Pool, age, is_to_come};
@@ -11,7 +11,7 @@ impl FlowState {
     ghost use Rattle.tcp_waiting.specs.Payload.{Payload, payload, blocks_of, first};
     ghost use Rattle.tcp_flow.specs.Flow.{Flow, Event, End, Octets};
     ghost use Rattle.tcp_flow.specs.Flow.{fin_came, payload_came};
-    ghost use Rattle.tcp_flow.specs.Flow.{first_payload, fresh, held_by_others, setting, step};
+    ghost use Rattle.tcp_flow.specs.Flow.{first_payload, fresh, held_by_others, step};
     ghost use Rattle.tcp_flow.specs.Laws.{IsGapless, IsSettled};
     ghost use Rattle.tcp_flow.specs.State.{state, IsState};
 
@@ -29,13 +29,13 @@ impl FlowState {
         requires none { is_some (first id number pool.old.held) ≡ false }
         ensures does { (events : List Event) → T.observed to.old events → IfOk result (λ flow.
             IsState (T.observed to.new) flow pool.new.held
-            (first_payload (setting T.reader pool.old.blocks) id number octets.now
-            arrival pool.old.held events)) }
+            (first_payload T.reader id number octets.now arrival
+            pool.old.held events)) }
         ensures gapless { (payloads : List Payload) (events : List Event)
             → T.observed to.old events → IsGapless payloads (fresh id number pool.old.held events)
             → OnOk result (IsGapless (payloads ++ payload id number octets.now arrival ∷ [])
-            (first_payload (setting T.reader pool.old.blocks) id number octets.now
-            arrival pool.old.held events)) }
+            (first_payload T.reader id number octets.now arrival
+            pool.old.held events)) }
         ensures beside { (events : List Event) → T.observed to.old events
             → OnOk result (held_by_others id pool.new.held ≡ held_by_others id pool.old.held) }
         ensures room { (events : List Event) → T.observed to.old events
@@ -65,17 +65,17 @@ impl FlowState {
         requires settled { IsSettled (state self.old pool.old.held []) }
         ensures does { (f : Flow) → IsState (T.observed to.old) self.old pool.old.held f
             → OnOk result (IsState (T.observed to.new) self.new pool.new.held
-            (step (setting T.reader pool.old.blocks) f (Octets number octets.now arrival))) }
+            (step T.reader f (Octets number octets.now arrival))) }
         ensures gapless { (payloads : List Payload) (f : Flow)
             → IsState (T.observed to.old) self.old pool.old.held f → IsGapless payloads f
             → OnOk result (IsGapless
             (payloads ++ payload self.old.id number octets.now arrival ∷ [])
-            (step (setting T.reader pool.old.blocks) f (Octets number octets.now arrival))) }
+            (step T.reader f (Octets number octets.now arrival))) }
         ensures beside { (f : Flow) → IsState (T.observed to.old) self.old pool.old.held f
             → OnOk result (held_by_others self.old.id pool.new.held
             ≡ held_by_others self.old.id pool.old.held) }
         ensures room { (f : Flow) → IsState (T.observed to.old) self.old pool.old.held f
-            → OnOk result (blocks_of pool.new.held ≤ pool.new.blocks) }
+            → OnOk result (blocks_of pool.new.held ≤ pool.new.blocks + 256) }
         ensures settled { (f : Flow) → IsState (T.observed to.old) self.old pool.old.held f
             → OnOk result (IsSettled (state self.new pool.new.held [])) }
         ensures id { self.new.id ≡ self.old.id }
@@ -97,11 +97,11 @@ impl FlowState {
     ) -> Result<(), ListenerFault>
         ensures does { (f : Flow) → IsState (T.observed to.old) self.old pool.old.held f
             → OnOk result (IsState (T.observed to.new) self.new pool.new.held
-            (step (setting T.reader pool.old.blocks) f (End number))) }
+            (step T.reader f (End number))) }
         ensures gapless { (payloads : List Payload) (f : Flow)
             → IsState (T.observed to.old) self.old pool.old.held f → IsGapless payloads f
             → OnOk result (IsGapless payloads
-            (step (setting T.reader pool.old.blocks) f (End number))) }
+            (step T.reader f (End number))) }
         ensures beside { (f : Flow) → IsState (T.observed to.old) self.old pool.old.held f
             → OnOk result (held_by_others self.old.id pool.new.held
             ≡ held_by_others self.old.id pool.old.held) }
@@ -134,8 +134,7 @@ impl FlowState {
         requires settled { IsSettled (state self.old pool.old.held []) }
         ensures does { (f : Flow) → IsState (T.observed to.old) self.old pool.old.held f
             → OnOk result (IsState (T.observed to.new) self.new pool.new.held
-            (payload_came (setting T.reader pool.old.blocks) f
-            (payload self.old.id number octets.now arrival))) }
+            (payload_came T.reader f (payload self.old.id number octets.now arrival))) }
         ensures id { self.new.id ≡ self.old.id }
         ensures blocks { pool.new.blocks ≡ pool.old.blocks }
         ensures cause { OnErr result (T.failed to.new) }
@@ -151,7 +150,7 @@ impl FlowState {
                 return Ok(());
             }
             self.go_on(pool, to)?;
-            return self.keep_within_bounds(count, pool, to);
+            return self.keep_within_window(count, pool, to);
         }
         if pool.has_as_much(self.id, number, octets.len()) {
             return Ok(());
@@ -160,7 +159,7 @@ impl FlowState {
         pool.hold(self.id, self.next, number, octets, arrival);
         // All that is held is to come, and so nothing is looked for.
         self.end_at_fin(pool, to)?;
-        self.keep_within_bounds(count, pool, to)
+        self.keep_within_window(count, pool, to)
     }
 
     /// Whether a payload at this number is taken at once.

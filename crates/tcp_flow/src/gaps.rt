@@ -1,5 +1,5 @@
-//! What a flow gives up: octets that are missing, which is a gap, again where too much is held, and
-//! all that it holds once it is forgotten.
+//! What a flow gives up: octets that are missing, which is a gap, again while what it holds ends too
+//! far, and all that it holds once it is forgotten.
 
 ghost use Rattle.std.specs.Prelude.{◌≡◌, ◌<◌, ◌≤◌, [], List, IfOk, OnOk, OnErr, is_some, length, true};
 ghost use Rattle.tcp_flow.specs.Flow.{passing as spec_passing};
@@ -23,9 +23,8 @@ fn passing(next: u32, number: u32, lacking: Option<u32>) -> Option<u32>
 
 impl FlowState {
     ghost use Rattle.tcp_waiting.specs.Payload.{Payload, blocks_of, first};
-    ghost use Rattle.tcp_flow.specs.Flow.{Flow, Event, Reader, forgotten};
-    ghost use Rattle.tcp_flow.specs.Flow.{held_by_others, setting, within_bounds};
-    ghost use Rattle.tcp_flow.specs.Flow.{gap as spec_gap, is_too_much as spec_is_too_much};
+    ghost use Rattle.tcp_flow.specs.Flow.{Flow, Event, forgotten, gap as spec_gap};
+    ghost use Rattle.tcp_flow.specs.Flow.{held_by_others, within_window};
     ghost use Rattle.tcp_flow.specs.Flow.{parted, passed_over as spec_passed_over};
     ghost use Rattle.tcp_flow.specs.Laws.{IsGapless, IsSettled};
     ghost use Rattle.tcp_flow.specs.State.{state, IsState};
@@ -99,18 +98,8 @@ impl FlowState {
         Ok(())
     }
 
-    /// Whether what is held is too much: an end too far on, or more blocks than there are.
-    fn is_too_much(&self, pool: &Pool) -> bool
-        ensures { (events : List Event) (reader : Reader) → result
-            ≡ spec_is_too_much (record { reader = reader; blocks = pool.now.blocks })
-            (state self.now pool.now.held events) }
-    {
-        pool.is_far(self.id, self.next)
-            || (pool.blocks() < pool.blocks_in_use() && pool.first(self.id, self.next).is_some())
-    }
-
-    /// Gaps while too much is held.
-    pub(crate) fn keep_within_bounds<T: Listener>(
+    /// Gaps while a payload that is held ends too far after the number that is due.
+    pub(crate) fn keep_within_window<T: Listener>(
         &mut self,
         count: usize,
         pool: &mut Pool,
@@ -118,14 +107,14 @@ impl FlowState {
     ) -> Result<(), ListenerFault>
         ensures does { (f : Flow) → IsState (T.observed to.old) self.old pool.old.held f
             → OnOk result (IsState (T.observed to.new) self.new pool.new.held
-            (within_bounds (setting T.reader pool.old.blocks) count f)) }
+            (within_window T.reader count f)) }
         ensures id { self.new.id ≡ self.old.id }
         ensures blocks { pool.new.blocks ≡ pool.old.blocks }
         ensures cause { OnErr result (T.failed to.new) }
     {
         let mut left = count;
         while left > 0 {
-            if !self.is_too_much(pool) {
+            if !pool.is_far(self.id, self.next) {
                 return Ok(());
             }
             self.gap(pool, to)?;

@@ -59,7 +59,7 @@ impl Heard {
 impl FlowState {
     ghost use Rattle.std.specs.Prelude.{false};
     ghost use Rattle.tcp_waiting.specs.Payload.{Payload, blocks_of};
-    ghost use Rattle.tcp_flow.specs.Flow.{Flow, Event, Hears, heard, held_by_others, setting, step};
+    ghost use Rattle.tcp_flow.specs.Flow.{Flow, Event, Hears, heard, held_by_others, step};
     ghost use Rattle.tcp_flow.specs.Flow.{is_lost as spec_is_lost};
     ghost use Rattle.tcp_flow.specs.Laws.{IsGapless, IsSettled};
     ghost use Rattle.tcp_flow.specs.State.{state, IsState};
@@ -73,11 +73,11 @@ impl FlowState {
     ) -> Result<(), ListenerFault>
         ensures does { (f : Flow) → IsState (T.observed to.old) self.old pool.old.held f
             → OnOk result (IsState (T.observed to.new) self.new pool.new.held
-            (step (setting T.reader pool.old.blocks) f (Hears packet))) }
+            (step T.reader f (Hears packet))) }
         ensures gapless { (payloads : List Payload) (f : Flow)
             → IsState (T.observed to.old) self.old pool.old.held f → IsGapless payloads f
             → OnOk result (IsGapless payloads
-            (step (setting T.reader pool.old.blocks) f (Hears packet))) }
+            (step T.reader f (Hears packet))) }
         ensures beside { (f : Flow) → IsState (T.observed to.old) self.old pool.old.held f
             → OnOk result (held_by_others self.old.id pool.new.held
             ≡ held_by_others self.old.id pool.old.held) }

@@ -1,10 +1,10 @@
 -- What is asked of all that waits, from the first to the last.
-use Rattle.std.proofs.Common.{◌≡◌, ℕ, zero, suc, ◌+◌, ◌/◌, ◌<◌, ◌≤◌, false, nat_eq, ◌&&◌, ◌||◌, List, [], ◌∷◌, length, drop, get_or, refl, ap, sym, subst, ◌∙◌, arith, add-one}
+use Rattle.std.proofs.Common.{◌≡◌, ℕ, zero, suc, ◌+◌, ◌/◌, ◌<◌, ◌≤◌, false, cond, nat_eq, ◌&&◌, ◌||◌, List, [], ◌∷◌, length, drop, get_or, refl, ap, sym, subst, ◌∙◌, arith, add-one}
 use Rattle.std.specs.List.{insert, remove}
 use Rattle.std.proofs.Math.Seq.{drop-cons}
 use Rattle.std.proofs.Math.ListN.{drop_of_length-le}
 use Rattle.tcp_waiting.specs.declared.pool.Waiting.{Waiting}
-use Rattle.tcp_waiting.specs.Payload.{Payload, blocks_of, is_far, ends_far, key, key_of}
+use Rattle.tcp_waiting.specs.Payload.{Payload, blocks_of, load_of, is_far, ends_far, key, key_of}
 use Rattle.tcp_waiting.specs.Layout.{octets_at, payload_in, held_in, AreWithin}
 use Rattle.tcp_waiting.proofs.Held.{length_held, get_held, remove_held, all_at, length_octets}
 
@@ -83,3 +83,16 @@ removed_blocks all ws i w laid h is =
     ap (λ (p : Payload). length p.octets) (get_held all ws i w d h is) ∙ at.count in
     rw (remove_held all ws i, ← count) (blocks_remove (held_in all ws) i d
     (omega (arith, h, length_held all ws)))
+
+-- the load of a flow, from an index on
+pub load_turn : (all : List ℕ) (ws : List Waiting) (k : ℕ) (w : Waiting) (id : ℕ) →
+    IsAtIndex all ws k w
+    → load_of id (drop k (held_in all ws)) ≡ cond (nat_eq w.flow id) ((w.count + 1023) / 1024) 0
+    + load_of id (drop (k + 1) (held_in all ws))
+unfolding load_of
+load_turn all ws k w id h = rw (h.behind, h.count) refl
+
+pub load_end : (all : List ℕ) (ws : List Waiting) (k id : ℕ) → length ws ≤ k →
+    load_of id (drop k (held_in all ws)) ≡ 0
+unfolding load_of
+load_end all ws k id h = rw (nothing_left all ws k h) refl

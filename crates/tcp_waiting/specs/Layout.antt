@@ -2,7 +2,7 @@
 use Rattle.std.specs.Prelude.{◌≡◌, ℕ, ◌+◌, ◌*◌, ◌^◌, ◌<◌, ◌≤◌, Bool, false, not, nat_eq, nat_lt, ◌&&◌, ◌||◌, List, [], ◌∷◌, ◌++◌, length, get_or, map, take, drop, Option, Some, None}
 use Rattle.std.specs.List.{AllByRecursion}
 use Rattle.std.specs.Vec.{vec_capacity}
-use Rattle.tcp_waiting.specs.Payload.{Payload, payload, no_payload, blocks_of, count_of, key_of, ends_far}
+use Rattle.tcp_waiting.specs.Payload.{Payload, payload, no_payload, blocks_of, load_of, key_of, ends_far}
 use Rattle.tcp_waiting.specs.Pool.{PoolView}
 use Rattle.tcp_waiting.specs.declared.pool.Near.{Near}
 use Rattle.tcp_waiting.specs.declared.pool.Waiting.{Waiting}
@@ -65,10 +65,10 @@ pub record IsRoomy (a : Inside) : Type 0 where
   pub spare : 1024 * (a.blocks + 256) ≤ vec_capacity a.spare
   pub fits : length a.octets.items ≤ 1024 * (a.blocks + 256)
 
--- of each flow below how many there are counts, how many payloads it holds
-abbrev pub AreCounts : List ℕ → List Payload → Type 0
-AreCounts counts held =
-    (flow : ℕ) → flow < length counts → get_or counts flow 0 ≡ count_of flow held
+-- of each flow below how many there are loads, how many blocks it holds
+abbrev pub AreLoads : List ℕ → List Payload → Type 0
+AreLoads loads held =
+    (flow : ℕ) → flow < length loads → get_or loads flow 0 ≡ load_of flow held
 
 -- of each flow, what is known of the ends of what it holds
 abbrev pub AreNears : List (Option Near) → List Payload → Type 0
@@ -81,7 +81,7 @@ pub record IsSound (a : Inside) : Type 0 where
   pub ordered : AreOrdered (held_in a.octets.items a.waiting.items)
   pub small : AreSmall (held_in a.octets.items a.waiting.items)
   pub used : a.used ≡ blocks_of (held_in a.octets.items a.waiting.items)
-  pub counts : AreCounts a.counts.items (held_in a.octets.items a.waiting.items)
+  pub loads : AreLoads a.loads.items (held_in a.octets.items a.waiting.items)
   pub nears : AreNears a.nears.items (held_in a.octets.items a.waiting.items)
 
 -- the octets that wait, one after the other without holes

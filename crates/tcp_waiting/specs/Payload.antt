@@ -68,6 +68,12 @@ unfoldable pub blocks_of : List Payload → ℕ
 blocks_of [] = 0
 blocks_of (p ∷ ps) = (length p.octets + 1023) / 1024 + blocks_of ps
 
+-- those of the payloads that a flow holds: its load
+unfoldable pub load_of : ℕ → List Payload → ℕ
+load_of id [] = 0
+load_of id (p ∷ ps) =
+    cond (nat_eq p.flow id) ((length p.octets + 1023) / 1024) 0 + load_of id ps
+
 -- whether a payload ends more than W after `next`
 abbrev pub ends_far : ℕ → ℕ → ℕ → Bool
 ends_far next number count = nat_lt window (ahead next number + count)

@@ -3,7 +3,7 @@
 ghost use Rattle.std.specs.Prelude.{◌≡◌, ℕ, true, false, cond, ◌≤◌, ◌<◌, ◌+◌, ◌*◌, ◌/◌, ◌^◌, [], length, IfOk, IfSome, None, get_or, set, nat_eq, nat_lt};
 ghost use Rattle.std.specs.List.{remove};
 ghost use Rattle.std.specs.Vec.{vec_capacity};
-ghost use Rattle.tcp_waiting.specs.Payload.{payload, no_payload, count_of, first, blocks_of, has_as_much, is_far, put, place_of, key as spec_key, ends_far as spec_ends_far};
+ghost use Rattle.tcp_waiting.specs.Payload.{payload, no_payload, count_of, load_of, first, blocks_of, has_as_much, is_far, put, place_of, key as spec_key, ends_far as spec_ends_far};
 ghost use Rattle.tcp_waiting.specs.Layout.{AreWithin, counts, held_in, stands_at, is_far_but};
 
 use crate::arrival::Arrival;
@@ -42,7 +42,8 @@ pub struct Pool {
     octets: Vec<u8>,
     /// What waits is copied to it when there is no room else, and it is the other's place then.
     spare: Vec<u8>,
-    counts: Vec<usize>,
+    /// The blocks that each flow holds.
+    loads: Vec<usize>,
     nears: Vec<Option<Near>>,
     blocks: usize,
     used: usize,
@@ -61,8 +62,8 @@ impl Model for Pool {
 }
 
 impl Pool {
-    /// A pool of so many blocks of 1,024 octets. What flows below `flows` hold is counted, so that
-    /// nothing is looked for where they hold nothing.
+    /// A pool of so many blocks of 1,024 octets. It is counted how many flows below `flows` hold, so that
+    /// nothing is looked for where they hold none.
     pub fn new(alloc: Global, blocks: usize, flows: usize) -> Result<Pool, AllocError>
         requires blocks { blocks ≤ 1_048_576 }
         requires few { flows ≤ 1_048_576 }
@@ -73,13 +74,13 @@ impl Pool {
         let waiting = Places::with_capacity(alloc, most)?;
         let octets = Vec::with_capacity(alloc, 1024 * most)?;
         let spare = Vec::with_capacity(alloc, 1024 * most)?;
-        let counts = vec![in alloc; 0; flows]?;
+        let loads = vec![in alloc; 0; flows]?;
         let nears = vec![in alloc; None; flows]?;
         Ok(Pool {
             waiting,
             octets,
             spare,
-            counts,
+            loads,
             nears,
             blocks,
             used: 0,
@@ -143,7 +144,36 @@ impl Pool {
     fn holds_none(&self, flow: u32) -> bool
         ensures { result ≡ true → count_of flow self.now.held ≡ 0 }
     {
-        (flow as usize) < self.counts.len() && self.counts[flow as usize] == 0
+        (flow as usize) < self.loads.len() && self.loads[flow as usize] == 0
+    }
+
+    /// How many blocks a flow holds. It is counted for the flows below as many as were named when the
+    /// pool was made, and looked for among all that waits for any other.
+    pub fn load(&self, flow: u32) -> usize
+        ensures { result ≡ load_of flow self.now.held }
+    {
+        if (flow as usize) < self.loads.len() {
+            return self.loads[flow as usize];
+        }
+        self.finds_load(flow)
+    }
+
+    /// How many blocks a flow holds: each payload is looked at.
+    fn finds_load(&self, flow: u32) -> usize
+        ensures { result ≡ load_of flow self.now.held }
+    {
+        // Its range is known once it is read: no flow holds more blocks than are in use.
+        let _used = self.used;
+        let mut load = 0;
+        let mut index = 0;
+        while index < self.waiting.len() {
+            let here = self.waiting.at(index);
+            if here.flow == flow {
+                load += blocks_for(here.count);
+            }
+            index += 1;
+        }
+        load
     }
 
     /// The sequence number of a payload that waits.
@@ -297,7 +327,7 @@ impl Pool {
         );
         let from = self.octets.len();
         self.used += blocks_for(count);
-        count_more(&mut self.counts, flow);
+        load_more(&mut self.loads, flow, blocks_for(count));
         // Neither fails: there has been room for the most octets and payloads since the pool was made.
         let _copied = self.octets.extend_from_slice(octets);
         self.waiting.insert(
@@ -321,7 +351,7 @@ impl Pool {
     {
         let removed = self.waiting.at(index);
         self.used -= blocks_for(removed.count);
-        count_less(&mut self.counts, removed.flow);
+        load_less(&mut self.loads, removed.flow, blocks_for(removed.count));
         self.waiting.remove(index);
     }
 }
@@ -348,29 +378,30 @@ fn blocks_for(count: usize) -> usize
     (count + 1023) / 1024
 }
 
-/// A payload of a flow more is held.
-fn count_more(counts: &mut Vec<usize>, flow: u32)
-    requires { (at : ℕ) → at < length counts.old.items → get_or counts.old.items at 0 < 2 ^ 63 }
-    ensures len { length counts.new.items ≡ length counts.old.items }
-    ensures counts { (at : ℕ) → at < length counts.old.items →
-        get_or counts.new.items at 0 ≡ get_or counts.old.items at 0 + cond (nat_eq flow at) 1 0 }
+/// A flow holds so many blocks more.
+fn load_more(loads: &mut Vec<usize>, flow: u32, blocks: usize)
+    requires { (at : ℕ) → at < length loads.old.items
+        → get_or loads.old.items at 0 + blocks < 2 ^ 64 }
+    ensures len { length loads.new.items ≡ length loads.old.items }
+    ensures loads { (at : ℕ) → at < length loads.old.items → get_or loads.new.items at 0
+        ≡ get_or loads.old.items at 0 + cond (nat_eq flow at) blocks 0 }
 {
     let at = flow as usize;
-    if at < counts.len() {
-        counts[at] += 1;
+    if at < loads.len() {
+        loads[at] += blocks;
     }
 }
 
-/// A payload of a flow less is held.
-fn count_less(counts: &mut Vec<usize>, flow: u32)
-    requires { flow < length counts.old.items → 0 < get_or counts.old.items flow 0 }
-    ensures len { length counts.new.items ≡ length counts.old.items }
-    ensures counts { (at : ℕ) → at < length counts.old.items →
-        get_or counts.new.items at 0 + cond (nat_eq flow at) 1 0 ≡ get_or counts.old.items at 0 }
+/// A flow holds so many blocks less.
+fn load_less(loads: &mut Vec<usize>, flow: u32, blocks: usize)
+    requires { flow < length loads.old.items → blocks ≤ get_or loads.old.items flow 0 }
+    ensures len { length loads.new.items ≡ length loads.old.items }
+    ensures loads { (at : ℕ) → at < length loads.old.items → get_or loads.new.items at 0
+        + cond (nat_eq flow at) blocks 0 ≡ get_or loads.old.items at 0 }
 {
     let at = flow as usize;
-    if at < counts.len() {
-        counts[at] -= 1;
+    if at < loads.len() {
+        loads[at] -= blocks;
     }
 }
 

@@ -1,4 +1,4 @@
-use Rattle.std.proofs.Common.{◌<◌, ◌≤◌, length, is_some, refl, sym, ap, arith}
+use Rattle.std.proofs.Common.{◌+◌, ◌<◌, ◌≤◌, length, is_some, refl, sym, ap, arith}
 use Rattle.tcp_segment.specs.Segments.{segment_view}
 use Rattle.tcp_waiting.specs.Payload.{blocks_of}
 use Rattle.tcp_waiting.proofs.Counts.{first_none}
@@ -25,7 +25,7 @@ returns-clause-does g c w h =
     let S : State = state_of c.args.self.now es in
     let within : c.args.id < length S.flows =
     omega (arith, c.requires.within, c.args.self.now.flows.states.ok.0) in
-    let fewer : blocks_of c.begin.new.pool.held ≤ c.args.self.now.pool.blocks =
+    let fewer : blocks_of c.begin.new.pool.held ≤ c.args.self.now.pool.blocks + 0 =
     omega (arith, c.begin.ensures.blocks, c.in_ok-flow.ensures.room es (h0.observed, h0.live))
     in
     moved (g.L.Listener.observed c.begin.new.to.listener) c.begin.new.to.live.items _ _ _

@@ -32,7 +32,7 @@ loop-left-preserved g c w h =
     ∙ sym c.is_holding.ensures ∙ c.if-not-is_holding.false in (
       gapped F v c.args.id,
       (
-        c.in_ok-gap.ensures.does v i.1.0,
+        c.in_ok-gap.ensures.does 0 v i.1.0,
         (
           sym (at_gap F c.loop-left.left v c.args.id c.loop-left-test.true holds) ∙ i.1.1.0,
           omega (arith, i.1.1.1, gapped_fewer F v c.args.id holds),

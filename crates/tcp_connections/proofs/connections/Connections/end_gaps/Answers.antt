@@ -57,7 +57,7 @@ loop-left-preserved g c w h =
     ∙ sym c.is_holding.ensures ∙ c.if-not-is_holding.false in (
       gapped F v c.in-Some.id,
       (
-        c.in_ok-gap.ensures.does v i.1.0,
+        c.in_ok-gap.ensures.does 0 v i.1.0,
         (
           ap (λ (n : ℕ). gaps_from F (c.loop-left.left - 1) c.loop-left.rank (gapped F v n)) id
               ∙ sym (gaps_gap F c.loop-left.left c.loop-left.rank v c.loop-left-test.true less

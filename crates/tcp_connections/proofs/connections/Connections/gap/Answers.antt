@@ -1,4 +1,4 @@
-use Rattle.std.proofs.Common.{◌≡◌, ◌≤◌, Some, refl, sym, ◌∙◌, arith}
+use Rattle.std.proofs.Common.{◌+◌, ◌≡◌, ◌≤◌, Some, refl, sym, ◌∙◌, arith}
 use Rattle.tcp_flow.specs.Flow.{Flow}
 use Rattle.tcp_waiting.specs.Payload.{blocks_of}
 use Rattle.tcp_flow.specs.State.{state}
@@ -10,20 +10,21 @@ use Rattle.tcp_connections.proofs.States.{makes_by, moved, flow_start, flow_turn
 use Rattle.tcp_connections.proofs.connections.Connections.gap.Goals as goal
 
 pub returns-in_default-clause-does : goal.returns-in_default-clause-does
-returns-in_default-clause-does g c w h =
+returns-in_default-clause-does g c over w h =
     makes_by _ _ _ _ _ _ (λ w. gapped g.L.Listener.reader w c.args.id)
     (λ es h0. moved _ _ _ _ _ (gapped_none g.L.Listener.reader (state_of c.args.self.now es)
     c.args.id (sym c.flow.ensures ∙ c.in_default.is)) h0) w h
 
 pub returns-clause-does : goal.returns-clause-does
-returns-clause-does g c w h =
-    makes_by _ _ _ _ c.args.self.now _ (λ w. gapped g.L.Listener.reader w c.args.id) (λ es h0.
+returns-clause-does g c over w h =
+    makes_by {over = over} _ _ _ _ c.args.self.now _ (λ w. gapped g.L.Listener.reader w c.args.id)
+    (λ es h0.
     let S : State = state_of c.args.self.now es in
     let e : flow_at S c.args.id ≡ Some c.in-Some.flow = sym c.flow.ensures ∙ c.in-Some.is in
     let f : Flow = state c.in-Some.flow S.held es in
     let start = flow_start _ _ c.args.self.now es c.in-Some.flow h0 in
-    let fewer : blocks_of c.gap.new.pool.held ≤ c.args.self.now.pool.blocks =
-    omega (arith, h0.sound.blocks, c.gap.ensures.blocks, c.in_ok-gap.ensures.room f start) in
+    let fewer : blocks_of c.gap.new.pool.held ≤ c.args.self.now.pool.blocks + over =
+    omega (arith, h0.blocks, c.gap.ensures.blocks, c.in_ok-gap.ensures.room f start) in
     moved _ _ _ _ _ (gapped_some g.L.Listener.reader S c.args.id c.in-Some.flow e)
     (flow_turned _ _ _ _ c.args.self.now _ es c.args.id c.in-Some.flow c.gap.new.self _ h0 e
     (c.in_ok-gap.ensures.does f start) c.gap.ensures.id

@@ -1,4 +1,4 @@
-use Rattle.std.proofs.Common.{◌≡◌, ◌≤◌, Some, length, refl, sym, ap, ◌∙◌, arith}
+use Rattle.std.proofs.Common.{◌+◌, ◌≡◌, ◌≤◌, Some, length, refl, sym, ap, ◌∙◌, arith}
 use Rattle.tcp_flow.specs.Flow.{Flow}
 use Rattle.tcp_waiting.specs.Payload.{blocks_of}
 use Rattle.tcp_flow.specs.State.{state}
@@ -27,15 +27,15 @@ returns-in_default-clause-does g c w h =
 pub returns-clause-does : goal.returns-clause-does
 unfolding heard
 returns-clause-does g c w h =
-    makes_by _ _ _ _ c.args.self.now _ (λ w. heard g.L.Listener.reader w c.args.id
+    makes_by {over = 0} _ _ _ _ c.args.self.now _ (λ w. heard g.L.Listener.reader w c.args.id
     c.args.acknowledged c.args.answers) (λ es h0.
     let S : State = state_of c.args.self.now es in
     let e : flow_at S c.args.id ≡ Some c.in-Some.flow =
     sym c.flow.ensures ∙ c.in-Some.is in
     let f : Flow = state c.in-Some.flow S.held es in
     let start = flow_start _ _ c.args.self.now es c.in-Some.flow h0 in
-    let fewer : blocks_of c.hear.new.pool.held ≤ c.args.self.now.pool.blocks =
-    omega (arith, h0.sound.blocks, c.hear.ensures.blocks, c.in_ok-hear.ensures.room f start) in
+    let fewer : blocks_of c.hear.new.pool.held ≤ c.args.self.now.pool.blocks + 0 =
+    omega (arith, h0.blocks, c.hear.ensures.blocks, c.in_ok-hear.ensures.room f start) in
     moved _ _ _ _ _
     (arrived_some g.L.Listener.reader S c.args.id _ c.in-Some.flow e)
     (flow_turned _ _ _ _ c.args.self.now _ es c.args.id c.in-Some.flow

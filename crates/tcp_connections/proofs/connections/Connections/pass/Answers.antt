@@ -22,6 +22,7 @@ returns-then-is_looked_through g c w h =
       same = t.same;
       told = t.told;
       sound = t.sound;
+      blocks = t.blocks;
       free = t.free;
       room = t.room;
     })

@@ -1,8 +1,9 @@
-use Rattle.std.proofs.Common.{◌≡◌, [], refl, sym, subst, ap, ◌∙◌, ◌++◌, ◌∷◌}
-use Rattle.tcp_waiting.specs.Payload.{payload}
-use Rattle.tcp_flow.specs.Flow.{Flow, fresh, first_of, first_payload, step, setting, payload_came}
+use Rattle.std.proofs.Common.{◌≡◌, [], refl, sym, subst, ap, ◌∙◌, ◌++◌, ◌∷◌, arith}
+use Rattle.tcp_flow.proofs.States.{held_of}
+use Rattle.tcp_waiting.specs.Payload.{payload, blocks_of}
+use Rattle.tcp_flow.specs.Flow.{Flow, fresh, first_of, first_payload, step, payload_came}
 use Rattle.tcp_flow.specs.Laws.{IsSettled, IsGapless}
-use Rattle.tcp_flow.proofs.Direct.{fresh_settled}
+use Rattle.tcp_flow.proofs.Direct.{fresh_settled, first_blocks}
 use Rattle.tcp_flow.specs.Flow.{held_by_others}
 use Rattle.tcp_flow.proofs.flow.FlowState.begin.Goals as goal
 
@@ -22,19 +23,29 @@ pub returns-clause-gapless : goal.returns-clause-gapless
 unfolding first_payload step
 returns-clause-gapless g c payloads events o t =
     let f = fresh c.args.id c.args.number c.args.pool.now.held events in
-    let A = setting g.T.Listener.reader c.args.pool.now.blocks in
+    let F = g.T.Listener.reader in
     let e : c.new-flow.result.id ≡ c.args.id =
     ap (λ (d : Flow). d.id) (c.new-flow.ensures c.args.pool.now.held events) in
     subst (λ id. IsGapless (payloads ++ (payload id c.args.number c.args.octets.now
     c.args.arrival) ∷ [])
-    (payload_came A f (payload c.args.id c.args.number c.args.octets.now c.args.arrival))) e
+    (payload_came F f (payload c.args.id c.args.number c.args.octets.now c.args.arrival))) e
     (c.in_ok-payload.ensures.gapless payloads f
     (record { observed = o; same = c.new-flow.ensures c.args.pool.now.held events }) t)
 
 pub returns-clause-room : goal.returns-clause-room
+unfolding first_payload step first_of
 returns-clause-room g c events o =
-    c.in_ok-payload.ensures.room (fresh c.args.id c.args.number c.args.pool.now.held events)
-    (record { observed = o; same = c.new-flow.ensures c.args.pool.now.held events })
+    let f = fresh c.args.id c.args.number c.args.pool.now.held events in
+    let p = payload c.args.id c.args.number c.args.octets.now c.args.arrival in
+    let n = c.in_ok-payload.ensures.does f
+    (record { observed = o; same = c.new-flow.ensures c.args.pool.now.held events }) in
+    omega (
+      arith,
+      first_blocks g.T.Listener.reader f p refl (omega arith) refl c.requires.none,
+      ap blocks_of (held_of _ _ _ _ n),
+      c.requires.room,
+      c.payload.ensures.blocks,
+    )
 
 pub returns-clause-settled : goal.returns-clause-settled
 returns-clause-settled g c events o =

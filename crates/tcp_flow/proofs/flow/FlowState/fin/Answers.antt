@@ -7,7 +7,7 @@ use Rattle.tcp_flow.proofs.Truth.{fin_true}
 use Rattle.tcp_flow.proofs.Room.{fin_blocks}
 use Rattle.tcp_flow.proofs.Others.{step_others}
 use Rattle.tcp_flow.proofs.States.{others_of}
-use Rattle.tcp_flow.specs.Flow.{setting, End}
+use Rattle.tcp_flow.specs.Flow.{End}
 use Rattle.tcp_flow.proofs.flow.FlowState.fin.Goals as goal
 
 pub returns-clause-does : goal.returns-clause-does
@@ -36,4 +36,4 @@ unfolding step
 returns-clause-beside g c f h =
     let n = c.in_ok-take_fin.ensures.does f h in
     others_of _ _ c.args.self.now c.take_fin.new.self c.args.pool.now.held c.take_fin.new.pool.held
-    f _ h n (step_others (setting g.T.Listener.reader 0) f (End c.args.number))
+    f _ h n (step_others g.T.Listener.reader f (End c.args.number))

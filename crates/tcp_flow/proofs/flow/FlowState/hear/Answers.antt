@@ -8,7 +8,7 @@ use Rattle.tcp_flow.proofs.Truth.{heard_true}
 use Rattle.tcp_flow.proofs.Room.{heard_ends, heard_blocks}
 use Rattle.tcp_flow.proofs.Others.{step_others}
 use Rattle.tcp_flow.proofs.States.{others_of}
-use Rattle.tcp_flow.specs.Flow.{setting, Hears}
+use Rattle.tcp_flow.specs.Flow.{Hears}
 use Rattle.tcp_flow.proofs.flow.FlowState.hear.Goals as goal
 
 pub returns-clause-does : goal.returns-clause-does
@@ -56,4 +56,4 @@ returns-clause-beside g c f h =
     (ap length (held_of _ _ _ f h)) (c.in_ok-give_up.ensures.does f h) in
     others_of _ _ c.args.self.now c.give_up.new.self c.args.pool.now.held
     c.give_up.new.pool.held f _ h n
-    (step_others (setting g.T.Listener.reader 0) f (Hears c.args.packet))
+    (step_others g.T.Listener.reader f (Hears c.args.packet))

@@ -2,11 +2,11 @@ use Rattle.std.proofs.Common.{◌≡◌, ◌<◌, ◌≤◌, ◌+◌, ◌/◌, �
 use Rattle.std.specs.List.{insert}
 use Rattle.tcp_waiting.specs.declared.pool.Near.{Near}
 use Rattle.tcp_waiting.specs.declared.pool.Waiting.{Waiting}
-use Rattle.tcp_waiting.specs.Payload.{payload, blocks_of, count_of, key_of, place_of, put}
+use Rattle.tcp_waiting.specs.Payload.{payload, blocks_of, load_of, key_of, place_of, put}
 use Rattle.tcp_waiting.specs.Layout.{held_in, IsSmall, is_far_but}
 use Rattle.tcp_waiting.specs.Pool.{PoolView}
 use Rattle.tcp_waiting.proofs.Held.{length_held, held_inserted, all_insert, within_more, ok_items}
-use Rattle.tcp_waiting.proofs.Counts.{count_insert, count_most}
+use Rattle.tcp_waiting.proofs.Counts.{load_insert, load_most}
 use Rattle.tcp_waiting.proofs.Ends.{far_insert, far_none_but, itself, another, set_cases}
 use Rattle.tcp_waiting.proofs.Order.{place_within, ordered_insert}
 use Rattle.tcp_waiting.proofs.Queries.{blocks_insert}
@@ -22,15 +22,15 @@ make_room-requires-clause-room c =
     rw (← c.self.view_is) at c.requires.room in
     omega (arith, counts_blocks a.octets.items a.waiting.items c.self.invariant.within, room)
 
-pub count_more-requires : goal.count_more-requires
-count_more-requires c at l =
+pub load_more-requires : goal.load_more-requires
+load_more-requires c at l =
     let a = c.self.inside in
     let before = held_in a.octets.items a.waiting.items in
     omega (
       arith,
-      c.self.invariant.counts at l,
-      count_most at before,
-      length_blocks before c.self.invariant.small,
+      c.self.invariant.loads at l,
+      load_most at before,
+      c.blocks_for-2.ensures,
       rw (← c.self.view_is) at c.requires.room,
       c.self.invariant.roomy.most,
     )
@@ -172,15 +172,15 @@ invariant_of-self c =
         ap blocks_of h.held,
         blocks_insert before place p,
       );
-      counts = λ flow l.
-          (let l' : flow < length a.counts.items = omega (arith, l, c.count_more.ensures.len) in
-          omega (
-            arith,
-            c.count_more.ensures.counts flow l',
-            c.self.invariant.counts flow l',
-            ap (count_of flow) h.held,
-            count_insert flow before place p,
-          ));
+      loads = λ flow l.
+          (let l' : flow < length a.loads.items = omega (arith, l, c.load_more.ensures.len) in
+          rw (
+            c.load_more.ensures.loads flow l',
+            c.self.invariant.loads flow l',
+            h.held,
+            load_insert flow before place p,
+            c.blocks_for-2.ensures,
+          ) refl);
       nears = λ flow n is. rw h.held (elim (set_cases a.nears.items c.args.flow flow
           c.if-is_far.near n (ap (λ (xs : List (Option Near)). get_or xs flow None)
           (sym c.note.ensures) ∙ is)) [

@@ -1,8 +1,8 @@
-use Rattle.std.proofs.Common.{◌≡◌, ◌<◌, ◌≤◌, ◌+◌, length, arith, ap, List}
+use Rattle.std.proofs.Common.{◌≡◌, ◌<◌, ◌≤◌, ◌+◌, ◌/◌, length, arith, ap, List}
 use Rattle.std.specs.List.{remove}
 use Rattle.tcp_waiting.specs.Layout.{IsSmall, held_in}
-use Rattle.tcp_waiting.specs.Payload.{blocks_of, count_of}
-use Rattle.tcp_waiting.proofs.Counts.{removed_counts, one_own}
+use Rattle.tcp_waiting.specs.Payload.{blocks_of, load_of}
+use Rattle.tcp_waiting.proofs.Counts.{removed_loads, own_load}
 use Rattle.tcp_waiting.proofs.Ends.{far_remove}
 use Rattle.tcp_waiting.proofs.Held.{length_held, remove_held, all_remove}
 use Rattle.tcp_waiting.proofs.Order.{ordered_remove}
@@ -27,8 +27,8 @@ overflow_sub-self c =
           c.self.invariant.within within c.at-removed.ensures,
     )
 
-pub count_less-requires : goal.count_less-requires
-count_less-requires c l =
+pub load_less-requires : goal.load_less-requires
+load_less-requires c l =
     let a = c.self.inside in
     let w = c.at-removed.result in
     let within : c.args.index < length a.waiting.items =
@@ -37,10 +37,15 @@ count_less-requires c l =
       length_held a.octets.items a.waiting.items,
       rw (← c.self.view_is) at c.requires,
     ) in
-    let own = removed_counts a.octets.items a.waiting.items c.args.index w w.flow within
-    c.at-removed.ensures in
-    let own_one = one_own w.flow in
-    omega (arith, c.self.invariant.counts w.flow l, own, own_one)
+    let own = removed_loads a.octets.items a.waiting.items c.args.index w w.flow
+    c.self.invariant.within within c.at-removed.ensures in
+    omega (
+      arith,
+      c.self.invariant.loads w.flow l,
+      own,
+      own_load w.flow ((w.count + 1023) / 1024),
+      c.blocks_for-2.ensures,
+    )
 
 pub invariant_of-self : goal.invariant_of-self
 invariant_of-self c =
@@ -76,16 +81,16 @@ invariant_of-self c =
             c.at-removed.ensures,
         ap (λ (ws : List Waiting). blocks_of (held_in a.octets.items ws)) c.remove.ensures.items,
       );
-      counts = λ flow l.
-          (let l' : flow < length a.counts.items = omega (arith, l, c.count_less.ensures.len) in
+      loads = λ flow l.
+          (let l' : flow < length a.loads.items = omega (arith, l, c.load_less.ensures.len) in
           omega (
             arith,
-            c.count_less.ensures.counts flow l',
-            c.self.invariant.counts flow l',
-            ap (λ (ws : List Waiting). count_of flow (held_in a.octets.items ws))
+            rw c.blocks_for-2.ensures at (c.load_less.ensures.loads flow l'),
+            c.self.invariant.loads flow l',
+            ap (λ (ws : List Waiting). load_of flow (held_in a.octets.items ws))
                 c.remove.ensures.items,
-            removed_counts a.octets.items a.waiting.items c.args.index w flow within
-                c.at-removed.ensures,
+            removed_loads a.octets.items a.waiting.items c.args.index w flow
+                c.self.invariant.within within c.at-removed.ensures,
           ));
       nears = λ flow n is. rw held (far_remove flow n.base n.number n.count before c.args.index
           (c.self.invariant.nears flow n is));
