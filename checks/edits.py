@@ -11,11 +11,13 @@ names that proofs cite. An edit of a constant has a line `in: MODULE::FUNCTION` 
 A function is proved from the contracts of what it calls and not from their bodies, so wrong bodies of different functions
 don't touch each other. The edits of different functions of a crate are made in one copy, and one check of the copy tells of
 each function which goals of its own fail; to call a function that isn't proved is no goal of its own. A second edit of a
-function, or of a line, waits for a second round: another copy, of which the edited functions alone are checked. There is no
-third. The status is 0 where each edited function has a failed goal of its own and no other function has one. Else it is 1,
-and each fault is told by name: an edit that isn't refused, one whose text is missing or stands there twice, one in no
-function, a third of one function, and a function that has no edit and fails. An edit after which a proof names what is gone,
-and no goal fails by what it says, shows nothing: it is told, and with --strict it is a fault.
+function is made in a twin of it: the same function under another name, beside it, with its contract and a copy of its proof.
+A second one of a trait's method, or of a line in no function, waits for a second round: another copy, of which the edited
+functions alone are checked, for nearly the time of a whole check. There is no third edit of a function. The status is 0 where
+each edited function has a failed goal of its own and no other function has one. Else it is 1, and each fault is told by name:
+an edit that isn't refused, one whose text is missing or stands there twice, one in no function, a third of one function, and
+a function that has no edit and fails. An edit after which a proof names what is gone, and no goal fails by what it says,
+shows nothing: it is told, and with --strict it is a fault.
 
 The libraries below a crate are used as `rt ci` leaves them in out/; `rt check` would prove them once more, since it takes
 only what checks have kept. At its end `rt ci` puts back what stood in out/rlib before, so an old library there is used, and
@@ -41,8 +43,8 @@ from pathlib import Path
 # What one check takes of memory, with room to spare.
 LANE_BYTES = 3 << 30
 
-# How many copies of a crate are checked at most, and so how many edits a function may have.
-MOST_ROUNDS = 2
+# What is added to the name of a function in that of its twin.
+AGAIN = "_again"
 
 # Of how many checks of a crate it is kept what they said.
 MOST_KEPT = 8
@@ -50,11 +52,13 @@ MOST_KEPT = 8
 
 @dataclass(frozen=True)
 class Edit:
-    """A wrong body: what it makes of the lines of files, and the function that has to refuse it."""
+    """A wrong body: what it makes of the lines of files, the function that has to refuse it, and where that is a twin, the
+    place of the function whose twin it is: the file, the first line and the last."""
 
     name: str
     lines: dict[tuple[str, int], str]
     function: str
+    twin: tuple[str, int, int] | None = None
 
 
 class Fault(Exception):
@@ -144,37 +148,78 @@ def read(file: Path, crate: Path) -> Edit:
 
 
 def touches(edit: Edit, others: list[Edit]) -> bool:
-    """Whether an edit is of a function or of a line of which one of the others is."""
-    return any(it.function == edit.function or it.lines.keys() & edit.lines.keys() for it in others)
+    """Whether an edit is of a function or of a line of which one of the others is. A twin has lines of its own."""
+    return any(
+        it.function == edit.function or not edit.twin and not it.twin and it.lines.keys() & edit.lines.keys()
+        for it in others
+    )
+
+
+def as_twin(edit: Edit, crate: Path) -> Edit:
+    """The edit of a twin of its function, or the same edit where that is a method of a trait or has lines elsewhere."""
+    for path in {path for path, _ in edit.lines}:
+        lines = (crate / path).read_text(encoding="utf-8").split("\n")
+        for first, last, _ in functions_of("\n".join(lines)):
+            if not all(it == path and first <= at <= last for it, at in edit.lines):
+                continue
+            heads = [it for it in lines[:first] if re.match(r"(?:pub )?(?:impl|trait)\b|\}", it)]
+            if lines[first].startswith(" ") and not re.match(r"impl\b(?!.* for )", heads[-1]):
+                continue
+            while re.match(r" *(?:#\[|//)", lines[first - 1]):
+                first -= 1
+            return Edit(edit.name, edit.lines, edit.function + AGAIN, (path, first, last))
+    return edit
 
 
 def rounds_of(crate: Path) -> tuple[list[list[Edit]], list[str]]:
     """The edits of a crate, by the rounds in which they are tried together, and what is wrong with those that can't be."""
-    rounds: list[list[Edit]] = [[] for _ in range(MOST_ROUNDS)]
+    first: list[Edit] = []
+    second: list[Edit] = []
     faults = []
     for file in sorted((crate / "wrong").iterdir()):
         try:
             if file.suffix != ".edit":
                 raise Fault("it is no edit: its name doesn't end in .edit")
-            edit = read(file, crate)
-            room = next((it for it in rounds if not touches(edit, it)), None)
-            if room is None:
-                raise Fault(f"{edit.function} or a line of it has an edit in each of {MOST_ROUNDS} rounds")
+            edit, room = read(file, crate), first
+            if touches(edit, first):
+                edit = as_twin(edit, crate)
+                room = first if edit.twin else second
+            if touches(edit, room):
+                raise Fault(f"{edit.function.removesuffix(AGAIN)} or a line of it has two edits before it")
             room.append(edit)
         except (Fault, OSError) as why:
             faults.append(f"{crate.name}/{file.stem}: {why}")
-    return [it for it in rounds if it], faults
+    return [it for it in (first, second) if it], faults
+
+
+def twin_of(edit: Edit, lines: list[str], crate: Path) -> list[str]:
+    """The lines of the twin that an edit is made in, whose proof it copies in the copy of the crate."""
+    path, first, last = edit.twin or ("", 0, -1)
+    own, name = edit.function.removesuffix(AGAIN), edit.function.removesuffix(AGAIN).rpartition("::")[2]
+    place = f"{module_of(path)}::{own.removeprefix(module_of(path) + '::')}".replace("::", "/")
+    proof = crate / "proofs" / place
+    if proof.is_dir():
+        dotted = re.escape(place.replace("/", "."))
+        for file in shutil.copytree(proof, proof.with_name(name + AGAIN)).rglob("*.antt"):
+            text = file.read_text(encoding="utf-8")
+            text = re.sub(rf"(Rattle\.{crate.name}\.(?:proofs|specs\.contracts)\.{dotted})\b", rf"\1{AGAIN}", text)
+            file.write_text(text, encoding="utf-8")
+    made = [edit.lines.get((path, at), lines[at]) for at in range(first, last + 1)]
+    return [re.sub(rf"\bfn {name}\b", f"fn {name}{AGAIN}", line) for line in made]
 
 
 def apply(edits: list[Edit], crate: Path) -> None:
     """Makes all edits in a copy of their crate."""
-    lines = {place: line for edit in edits for place, line in edit.lines.items()}
-    for path in {path for path, _ in lines}:
+    lines = {place: line for edit in edits if not edit.twin for place, line in edit.lines.items()}
+    twins = [edit for edit in edits if edit.twin]
+    for path in {path for edit in edits for path, _ in edit.lines}:
         file = crate / path
-        made = file.read_text(encoding="utf-8").split("\n")
-        for at in range(len(made)):
-            made[at] = lines.get((path, at), made[at])
-        file.write_text("\n".join(made), encoding="utf-8")
+        text = file.read_text(encoding="utf-8").split("\n")
+        made = [[lines.get((path, at), line)] for at, line in enumerate(text)]
+        for edit in twins:
+            if edit.twin and edit.twin[0] == path:
+                made[edit.twin[2]] += ["", *twin_of(edit, text, crate)]
+        file.write_text("\n".join(line for part in made for line in part), encoding="utf-8")
 
 
 # How a check says that what a proof names isn't there any more: a goal, a fact of a place, or a lemma that names one.
@@ -352,7 +397,7 @@ def tried(
         if not hits:
             faults.append(f"{name}/{edit.name}: not refused in {edit.function}")
         elif goal := left.pop(hits[0], ""):
-            told.append(f"{name}/{edit.name}: refused in {hits[0]} by {goal}")
+            told.append(f"{name}/{edit.name}: refused in {hits[0].removesuffix(AGAIN)} by {goal}")
         else:
             nameless.append(
                 f"{name}/{edit.name}: takes a name away in {hits[0]}, and no goal refuses it: {gone.pop(hits[0])}"

@@ -52,7 +52,7 @@ EDITS = [
     ("is_second_of_a_function", "src/writing.rt", "in 0..count {", "in 2..count {", None,
      "refused in writing::put_zeros"),
     ("is_third_of_a_function", "src/writing.rt", "in 0..count {", "in 3..count {", None,
-     "writing::put_zeros or a line of it has an edit in each of 2 rounds"),
+     "writing::put_zeros or a line of it has two edits before it"),
     ("takes_an_invariant_away", "src/writing.rt", "for octet in octets {", "for one in octets { let octet = one;", None,
      "takes a name away in writing::put_octets, and no goal refuses it"),
     ("takes_a_goal_away", "src/reading.rt", "Some(four_at(octets, at + 1))", "let n = four_at(octets, at + 1); Some(n)", None,

@@ -1,121 +1,93 @@
 //! Names and repository ids: which words are none, and how long they may be.
 
 use crate::rows::{FREE, LATER_RESERVED, RESERVED};
-use crate::spelled::repeated;
+use crate::spelled::{expect, repeated};
 use giop_tokens::{Refusal, SigFaultKind, identifier, is_reserved, operation_name, repository_id};
 use std::process::Abort;
 use std::test::Fail;
 
 #[test]
 fn reserved_words_are_no_names(rt: HostRuntime) {
-    are_no_names(&rt);
-    are_free(&rt);
+    each_is_told(&rt, RESERVED, [true, true, false, false, true]);
+    each_is_told(&rt, LATER_RESERVED, [false, true, true, false, true]);
+    each_is_told(&rt, FREE, [false, false, true, true, true]);
 }
 
-fn are_no_names(rt: &impl Abort) {
-    for reserved in RESERVED.split(' ') {
-        assert!(rt; is_no_name(false, reserved.as_bytes()), "{reserved}");
-        assert!(rt; is_no_name(true, reserved.as_bytes()), "{reserved}");
-    }
-    for reserved in LATER_RESERVED.split(' ') {
-        assert!(rt; is_no_name(true, reserved.as_bytes()), "{reserved}");
-        assert!(rt; !is_reserved(false, reserved.as_bytes()), "{reserved}");
-        assert!(rt;
-            identifier(false, reserved.as_bytes()).is_ok(),
-            "{reserved}"
-        );
+fn each_is_told(rt: &impl Abort, words: &str, want: [bool; 5]) {
+    for word in words.split(' ') {
+        expect(rt, told_of(word.as_bytes()) == want, word.as_bytes());
     }
 }
 
-/// Whether a word is reserved, names nothing, and is an operation all the same; in a file of version 3 or in an older one.
-fn is_no_name(third: bool, word: &[u8]) -> bool {
-    let syntax = Refusal {
-        kind: SigFaultKind::Syntax,
-        left: word.len(),
-    };
-    let is_operation = match operation_name(word) {
-        Ok((name, rest)) => name == word && rest.is_empty(),
-        Err(_) => false,
-    };
-    is_reserved(third, word) && is_operation && identifier(third, word) == Err(syntax)
+/// Whether a word is reserved in an older file and in one of version 3, names something in either, and names an operation.
+fn told_of(word: &[u8]) -> [bool; 5] {
+    [
+        is_reserved(false, word),
+        is_reserved(true, word),
+        identifier(false, word).is_ok(),
+        identifier(true, word).is_ok(),
+        operation_name(word).is_ok(),
+    ]
 }
 
-fn are_free(rt: &impl Abort) {
-    for free in FREE.split(' ') {
-        assert!(rt; !is_reserved(false, free.as_bytes()), "{free}");
-        assert!(rt; !is_reserved(true, free.as_bytes()), "{free}");
-    }
+/// What a row of sizes is of.
+#[derive(Clone, Copy)]
+enum Sized {
+    Name,
+    Operation,
+    Id,
 }
 
-/// How many octets, whether a name may have them, and whether an operation's name may.
-static SIZES: [(usize, bool, bool); 4] = [
-    (64, true, true),
-    (65, false, true),
-    (128, false, true),
-    (129, false, false),
+/// How many octets a name, an operation's or a repository id has, and why it is none, if so.
+static SIZES: [(Sized, usize, Option<SigFaultKind>); 10] = [
+    (Sized::Name, 64, None),
+    (Sized::Name, 65, Some(SigFaultKind::Limit)),
+    (Sized::Name, 129, Some(SigFaultKind::Limit)),
+    (Sized::Operation, 65, None),
+    (Sized::Operation, 128, None),
+    (Sized::Operation, 129, Some(SigFaultKind::Limit)),
+    (Sized::Id, 0, Some(SigFaultKind::Token)),
+    (Sized::Id, 1, None),
+    (Sized::Id, 128, None),
+    (Sized::Id, 129, Some(SigFaultKind::Token)),
 ];
 
 #[test]
 fn names_and_repository_ids_have_their_lengths(rt: HostRuntime) -> Result<(), Fail> {
-    names_are_limited(&rt)?;
-    ids_are_limited(&rt)
-}
-
-/// A name has at most 64 octets, and an operation's 128.
-fn names_are_limited(rt: &(impl Abort + AllocGlobal)) -> Result<(), Fail> {
-    for (size, is_name, is_operation) in &SIZES {
-        is_limited(rt, *size, *is_name, *is_operation)?;
+    for (of, size, want) in &SIZES {
+        is_limited(&rt, *of, *size, *want)?;
     }
     Ok(())
 }
 
 fn is_limited(
     rt: &(impl Abort + AllocGlobal),
+    of: Sized,
     size: usize,
-    is_name: bool,
-    is_operation: bool,
+    want: Option<SigFaultKind>,
 ) -> Result<(), Fail> {
-    let text = repeated(rt.alloc(), b"  ", b"n", size)?;
-    let name = identifier(false, &text);
-    assert!(rt;
-        is_taken_or_limited(name, size, is_name),
-        "a name of {size}"
-    );
-    let name = operation_name(&text);
-    assert!(rt;
-        is_taken_or_limited(name, size, is_operation),
-        "an operation of {size}"
-    );
+    let text = repeated(rt.alloc(), b"\"", b"n", size, b"\"")?;
+    expect(rt, is_told(refusal_of(&text, of), want), &text);
     Ok(())
 }
 
-/// Whether a name is taken, or else refused for its length.
-fn is_taken_or_limited(name: Result<(&[u8], &[u8]), Refusal>, size: usize, is_taken: bool) -> bool {
-    match name {
-        Ok(_) => is_taken,
-        Err(refusal) => !is_taken
-            && refusal
-                == Refusal {
-                    kind: SigFaultKind::Limit,
-                    left: size,
-                },
+/// Why what stands between quotation marks is none, if so; an id has the marks.
+fn refusal_of(text: &[u8], of: Sized) -> Option<Refusal> {
+    let inner = match text {
+        [_, inner @ ..] => inner,
+        [] => text,
+    };
+    match of {
+        Sized::Name => identifier(false, inner).err(),
+        Sized::Operation => operation_name(inner).err(),
+        Sized::Id => repository_id(text).err(),
     }
 }
 
-/// How many octets, and whether a repository id may have them.
-static ID_SIZES: [(usize, bool); 4] = [(0, false), (1, true), (128, true), (129, false)];
-
-/// A repository id has 1 to 128 octets.
-fn ids_are_limited(rt: &(impl Abort + AllocGlobal)) -> Result<(), Fail> {
-    for (size, is_id) in &ID_SIZES {
-        is_an_id(rt, *size, *is_id)?;
+fn is_told(refusal: Option<Refusal>, want: Option<SigFaultKind>) -> bool {
+    match (refusal, want) {
+        (Some(refusal), Some(kind)) => refusal.kind == kind,
+        (None, None) => true,
+        _ => false,
     }
-    Ok(())
-}
-
-fn is_an_id(rt: &(impl Abort + AllocGlobal), size: usize, is_id: bool) -> Result<(), Fail> {
-    let mut text = repeated(rt.alloc(), b"\"", b"r", size)?;
-    text.push(b'"')?;
-    assert!(rt; repository_id(&text).is_ok() == is_id, "size {size}");
-    Ok(())
 }

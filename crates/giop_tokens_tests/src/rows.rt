@@ -1,11 +1,28 @@
 //! Texts and what is told of them: what a test expects, `|` and the text; `=` ends a row.
 
-use std::test::Fail;
-
 /// What a row wants, and its text.
-pub fn row_of(row: &[u8]) -> Result<(&[u8], &[u8]), Fail> {
-    let end = row.iter().position(|octet| *octet == b'|').ok_or("a row")?;
-    Ok((&row[..end], &row[end + 1..]))
+pub fn row_of(row: &[u8]) -> (&[u8], &[u8]) {
+    for bar in 0..row.len() {
+        if row[bar] == b'|' {
+            return (&row[..bar], &row[bar + 1..]);
+        }
+    }
+    (row, b"")
+}
+
+/// The number of this place among those that are written with a space between them; 0 after the last.
+pub fn number_of(text: &[u8], place: usize) -> usize {
+    let mut number = 0usize;
+    let mut left = place;
+    for octet in text {
+        if *octet == b' ' {
+            left = left.wrapping_sub(1);
+        } else if left == 0 {
+            let digit = usize::from(octet.saturating_sub(b'0'));
+            number = number.saturating_mul(10).saturating_add(digit);
+        }
+    }
+    number
 }
 
 /// Texts of tokens.

@@ -2,7 +2,13 @@
 
 use giop_tokens::{Mark, Refusal, SigFault, SigFaultKind, Token, fault_in, line_of, next};
 use std::alloc::Global;
+use std::process::Abort;
 use std::test::Fail;
+
+/// Stops where something isn't as it is told in this row.
+pub fn expect(rt: &impl Abort, is_right: bool, row: &[u8]) {
+    assert!(rt; is_right, "{row:?}");
+}
 
 fn word_of(mark: Mark) -> &'static [u8] {
     match mark {
@@ -79,16 +85,18 @@ pub fn told_of(text: &[u8], kind: SigFaultKind, left: usize) -> Option<SigFault>
     Some(fault_in(text, Refusal { kind, left }))
 }
 
-/// So many times this text, after that one.
-pub fn repeated(alloc: Global, first: &[u8], text: &[u8], times: usize) -> Result<Vec<u8>, Fail> {
-    let mut all = Vec::from_slice(alloc, first)?;
-    add_times(text, times, &mut all)?;
-    Ok(all)
-}
-
-fn add_times(text: &[u8], times: usize, all: &mut Vec<u8>) -> Result<(), Fail> {
+/// A text: its front, then a part so many times, and its end.
+pub fn repeated(
+    alloc: Global,
+    front: &[u8],
+    part: &[u8],
+    times: usize,
+    end: &[u8],
+) -> Result<Vec<u8>, Fail> {
+    let mut all = Vec::from_slice(alloc, front)?;
     for _ in 0..times {
-        all.extend_from_slice(text)?;
+        all.extend_from_slice(part)?;
     }
-    Ok(())
+    all.extend_from_slice(end)?;
+    Ok(all)
 }

@@ -1,79 +1,75 @@
 //! Texts and their tokens, and what is no token.
 
-use crate::rows::{LINES, READ, REFUSED, row_of};
-use crate::spelled::{add_tokens, line_in, told_of};
+use crate::rows::{LINES, READ, REFUSED, number_of, row_of};
+use crate::spelled::{add_tokens, expect, line_in, told_of};
 use giop_tokens::{Refusal, SigFault, SigFaultKind};
+use std::alloc::Global;
 use std::process::Abort;
 use std::test::Fail;
 
+/// What the rows of a table want.
+#[derive(Clone, Copy)]
+enum Rule {
+    Tokens,
+    Refusal,
+    Line,
+}
+
 #[test]
-fn a_text_is_its_tokens(rt: HostRuntime) -> Result<(), Fail> {
-    for row in READ.split(|octet| *octet == b'=') {
-        is_read(&rt, row)?;
+fn each_text_is_told(rt: HostRuntime) -> Result<(), Fail> {
+    each_is_told(&rt, READ, Rule::Tokens)?;
+    each_is_told(&rt, REFUSED, Rule::Refusal)?;
+    each_is_told(&rt, LINES, Rule::Line)?;
+    let kind = SigFaultKind::OutOfMemory;
+    assert!(rt; told_of(b"a", kind, 1) == Some(SigFault { line: 0, kind }));
+    Ok(())
+}
+
+fn each_is_told(rt: &(impl Abort + AllocGlobal), rows: &[u8], rule: Rule) -> Result<(), Fail> {
+    for row in rows.split(|octet| *octet == b'=') {
+        let (want, text) = row_of(row);
+        expect(rt, is_told(rt.alloc(), rule, want, text)?, row);
     }
     Ok(())
 }
 
-fn is_read(rt: &(impl Abort + AllocGlobal), row: &[u8]) -> Result<(), Fail> {
-    let (want, text) = row_of(row)?;
-    let mut told = Vec::new(rt.alloc());
-    let refusal = add_tokens(rt.alloc(), text, &mut told)?;
-    assert!(rt;
-        refusal.is_none() && told.as_slice() == want,
-        "{text:?}: {told:?}"
-    );
-    Ok(())
-}
-
-/// The two numbers of a row's want.
-fn numbers_of(want: &[u8]) -> Result<(usize, u32), Fail> {
-    let (left, line) = str::from_utf8(want)?.split_once(' ').ok_or("two numbers")?;
-    Ok((
-        usize::from_str_radix(left, 10)?,
-        u32::from_str_radix(line, 10)?,
-    ))
-}
-
-#[test]
-fn what_is_no_token_is_refused_at_its_line(rt: HostRuntime) -> Result<(), Fail> {
-    for row in REFUSED.split(|octet| *octet == b'=') {
-        is_refused(&rt, row)?;
+fn is_told(alloc: Global, rule: Rule, want: &[u8], text: &[u8]) -> Result<bool, Fail> {
+    match rule {
+        Rule::Tokens => is_read(alloc, want, text),
+        Rule::Refusal => is_refused(alloc, want, text),
+        Rule::Line => Ok(is_in_line(want, text)),
     }
-    Ok(())
 }
 
-fn is_refused(rt: &(impl Abort + AllocGlobal), row: &[u8]) -> Result<(), Fail> {
-    let (want, text) = row_of(row)?;
-    let mut told = Vec::new(rt.alloc());
-    let refusal = add_tokens(rt.alloc(), text, &mut told)?;
-    assert!(rt; is_refused_as(text, refusal, want)?, "{text:?}");
-    Ok(())
+fn is_read(alloc: Global, want: &[u8], text: &[u8]) -> Result<bool, Fail> {
+    let mut told = Vec::new(alloc);
+    let refusal = add_tokens(alloc, text, &mut told)?;
+    Ok(refusal.is_none() && told.as_slice() == want)
+}
+
+fn is_refused(alloc: Global, want: &[u8], text: &[u8]) -> Result<bool, Fail> {
+    let mut told = Vec::new(alloc);
+    let refusal = add_tokens(alloc, text, &mut told)?;
+    Ok(is_refused_as(text, refusal, want))
 }
 
 /// Whether a refusal of a text is that of a token with so many octets left, and in which line.
-fn is_refused_as(text: &[u8], refusal: Option<Refusal>, want: &[u8]) -> Result<bool, Fail> {
-    let kind = SigFaultKind::Token;
-    let (left, line) = numbers_of(want)?;
-    let is_there = refusal == Some(Refusal { kind, left });
-    Ok(is_there && told_of(text, kind, left) == Some(SigFault { line, kind }))
-}
-
-#[test]
-fn a_line_feed_belongs_to_the_line_that_it_ends(rt: HostRuntime) -> Result<(), Fail> {
-    for row in LINES.split(|octet| *octet == b'=') {
-        assert!(rt; is_in_line(row)?, "{row:?}");
+fn is_refused_as(text: &[u8], refusal: Option<Refusal>, want: &[u8]) -> bool {
+    let Some(Refusal { kind, left }) = refusal else {
+        return false;
+    };
+    if kind != SigFaultKind::Token || left != number_of(want, 0) {
+        return false;
     }
-    Ok(())
+    match told_of(text, kind, left) {
+        Some(fault) => fault.kind == kind && fault.line as usize == number_of(want, 1),
+        None => false,
+    }
 }
 
-fn is_in_line(row: &[u8]) -> Result<bool, Fail> {
-    let (want, text) = row_of(row)?;
-    let (left, line) = numbers_of(want)?;
-    Ok(line_in(text, left) == Some(line))
-}
-
-#[test]
-fn want_of_memory_has_line_0(rt: HostRuntime) {
-    let kind = SigFaultKind::OutOfMemory;
-    assert!(rt; told_of(b"a", kind, 1) == Some(SigFault { line: 0, kind }));
+fn is_in_line(want: &[u8], text: &[u8]) -> bool {
+    match line_in(text, number_of(want, 0)) {
+        Some(line) => line as usize == number_of(want, 1),
+        None => false,
+    }
 }
